@@ -1,0 +1,75 @@
+-- The answer of the whole call: document 01, "The answer".
+use Prim.Native.Nat.{ℕ}
+use mathlib.Core.List.{[]}
+use mathlib.Core.Bool.{Bool, true, false, _&&_}
+use lib.ListN.{length}
+use lib.Dec.{leb}
+use Rattle.spec.specs.Outcome.{Outcome, ok, refused, if_then_else_}
+use Rattle.spec.specs.Refusal as Refusal
+use Rattle.spec.specs.Refusal.{work-too-short, input-too-long, output-too-short}
+use Rattle.spec.specs.Limits.{maxBytes, workWords}
+use Rattle.spec.specs.Bytes.{Bytes}
+use Rattle.spec.specs.Value as Value
+use Rattle.spec.specs.Read.{read}
+use Rattle.spec.specs.Write.{write}
+use Rattle.spec.specs.Operation.{limited}
+use Rattle.spec.specs.Patch.{Run, finished, stopped, shape, run, onFinish}
+
+-- "An answer has a number, text (1 document, 2 patch, else 0), op (counted from 1, else 0), place (a byte offset, else 0) and the written
+-- length (0 on refusal)": here the written text, whose length that is.
+pub record Answer : Type 0 where
+  pub number : ℕ
+  pub text : ℕ
+  pub op : ℕ
+  pub place : ℕ
+  pub written : Bytes
+
+abbrev pub success : Bytes → Answer
+success t = record { number = Refusal.done; text = 0; op = 0; place = 0; written = t }
+
+-- a refusal by its number, text, op and place
+abbrev pub refusal : ℕ → ℕ → ℕ → ℕ → Answer
+refusal number text op place = record { number = number; text = text; op = op; place = place; written = [] }
+
+-- the lengths of the lent buffers: bytes of the output, words of each column of the work area
+pub record Lent : Type 0 where
+  pub output : ℕ
+  pub values : ℕ
+  pub names : ℕ
+
+unfoldable pub workSuffices : Lent → Bool
+workSuffices lent = leb workWords (lent .values) && leb workWords (lent .names)
+
+-- the written text, or 16
+unfoldable pub fitting : ℕ → Bytes → Answer
+fitting room t = if leb (length t) room then success t else refusal output-too-short 0 0 0
+
+-- what a run comes to, with so much room for its text
+unfoldable pub answerOf : ℕ → Run Value.Value → Answer
+answerOf room (finished v) = fitting room (write v)
+answerOf room (stopped number op) = refusal number 0 op 0
+
+-- the shape of every operation, the operations one after another, then 16
+unfoldable pub patched : ℕ → Value.Value → Value.Value → Answer
+patched room document patch = answerOf room (onFinish (shape patch) λ operations. run limited 1 operations document)
+
+-- the whole patch read
+unfoldable pub onPatch : ℕ → Value.Value → Outcome Value.Value → Answer
+onPatch room document (ok patch) = patched room document patch
+onPatch room document (refused number place) = refusal number 2 0 place
+
+-- the whole document read, then the patch
+unfoldable pub onDocument : ℕ → Outcome Value.Value → Bytes → Answer
+onDocument room (ok document) patch = onPatch room document (read patch)
+onDocument room (refused number place) patch = refusal number 1 0 place
+
+-- "Order: 1, 2, the whole document read, the whole patch read, the shape of every operation, the operations one after another, then 16.
+-- The first that applies is given."
+unfoldable pub answer : Bytes → Bytes → Lent → Answer
+answer document patch lent =
+    if workSuffices lent then
+    (if leb (length document) maxBytes then
+    (if leb (length patch) maxBytes then onDocument (lent .output) (read document) patch
+    else refusal input-too-long 2 0 0)
+    else refusal input-too-long 1 0 0)
+    else refusal work-too-short 0 0 0

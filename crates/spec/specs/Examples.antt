@@ -1,0 +1,42 @@
+-- The starred examples of document 01, "Examples on each side": whole answers. proofs/ExamplesTheorem proves them by computation.
+use mathlib.Core.Path.{_≡_}
+use Prim.Native.Nat.{ℕ}
+use Prim.Native.String.{String}
+use mathlib.Core.List.{List, [], _∷_}
+use Rattle.spec.specs.Limits.{workWords}
+use Rattle.spec.specs.Bytes.{ascii}
+use Rattle.spec.specs.Answer.{Lent, answer, success, refusal}
+
+-- a document and a patch with the text that is written, or with the number of the refusal, text, op and place
+pub data Example : Type 0 where
+  gives : String → String → String → Example
+  refuses : String → String → ℕ → ℕ → ℕ → ℕ → Example
+
+-- the buffers that the patch tool lends
+abbrev pub lent : Lent
+lent = record { output = 65_536; values = workWords; names = workWords }
+
+abbrev pub Holds : Example → Type 0
+Holds (gives d p text) = answer (ascii d) (ascii p) lent ≡ success (ascii text)
+Holds (refuses d p number text op place) = answer (ascii d) (ascii p) lent ≡ refusal number text op place
+
+abbrev pub All : List Example → Type 0
+All [] = Unit {0}
+All (e ∷ es) = Holds e × All es
+
+abbrev pub starred : List Example
+starred =
+    gives "{\"a\":[1,3]}" "[{\"op\":\"add\",\"path\":\"/a/1\",\"value\":2}]" "{\"a\":[1,2,3]}" ∷
+    gives "{\"a\":[1,3]}" "[{\"op\":\"add\",\"path\":\"/a/2\",\"value\":2}]" "{\"a\":[1,3,2]}" ∷
+    gives "{\"a\":[1,3]}" "[{\"op\":\"add\",\"path\":\"/a/-\",\"value\":2}]" "{\"a\":[1,3,2]}" ∷
+    refuses "{\"a\":[1,3]}" "[{\"op\":\"add\",\"path\":\"/a/3\",\"value\":2}]" 11 0 1 0 ∷
+    refuses "{\"a\":[1,3]}" "[{\"op\":\"add\",\"path\":\"/a/01\",\"value\":2}]" 12 0 1 0 ∷
+    gives "{\"a\":[1,2,3]}" "[{\"op\":\"move\",\"from\":\"/a/0\",\"path\":\"/a/2\"}]" "{\"a\":[2,3,1]}" ∷
+    refuses "{\"a\":[1,2,3]}" "[{\"op\":\"move\",\"from\":\"/a/0\",\"path\":\"/a/3\"}]" 11 0 1 0 ∷
+    gives "{\"a\":1,\"b\":2}" "[{\"op\":\"move\",\"from\":\"/a\",\"path\":\"/b\"}]" "{\"b\":1}" ∷
+    refuses "{\"a\":{\"b\":1}}" "[{\"op\":\"move\",\"from\":\"/a\",\"path\":\"/a/b\"}]" 14 0 1 0 ∷
+    gives "{\"a\":{\"b\":1}}" "[{\"op\":\"move\",\"from\":\"/a/b\",\"path\":\"/a\"}]" "{\"a\":1}" ∷
+    gives "{\"a/b\":1}" "[{\"op\":\"replace\",\"path\":\"/a~1b\",\"value\":5}]" "{\"a/b\":5}" ∷
+    gives "4400" "[{\"op\":\"test\",\"path\":\"\",\"value\":4.4e3}]" "4400" ∷
+    refuses "9007199254740993" "[{\"op\":\"test\",\"path\":\"\",\"value\":9007199254740992}]" 15 0 1 0 ∷
+    []

@@ -1,0 +1,30 @@
+-- Document 01, "Numbers that bound the work".
+use Prim.Native.Nat.{ℕ}
+
+-- bytes of a document, and of a patch
+abbrev pub maxBytes : ℕ
+maxBytes = 32_768
+
+-- nested containers
+abbrev pub maxDepth : ℕ
+maxDepth = 32
+
+-- values in a document, and in a patch text
+abbrev pub maxNodes : ℕ
+maxNodes = 2_048
+
+-- bytes of a number
+abbrev pub maxNumber : ℕ
+maxNumber = 128
+
+-- the size of a number's written exponent
+abbrev pub maxExponent : ℕ
+maxExponent = 9_999
+
+-- operations of a patch
+abbrev pub maxOperations : ℕ
+maxOperations = 256
+
+-- words of 64 bits in each of the two buffers of the work area: three parts of as many rows as a text has nodes (docs/WORK-AREA.md)
+abbrev pub workWords : ℕ
+workWords = 6_144

@@ -1,0 +1,145 @@
+-- A patch: document 01, "Patch shape", and the run of its operations.
+use Prim.Native.Nat.{ℕ, _+_}
+use mathlib.Core.List.{List, [], _∷_}
+use mathlib.Core.Bool.{Bool, true, false, _&&_, not}
+use lib.Dec.{leb}
+use Rattle.spec.specs.Outcome.{Outcome, ok, refused, _>>=_, if_then_else_, require}
+use Rattle.spec.specs.Refusal.{wrong-shape, too-many-operations, move-into-child}
+use Rattle.spec.specs.Limits.{maxOperations}
+use Rattle.spec.specs.Bytes.{Text, ascii}
+use Rattle.spec.specs.Forest.{none, tree, count}
+use Rattle.spec.specs.Value as Value
+use Rattle.spec.specs.Value.{Label, Members, leaf, valueOf, isArray, isObject, isString, content, sameText, find, has}
+use Rattle.spec.specs.Pointer.{Tokens, tokens, child}
+use Rattle.spec.specs.Operation.{Kind, add, remove, replace, move, copy, test, Operation}
+
+-- a member of an operation object, or 8
+unfoldable pub member : Text → Value.Value → Outcome Value.Value
+member name v = if has name (v .kids) then ok (valueOf (child (find name (v .kids)) v)) else refused wrong-shape 0
+
+-- a string, or 8
+unfoldable pub stringOf : Label → Outcome Text
+stringOf l = if isString l then ok (content l) else refused wrong-shape 0
+
+unfoldable pub stringMember : Text → Value.Value → Outcome Text
+stringMember name v = do
+  m ← member name v
+  stringOf (m .label)
+
+-- "`op` is one of add, remove, replace, move, copy, test"
+unfoldable pub kindNamed : Text → Outcome Kind
+kindNamed t =
+    if sameText t (ascii "add") then ok add else
+    if sameText t (ascii "remove") then ok remove else
+    if sameText t (ascii "replace") then ok replace else
+    if sameText t (ascii "move") then ok move else
+    if sameText t (ascii "copy") then ok copy else
+    if sameText t (ascii "test") then ok test else refused wrong-shape 0
+
+-- which members a kind of operation uses beside op and path
+unfoldable pub usesValue : Kind → Bool
+usesValue add = true
+usesValue remove = false
+usesValue replace = true
+usesValue move = false
+usesValue copy = false
+usesValue test = true
+
+unfoldable pub usesFrom : Kind → Bool
+usesFrom add = false
+usesFrom remove = false
+usesFrom replace = false
+usesFrom move = true
+usesFrom copy = true
+usesFrom test = false
+
+unfoldable pub isMove : Kind → Bool
+isMove add = false
+isMove remove = false
+isMove replace = false
+isMove move = true
+isMove copy = false
+isMove test = false
+
+-- an operation's members, its pointers as they are written; what is not used is empty, or null
+pub record Members-of-operation : Type 0 where
+  pub kind : Kind
+  pub path : Text
+  pub from : Text
+  pub value : Value.Value
+
+unfoldable pub valueFor : Kind → Value.Value → Outcome Value.Value
+valueFor kind v = if usesValue kind then member (ascii "value") v else ok (leaf Label.null-literal)
+
+unfoldable pub fromFor : Kind → Value.Value → Outcome Text
+fromFor kind v = if usesFrom kind then stringMember (ascii "from") v else ok []
+
+-- "`path` is a string; add, replace and test have `value`; move and copy have `from`, a string: else 8"
+unfoldable pub membersFor : Kind → Value.Value → Outcome Members-of-operation
+membersFor kind v = do
+  path ← stringMember (ascii "path") v
+  value ← valueFor kind v
+  from ← fromFor kind v
+  ok (record { kind = kind; path = path; from = from; value = value })
+
+-- "It is an object; `op` is one of ..", and the other members that it must have: else 8
+unfoldable pub operationMembers : Value.Value → Outcome Members-of-operation
+operationMembers v = do
+  _ ← require wrong-shape (isObject (v .label))
+  op ← stringMember (ascii "op") v
+  kind ← kindNamed op
+  membersFor kind v
+
+-- whether the first tokens are a proper prefix of the second
+unfoldable pub properPrefix : Tokens → Tokens → Bool
+properPrefix [] [] = false
+properPrefix [] (u ∷ us) = true
+properPrefix (t ∷ ts) [] = false
+properPrefix (t ∷ ts) (u ∷ us) = sameText t u && properPrefix ts us
+
+-- "Then `path`, then `from` where used, is a pointer: else 10. Then, for move, the tokens of `from` are not a proper prefix of those of
+-- `path`: else 14."
+unfoldable pub withPointers : Members-of-operation → Outcome Operation
+withPointers m = do
+  path ← tokens (m .path)
+  from ← tokens (m .from)
+  _ ← require move-into-child (not (isMove (m .kind) && properPrefix from path))
+  ok (record { kind = m .kind; path = path; from = from; value = m .value })
+
+-- an element of a patch as an operation
+unfoldable pub operation : Value.Value → Outcome Operation
+operation v = operationMembers v >>= withPointers
+
+-- What comes of a list of operations: a result, or the number of the refusal and the op at which it was given.
+pub data Run (A : Type 0) : Type 0 where
+  finished : A → Run A
+  stopped : ℕ → ℕ → Run A
+
+-- an outcome of the operation op; a refusal stops the run there
+unfoldable pub atOp : {A : Type 0} → ℕ → Outcome A → Run A
+atOp op (ok a) = finished a
+atOp op (refused number place) = stopped number op
+
+unfoldable pub onFinish : {A B : Type 0} → Run A → (A → Run B) → Run B
+onFinish (finished a) next = next a
+onFinish (stopped number op) next = stopped number op
+
+-- the operations of the elements, the first of which is op
+unfoldable pub operations : ℕ → Members → Run (List Operation)
+operations op none = finished []
+operations op (tree e kids rest) =
+    onFinish (atOp op (operation (record { label = e .label; kids = kids }))) λ o.
+    onFinish (operations (op + 1) rest) λ os.
+    finished (o ∷ os)
+
+-- "The top value is an array (8, op 0), of at most 256 elements (9). Then for each element in order .."
+unfoldable pub shape : Value.Value → Run (List Operation)
+shape v =
+    if isArray (v .label) then (if leb (count (v .kids)) maxOperations then operations 1 (v .kids) else stopped too-many-operations 0)
+    else stopped wrong-shape 0
+
+-- The operations one after another, each by `step` on the document that the one before left; the first of them is op, and the first that
+-- fails ends the run.
+unfoldable pub run : (Operation → Value.Value → Outcome Value.Value) → ℕ → List Operation → Value.Value → Run Value.Value
+run step op [] v = finished v
+run step op (o ∷ os) v = onFinish (atOp op (step o v)) λ w. run step (op + 1) os w

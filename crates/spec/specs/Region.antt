@@ -1,0 +1,157 @@
+-- Two makers' patches in regions of their own: document 01, "The region statement in detail", sentence by sentence. The last two records
+-- are the statement; proofs/RegionTheorem proves it.
+use mathlib.Core.Path.{_≡_}
+use Prim.Native.Nat.{ℕ, _+_, _≤_}
+use mathlib.Core.Bool.{Bool, true, false, _&&_, _||_, not}
+use mathlib.Core.List.{List, [], _∷_, _++_}
+use mathlib.Core.Option.{Option, none, some}
+use lib.ListN.{length}
+use lib.Dec.{leb, eqb}
+use Rattle.spec.specs.Outcome.{Outcome, ok, refused, _>>=_, if_then_else_}
+use Rattle.spec.specs.Refusal.{work-too-short, too-many-nodes, output-too-short}
+use Rattle.spec.specs.Limits.{maxBytes, maxNodes}
+use Rattle.spec.specs.Bytes.{Bytes, Text}
+use Rattle.spec.specs.Value as Value
+use Rattle.spec.specs.Value.{sameText, nodes}
+use Rattle.spec.specs.Read.{read}
+use Rattle.spec.specs.Write.{write}
+use Rattle.spec.specs.Pointer.{Tokens}
+use Rattle.spec.specs.Operation.{Operation, perform, notTooDeep}
+use Rattle.spec.specs.Patch.{Run, finished, stopped, usesFrom, properPrefix, shape, run}
+use Rattle.spec.specs.Answer.{Lent, answer, success, refusal}
+use Rattle.spec.specs.Elements.{ElementsOf}
+
+-- Regions. "A region is a pointer, whether or not the document has a value there; tokens are compared unescaped."
+
+-- whether the second pointer begins with the tokens of the first
+unfoldable pub isPrefix : Tokens → Tokens → Bool
+isPrefix [] us = true
+isPrefix (t ∷ ts) [] = false
+isPrefix (t ∷ ts) (u ∷ us) = sameText t u && isPrefix ts us
+
+-- "Neither region's tokens are a prefix of the other's."
+unfoldable pub apart : Tokens → Tokens → Bool
+apart R S = not (isPrefix R S) && not (isPrefix S R)
+
+-- "A patch is strictly inside it if every `path`, and every `from` that is used, begins with its tokens and has at least one more."
+unfoldable pub strictlyInside : Tokens → Operation → Bool
+strictlyInside R o = properPrefix R (o .path) && (not (usesFrom (o .kind)) || properPrefix R (o .from))
+
+unfoldable pub allInside : Tokens → List Operation → Bool
+allInside R [] = true
+allInside R (o ∷ os) = strictlyInside R o && allInside R os
+
+-- Texts. "A document is accepted if neither its length nor its reading is refused; a patch is well formed if neither its length, its
+-- reading nor its shape is. Either patch may be empty."
+
+pub record Accepted (text : Bytes) (document : Value.Value) : Type 0 where
+  pub fits : length text ≤ maxBytes
+  pub reads : read text ≡ ok document
+
+pub record WellFormed (text : Bytes) (operations : List Operation) : Type 0 where
+  pub fits : length text ≤ maxBytes
+  pub patch : Value.Value
+  pub reads : read text ≡ ok patch
+  pub shaped : shape patch ≡ finished operations
+
+-- the third list has the entries of the other two, those of each in the order they have there
+pub data Shuffle {A : Type 0} : List A → List A → List A → Type 0 where
+  done : Shuffle [] [] []
+  left : {x : A} {xs ys zs : List A} → Shuffle xs ys zs → Shuffle (x ∷ xs) ys (x ∷ zs)
+  right : {y : A} {xs ys zs : List A} → Shuffle xs ys zs → Shuffle xs (y ∷ ys) (y ∷ zs)
+
+-- "A shuffle is a well-formed patch text whose elements are those of both patches, each with its own bytes, those of one patch in the
+-- order they have there; blanks between elements don't matter."
+pub record ShuffleText (first second both : Bytes) : Type 0 where
+  pub firsts : List Bytes
+  pub seconds : List Bytes
+  pub all : List Bytes
+  pub first-elements : ElementsOf first firsts
+  pub second-elements : ElementsOf second seconds
+  pub all-elements : ElementsOf both all
+  pub order : Shuffle firsts seconds all
+
+-- "Buffers are enough when neither 1 nor 16 applies."
+pub record Enough (document patch : Bytes) (lent : Lent) : Type 0 where
+  pub work : answer document patch lent .number ≡ work-too-short → ⊥
+  pub output : answer document patch lent .number ≡ output-too-short → ⊥
+
+-- Runs. "Each operation gets the document that the one before left, by the rules above with 5 after it, but never 6."
+
+unfoldable pub bare : Operation → Value.Value → Outcome Value.Value
+bare o v = perform o v >>= notTooDeep
+
+-- "The bare run of a list of operations starts from the document as read." Of one patch's operations it is what is called "alone", of one
+-- patch's followed by the other's "joined".
+abbrev pub bareRun : List Operation → Value.Value → Run Value.Value
+bareRun os document = run bare 1 os document
+
+-- "If none fails, the run succeeds, and its text is the last document, written."
+pub record SucceedsWith (r : Run Value.Value) (text : Bytes) : Type 0 where
+  pub last : Value.Value
+  pub finishes : r ≡ finished last
+  pub writes : write last ≡ text
+
+unfoldable pub succeeds : {A : Type 0} → Run A → Bool
+succeeds (finished a) = true
+succeeds (stopped number op) = false
+
+-- the number with which a run ends at its operation op, if it does
+unfoldable pub endsAt : {A : Type 0} → ℕ → Run A → Option ℕ
+endsAt op (finished a) = none
+endsAt op (stopped number end) = if eqb op end then some number else none
+
+-- the operation op and its number where its own list ends there, and else what comes later
+unfoldable pub hereOr : ℕ → Option ℕ → Option (ℕ × ℕ) → Option (ℕ × ℕ)
+hereOr op (some number) later = some (number, op)
+hereOr op none later = later
+
+-- "The first operation in it at which that operation's own patch ends alone", by what the two patches come to alone: its number, and its
+-- op in the shuffle. `op`, `i` and `j` count the next operation in the shuffle and in each patch.
+unfoldable pub firstEnd : {A B : Type 0} {xs ys zs : List A} → Shuffle xs ys zs → ℕ → ℕ → ℕ → Run B → Run B → Option (ℕ × ℕ)
+firstEnd done op i j p q = none
+firstEnd (left s) op i j p q = hereOr op (endsAt i p) (firstEnd s (op + 1) (i + 1) j p q)
+firstEnd (right s) op i j p q = hereOr op (endsAt j q) (firstEnd s (op + 1) i (j + 1) p q)
+
+-- the first operation of a bare run that leaves more than 2,048 nodes, if one does; the next one is op
+unfoldable pub firstTooLarge : ℕ → List Operation → Value.Value → Option ℕ
+firstTooLarge op [] v = none
+firstTooLarge op (o ∷ os) v =
+    elim (bare o v) [
+      | ok w ↦ if leb (nodes w) maxNodes then firstTooLarge (op + 1) os w else some op
+      | refused number place ↦ none
+    ]
+
+-- The statement. "For every accepted document, every two well-formed patches, each strictly inside its own region, and every shuffle of
+-- them, with buffers enough":
+pub record Situation
+    (D P Q Z : Bytes) (lent : Lent) (R S : Tokens) (document : Value.Value) (xs ys zs : List Operation) : Type 0 where
+  pub accepted : Accepted D document
+  pub first : WellFormed P xs
+  pub second : WellFormed Q ys
+  pub both : WellFormed Z zs
+  pub shuffle : ShuffleText P Q Z
+  pub regions : apart R S ≡ true
+  pub first-inside : allInside R xs ≡ true
+  pub second-inside : allInside S ys ≡ true
+  pub enough : Enough D Z lent
+
+pub record RegionStatement {D P Q Z : Bytes} {lent : Lent} {R S : Tokens} {document : Value.Value} {xs ys zs : List Operation}
+    (c : Situation D P Q Z lent R S document xs ys zs) : Type 0 where
+  -- "If both succeed alone, so does the shuffle's bare run, and its text is byte for byte that of the two joined, in either order."
+  pub both-succeed : (t t' : Bytes) → SucceedsWith (bareRun xs document) t → SucceedsWith (bareRun ys document) t' →
+      (text : Bytes) × SucceedsWith (bareRun zs document) text × SucceedsWith (bareRun (xs ++ ys) document) text ×
+      SucceedsWith (bareRun (ys ++ xs) document) text
+  -- "Otherwise it ends at the first operation in it at which that operation's own patch ends alone, with the same number."
+  pub otherwise : (succeeds (bareRun xs document) && succeeds (bareRun ys document)) ≡ false →
+      (number op : ℕ) × (firstEnd (c .shuffle .order) 1 1 1 (bareRun xs document) (bareRun ys document) ≡ some (number, op)) ×
+      (bareRun zs document ≡ stopped number op)
+  -- "If an operation of the shuffle's bare run leaves more than 2,048 nodes, the call on the shuffle answers 6 with the op of the first
+  -- such one."
+  pub call-too-large : (op : ℕ) → firstTooLarge 1 zs document ≡ some op → answer D Z lent ≡ refusal too-many-nodes 0 op 0
+  -- "Otherwise it answers the bare run's number and op,
+  pub call-refused : (number op : ℕ) → firstTooLarge 1 zs document ≡ none → bareRun zs document ≡ stopped number op →
+      answer D Z lent ≡ refusal number 0 op 0
+  -- or answers 0 and writes the run's text."
+  pub call-succeeds : (text : Bytes) → firstTooLarge 1 zs document ≡ none → SucceedsWith (bareRun zs document) text →
+      answer D Z lent ≡ success text
