@@ -1,0 +1,15 @@
+pub mod OutcomeLaws
+pub mod ForestLaws
+pub mod TextLaws
+pub mod ChildLaws
+pub mod PlaceLaws
+pub mod OperationLaws
+pub mod ReadLaws
+pub mod LimitTheorem
+pub mod RunTheorem
+pub mod Tracking
+pub mod ReadersTrack
+pub mod ElementsThere
+pub mod ElementsUnique
+pub mod RegionTheorem
+pub mod ExamplesTheorem
