@@ -126,7 +126,7 @@ module _ (strict : Bool) {s t : Bytes} {k n : ℕ} (cut : Cut s t k n) where
       after : (more low high bits : ℕ) → Tracks strict k (suc n) pair (suc p) (tail more s (at + 1) low high bits) (tail more t (p + 1) low high bits)
       after more low high bits = later (more + (p + 1)) (omega arith) (tail-tracks more low high bits (on e 1))
 
-  character-tracks : {at p : ℕ} → At k p at → Tracks strict k (suc n) pair (suc p) (character s at) (character t p)
+  pub character-tracks : {at p : ℕ} → At k p at → Tracks strict k (suc n) pair (suc p) (character s at) (character t p)
   unfolding character
   character-tracks {at = at} {p = p} e =
       choose (same cut (λ b. eqb b (code "\\")) e (omega arith)) (λ h. later _ (omega arith) (escape-tracks (on e 1))) λ h.
@@ -143,13 +143,13 @@ module _ (strict : Bool) {s t : Bytes} {k n : ℕ} (cut : Cut s t k n) where
       andThen _ _ (character-tracks e) λ c next q e l.
       later _ (omega arith) (andThen _ _ (ih next q e (omega arith)) λ cs end q e l. result _ e (omega arith) (λ l. refl))
 
-  characters-tracks : (f f' : ℕ) {at p : ℕ} → At k p at → n ≤ f' + p → Tracks strict k (suc n) pair (suc p) (characters f s at) (characters f' t p)
+  pub characters-tracks : (f f' : ℕ) {at p : ℕ} → At k p at → n ≤ f' + p → Tracks strict k (suc n) pair (suc p) (characters f s at) (characters f' t p)
   unfolding characters
   characters-tracks zero f' e l = none
   characters-tracks (suc f) zero e l = under _ (λ m. absurd (omega arith)) (characters-more f n e (omega arith) (λ at p e l. characters-tracks f n e l))
   characters-tracks (suc f) (suc f') e l = characters-more f f' e l (λ at p e l. characters-tracks f f' e l)
 
-  string-tracks : {at p : ℕ} → At k p at → Tracks strict k (suc n) pair (suc p) (string s at) (string t p)
+  pub string-tracks : {at p : ℕ} → At k p at → Tracks strict k (suc n) pair (suc p) (string s at) (string t p)
   unfolding string
   string-tracks e = let w = cut .whole in byteIn-step _ _ e (omega arith) λ b h. later _ (omega arith) (characters-tracks (length s) (length t) (on e 1) (omega arith))
 
@@ -257,7 +257,7 @@ module _ (strict : Bool) {s t : Bytes} {k n : ℕ} (cut : Cut s t k n) where
       (λ h. andThen _ _ (counted-tracks b e) λ a at q c l. signedDigits-tracks b c)
       (λ h. result tt e (omega arith) (λ l. refl))
 
-  number-tracks : {at p : ℕ} → At k p at → Tracks strict k (suc n) place (suc p) (number s at) (number t p)
+  pub number-tracks : {at p : ℕ} → At k p at → Tracks strict k (suc n) place (suc p) (number s at) (number t p)
   unfolding number minus
   number-tracks {at} {p} e =
       chosen
@@ -296,7 +296,7 @@ module _ (strict : Bool) {s t : Bytes} {k n : ℕ} (cut : Cut s t k n) where
   unfolding blanks
   blanks-tracks e = let w = cut .whole in blanksFrom-tracks (length s) (length t) e (omega arith) (omega arith)
 
-  spelled-tracks : (word : Bytes) {at p : ℕ} → At k p at → Tracks strict k (suc n) place p (spelled word s at) (spelled word t p)
+  pub spelled-tracks : (word : Bytes) {at p : ℕ} → At k p at → Tracks strict k (suc n) place p (spelled word s at) (spelled word t p)
   unfolding spelled
   spelled-tracks [] e = result tt e (omega arith) (λ l. refl)
   spelled-tracks (b ∷ word) e = later _ (omega arith) (byteIn-step b b e (omega arith) λ a h. spelled-tracks word (on e 1))
