@@ -1,0 +1,72 @@
+//! The answer: everything in its order, to the first refusal.
+
+use crate::limits::LONGEST_TEXT;
+use crate::refusals::{NO_ROOM, TOO_LONG};
+use crate::{operations, patch, reader, writer};
+
+/// What the engine answers.
+#[derive(Clone, Debug, PartialEq, Eq)]
+pub struct Answer {
+    /// 0 for done, else the refusal's number.
+    pub number: u32,
+    /// 1 for the document, 2 for the patch, else 0.
+    pub text: u32,
+    /// The operation, counted from 1, else 0.
+    pub op: u32,
+    /// A byte offset, else 0.
+    pub place: usize,
+    /// The written text, empty on refusal.
+    pub written: Vec<u8>,
+}
+
+const DOCUMENT: u32 = 1;
+const PATCH: u32 = 2;
+
+/// Applies a patch to a document, to be written in an output of that room.
+pub fn apply(document: &[u8], patch: &[u8], room: usize) -> Answer {
+    match attempt(document, patch, room) {
+        Ok(written) => Answer { written, ..plain(0) },
+        Err(refusal) => refusal,
+    }
+}
+
+/// The written text, or the refusal as an answer.
+fn attempt(document: &[u8], patch: &[u8], room: usize) -> Result<Vec<u8>, Answer> {
+    if document.len() > LONGEST_TEXT {
+        return Err(in_text(TOO_LONG, DOCUMENT, 0));
+    }
+    if patch.len() > LONGEST_TEXT {
+        return Err(in_text(TOO_LONG, PATCH, 0));
+    }
+    let document = reader::read(document).map_err(|r| in_text(r.number, DOCUMENT, r.place))?;
+    let patch = reader::read(patch).map_err(|r| in_text(r.number, PATCH, r.place))?;
+    let operations = patch::shape(&patch).map_err(|r| at_op(r.number, r.op))?;
+    let result = operations::run(document, &operations).map_err(|r| at_op(r.number, r.op))?;
+    let written = writer::write(&result);
+    if written.len() > room {
+        return Err(plain(NO_ROOM));
+    }
+    Ok(written)
+}
+
+fn plain(number: u32) -> Answer {
+    Answer { number, text: 0, op: 0, place: 0, written: Vec::new() }
+}
+
+fn in_text(number: u32, text: u32, place: usize) -> Answer {
+    Answer { text, place, ..plain(number) }
+}
+
+fn at_op(number: u32, op: u32) -> Answer {
+    Answer { op, ..plain(number) }
+}
+
+/// The line the patch tool prints for an answer, without the newline.
+pub fn line(answer: &Answer) -> Vec<u8> {
+    let Answer { number, text, op, place, written } = answer;
+    if *number == 0 {
+        written.clone()
+    } else {
+        format!("refused {number} text {text} op {op} place {place}").into_bytes()
+    }
+}

@@ -1,0 +1,93 @@
+//! The program `second`: see README.md for its commands.
+
+#![forbid(unsafe_code)]
+
+use second::{cases, compare, generate, tool, vectors};
+use std::env;
+use std::ffi::OsString;
+use std::fs;
+use std::io::{self, BufWriter, Write};
+use std::process::ExitCode;
+
+const USAGE: &str = "usage:
+  second apply DOC PATCH
+  second answers FILE
+  second cases
+  second generate SEED COUNT
+  second compare SEED COUNT -- COMMAND...
+";
+
+/// How a command ends when it does not end well.
+enum Trouble {
+    /// The arguments are not those of a command.
+    Usage,
+    /// Something else, in words.
+    Message(String),
+    /// A comparison found differences.
+    Differences,
+}
+
+impl From<io::Error> for Trouble {
+    fn from(error: io::Error) -> Self {
+        Trouble::Message(error.to_string())
+    }
+}
+
+fn main() -> ExitCode {
+    let arguments: Vec<OsString> = env::args_os().skip(1).collect();
+    match run(&arguments) {
+        Ok(()) => ExitCode::SUCCESS,
+        Err(Trouble::Differences) => ExitCode::from(1),
+        Err(Trouble::Message(message)) => complain(&format!("second: {message}\n")),
+        Err(Trouble::Usage) => complain(USAGE),
+    }
+}
+
+/// Says what is wrong. If that cannot be said either, nothing more can be done.
+fn complain(message: &str) -> ExitCode {
+    let _ = io::stderr().write_all(message.as_bytes());
+    ExitCode::from(2)
+}
+
+fn run(arguments: &[OsString]) -> Result<(), Trouble> {
+    let mut out = BufWriter::new(io::stdout().lock());
+    let (command, rest) = arguments.split_first().ok_or(Trouble::Usage)?;
+    match (command.to_str(), rest) {
+        (Some("apply"), files) => out.write_all(&tool::output(files))?,
+        (Some("answers"), [file]) => {
+            let cases = cases::parse(&fs::read(file)?).map_err(Trouble::Message)?;
+            for case in cases {
+                write!(out, "{}: ", case.name)?;
+                out.write_all(&case.line(case.room))?;
+                out.write_all(b"\n")?;
+            }
+        }
+        (Some("cases"), []) => {
+            for vector in vectors::all() {
+                out.write_all(&vector.case.text())?;
+            }
+        }
+        (Some("generate"), [seed, count]) => {
+            let seed = number(seed)?;
+            for index in 0..number(count)? {
+                out.write_all(&generate::case(seed, index).text())?;
+            }
+        }
+        (Some("compare"), [seed, count, dashes, command @ ..])
+            if dashes == "--" && !command.is_empty() =>
+        {
+            let found = compare::compare(number(seed)?, number(count)?, command, &mut out)?;
+            out.flush()?;
+            if found > 0 {
+                return Err(Trouble::Differences);
+            }
+        }
+        _ => return Err(Trouble::Usage),
+    }
+    out.flush()?;
+    Ok(())
+}
+
+fn number(argument: &OsString) -> Result<u64, Trouble> {
+    argument.to_str().and_then(|text| text.parse().ok()).ok_or(Trouble::Usage)
+}

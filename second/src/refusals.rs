@@ -1,0 +1,33 @@
+//! The refusal numbers, by name. (1, a work buffer too short, does not exist
+//! here: this program lends itself what memory it needs.)
+
+/// An input is too long.
+pub const TOO_LONG: u32 = 2;
+/// Not JSON text.
+pub const NOT_JSON: u32 = 3;
+/// A member name is repeated in one object.
+pub const REPEATED_NAME: u32 = 4;
+/// More than 32 containers nested.
+pub const TOO_DEEP: u32 = 5;
+/// More than 2,048 nodes.
+pub const TOO_MANY_NODES: u32 = 6;
+/// A number over its limit.
+pub const NUMBER_LIMIT: u32 = 7;
+/// The patch is not of the right shape.
+pub const WRONG_SHAPE: u32 = 8;
+/// More than 256 operations.
+pub const TOO_MANY_OPERATIONS: u32 = 9;
+/// A malformed pointer.
+pub const MALFORMED_POINTER: u32 = 10;
+/// A location is missing.
+pub const MISSING: u32 = 11;
+/// A token is no array index.
+pub const NO_INDEX: u32 = 12;
+/// Remove of the root.
+pub const ROOT_REMOVED: u32 = 13;
+/// Move of a value into its own child.
+pub const INTO_OWN_CHILD: u32 = 14;
+/// A test found a difference.
+pub const DIFFERENT: u32 = 15;
+/// The written text is longer than the output.
+pub const NO_ROOM: u32 = 16;

@@ -1,0 +1,35 @@
+//! The patch tool: two file names in, one line out.
+
+use crate::limits::{TOOL_READS, TOOL_ROOM};
+use crate::{apply, line};
+use std::ffi::OsString;
+use std::fs::File;
+use std::io::{self, Read};
+use std::path::Path;
+
+/// What the patch tool prints for its arguments, the newline included.
+pub fn output(arguments: &[OsString]) -> Vec<u8> {
+    let mut printed = match inputs(arguments) {
+        Some((document, patch)) => line(&apply(&document, &patch, TOOL_ROOM)),
+        None => b"unreadable".to_vec(),
+    };
+    printed.push(b'\n');
+    printed
+}
+
+/// The two inputs, if there are two arguments that name readable files.
+fn inputs(arguments: &[OsString]) -> Option<(Vec<u8>, Vec<u8>)> {
+    let [document, patch] = arguments else {
+        return None;
+    };
+    let document = beginning(Path::new(document)).ok()?;
+    let patch = beginning(Path::new(patch)).ok()?;
+    Some((document, patch))
+}
+
+/// As much of a file as the tool reads.
+fn beginning(name: &Path) -> io::Result<Vec<u8>> {
+    let mut bytes = Vec::new();
+    File::open(name)?.take(TOOL_READS).read_to_end(&mut bytes)?;
+    Ok(bytes)
+}
