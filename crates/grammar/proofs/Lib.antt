@@ -2,3 +2,4 @@ pub mod Places
 pub mod Tests
 pub mod Sound
 pub mod StringsSound
+pub mod NumbersSound

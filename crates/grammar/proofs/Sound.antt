@@ -52,6 +52,10 @@ module _ {X : Type 0} {s : Bytes} {place : X → ℕ} {at : ℕ} where
   pub refuses : {P : Bytes → X → Type 0} → Some P → Sound s place at P (refused not-json at)
   refuses d = stops (here at) d
 
+  -- a refusal by a limit or a repeated name
+  pub exceeds : {P : Bytes → X → Type 0} {p : ℕ} (number : ℕ) → not-json < number → Sound s place at P (refused number p)
+  exceeds number l = other {number = number} (λ e. omega arith)
+
   -- a result of no byte
   pub gives : {P : Bytes → X → Type 0} (x : X) → place x ≡ at → P [] x → Sound s place at P (ok x)
   gives x e d = finds {w = []} {x = x} (rw e (here at)) d
@@ -117,3 +121,13 @@ pub expect-then : {X : Type 0} {s : Bytes} {place : X → ℕ} {at : ℕ} (P : B
     Sound s place next (λ w x. P (b ∷ w) x) o → Sound s place at P (byteIn s at b b >>= λ _. o)
 expect-then {s = s} {place = place} P {o = o} b next h n some rest =
     byteIn-then P (λ _. o) b b next h n some λ c l m. let same : b ≡ c = omega arith in subst (λ c. Sound s place next (λ w x. P (c ∷ w) x) o) same rest
+
+-- a byte between two bounds, which is not passed
+pub check-then : {X : Type 0} {s : Bytes} {place : X → ℕ} {at : ℕ} {P : Bytes → X → Type 0} {o : Outcome X} (low high : ℕ) → Some P →
+    (low ≤ byte s at → byte s at ≤ high → Sound s place at P o) → Sound s place at P (byteIn s at low high >>= λ _. o)
+unfolding byteIn _>>=_
+check-then {s = s} {place = place} {at = at} {P = P} {o = o} low high some rest = go (within low high (byte s at)) refl
+  where
+    go : (c : Bool) → within low high (byte s at) ≡ c → Sound s place at P ((if c then ok (byte s at) else refused not-json at) >>= λ _. o)
+    go true e = let (l, m) = within-true low high (byte s at) e in rest l m
+    go false e = refuses some
