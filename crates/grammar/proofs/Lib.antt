@@ -3,3 +3,5 @@ pub mod Tests
 pub mod Sound
 pub mod StringsSound
 pub mod NumbersSound
+pub mod ReadSound
+pub mod Theorems

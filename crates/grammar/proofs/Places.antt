@@ -42,8 +42,8 @@ module _ {s : Bytes} where
       record { rest = f .rest ∙ ap (λ x. w ++ x) (g .rest) ∙ sym (append-assoc w w' _); far = omega (arith, length-append w w') }
 
   -- a byte, and what follows it
-  pub then : {at next : ℕ} {w : Bytes} (b : ℕ) → 0 < b → byte s at ≡ b → From s (at + 1) w next → From s at (b ∷ w) next
-  then {at = at} b h e f = rw (← e) (join (one at (in-text s at (omega arith))) f)
+  pub cons : {at next : ℕ} {w : Bytes} (b : ℕ) → 0 < b → byte s at ≡ b → From s (at + 1) w next → From s at (b ∷ w) next
+  cons {at = at} b h e f = rw (← e) (join (one at (in-text s at (omega arith))) f)
 
   pub inside : {at next : ℕ} {w : Bytes} → From s at w next → at ≤ length s → next ≤ length s
   inside {at} {next} {w} f l =

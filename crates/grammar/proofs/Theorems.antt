@@ -1,0 +1,17 @@
+-- The theorems of specs/Theorems, each by the law that it follows from.
+use mathlib.Core.Path.{_≡_, subst, sym}
+use lib.ListN.{length}
+use Rattle.spec.specs.Outcome.{ok}
+use Rattle.spec.specs.Bytes.{Bytes}
+use Rattle.spec.specs.Value as Value
+use Rattle.spec.specs.Read.{read}
+use Rattle.grammar.specs.Grammar.{JSON-text}
+use Rattle.grammar.specs.Theorems.{Soundness}
+use Rattle.grammar.proofs.Places.{whole}
+use Rattle.grammar.proofs.Sound.{Sound, found}
+use Rattle.grammar.proofs.ReadSound.{read-sound}
+
+pub soundness : Soundness
+soundness s v e =
+    let r = found (subst (Sound s (λ v. length s) 0 JSON-text) e (read-sound s)) in
+    subst (λ w. JSON-text w v) (sym (whole (r .from))) (r .derived)

@@ -1,0 +1,11 @@
+-- What is proved of the reader against the grammar: proofs/Theorems.
+use mathlib.Core.Path.{_≡_}
+use Rattle.spec.specs.Outcome.{ok}
+use Rattle.spec.specs.Bytes.{Bytes}
+use Rattle.spec.specs.Value as Value
+use Rattle.spec.specs.Read.{read}
+use Rattle.grammar.specs.Grammar.{JSON-text}
+
+-- What is read is JSON text, and means the value that is read.
+abbrev pub Soundness : Type 0
+Soundness = (s : Bytes) (v : Value.Value) → read s ≡ ok v → JSON-text s v
