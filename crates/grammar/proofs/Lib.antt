@@ -4,4 +4,5 @@ pub mod Sound
 pub mod StringsSound
 pub mod NumbersSound
 pub mod ReadSound
+pub mod StringsComplete
 pub mod Theorems

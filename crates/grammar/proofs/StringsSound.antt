@@ -27,7 +27,7 @@ abbrev pub Means : {A : Type 0} → (Bytes → A → Type 0) → Bytes → A × 
 Means P w x = P w (x .0)
 
 -- the bytes of a character after its first, as the reader takes them
-data Tail : ℕ → ℕ → ℕ → ℕ → Bytes → ℕ → Type 0 where
+pub data Tail : ℕ → ℕ → ℕ → ℕ → Bytes → ℕ → Type 0 where
   done : {low high bits : ℕ} → Tail zero low high bits [] bits
   more : {n low high bits b c : ℕ} {w : Bytes} → %x low high b → Tail n 0x80 0xBF (bits * 64 + (b - 0x80)) w c → Tail (suc n) low high bits (b ∷ w) c
 
