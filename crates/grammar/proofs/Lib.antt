@@ -4,5 +4,7 @@ pub mod Sound
 pub mod StringsSound
 pub mod NumbersSound
 pub mod ReadSound
+pub mod Complete
 pub mod StringsComplete
+pub mod NumbersComplete
 pub mod Theorems

@@ -50,6 +50,12 @@ module _ {s : Bytes} where
       let a = f .far in
       omega (arith, length-drop at s, length-drop next s, ap length (f .rest), length-append w (drop next s))
 
+  -- nothing stands after the end
+  pub at-end : {at next : ℕ} {w : Bytes} → From s at w next → length s ≤ at → next ≡ at
+  at-end {at} {next} {w} f l =
+      let a = f .far in
+      omega (arith, length-drop at s, ap length (f .rest), length-append w (drop next s))
+
   pub split : {at next : ℕ} (w w' : Bytes) → From s at (w ++ w') next → From s at w (at + length w) × From s (at + length w) w' next
   split {at} {next} w w' f =
       let all = f .rest ∙ append-assoc w w' _ in

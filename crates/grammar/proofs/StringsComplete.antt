@@ -46,8 +46,15 @@ module _ (s : Bytes) (at : ℕ) {a : ℕ} where
   multibyte-F1-F3 : %x 0xF1 0xF3 a → multibyte s at a ≡ tail 3 s (at + 1) 0x80 0xBF (a - 0xF0)
   unfolding multibyte
   multibyte-F1-F3 h =
-      rw (above-range 0xC2 0xDF a (omega arith), above-range 0xE0 0xE0 a (omega arith), above-range 0xE1 0xEC a (omega arith), above-range 0xED 0xED a (omega arith), above-range 0xEE 0xEF a (omega arith),
-      above-range 0xF0 0xF0 a (omega arith), in-range 0xF1 0xF3 a (h .0) (h .1))
+      rw (
+        above-range 0xC2 0xDF a (omega arith),
+        above-range 0xE0 0xE0 a (omega arith),
+        above-range 0xE1 0xEC a (omega arith),
+        above-range 0xED 0xED a (omega arith),
+        above-range 0xEE 0xEF a (omega arith),
+        above-range 0xF0 0xF0 a (omega arith),
+        in-range 0xF1 0xF3 a (h .0) (h .1),
+      )
 
 module _ (s : Bytes) (at : ℕ) where
   multibyte-E0 : multibyte s at 0xE0 ≡ tail 2 s (at + 1) 0xA0 0xBF 0x0
