@@ -7,4 +7,5 @@ pub mod ReadSound
 pub mod Complete
 pub mod StringsComplete
 pub mod NumbersComplete
+pub mod ReadComplete
 pub mod Theorems

@@ -17,7 +17,7 @@ use Rattle.spec.specs.Bytes.{Bytes, byte, within, byteIn}
 use Rattle.spec.specs.Worth.{decimal, exponent, signedExponent}
 use Rattle.spec.specs.Numbers as Numbers
 use Rattle.spec.specs.Numbers.{isDigit, isE, counted, digits, someDigits, exponentDigits, signedDigits}
-use Rattle.grammar.specs.Grammar.{optional, DIGIT, *DIGIT, 1*DIGIT, minus, int, frac, e, sign, exp, number}
+use Rattle.grammar.specs.Grammar.{%x, optional, DIGIT, *DIGIT, 1*DIGIT, minus, int, frac, e, sign, exp, number}
 use Rattle.grammar.specs.Limits.{NumberFits}
 use Rattle.grammar.proofs.Places.{From, in-text, first, split, at-end}
 use Rattle.grammar.proofs.Tests.{byCases, in-range, below-range, above-range}
@@ -223,6 +223,18 @@ minus-reads {s} {at = at} {next = next} optional.absent f d =
     let same : at ≡ next = omega arith in
     rw (same, ne-eqb (byte s next) 0x2D (λ i. omega arith))
 minus-reads (optional.present minus.minus-sign) f d = let (here, _, _) = first f in rw (here, f .far)
+
+pub record NumberBegins (b : ℕ) : Type 0 where
+  pub starts : (isDigit b || eqb b 0x2D) ≡ true
+  pub range : %x 0x2D 0x39 b
+
+pub number-begins : {s w : Bytes} {at next : ℕ} → number w → From s at w next → NumberBegins (byte s at)
+number-begins {s} {at = at} (number.parts {m} {i} {f} {x} optional.absent pi pf px) from =
+    let d = int-begins pi (split i (f ++ x) from .0) in
+    record { starts = rw (is-digit d); range = omega arith }
+number-begins (number.parts (optional.present minus.minus-sign) pi pf px) from =
+    let (here, _, _) = first from in
+    rw here (record { starts = rw (no-digit-below 0x2D (omega arith)); range = omega arith })
 
 pub number-reads : {s w : Bytes} {at next : ℕ} → number w → From s at w next → Stops (byte s next) → Reads next (NumberFits w) (Numbers.number s at)
 unfolding Numbers.number
