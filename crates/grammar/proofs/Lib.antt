@@ -1,5 +1,6 @@
 pub mod Places
 pub mod Tests
+pub mod Members
 pub mod Sound
 pub mod StringsSound
 pub mod NumbersSound

@@ -92,3 +92,7 @@ module _ {s : Bytes} where
 
   pub whole : {w : Bytes} → From s 0 w (length s) → s ≡ w
   whole {w} f = f .rest ∙ ap (λ x. w ++ x) (drop-length s) ∙ append-nil w
+
+-- a text from its beginning to its end
+pub from-whole : (s : Bytes) → From s 0 s (length s)
+from-whole s = record { rest = sym (ap (λ x. s ++ x) (drop-length s) ∙ append-nil s); far = omega arith }

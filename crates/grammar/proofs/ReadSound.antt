@@ -24,6 +24,7 @@ use Rattle.spec.specs.Read.{isBlank, blanksFrom, blanks, spelled, roomFor, lite
 use Rattle.grammar.specs.Grammar.{ws, structural, optional, *DIGIT, 1*DIGIT, int, number, string, *char, node, value, object, members, member, array, elements, JSON-text, name-separator, value-separator}
 use Rattle.grammar.proofs.Places.{From, here, one, join, cons, in-text, bytes}
 use Rattle.grammar.proofs.Tests.{byCases, either}
+use Rattle.grammar.proofs.Members.{⧺-assoc}
 use Rattle.grammar.proofs.Sound.{Sound, finds, stops, other, Some, some, some-cons, exceeds, refuses, gives, weaken, choose, after, andThen, finish, past, expect-then}
 use Rattle.grammar.proofs.StringsSound.{end, Means, string-sound}
 use Rattle.grammar.proofs.NumbersSound.{there, Derives, number-sound}
@@ -40,10 +41,10 @@ blank b h {w} d =
     is : {c : ℕ} → (ws w → ws (c ∷ w)) → 0 < c → eqb b c ≡ true → (0 < b) × ws (b ∷ w)
     is {c} f l e = let same = eqb-true b c e in (omega arith, rw same (f d))
 
-record Blanks (s : Bytes) (at next : ℕ) : Type 0 where
-  text : Bytes
-  from : From s at text next
-  derived : ws text
+pub record Blanks (s : Bytes) (at next : ℕ) : Type 0 where
+  pub text : Bytes
+  pub from : From s at text next
+  pub derived : ws text
 
 blanksFrom-sound : (fuel : ℕ) (s : Bytes) (at : ℕ) → Blanks s at (blanksFrom fuel s at)
 unfolding blanksFrom
@@ -56,7 +57,7 @@ blanksFrom-sound (suc fuel) s at = go (isBlank (byte s at)) refl (blanksFrom-sou
         record { text = byte s at ∷ r .text; from = cons (byte s at) positive refl (r .from); derived = d }
     go false e r = record { text = []; from = here at; derived = ws.none }
 
-blanks-sound : (s : Bytes) (at : ℕ) → Blanks s at (blanks s at)
+pub blanks-sound : (s : Bytes) (at : ℕ) → Blanks s at (blanks s at)
 unfolding blanks
 blanks-sound s at = blanksFrom-sound (length s) s at
 
@@ -158,11 +159,6 @@ record Rest (isObject : Bool) (so-far : Members) (w : Bytes) (kids : Members) : 
   others : Members
   is : kids ≡ so-far ⧺ others
   derived : Items isObject w others
-
-⧺-assoc : (f g h : Members) → (f ⧺ g) ⧺ h ≡ f ⧺ (g ⧺ h)
-unfolding _⧺_
-⧺-assoc Forest.none g h = refl
-⧺-assoc (Forest.tree e kids rest) g h = ap (λ f. Forest.tree e kids f) (⧺-assoc rest g h)
 
 module _ {isObject : Bool} {so-far : Members} where
   last-rest : {n w b : Bytes} {name : Text} {v : Value.Value} → NamePart isObject n name → value w v → ws b →

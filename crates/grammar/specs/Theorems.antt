@@ -5,7 +5,12 @@ use Rattle.spec.specs.Bytes.{Bytes}
 use Rattle.spec.specs.Value as Value
 use Rattle.spec.specs.Read.{read}
 use Rattle.grammar.specs.Grammar.{JSON-text}
+use Rattle.grammar.specs.Limits.{WithinLimits}
 
 -- What is read is JSON text, and means the value that is read.
 abbrev pub Soundness : Type 0
 Soundness = (s : Bytes) (v : Value.Value) → read s ≡ ok v → JSON-text s v
+
+-- JSON text within the limits is read, as the value that it means.
+abbrev pub Completeness : Type 0
+Completeness = (s : Bytes) (v : Value.Value) → JSON-text s v → WithinLimits v → read s ≡ ok v

@@ -1,0 +1,59 @@
+-- Laws of members: joining them, counting them, and their names.
+use Prim.Native.Nat.{ℕ, suc, _+_}
+use mathlib.Core.Path.{_≡_, refl, ap, ap₂, sym, _∙_}
+use mathlib.Core.Bool.{Bool, true, false, _&&_, true≢false, and-eq-true-iff}
+use mathlib.Core.List.{[], _∷_}
+use native.Mathlib.Omega.{arith}
+use lib.Dec.{eqb, ltb}
+use borrow.Author.Tests.{eqb-true, ltb-true, lt-ltb}
+use Rattle.spec.specs.Outcome.{if_then_else_}
+use Rattle.spec.specs.Bytes.{Text}
+use Rattle.spec.specs.Forest.{none, tree, size, count, _⧺_}
+use Rattle.spec.specs.Value as Value
+use Rattle.spec.specs.Value.{Entry, Members, sameText, find, has}
+use Rattle.grammar.proofs.Tests.{byCases}
+use Rattle.grammar.specs.Limits.{Named, here, later, Distinct, one-more}
+
+pub ⧺-assoc : (f g h : Members) → (f ⧺ g) ⧺ h ≡ f ⧺ (g ⧺ h)
+unfolding _⧺_
+⧺-assoc none g h = refl
+⧺-assoc (tree e kids rest) g h = ap (λ f. tree e kids f) (⧺-assoc rest g h)
+
+pub size-⧺ : (f g : Members) → size (f ⧺ g) ≡ size f + size g
+unfolding _⧺_ size
+size-⧺ none g = omega arith
+size-⧺ (tree e kids rest) g = omega (arith, size-⧺ rest g)
+
+sameText-true : (s t : Text) → sameText s t ≡ true → s ≡ t
+unfolding sameText
+sameText-true [] [] h = refl
+sameText-true [] (b ∷ t) h = absurd (true≢false (sym h))
+sameText-true (a ∷ s) [] h = absurd (true≢false (sym h))
+sameText-true (a ∷ s) (b ∷ t) h =
+    let q = and-eq-true-iff (eqb a b) (sameText s t) .0 h in
+    ap₂ _∷_ (eqb-true a b (q .0)) (sameText-true s t (q .1))
+
+has-named : (n : Text) (f : Members) → has n f ≡ true → Named n f
+unfolding find count
+has-named n none h = absurd (omega (arith, ltb-true 0 0 h))
+has-named n (tree e kids rest) h = go (sameText (e .name) n) refl h (has-named n rest)
+  where
+    go : (c : Bool) → sameText (e .name) n ≡ c → ltb (if c then 0 else suc (find n rest)) (suc (count rest)) ≡ true → (has n rest ≡ true → Named n rest) → Named n (tree e kids rest)
+    go true i h ih = here (sameText-true (e .name) n i)
+    go false i h ih = later (ih (lt-ltb (find n rest) (count rest) (let l = ltb-true (suc (find n rest)) (suc (count rest)) h in omega arith)))
+
+-- a name that stands among members, and again after them
+module _ (e : Entry) (kids rest : Members) where
+  named-after : (f : Members) → Named (e .name) (f ⧺ tree e kids rest)
+  unfolding _⧺_
+  named-after none = here refl
+  named-after (tree d below others) = later (named-after others)
+
+  named-twice : {f : Members} → Named (e .name) f → Distinct (f ⧺ tree e kids rest) → ⊥
+  unfolding _⧺_
+  named-twice (here {rest = others} i) (one-more new d) = new (rw i (named-after others))
+  named-twice (later m) (one-more new d) = named-twice m d
+
+  -- where names differ, the members before one have not its name
+  pub fresh-name : (f : Members) → Distinct (f ⧺ tree e kids rest) → has (e .name) f ≡ false
+  fresh-name f d = byCases (has (e .name) f) (λ h. absurd (named-twice (has-named (e .name) f h) d)) (λ h. h)
