@@ -9,4 +9,5 @@ pub mod Complete
 pub mod StringsComplete
 pub mod NumbersComplete
 pub mod ReadComplete
+pub mod Unambiguous
 pub mod Theorems

@@ -20,15 +20,24 @@ use Rattle.spec.specs.Numbers.{isDigit, isE, counted, digits, someDigits, expon
 use Rattle.grammar.specs.Grammar.{%x, optional, DIGIT, *DIGIT, 1*DIGIT, minus, int, frac, e, sign, exp, number}
 use Rattle.grammar.specs.Limits.{NumberFits}
 use Rattle.grammar.proofs.Places.{From, in-text, first, split, at-end}
-use Rattle.grammar.proofs.Tests.{byCases, in-range, below-range, above-range}
+use Rattle.grammar.proofs.Tests.{byCases, neither, in-range, below-range, above-range}
 use Rattle.grammar.proofs.Complete.{Reads, reads, exceeds, reads-ok, reads-same, asks-more, reads-then}
 use Rattle.grammar.proofs.StringsComplete.{byteIn-reads}
 
--- a byte that goes on with no number
+-- the bytes of numbers, and a byte that goes on with none
+unfoldable pub inNumber : ℕ → Bool
+inNumber b = isDigit b || (isE b || (eqb b 0x2E || (eqb b 0x2B || eqb b 0x2D)))
+
 pub record Stops (b : ℕ) : Type 0 where
-  pub no-digit : isDigit b ≡ false
-  pub no-e : isE b ≡ false
-  pub no-point : eqb b 0x2E ≡ false
+  pub outside : inNumber b ≡ false
+
+module _ {b : ℕ} (h : Stops b) where
+  stops-tests : (isDigit b ≡ false) × (isE b ≡ false) × (eqb b 0x2E ≡ false)
+  unfolding inNumber
+  stops-tests =
+      let (d, r) = neither (isDigit b) _ (h .outside) in
+      let (x, q) = neither (isE b) _ r in
+      (d, x, neither (eqb b 0x2E) _ q .0)
 
 is-digit : {b : ℕ} → DIGIT b → isDigit b ≡ true
 unfolding isDigit
@@ -166,11 +175,11 @@ module _ {asked : Type 0} (s : Bytes) (start last : ℕ) (short : asked → last
   exp-reads {at = at} {next = next} optional.absent f l stop fits =
       let far = f .far in
       let same : at ≡ next = omega arith in
-      rw (same, stop .no-e) reads
+      rw (same, stops-tests stop .1) reads
   exp-reads {at = at} (optional.present (exp.exponent {b = b} {s = w} {w = ds} x p d)) f l stop fits =
       let (here, g, _) = first f in
       let far = f .far in
-      let rest = signedDigits-read p d g l (stop .no-digit) (λ a. subst (λ n. n ≤ maxExponent) (exponent-size x p d) (fits a)) in
+      let rest = signedDigits-read p d g l (stops-tests stop .0) (λ a. subst (λ n. n ≤ maxExponent) (exponent-size x p d) (fits a)) in
       rw (here, is-e x) (reads-then (signedDigits s start) (counted-reads at (omega arith)) rest)
 
 -- no byte before the exponent is its letter
@@ -200,7 +209,7 @@ unfolding isDigit within
 exp-begins {at = at} {next = next} optional.absent f stop =
     let far = f .far in
     let same : at ≡ next = omega arith in
-    rw same (stop .no-digit, stop .no-point)
+    rw same (stops-tests stop .0, stops-tests stop .2)
 exp-begins (optional.present (exp.exponent e.lower-case p d)) f stop = let (here, _, _) = first f in rw here (refl, refl)
 exp-begins (optional.present (exp.exponent e.upper-case p d)) f stop = let (here, _, _) = first f in rw here (refl, refl)
 

@@ -29,11 +29,11 @@ use Rattle.grammar.proofs.Members.{⧺-assoc, size-⧺, fresh-name}
 use Rattle.grammar.proofs.ReadSound.{blanks-sound}
 use Rattle.grammar.proofs.Complete.{Reads, reads, exceeds, reads-it, reads-ok, reads-same, asks-more, reads-then}
 use Rattle.grammar.proofs.StringsComplete.{byteIn-reads, string-reads}
-use Rattle.grammar.proofs.NumbersComplete.{Stops, NumberBegins, number-begins, number-reads}
+use Rattle.grammar.proofs.NumbersComplete.{inNumber, Stops, NumberBegins, number-begins, number-reads}
 
 -- Blanks.
 
-nothing-blank : (s : Bytes) {at : ℕ} → length s ≤ at → isBlank (byte s at) ≡ false
+pub nothing-blank : (s : Bytes) {at : ℕ} → length s ≤ at → isBlank (byte s at) ≡ false
 unfolding isBlank
 nothing-blank s l = rw (past-end s l)
 
@@ -76,29 +76,29 @@ blanksFrom-skip fuel more {s} {at = at} (ws.carriage-return d) f l m =
     let (e, g, i) = first f in blank-step fuel s at (rw e) i l (λ less enough. blanksFrom-skip less more d g enough m)
 
 -- blanks are skipped
-blanks-skip : {s w : Bytes} {at next : ℕ} → ws w → From s at w next → blanks s at ≡ blanks s next
+pub blanks-skip : {s w : Bytes} {at next : ℕ} → ws w → From s at w next → blanks s at ≡ blanks s next
 unfolding blanks
 blanks-skip {s} d f = blanksFrom-skip (length s) (length s) d f (omega arith) (omega arith)
 
 -- a byte that is no blank goes on with no number where it ..
-nothing-stops : (s : Bytes) {at : ℕ} → length s ≤ at → Stops (byte s at)
-unfolding isDigit isE within
-nothing-stops s l = rw (past-end s l) (record { no-digit = refl; no-e = refl; no-point = refl })
+pub nothing-stops : (s : Bytes) {at : ℕ} → length s ≤ at → Stops (byte s at)
+unfolding inNumber isDigit isE within
+nothing-stops s l = rw (past-end s l) (record { outside = refl })
 
-ws-stops : {s w : Bytes} {at next : ℕ} → ws w → From s at w next → Stops (byte s next) → Stops (byte s at)
-unfolding isDigit isE within
+pub ws-stops : {s w : Bytes} {at next : ℕ} → ws w → From s at w next → Stops (byte s next) → Stops (byte s at)
+unfolding inNumber isDigit isE within
 ws-stops {at = at} {next = next} ws.none f h = let far = f .far in let same : at ≡ next = omega arith in rw same h
-ws-stops (ws.space d) f h = rw (first f .0) (record { no-digit = refl; no-e = refl; no-point = refl })
-ws-stops (ws.tab d) f h = rw (first f .0) (record { no-digit = refl; no-e = refl; no-point = refl })
-ws-stops (ws.line-feed d) f h = rw (first f .0) (record { no-digit = refl; no-e = refl; no-point = refl })
-ws-stops (ws.carriage-return d) f h = rw (first f .0) (record { no-digit = refl; no-e = refl; no-point = refl })
+ws-stops (ws.space d) f h = rw (first f .0) (record { outside = refl })
+ws-stops (ws.tab d) f h = rw (first f .0) (record { outside = refl })
+ws-stops (ws.line-feed d) f h = rw (first f .0) (record { outside = refl })
+ws-stops (ws.carriage-return d) f h = rw (first f .0) (record { outside = refl })
 
 -- a structural character with the blanks around it
-record Marked (s : Bytes) (at c next : ℕ) : Type 0 where
-  mark : byte s (blanks s at) ≡ c
-  after : blanks s (blanks s at + 1) ≡ blanks s next
-  grows : at < next
-  stops : Stops (byte s at)
+pub record Marked (s : Bytes) (at c next : ℕ) : Type 0 where
+  pub mark : byte s (blanks s at) ≡ c
+  pub after : blanks s (blanks s at + 1) ≡ blanks s next
+  pub grows : at < next
+  pub stops : Stops (byte s at)
 
 structural-reads : {c : ℕ} {s w : Bytes} {at next : ℕ} → structural c w → isBlank c ≡ false → Stops c → From s at w next → Marked s at c next
 structural-reads {c} {s} {at = at} (structural.around {before} {after} d d') no-blank stop f =
@@ -116,18 +116,18 @@ structural-reads {c} {s} {at = at} (structural.around {before} {after} d d') no-
 -- Scalars.
 
 -- what is asked of a value where so many levels are left and so many values have begun before
-record Asked (left before : ℕ) (v : Value.Value) : Type 0 where
-  shallow : depth v ≤ left
-  few : before + nodes v ≤ maxNodes
-  fits : Fits (v .label) (v .kids)
-  below : Everywhere (v .kids)
+pub record Asked (left before : ℕ) (v : Value.Value) : Type 0 where
+  pub shallow : depth v ≤ left
+  pub few : before + nodes v ≤ maxNodes
+  pub fits : Fits (v .label) (v .kids)
+  pub below : Everywhere (v .kids)
 
 -- a value from a place to the next, where the reader passes the blanks before it and may leave those after it
-record ValueRead (s : Bytes) (left before at next : ℕ) (v : Value.Value) : Type 0 where
-  end : ℕ
-  outcome : Reads (v, end) (Asked left before v) (Read.value left s (blanks s at) before)
-  after : blanks s end ≡ blanks s next
-  no-bracket : byte s (blanks s at) ≡ code "]" → ⊥
+pub record ValueRead (s : Bytes) (left before at next : ℕ) (v : Value.Value) : Type 0 where
+  pub end : ℕ
+  pub outcome : Reads (v, end) (Asked left before v) (Read.value left s (blanks s at) before)
+  pub after : blanks s end ≡ blanks s next
+  pub no-bracket : byte s (blanks s at) ≡ code "]" → ⊥
 
 room-reads : {asked : Type 0} (before at : ℕ) → (asked → before < maxNodes) → Reads at asked (roomFor before at)
 unfolding roomFor
@@ -147,11 +147,11 @@ value-scalar zero s at before e f = rw (e, f)
 value-scalar (suc left) s at before e f = rw (e, f)
 
 -- no blank and no bracket
-record Plain (b : ℕ) : Type 0 where
-  no-blank : isBlank b ≡ false
-  no-array : eqb b (code "[") ≡ false
-  no-object : eqb b (code "{") ≡ false
-  no-closing : b ≡ code "]" → ⊥
+pub record Plain (b : ℕ) : Type 0 where
+  pub no-blank : isBlank b ≡ false
+  pub no-array : eqb b (code "[") ≡ false
+  pub no-object : eqb b (code "{") ≡ false
+  pub no-closing : b ≡ code "]" → ⊥
 
 scalar-read : {s : Bytes} {at next : ℕ} (left before : ℕ) {v : Value.Value} → Plain (byte s at) → Reads (v, next) (Asked left before v) (scalar s at before) → ValueRead s left before at next v
 scalar-read {s} {at} {next} left before p r =
@@ -172,11 +172,11 @@ literal-reads : (label : Label) (word : Bytes) {s : Bytes} {b at next : ℕ} →
 unfolding literalValue _>>=_
 literal-reads label word f = rw (spelled-reads word (first f .1))
 
-string-plain : {s w : Bytes} {cs : Text} {at next : ℕ} → string w cs → From s at w next → (byte s at ≡ 0x22) × Plain (byte s at)
+pub string-plain : {s w : Bytes} {cs : Text} {at next : ℕ} → string w cs → From s at w next → (byte s at ≡ 0x22) × Plain (byte s at)
 unfolding isBlank
 string-plain (string.quoted d) f = let (e, _, _) = first f in (e, rw e (record { no-blank = refl; no-array = refl; no-object = refl; no-closing = λ i. omega arith }))
 
-number-plain : {b : ℕ} → NumberBegins b → Plain b
+pub number-plain : {b : ℕ} → NumberBegins b → Plain b
 unfolding isBlank
 number-plain {b} h =
     let (low, high) = h .range in
@@ -189,26 +189,26 @@ number-plain {b} h =
 
 module _ {s : Bytes} {at next : ℕ} (left before : ℕ) where
   -- a literal by its first byte
-  literal-read : (label : Label) (word : Bytes) {b : ℕ} → (byte s at ≡ b → scalar s at before ≡ (roomFor before at >>= λ _. literalValue label word s at)) → Plain b → From s at (b ∷ word) next →
+  pub literal-read : (label : Label) (word : Bytes) {b : ℕ} → (byte s at ≡ b → scalar s at before ≡ (roomFor before at >>= λ _. literalValue label word s at)) → Plain b → From s at (b ∷ word) next →
       ValueRead s left before at next (leaf label)
   literal-read label word begins p f =
       let (e, _, _) = first f in
       scalar-read left before (rw e p)
       (rw (begins e) (reads-then (λ _. literalValue label word s at) (room-reads before at (room left before (leaf label))) (reads-ok _ (literal-reads label word f))))
 
-  null-read : From s at (ascii "null") next → ValueRead s left before at next (leaf Label.null-literal)
+  pub null-read : From s at (ascii "null") next → ValueRead s left before at next (leaf Label.null-literal)
   unfolding ascii scalar isDigit within isBlank
   null-read f = literal-read Label.null-literal _ (λ e. rw e) (record { no-blank = refl; no-array = refl; no-object = refl; no-closing = λ i. omega arith }) f
 
-  true-read : From s at (ascii "true") next → ValueRead s left before at next (leaf Label.true-literal)
+  pub true-read : From s at (ascii "true") next → ValueRead s left before at next (leaf Label.true-literal)
   unfolding ascii scalar isDigit within isBlank
   true-read f = literal-read Label.true-literal _ (λ e. rw e) (record { no-blank = refl; no-array = refl; no-object = refl; no-closing = λ i. omega arith }) f
 
-  false-read : From s at (ascii "false") next → ValueRead s left before at next (leaf Label.false-literal)
+  pub false-read : From s at (ascii "false") next → ValueRead s left before at next (leaf Label.false-literal)
   unfolding ascii scalar isDigit within isBlank
   false-read f = literal-read Label.false-literal _ (λ e. rw e) (record { no-blank = refl; no-array = refl; no-object = refl; no-closing = λ i. omega arith }) f
 
-  string-read : {w : Bytes} {cs : Text} → string w cs → From s at w next → ValueRead s left before at next (leaf (Label.string cs))
+  pub string-read : {w : Bytes} {cs : Text} → string w cs → From s at w next → ValueRead s left before at next (leaf (Label.string cs))
   unfolding scalar stringValue _>>=_
   string-read d f =
       let (e, p) = string-plain d f in
@@ -300,11 +300,11 @@ record ItemsRead (isObject : Bool) (s : Bytes) (left before at next : ℕ) (f : 
   no-bracket : byte s (blanks s at) ≡ closingBracket isObject → ⊥
 
 -- the brackets
-abbrev openingBracket : Bool → ℕ
+abbrev pub openingBracket : Bool → ℕ
 openingBracket false = code "["
 openingBracket true = code "{"
 
-abbrev containerOf : Bool → Members → Value.Value
+abbrev pub containerOf : Bool → Members → Value.Value
 containerOf isObject f = record { label = containerLabel isObject; kids = f }
 
 no-levels : (isObject : Bool) {before : ℕ} (f : Members) → Asked zero before (containerOf isObject f) → ⊥
@@ -435,29 +435,29 @@ member-read {s} {name = name} {before = before} so-far {at} {p} {q} d f m r =
 
 -- the six structural characters
 module _ {s w : Bytes} {at next : ℕ} where
-  marked : (c : ℕ) → isBlank c ≡ false → isDigit c ≡ false → isE c ≡ false → eqb c 0x2E ≡ false → structural c w → From s at w next → Marked s at c next
-  marked c b d i p h f = structural-reads h b (record { no-digit = d; no-e = i; no-point = p }) f
+  marked : (c : ℕ) → isBlank c ≡ false → inNumber c ≡ false → structural c w → From s at w next → Marked s at c next
+  marked c b o h f = structural-reads h b (record { outside = o }) f
 
-  opening-marked : (isObject : Bool) → structural (openingBracket isObject) w → From s at w next → Marked s at (openingBracket isObject) next
-  unfolding isBlank isDigit isE within
-  opening-marked false h f = marked (code "[") refl refl refl refl h f
-  opening-marked true h f = marked (code "{") refl refl refl refl h f
+  pub opening-marked : (isObject : Bool) → structural (openingBracket isObject) w → From s at w next → Marked s at (openingBracket isObject) next
+  unfolding isBlank inNumber isDigit isE within
+  opening-marked false h f = marked (code "[") refl refl h f
+  opening-marked true h f = marked (code "{") refl refl h f
 
-  closing-marked : (isObject : Bool) → structural (closingBracket isObject) w → From s at w next → Marked s at (closingBracket isObject) next
-  unfolding isBlank isDigit isE within closingBracket
-  closing-marked false h f = marked (code "]") refl refl refl refl h f
-  closing-marked true h f = marked (code "}") refl refl refl refl h f
+  pub closing-marked : (isObject : Bool) → structural (closingBracket isObject) w → From s at w next → Marked s at (closingBracket isObject) next
+  unfolding isBlank inNumber isDigit isE within closingBracket
+  closing-marked false h f = marked (code "]") refl refl h f
+  closing-marked true h f = marked (code "}") refl refl h f
 
-  comma-marked : value-separator w → From s at w next → Marked s at (code ",") next
-  unfolding isBlank isDigit isE within
-  comma-marked h f = marked (code ",") refl refl refl refl h f
+  pub comma-marked : value-separator w → From s at w next → Marked s at (code ",") next
+  unfolding isBlank inNumber isDigit isE within
+  comma-marked h f = marked (code ",") refl refl h f
 
-  colon-marked : name-separator w → From s at w next → Marked s at (code ":") next
-  unfolding isBlank isDigit isE within
-  colon-marked h f = marked (code ":") refl refl refl refl h f
+  pub colon-marked : name-separator w → From s at w next → Marked s at (code ":") next
+  unfolding isBlank inNumber isDigit isE within
+  colon-marked h f = marked (code ":") refl refl h f
 
 -- The induction on derivations.
-abbrev ReadsValue : Bytes → Value.Value → Type 0
+abbrev pub ReadsValue : Bytes → Value.Value → Type 0
 ReadsValue w v = (s : Bytes) (at next : ℕ) → From s at w next → Stops (byte s next) → (left before : ℕ) → ValueRead s left before at next v
 
 abbrev ReadsContainer : Bool → Bytes → Members → Type 0
@@ -513,7 +513,7 @@ pair-reads {n} {c} w v d hc ih s at next f stop left before so-far =
     let (i, j) = split c w h in
     member-read so-far d g (colon-marked hc i) (ih s _ next j stop left)
 
-value-reads : {w : Bytes} {v : Value.Value} → value w v → ReadsValue w v
+pub value-reads : {w : Bytes} {v : Value.Value} → value w v → ReadsValue w v
 unfolding containerLabel closingBracket
 value-reads d =
     elim d as

@@ -6,12 +6,13 @@ use Rattle.spec.specs.Bytes.{Bytes}
 use Rattle.spec.specs.Value as Value
 use Rattle.spec.specs.Read.{read}
 use Rattle.grammar.specs.Grammar.{JSON-text}
-use Rattle.grammar.specs.Theorems.{Soundness, Completeness}
+use Rattle.grammar.specs.Theorems.{Soundness, Completeness, Unambiguity}
 use Rattle.grammar.proofs.Places.{whole}
 use Rattle.grammar.proofs.Sound.{Sound, found}
 use Rattle.grammar.proofs.Complete.{reads-it}
 use Rattle.grammar.proofs.ReadSound.{read-sound}
 use Rattle.grammar.proofs.ReadComplete.{read-complete}
+use Rattle.grammar.proofs.Unambiguous.{one-meaning}
 
 pub soundness : Soundness
 soundness s v e =
@@ -20,3 +21,6 @@ soundness s v e =
 
 pub completeness : Completeness
 completeness s v d limits = reads-it (read-complete d) limits
+
+pub unambiguity : Unambiguity
+unambiguity s v w d d' = one-meaning d d'

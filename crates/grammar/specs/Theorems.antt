@@ -14,3 +14,7 @@ Soundness = (s : Bytes) (v : Value.Value) → read s ≡ ok v → JSON-text s v
 -- JSON text within the limits is read, as the value that it means.
 abbrev pub Completeness : Type 0
 Completeness = (s : Bytes) (v : Value.Value) → JSON-text s v → WithinLimits v → read s ≡ ok v
+
+-- A text means one value at most.
+abbrev pub Unambiguity : Type 0
+Unambiguity = (s : Bytes) (v w : Value.Value) → JSON-text s v → JSON-text s w → v ≡ w
