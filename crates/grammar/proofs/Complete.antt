@@ -1,6 +1,6 @@
 -- What the grammar derives is read, unless a limit is passed.
 use Prim.Native.Nat.{ℕ}
-use mathlib.Core.Path.{_≡_, refl}
+use mathlib.Core.Path.{_≡_, refl, _∙_}
 use native.Mathlib.Omega.{arith}
 use Rattle.spec.specs.Outcome.{Outcome, ok, refused, _>>=_}
 use Rattle.spec.specs.Refusal.{not-json}
@@ -20,6 +20,10 @@ module _ {X : Type 0} {asked : Type 0} where
   pub not-refused : {x : X} {o : Outcome X} {p : ℕ} → Reads x asked o → o ≡ refused not-json p → ⊥
   not-refused reads e = let z : _≡_ {A = ℕ} 0 1 = cc in omega arith
   not-refused (exceeds {number = number} h n) e = let same : number ≡ not-json = cc in h same
+
+  pub refusal-reason : {x : X} {o : Outcome X} {number p : ℕ} → Reads x asked o → o ≡ refused number p → (¬ (number ≡ not-json)) × (¬ asked)
+  refusal-reason reads e = absurd (let z : _≡_ {A = ℕ} 0 1 = cc in omega arith)
+  refusal-reason {number = number} (exceeds {number = other} h n) e = let same : other ≡ number = cc in ((λ i. h (same ∙ i)), n)
 
   pub reads-ok : (o : Outcome X) {x : X} → o ≡ ok x → Reads x asked o
   reads-ok o e = rw e reads

@@ -10,4 +10,6 @@ pub mod StringsComplete
 pub mod NumbersComplete
 pub mod ReadComplete
 pub mod Unambiguous
+pub mod Local
+pub mod ReadLocal
 pub mod Theorems

@@ -46,7 +46,7 @@ pub record Blanks (s : Bytes) (at next : ℕ) : Type 0 where
   pub from : From s at text next
   pub derived : ws text
 
-blanksFrom-sound : (fuel : ℕ) (s : Bytes) (at : ℕ) → Blanks s at (blanksFrom fuel s at)
+pub blanksFrom-sound : (fuel : ℕ) (s : Bytes) (at : ℕ) → Blanks s at (blanksFrom fuel s at)
 unfolding blanksFrom
 blanksFrom-sound zero s at = record { text = []; from = here at; derived = ws.none }
 blanksFrom-sound (suc fuel) s at = go (isBlank (byte s at)) refl (blanksFrom-sound fuel s (at + 1))

@@ -74,10 +74,10 @@ module _ (s : Bytes) (at : ℕ) where
   multibyte-F4 = refl
 
 -- a character that is read, and that does not begin as a closing quotation mark does
-record CharRead (s : Bytes) (at c next : ℕ) : Type 0 where
-  reads : character s at ≡ ok (c, next)
-  no-quote : byte s at ≡ 0x22 → ⊥
-  grows : at < next
+pub record CharRead (s : Bytes) (at c next : ℕ) : Type 0 where
+  pub reads : character s at ≡ ok (c, next)
+  pub no-quote : byte s at ≡ 0x22 → ⊥
+  pub grows : at < next
 
 char-read : {s w : Bytes} {a at c next : ℕ} → From s at (a ∷ w) next → (a ≡ 0x22 → ⊥) → character s at ≡ ok (c, next) → CharRead s at c next
 char-read f other e =
@@ -218,7 +218,7 @@ pair-reads {s} {a} {b} {c} {d} {a'} {b'} {c'} {d'} {at = at} {next = next} da db
 after-u : {s w : Bytes} {at next : ℕ} → From s at (0x5C ∷ 0x75 ∷ w) next → From s (at + 2) w next
 after-u {w = w} f = split (0x5C ∷ 0x75 ∷ []) w f .1
 
-char-reads : {s w : Bytes} {c at next : ℕ} → char w c → From s at w next → CharRead s at c next
+pub char-reads : {s w : Bytes} {c at next : ℕ} → char w c → From s at w next → CharRead s at c next
 unfolding shortEscape
 char-reads (char.plain d u) f = utf8-reads d u f
 char-reads char.quotation-mark f = short-reads f refl refl (omega arith)

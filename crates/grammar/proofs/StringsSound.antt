@@ -263,7 +263,7 @@ plain-sound b h q r = char.plain (UTF8-char.of-1 (UTF8-1.one {a = b} (omega arit
     go (no l) (yes m) = unescaped.23-5B {c = b} (omega arith)
     go (no l) (no m) = unescaped.5D-10FFFF {c = b} (omega arith)
 
-character-sound : (s : Bytes) (at : ℕ) → (byte s at ≡ 0x22 → ⊥) → Sound s end at (Means char) (character s at)
+pub character-sound : (s : Bytes) (at : ℕ) → (byte s at ≡ 0x22 → ⊥) → Sound s end at (Means char) (character s at)
 unfolding character
 character-sound s at quote =
     choose (eqb (byte s at) 0x5C) (λ e. past _ 0x5C (at + 1) (omega arith) (eqb-true _ _ e) refl (escape-sound s (at + 1))) λ e.
