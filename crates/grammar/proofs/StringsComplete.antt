@@ -108,14 +108,14 @@ one-reads {a = a} {at = at} h u f =
 
 utf8-reads : {s w : Bytes} {c at next : ℕ} → UTF8-char w c → unescaped c → From s at w next → CharRead s at c next
 utf8-reads (UTF8-char.of-1 (UTF8-1.one {a} h)) u f = one-reads (h .1) u f
-utf8-reads (UTF8-char.of-2 (UTF8-2.C2-DF {a} {b} h i)) u f = several-reads (omega arith) (multibyte-2 _ _ h) (more i done) (omega arith) f
-utf8-reads (UTF8-char.of-3 (UTF8-3.E0 h i)) u f = several-reads (omega arith) (multibyte-E0 _ _) (more h (more i done)) (omega arith) f
-utf8-reads (UTF8-char.of-3 (UTF8-3.E1-EC h i j)) u f = several-reads (omega arith) (multibyte-E1-EC _ _ h) (more i (more j done)) (omega arith) f
-utf8-reads (UTF8-char.of-3 (UTF8-3.ED h i)) u f = several-reads (omega arith) (multibyte-ED _ _) (more h (more i done)) (omega arith) f
-utf8-reads (UTF8-char.of-3 (UTF8-3.EE-EF h i j)) u f = several-reads (omega arith) (multibyte-EE-EF _ _ h) (more i (more j done)) (omega arith) f
-utf8-reads (UTF8-char.of-4 (UTF8-4.F0 h i j)) u f = several-reads (omega arith) (multibyte-F0 _ _) (more h (more i (more j done))) (omega arith) f
-utf8-reads (UTF8-char.of-4 (UTF8-4.F1-F3 h i j k)) u f = several-reads (omega arith) (multibyte-F1-F3 _ _ h) (more i (more j (more k done))) (omega arith) f
-utf8-reads (UTF8-char.of-4 (UTF8-4.F4 h i j)) u f = several-reads (omega arith) (multibyte-F4 _ _) (more h (more i (more j done))) (omega arith) f
+utf8-reads (UTF8-char.of-2 (UTF8-2.C2-DF h i)) u f = several-reads (omega arith) (multibyte-2 _ _ (omega arith)) (more i done) (omega arith) f
+utf8-reads (UTF8-char.of-3 (UTF8-3.E0 {b = b} h i)) u f = several-reads (omega arith) (multibyte-E0 _ _) (more {b = b} (omega arith) (more i done)) (omega arith) f
+utf8-reads (UTF8-char.of-3 (UTF8-3.E1-EC h i j)) u f = several-reads (omega arith) (multibyte-E1-EC _ _ (omega arith)) (more i (more j done)) (omega arith) f
+utf8-reads (UTF8-char.of-3 (UTF8-3.ED {b = b} h i)) u f = several-reads (omega arith) (multibyte-ED _ _) (more {b = b} (omega arith) (more i done)) (omega arith) f
+utf8-reads (UTF8-char.of-3 (UTF8-3.EE-EF h i j)) u f = several-reads (omega arith) (multibyte-EE-EF _ _ (omega arith)) (more i (more j done)) (omega arith) f
+utf8-reads (UTF8-char.of-4 (UTF8-4.F0 {b = b} h i j)) u f = several-reads (omega arith) (multibyte-F0 _ _) (more {b = b} (omega arith) (more i (more j done))) (omega arith) f
+utf8-reads (UTF8-char.of-4 (UTF8-4.F1-F3 h i j k)) u f = several-reads (omega arith) (multibyte-F1-F3 _ _ (omega arith)) (more i (more j (more k done))) (omega arith) f
+utf8-reads (UTF8-char.of-4 (UTF8-4.F4 {b = b} h i j)) u f = several-reads (omega arith) (multibyte-F4 _ _) (more {b = b} (omega arith) (more i (more j done))) (omega arith) f
 
 -- hexadecimal digits
 hexValue-digit : {b h : ℕ} → HEXDIG b h → (hexValue b ≡ h) × (h ≤ 0xF)
@@ -221,16 +221,16 @@ after-u {w = w} f = split (0x5C ∷ 0x75 ∷ []) w f .1
 pub char-reads : {s w : Bytes} {c at next : ℕ} → char w c → From s at w next → CharRead s at c next
 unfolding shortEscape
 char-reads (char.plain d u) f = utf8-reads d u f
-char-reads char.quotation-mark f = short-reads f refl refl (omega arith)
-char-reads char.reverse-solidus f = short-reads f refl refl (omega arith)
-char-reads char.solidus f = short-reads f refl refl (omega arith)
-char-reads char.backspace f = short-reads f refl refl (omega arith)
-char-reads char.form-feed f = short-reads f refl refl (omega arith)
-char-reads char.line-feed f = short-reads f refl refl (omega arith)
-char-reads char.carriage-return f = short-reads f refl refl (omega arith)
-char-reads char.tab f = short-reads f refl refl (omega arith)
-char-reads (char.below-surrogates (4HEXDIG.digits da db dc dd) l) f = unicode-reads f (below-reads (digits-at da db dc dd (after-u f)) l)
-char-reads (char.above-surrogates (4HEXDIG.digits da db dc dd) l) f = unicode-reads f (above-reads (digits-at da db dc dd (after-u f)) l)
+char-reads char.U+0022 f = short-reads f refl refl (omega arith)
+char-reads char.U+005C f = short-reads f refl refl (omega arith)
+char-reads char.U+002F f = short-reads f refl refl (omega arith)
+char-reads char.U+0008 f = short-reads f refl refl (omega arith)
+char-reads char.U+000C f = short-reads f refl refl (omega arith)
+char-reads char.U+000A f = short-reads f refl refl (omega arith)
+char-reads char.U+000D f = short-reads f refl refl (omega arith)
+char-reads char.U+0009 f = short-reads f refl refl (omega arith)
+char-reads (char.below-surrogates (4HEXDIG.digits da db dc dd) l) f = unicode-reads f (below-reads (digits-at da db dc dd (after-u f)) (omega arith))
+char-reads (char.above-surrogates (4HEXDIG.digits da db dc dd) l) f = unicode-reads f (above-reads (digits-at da db dc dd (after-u f)) (omega arith))
 char-reads (char.surrogate-pair (4HEXDIG.digits da db dc dd) high (4HEXDIG.digits da' db' dc' dd') low) f = unicode-reads f (pair-reads da db dc dd da' db' dc' dd' high low (after-u f))
 
 chars-read : (fuel : ℕ) {s w : Bytes} {cs : Text} {at end : ℕ} → *char w cs → From s at w end → byte s end ≡ 0x22 → length s ≤ fuel + at → characters fuel s at ≡ ok (cs, end + 1)

@@ -50,28 +50,28 @@ multi {w} {c} u e r = char.plain {c = c} (subst (UTF8-char w) e u) (unescaped.5D
 
 -- table 3-7 row by row
 row-2 : {a c : ℕ} {w : Bytes} → %x 0xC2 0xDF a → Tail 1 0x80 0xBF (a - 0xC0) w c → char (a ∷ w) c
-row-2 h (more i done) = multi (UTF8-char.of-2 (UTF8-2.C2-DF h i)) (omega arith) (omega arith)
+row-2 {a} h (more i done) = multi (UTF8-char.of-2 (UTF8-2.C2-DF {a = a} (omega arith) i)) (omega arith) (omega arith)
 
 row-E0 : {c : ℕ} {w : Bytes} → Tail 2 0xA0 0xBF (0xE0 - 0xE0) w c → char (0xE0 ∷ w) c
-row-E0 (more h (more i done)) = multi (UTF8-char.of-3 (UTF8-3.E0 h i)) (omega arith) (omega arith)
+row-E0 (more {b = b} h (more i done)) = multi (UTF8-char.of-3 (UTF8-3.E0 {b = b} (omega arith) i)) (omega arith) (omega arith)
 
 row-E1-EC : {a c : ℕ} {w : Bytes} → %x 0xE1 0xEC a → Tail 2 0x80 0xBF (a - 0xE0) w c → char (a ∷ w) c
-row-E1-EC h (more i (more j done)) = multi (UTF8-char.of-3 (UTF8-3.E1-EC h i j)) (omega arith) (omega arith)
+row-E1-EC {a} h (more i (more j done)) = multi (UTF8-char.of-3 (UTF8-3.E1-EC {a = a} (omega arith) i j)) (omega arith) (omega arith)
 
 row-ED : {c : ℕ} {w : Bytes} → Tail 2 0x80 0x9F (0xED - 0xE0) w c → char (0xED ∷ w) c
-row-ED (more h (more i done)) = multi (UTF8-char.of-3 (UTF8-3.ED h i)) (omega arith) (omega arith)
+row-ED (more {b = b} h (more i done)) = multi (UTF8-char.of-3 (UTF8-3.ED {b = b} (omega arith) i)) (omega arith) (omega arith)
 
 row-EE-EF : {a c : ℕ} {w : Bytes} → %x 0xEE 0xEF a → Tail 2 0x80 0xBF (a - 0xE0) w c → char (a ∷ w) c
-row-EE-EF h (more i (more j done)) = multi (UTF8-char.of-3 (UTF8-3.EE-EF h i j)) (omega arith) (omega arith)
+row-EE-EF {a} h (more i (more j done)) = multi (UTF8-char.of-3 (UTF8-3.EE-EF {a = a} (omega arith) i j)) (omega arith) (omega arith)
 
 row-F0 : {c : ℕ} {w : Bytes} → Tail 3 0x90 0xBF (0xF0 - 0xF0) w c → char (0xF0 ∷ w) c
-row-F0 (more h (more i (more j done))) = multi (UTF8-char.of-4 (UTF8-4.F0 h i j)) (omega arith) (omega arith)
+row-F0 (more {b = b} h (more i (more j done))) = multi (UTF8-char.of-4 (UTF8-4.F0 {b = b} (omega arith) i j)) (omega arith) (omega arith)
 
 row-F1-F3 : {a c : ℕ} {w : Bytes} → %x 0xF1 0xF3 a → Tail 3 0x80 0xBF (a - 0xF0) w c → char (a ∷ w) c
-row-F1-F3 h (more i (more j (more k done))) = multi (UTF8-char.of-4 (UTF8-4.F1-F3 h i j k)) (omega arith) (omega arith)
+row-F1-F3 {a} h (more i (more j (more k done))) = multi (UTF8-char.of-4 (UTF8-4.F1-F3 {a = a} (omega arith) i j k)) (omega arith) (omega arith)
 
 row-F4 : {c : ℕ} {w : Bytes} → Tail 3 0x80 0x8F (0xF4 - 0xF0) w c → char (0xF4 ∷ w) c
-row-F4 (more h (more i (more j done))) = multi (UTF8-char.of-4 (UTF8-4.F4 h i j)) (omega arith) (omega arith)
+row-F4 (more {b = b} h (more i (more j done))) = multi (UTF8-char.of-4 (UTF8-4.F4 {b = b} (omega arith) i j)) (omega arith) (omega arith)
 
 some-char : Some (Means char)
 some-char = some (0x20 ∷ []) (0x20, 0) (char.plain (UTF8-char.of-1 (UTF8-1.one (omega arith))) (unescaped.20-21 (omega arith)))
@@ -190,7 +190,7 @@ module _ {a b c d h i j k : ℕ} (da : HEXDIG a h) (db : HEXDIG b i) (dc : HEXDI
   unit-char e = go (decLt unit 0xD800)
     where
       go : Dec (unit < 0xD800) → char (0x5C ∷ 0x75 ∷ a ∷ b ∷ c ∷ d ∷ []) unit
-      go (yes l) = char.below-surrogates (4HEXDIG.digits da db dc dd) l
+      go (yes l) = char.below-surrogates (4HEXDIG.digits da db dc dd) (omega arith)
       go (no l) = char.above-surrogates (4HEXDIG.digits da db dc dd) (no-low (past-range 0xD800 0xDBFF unit e (omega arith)))
 
   some-unit : Some (Means (AfterUnit (a ∷ b ∷ c ∷ d ∷ [])))
@@ -232,8 +232,8 @@ record Short (b c : ℕ) : Type 0 where
 short-escape : (b : ℕ) → (shortEscape b ≡ 0 → ⊥) → Short b (shortEscape b)
 unfolding shortEscape
 short-escape b =
-    try 0x22 char.quotation-mark (omega arith) (try 0x5C char.reverse-solidus (omega arith) (try 0x2F char.solidus (omega arith) (try 0x62 char.backspace (omega arith)
-    (try 0x66 char.form-feed (omega arith) (try 0x6E char.line-feed (omega arith) (try 0x72 char.carriage-return (omega arith) (try 0x74 char.tab (omega arith)
+    try 0x22 char.U+0022 (omega arith) (try 0x5C char.U+005C (omega arith) (try 0x2F char.U+002F (omega arith) (try 0x62 char.U+0008 (omega arith)
+    (try 0x66 char.U+000C (omega arith) (try 0x6E char.U+000A (omega arith) (try 0x72 char.U+000D (omega arith) (try 0x74 char.U+0009 (omega arith)
     (λ h. absurd (h refl)))))))))
   where
     try : (a : ℕ) {c o : ℕ} → char (0x5C ∷ a ∷ []) c → 0 < a → ((o ≡ 0 → ⊥) → Short b o) → ((if eqb b a then c else o) ≡ 0 → ⊥) → Short b (if eqb b a then c else o)
@@ -244,7 +244,7 @@ short-escape b =
         go false e h = rest h
 
 some-escape : Some (Means (λ w c. char (0x5C ∷ w) c))
-some-escape = some (0x22 ∷ []) (0x22, 0) char.quotation-mark
+some-escape = some (0x22 ∷ []) (0x22, 0) char.U+0022
 
 escape-sound : (s : Bytes) (at : ℕ) → Sound s end at (Means (λ w c. char (0x5C ∷ w) c)) (escape s at)
 unfolding escape

@@ -31,27 +31,33 @@ pub data ws : Bytes → Type 0 where
 pub data structural (character : ℕ) : Bytes → Type 0 where
   around : {before after : Bytes} → ws before → ws after → structural character (before ++ (character ∷ after))
 
--- begin-array = ws %x5B ws, and so the other five
+-- begin-array = ws %x5B ws
 abbrev pub begin-array : Bytes → Type 0
 begin-array = structural (code "[")
 
+-- begin-object = ws %x7B ws
 abbrev pub begin-object : Bytes → Type 0
 begin-object = structural (code "{")
 
+-- end-array = ws %x5D ws
 abbrev pub end-array : Bytes → Type 0
 end-array = structural (code "]")
 
+-- end-object = ws %x7D ws
 abbrev pub end-object : Bytes → Type 0
 end-object = structural (code "}")
 
+-- name-separator = ws %x3A ws
 abbrev pub name-separator : Bytes → Type 0
 name-separator = structural (code ":")
 
+-- value-separator = ws %x2C ws
 abbrev pub value-separator : Bytes → Type 0
 value-separator = structural (code ",")
 
 -- Section 6: numbers
 
+-- DIGIT = %x30-39
 abbrev pub DIGIT : ℕ → Type 0
 DIGIT = %x 0x30 0x39
 
@@ -143,7 +149,7 @@ pub data UTF8-char : Bytes → ℕ → Type 0 where
 
 -- RFC 8259, section 7: strings
 
--- "The hexadecimal letters A through F can be uppercase or lowercase."
+-- a digit and its value: "The hexadecimal letters A through F can be uppercase or lowercase."
 pub data HEXDIG : ℕ → ℕ → Type 0 where
   digit : {b : ℕ} → %x 0x30 0x39 b → HEXDIG b (b - 0x30)
   upper-case : {b : ℕ} → %x 0x41 0x46 b → HEXDIG b (b - 0x41 + 10)
@@ -159,31 +165,39 @@ pub data unescaped : ℕ → Type 0 where
   23-5B : {c : ℕ} → %x 0x23 0x5B c → unescaped c
   5D-10FFFF : {c : ℕ} → %x 0x5D 0x10_FFFF c → unescaped c
 
--- char = unescaped / escape ( %x22 / %x5C / %x2F / %x62 / %x66 / %x6E / %x72 / %x74 / %x75 4HEXDIG ), escape = %x5C
+-- escape = %x5C
+abbrev pub escape : ℕ
+escape = 0x5C
+
+-- char = unescaped / escape ( %x22 / %x5C / %x2F / %x62 / %x66 / %x6E / %x72 / %x74 / %x75 4HEXDIG )
 -- No surrogate is escaped alone: "To escape an extended character that is not in the Basic Multilingual Plane, the character is represented
 -- as a 12-character sequence, encoding the UTF-16 surrogate pair."
 pub data char : Bytes → ℕ → Type 0 where
   plain : {w : Bytes} {c : ℕ} → UTF8-char w c → unescaped c → char w c
-  quotation-mark : char (0x5C ∷ 0x22 ∷ []) 0x22
-  reverse-solidus : char (0x5C ∷ 0x5C ∷ []) 0x5C
-  solidus : char (0x5C ∷ 0x2F ∷ []) 0x2F
-  backspace : char (0x5C ∷ 0x62 ∷ []) 0x08
-  form-feed : char (0x5C ∷ 0x66 ∷ []) 0x0C
-  line-feed : char (0x5C ∷ 0x6E ∷ []) 0x0A
-  carriage-return : char (0x5C ∷ 0x72 ∷ []) 0x0D
-  tab : char (0x5C ∷ 0x74 ∷ []) 0x09
-  below-surrogates : {w : Bytes} {u : ℕ} → 4HEXDIG w u → u < 0xD800 → char (0x5C ∷ 0x75 ∷ w) u
-  above-surrogates : {w : Bytes} {u : ℕ} → 4HEXDIG w u → 0xDFFF < u → char (0x5C ∷ 0x75 ∷ w) u
+  U+0022 : char (escape ∷ 0x22 ∷ []) 0x22
+  U+005C : char (escape ∷ 0x5C ∷ []) 0x5C
+  U+002F : char (escape ∷ 0x2F ∷ []) 0x2F
+  U+0008 : char (escape ∷ 0x62 ∷ []) 0x08
+  U+000C : char (escape ∷ 0x66 ∷ []) 0x0C
+  U+000A : char (escape ∷ 0x6E ∷ []) 0x0A
+  U+000D : char (escape ∷ 0x72 ∷ []) 0x0D
+  U+0009 : char (escape ∷ 0x74 ∷ []) 0x09
+  below-surrogates : {w : Bytes} {u : ℕ} → 4HEXDIG w u → u < 0xD800 → char (escape ∷ 0x75 ∷ w) u
+  above-surrogates : {w : Bytes} {u : ℕ} → 4HEXDIG w u → 0xDFFF < u → char (escape ∷ 0x75 ∷ w) u
   surrogate-pair : {w w' : Bytes} {high low : ℕ} → 4HEXDIG w high → %x 0xD800 0xDBFF high → 4HEXDIG w' low → %x 0xDC00 0xDFFF low →
-      char (0x5C ∷ 0x75 ∷ (w ++ (0x5C ∷ 0x75 ∷ w'))) (0x1_0000 + (high - 0xD800) * 0x400 + (low - 0xDC00))
+      char (escape ∷ 0x75 ∷ (w ++ (escape ∷ 0x75 ∷ w'))) (0x1_0000 + (high - 0xD800) * 0x400 + (low - 0xDC00))
 
 pub data *char : Bytes → Text → Type 0 where
   none : *char [] []
   more : {w ws : Bytes} {c : ℕ} {cs : Text} → char w c → *char ws cs → *char (w ++ ws) (c ∷ cs)
 
+-- quotation-mark = %x22
+abbrev pub quotation-mark : ℕ
+quotation-mark = 0x22
+
 -- string = quotation-mark *char quotation-mark
 pub data string : Bytes → Text → Type 0 where
-  quoted : {w : Bytes} {cs : Text} → *char w cs → string (0x22 ∷ (w ++ (0x22 ∷ []))) cs
+  quoted : {w : Bytes} {cs : Text} → *char w cs → string (quotation-mark ∷ (w ++ (quotation-mark ∷ []))) cs
 
 -- Sections 3 to 5: values, objects, arrays
 
