@@ -12,4 +12,5 @@ pub mod ReadComplete
 pub mod Unambiguous
 pub mod Local
 pub mod ReadLocal
+pub mod Within
 pub mod Theorems

@@ -47,7 +47,7 @@ no-digit-below : (b : ℕ) → b < 0x30 → isDigit b ≡ false
 unfolding isDigit
 no-digit-below b l = below-range 0x30 0x39 b l
 
-is-e : {b : ℕ} → e b → isE b ≡ true
+pub is-e : {b : ℕ} → e b → isE b ≡ true
 unfolding isE
 is-e e.lower-case = refl
 is-e e.upper-case = refl
@@ -61,15 +61,16 @@ natAbs-neg : (n : ℕ) → natAbs (negℤ (pos n)) ≡ n
 natAbs-neg zero = refl
 natAbs-neg (suc n) = refl
 
-signed-size : {w ds : Bytes} → optional sign w → 1*DIGIT ds → natAbs (signedExponent (w ++ ds)) ≡ decimal 0 ds
-unfolding signedExponent
-signed-size optional.absent (1*DIGIT.some {d = b} d ds) = rw (ne-eqb b 0x2D (λ i. omega arith), ne-eqb b 0x2B (λ i. omega arith))
+pub signed-size : {w ds : Bytes} → optional sign w → *DIGIT ds → natAbs (signedExponent (w ++ ds)) ≡ decimal 0 ds
+unfolding signedExponent decimal
+signed-size optional.absent *DIGIT.none = refl
+signed-size optional.absent (*DIGIT.more {d = b} d ds) = rw (ne-eqb b 0x2D (λ i. omega arith), ne-eqb b 0x2B (λ i. omega arith))
 signed-size (optional.present sign.minus-sign) d = natAbs-neg _
 signed-size (optional.present sign.plus-sign) d = refl
 
 exponent-size : {b : ℕ} {w ds : Bytes} → e b → optional sign w → 1*DIGIT ds → natAbs (exponent (b ∷ (w ++ ds))) ≡ decimal 0 ds
 unfolding exponent
-exponent-size x p d = rw (is-e x) (signed-size p d)
+exponent-size x p (1*DIGIT.some d ds) = rw (is-e x) (signed-size p (*DIGIT.more d ds))
 
 -- the digits of an exponent are worth at least what they begin with
 decimal-grows : (n : ℕ) (w : Bytes) → n ≤ decimal n w
@@ -188,17 +189,17 @@ unfolding exponent
 digits-exponent *DIGIT.none t = refl
 digits-exponent (*DIGIT.more d ds) t = rw (no-e-digit d) (digits-exponent ds t)
 
-int-exponent : {w : Bytes} → int w → (t : Bytes) → exponent (w ++ t) ≡ exponent t
+pub int-exponent : {w : Bytes} → int w → (t : Bytes) → exponent (w ++ t) ≡ exponent t
 unfolding exponent isE
 int-exponent int.zero t = refl
 int-exponent (int.nonzero {d = b} d ds) t = digits-exponent (*DIGIT.more {d = b} (omega arith) ds) t
 
-frac-exponent : {w : Bytes} → optional frac w → (t : Bytes) → exponent (w ++ t) ≡ exponent t
+pub frac-exponent : {w : Bytes} → optional frac w → (t : Bytes) → exponent (w ++ t) ≡ exponent t
 unfolding exponent isE
 frac-exponent optional.absent t = refl
 frac-exponent (optional.present (frac.decimal-point (1*DIGIT.some d ds))) t = digits-exponent (*DIGIT.more d ds) t
 
-minus-exponent : {w : Bytes} → optional minus w → (t : Bytes) → exponent (w ++ t) ≡ exponent t
+pub minus-exponent : {w : Bytes} → optional minus w → (t : Bytes) → exponent (w ++ t) ≡ exponent t
 unfolding exponent isE
 minus-exponent optional.absent t = refl
 minus-exponent (optional.present minus.minus-sign) t = refl

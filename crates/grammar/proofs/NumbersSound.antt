@@ -42,7 +42,7 @@ unfolding counted
 counted-sound {s} {at} P b start l h d =
     choose (ltb at (start + maxNumber)) (λ _. past (Derives P) b (at + 1) l h refl (gives (at + 1) refl d)) (λ _. exceeds number-over-limit (omega arith))
 
-digit : (b : ℕ) → isDigit b ≡ true → DIGIT b
+pub digit : (b : ℕ) → isDigit b ≡ true → DIGIT b
 unfolding isDigit
 digit b h = within-true 0x30 0x39 b h
 
@@ -68,7 +68,7 @@ someDigits-sound : (s : Bytes) (start at : ℕ) (P : Bytes → Type 0) → Some 
 unfolding someDigits
 someDigits-sound s start at P some derive = check-then 0x30 0x39 some λ l h. some-digits (length s) s start at P (l, h) (omega arith) (derive (l, h))
 
-int-sound : (s : Bytes) (start at : ℕ) → Sound s there at (Derives int) (Numbers.int s start at)
+pub int-sound : (s : Bytes) (start at : ℕ) → Sound s there at (Derives int) (Numbers.int s start at)
 unfolding Numbers.int
 int-sound s start at =
     choose (eqb (byte s at) 0x30) (λ h. counted-sound int 0x30 start (omega arith) (eqb-true _ _ h) int.zero) λ h.
@@ -78,7 +78,7 @@ int-sound s start at =
 zero-digit : DIGIT 0x30
 zero-digit = omega arith
 
-frac-sound : (s : Bytes) (start at : ℕ) → Sound s there at (Derives (optional frac)) (Numbers.frac s start at)
+pub frac-sound : (s : Bytes) (start at : ℕ) → Sound s there at (Derives (optional frac)) (Numbers.frac s start at)
 unfolding Numbers.frac
 frac-sound s start at =
     choose (eqb (byte s at) 0x2E)
@@ -89,7 +89,7 @@ frac-sound s start at =
     point : {d : ℕ} {w : Bytes} → DIGIT d → *DIGIT w → optional frac (0x2E ∷ d ∷ w)
     point d ds = optional.present (frac.decimal-point (1*DIGIT.some d ds))
 
-sign-sound : (s : Bytes) (start at : ℕ) → Sound s there at (Derives (optional sign)) (Numbers.sign s start at)
+pub sign-sound : (s : Bytes) (start at : ℕ) → Sound s there at (Derives (optional sign)) (Numbers.sign s start at)
 unfolding Numbers.sign
 sign-sound s start at =
     choose (eqb (byte s at) 0x2B || eqb (byte s at) 0x2D)

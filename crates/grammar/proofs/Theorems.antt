@@ -11,12 +11,14 @@ use Rattle.spec.specs.Refusal.{not-json}
 use Rattle.spec.specs.Bytes.{Bytes}
 use Rattle.spec.specs.Read.{read}
 use Rattle.grammar.specs.Grammar.{JSON-text}
-use Rattle.grammar.specs.Theorems.{Soundness, Completeness, Unambiguity, Refusals, Begins, PlaceOf3, CutShort}
+use Rattle.grammar.specs.Limits.{WithinLimits}
+use Rattle.grammar.specs.Theorems.{Soundness, Completeness, Exactness, Unambiguity, Refusals, Begins, PlaceOf3, CutShort}
 use Rattle.grammar.proofs.Places.{whole, prefix, inside}
 use Rattle.grammar.proofs.Sound.{Sound, found, Stopped, stopped}
 use Rattle.grammar.proofs.Complete.{reads-it, refusal-reason, not-refused}
 use Rattle.grammar.proofs.ReadSound.{read-sound}
 use Rattle.grammar.proofs.ReadComplete.{read-complete}
+use Rattle.grammar.proofs.Within.{Yields, yielded, read-within}
 use Rattle.grammar.proofs.Unambiguous.{one-meaning}
 use Rattle.grammar.proofs.Local.{Agree, agree, Local, same-stop}
 use Rattle.grammar.proofs.ReadLocal.{read-local}
@@ -28,6 +30,9 @@ soundness s v e =
 
 pub completeness : Completeness
 completeness s v d limits = reads-it (read-complete d) limits
+
+pub exactness : Exactness
+exactness s v = ((λ e. (soundness s v e, yielded (subst (Yields WithinLimits) e (read-within s)))), (λ d. completeness s v (d .0) (d .1)))
 
 pub unambiguity : Unambiguity
 unambiguity s v w d d' = one-meaning d d'

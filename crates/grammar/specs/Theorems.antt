@@ -1,6 +1,7 @@
 -- What is proved of the reader against the grammar: proofs/Theorems.
 use Prim.Native.Nat.{ℕ, _<_, _≤_}
 use mathlib.Core.Path.{_≡_}
+use mathlib.Core.Logic.{_↔_}
 use mathlib.Core.List.{_++_}
 use lib.ListN.{length, take}
 use Rattle.spec.specs.Outcome.{ok, refused}
@@ -11,7 +12,7 @@ use Rattle.spec.specs.Read.{read}
 use Rattle.grammar.specs.Grammar.{JSON-text}
 use Rattle.grammar.specs.Limits.{WithinLimits}
 
--- What is read is JSON text, and the value read is what it means.
+-- What is read is JSON text, and means the value that is read.
 abbrev pub Soundness : Type 0
 Soundness = (s : Bytes) (v : Value.Value) → read s ≡ ok v → JSON-text s v
 
@@ -19,7 +20,11 @@ Soundness = (s : Bytes) (v : Value.Value) → read s ≡ ok v → JSON-text s v
 abbrev pub Completeness : Type 0
 Completeness = (s : Bytes) (v : Value.Value) → JSON-text s v → WithinLimits v → read s ≡ ok v
 
--- A text means one value at most.
+-- Both at once, and that the limits are kept: what is read is exactly the JSON text within the limits.
+abbrev pub Exactness : Type 0
+Exactness = (s : Bytes) (v : Value.Value) → (read s ≡ ok v) ↔ (JSON-text s v × WithinLimits v)
+
+-- The grammar is unambiguous in the value: a text means one at most.
 abbrev pub Unambiguity : Type 0
 Unambiguity = (s : Bytes) (v w : Value.Value) → JSON-text s v → JSON-text s w → v ≡ w
 
