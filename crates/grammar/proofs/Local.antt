@@ -1,6 +1,6 @@
 -- A reader looks at no byte past the place of its outcome: on two texts that begin alike, an outcome whose place is among those bytes is the same.
 -- Each way of putting readers together has a rule, as in Sound.
-use Prim.Native.Nat.{ℕ, suc, _+_, _-_, _<_, _≤_}
+use Prim.Native.Nat.{ℕ, _-_, _<_, _≤_}
 use mathlib.Core.Path.{_≡_, refl, ap, sym, _∙_}
 use mathlib.Core.Bool.{Bool, true, false}
 use mathlib.Core.List.{_++_}

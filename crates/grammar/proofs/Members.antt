@@ -1,7 +1,7 @@
 -- Laws of members: joining them, counting them, and their names.
 use Prim.Native.Nat.{ℕ, suc, _+_, _<_, _≤_}
 use mathlib.Core.Path.{_≡_, refl, ap, ap₂, sym, _∙_}
-use mathlib.Core.Bool.{Bool, true, false, _&&_, true≢false, and-eq-true-iff}
+use mathlib.Core.Bool.{Bool, true, false, true≢false, and-eq-true-iff}
 use mathlib.Core.List.{[], _∷_}
 use native.Mathlib.Omega.{arith}
 use lib.Dec.{eqb, ltb}
@@ -9,7 +9,6 @@ use borrow.Author.Tests.{eqb-true, eq-eqb, ltb-true, lt-ltb}
 use Rattle.spec.specs.Outcome.{if_then_else_}
 use Rattle.spec.specs.Bytes.{Text}
 use Rattle.spec.specs.Forest.{none, tree, size, count, _⧺_}
-use Rattle.spec.specs.Value as Value
 use Rattle.spec.specs.Value.{Entry, Members, depths, sameText, find, has}
 use Rattle.grammar.proofs.Tests.{byCases}
 use Rattle.grammar.specs.Limits.{Named, here, later, Distinct, Everywhere}

@@ -1,27 +1,25 @@
 -- The reader of numbers is complete: it reads a number that fits, up to a byte that does not go on with it.
 use Prim.Native.Nat.{ℕ, zero, suc, _+_, _-_, _*_, _<_, _≤_}
-use Prim.Native.Char.{code}
 use mathlib.Core.Path.{_≡_, refl, ap, subst, sym, _∙_}
 use mathlib.Core.Bool.{Bool, true, false, _||_}
 use mathlib.Core.List.{[], _∷_, _++_}
 use native.Mathlib.Omega.{arith}
-use native.Mathlib.Decide.{decLt}
-use lib.ListN.{length, length-append}
+use lib.ListN.{length}
 use lib.IntN.{pos, negℤ, natAbs}
 use lib.Dec.{eqb, leb, ltb}
-use borrow.Author.Tests.{eqb-true, eqb-false, eq-eqb, ne-eqb, lt-ltb, ltb-false, le-leb, leb-false}
+use borrow.Author.Tests.{ne-eqb, ltb-false, leb-false}
 use Rattle.spec.specs.Outcome.{Outcome, ok, refused, _>>=_, if_then_else_}
-use Rattle.spec.specs.Refusal.{not-json, number-over-limit}
+use Rattle.spec.specs.Refusal.{number-over-limit}
 use Rattle.spec.specs.Limits.{maxNumber, maxExponent}
-use Rattle.spec.specs.Bytes.{Bytes, byte, within, byteIn}
+use Rattle.spec.specs.Bytes.{Bytes, byte, within}
 use Rattle.spec.specs.Worth.{decimal, exponent, signedExponent}
 use Rattle.spec.specs.Numbers as Numbers
 use Rattle.spec.specs.Numbers.{isDigit, isE, counted, digits, someDigits, exponentDigits, signedDigits}
 use Rattle.grammar.specs.Grammar.{%x, optional, DIGIT, *DIGIT, 1*DIGIT, minus, int, frac, e, sign, exp, number}
 use Rattle.grammar.specs.Limits.{NumberFits}
-use Rattle.grammar.proofs.Places.{From, in-text, first, split, at-end}
-use Rattle.grammar.proofs.Tests.{byCases, neither, in-range, below-range, above-range}
-use Rattle.grammar.proofs.Complete.{Reads, reads, exceeds, reads-ok, reads-same, asks-more, reads-then}
+use Rattle.grammar.proofs.Places.{From, first, split, at-end}
+use Rattle.grammar.proofs.Tests.{neither, in-range, below-range}
+use Rattle.grammar.proofs.Complete.{Reads, reads, exceeds, reads-ok, reads-then}
 use Rattle.grammar.proofs.StringsComplete.{byteIn-reads}
 
 -- the bytes of numbers, and a byte that goes on with none

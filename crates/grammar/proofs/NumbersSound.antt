@@ -1,24 +1,22 @@
 -- The reader of numbers is sound.
 use Prim.Native.Nat.{ℕ, zero, suc, _+_, _-_, _*_, _<_, _≤_}
-use Prim.Native.Char.{code}
-use mathlib.Core.Path.{_≡_, refl, ap, subst, sym, _∙_}
+use mathlib.Core.Path.{_≡_, refl}
 use mathlib.Core.Bool.{Bool, true, false, _||_}
-use mathlib.Core.List.{[], _∷_, _++_, append-assoc}
+use mathlib.Core.List.{[], _∷_, _++_}
 use native.Mathlib.Omega.{arith}
-use native.Mathlib.Decide.{decLt}
 use lib.ListN.{length}
 use lib.Dec.{eqb, leb, ltb}
 use borrow.Author.Tests.{eqb-true, eqb-false}
 use Rattle.spec.specs.Outcome.{Outcome, ok, refused, _>>=_, if_then_else_}
 use Rattle.spec.specs.Refusal.{number-over-limit}
 use Rattle.spec.specs.Limits.{maxNumber, maxExponent}
-use Rattle.spec.specs.Bytes.{Bytes, byte, within, byteIn}
+use Rattle.spec.specs.Bytes.{Bytes, byte}
 use Rattle.spec.specs.Numbers as Numbers
 use Rattle.spec.specs.Numbers.{isDigit, isE, counted, digits, someDigits, exponentDigits, signedDigits}
 use Rattle.grammar.specs.Grammar.{optional, DIGIT, *DIGIT, 1*DIGIT, minus, int, frac, e, sign, exp, number}
-use Rattle.grammar.proofs.Places.{From, here, one, join, in-text}
+use Rattle.grammar.proofs.Places.{in-text}
 use Rattle.grammar.proofs.Tests.{either, within-true, in-range}
-use Rattle.grammar.proofs.Sound.{Sound, exceeds, Some, some, some-cons, refuses, gives, weaken, choose, after, andThen, finish, past, check-then}
+use Rattle.grammar.proofs.Sound.{Sound, exceeds, Some, some, gives, weaken, choose, andThen, past, check-then}
 
 -- results that are a place
 abbrev pub there : ℕ → ℕ

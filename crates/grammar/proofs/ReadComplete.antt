@@ -1,33 +1,32 @@
 -- The reader of JSON text is complete.
-use Prim.Native.Nat.{ℕ, zero, suc, _+_, _-_, _<_, _≤_, max}
+use Prim.Native.Nat.{ℕ, zero, suc, _+_, _-_, _<_, _≤_}
 use Prim.Native.Char.{code}
-use mathlib.Core.Path.{_≡_, refl, ap, subst, sym, _∙_}
-use mathlib.Core.Bool.{Bool, true, false, _||_, true≢false}
+use mathlib.Core.Path.{_≡_, refl, ap, sym, _∙_}
+use mathlib.Core.Bool.{Bool, true, false, true≢false}
 use mathlib.Core.List.{[], _∷_, _++_}
 use native.Mathlib.Omega.{arith}
-use lib.ListN.{length, take, drop}
+use lib.ListN.{length}
 use lib.Dec.{eqb, ltb}
-use borrow.Author.Tests.{eqb-true, eqb-false, eq-eqb, ne-eqb, lt-ltb, le-ltb, ltb-true, ltb-false}
-use Rattle.spec.specs.Outcome.{Outcome, ok, refused, _>>=_, if_then_else_}
-use Rattle.spec.specs.Refusal.{not-json, repeated-name, too-deep, too-many-nodes}
+use borrow.Author.Tests.{eq-eqb, ne-eqb, ltb-false}
+use Rattle.spec.specs.Outcome.{ok, refused, _>>=_, if_then_else_}
+use Rattle.spec.specs.Refusal.{repeated-name, too-deep, too-many-nodes}
 use Rattle.spec.specs.Limits.{maxDepth, maxNodes}
-use Rattle.spec.specs.Bytes.{Bytes, Text, ascii, byte, within, byteIn}
+use Rattle.spec.specs.Bytes.{Bytes, Text, ascii, byte, within}
 use Rattle.spec.specs.Numbers as Numbers
 use Rattle.spec.specs.Numbers.{isDigit, isE}
-use Rattle.spec.specs.Strings as Strings
 use Rattle.spec.specs.Forest as Forest
-use Rattle.spec.specs.Forest.{size, count, single, _⧺_}
+use Rattle.spec.specs.Forest.{size, single, _⧺_}
 use Rattle.spec.specs.Value as Value
-use Rattle.spec.specs.Value.{Label, Members, leaf, named, has, find, depth, depths, levels, nodes}
+use Rattle.spec.specs.Value.{Label, Members, leaf, named, has, depth, depths, levels, nodes}
 use Rattle.spec.specs.Read as Read
 use Rattle.spec.specs.Read.{isBlank, blanksFrom, blanks, spelled, roomFor, literalValue, numberValue, stringValue, scalar, fresh, nameFor, containerLabel, closingBracket, items, contents, container, read}
-use Rattle.grammar.specs.Grammar.{ws, structural, optional, int, minus, number, string, node, value, object, members, member, array, elements, JSON-text, begin-array, begin-object, end-array, end-object, name-separator, value-separator}
-use Rattle.grammar.specs.Limits.{NumberFits, Named, Distinct, Fits, Everywhere, WithinLimits}
-use Rattle.grammar.proofs.Places.{From, from-whole, past-end, in-text, first, split, at-end, bytes}
-use Rattle.grammar.proofs.Tests.{byCases, in-range, below-range, above-range}
+use Rattle.grammar.specs.Grammar.{ws, structural, number, string, node, value, object, members, member, array, elements, JSON-text, name-separator, value-separator}
+use Rattle.grammar.specs.Limits.{Distinct, Fits, Everywhere, WithinLimits}
+use Rattle.grammar.proofs.Places.{From, from-whole, past-end, in-text, first, split, bytes}
+use Rattle.grammar.proofs.Tests.{byCases}
 use Rattle.grammar.proofs.Members.{⧺-assoc, size-⧺, fresh-name}
 use Rattle.grammar.proofs.ReadSound.{blanks-sound}
-use Rattle.grammar.proofs.Complete.{Reads, reads, exceeds, reads-it, reads-ok, reads-same, asks-more, reads-then}
+use Rattle.grammar.proofs.Complete.{Reads, reads, exceeds, reads-ok, reads-same, asks-more, reads-then}
 use Rattle.grammar.proofs.StringsComplete.{byteIn-reads, string-reads}
 use Rattle.grammar.proofs.NumbersComplete.{inNumber, Stops, NumberBegins, number-begins, number-reads}
 

@@ -1,7 +1,7 @@
 -- Each reader looks at no byte past the place of its outcome.
 use Prim.Native.Nat.{ℕ, zero, suc, _+_, _-_, _*_, _<_, _≤_}
 use Prim.Native.Char.{code}
-use mathlib.Core.Path.{_≡_, refl, ap, subst, sym, _∙_}
+use mathlib.Core.Path.{_≡_, refl, ap, subst}
 use mathlib.Core.Bool.{Bool, true, false, _||_}
 use mathlib.Core.List.{[], _∷_}
 use native.Mathlib.Omega.{arith}
@@ -11,11 +11,11 @@ use borrow.Author.Tests.{eqb-true, eqb-false, ne-eqb}
 use Rattle.spec.specs.Outcome.{Outcome, ok, refused, _>>=_, if_then_else_}
 use Rattle.spec.specs.Refusal.{not-json, repeated-name, too-deep, too-many-nodes, number-over-limit}
 use Rattle.spec.specs.Limits.{maxDepth, maxNodes, maxNumber, maxExponent}
-use Rattle.spec.specs.Bytes.{Bytes, Text, ascii, byte, within, byteIn}
+use Rattle.spec.specs.Bytes.{Bytes, Text, byte, within, byteIn}
 use Rattle.spec.specs.Numbers as Numbers
 use Rattle.spec.specs.Numbers.{isDigit, isE, counted, digits, someDigits, exponentDigits, signedDigits}
 use Rattle.spec.specs.Strings as Strings
-use Rattle.spec.specs.Strings.{hexIn, lowSurrogate, afterHigh, secondLimit, unicodeEscape, shortEscape, escape, tail, multibyte, character, characters}
+use Rattle.spec.specs.Strings.{lowSurrogate, afterHigh, secondLimit, unicodeEscape, shortEscape, escape, tail, multibyte, character, characters}
 use Rattle.spec.specs.Forest as Forest
 use Rattle.spec.specs.Forest.{size, single, _⧺_}
 use Rattle.spec.specs.Value as Value

@@ -1,5 +1,5 @@
 -- The reader of JSON text is sound.
-use Prim.Native.Nat.{ℕ, zero, suc, _+_, _-_, _<_, _≤_}
+use Prim.Native.Nat.{ℕ, zero, suc, _+_, _-_, _<_}
 use Prim.Native.Char.{code}
 use mathlib.Core.Path.{_≡_, refl, ap, subst, sym, _∙_}
 use mathlib.Core.Bool.{Bool, true, false, _||_}
@@ -7,25 +7,23 @@ use mathlib.Core.List.{[], _∷_, _++_, append-assoc, append-nil}
 use native.Mathlib.Omega.{arith}
 use lib.ListN.{length, take, drop}
 use lib.Dec.{eqb, ltb}
-use borrow.Author.Tests.{eqb-true, eqb-false}
+use borrow.Author.Tests.{eqb-true}
 use Rattle.spec.specs.Outcome.{Outcome, ok, refused, _>>=_, if_then_else_}
-use Rattle.spec.specs.Refusal.{not-json, repeated-name, too-deep, too-many-nodes}
+use Rattle.spec.specs.Refusal.{repeated-name, too-deep, too-many-nodes}
 use Rattle.spec.specs.Limits.{maxDepth, maxNodes}
-use Rattle.spec.specs.Bytes.{Bytes, Text, ascii, byte, byteIn}
-use Rattle.spec.specs.Numbers as Numbers
+use Rattle.spec.specs.Bytes.{Bytes, Text, ascii, byte}
 use Rattle.spec.specs.Numbers.{isDigit}
-use Rattle.spec.specs.Strings as Strings
 use Rattle.spec.specs.Forest as Forest
 use Rattle.spec.specs.Forest.{size, single, _⧺_}
 use Rattle.spec.specs.Value as Value
 use Rattle.spec.specs.Value.{Label, Members, leaf, named, has}
 use Rattle.spec.specs.Read as Read
 use Rattle.spec.specs.Read.{isBlank, blanksFrom, blanks, spelled, roomFor, literalValue, numberValue, stringValue, scalar, fresh, nameFor, containerLabel, closingBracket, items, contents, container, read}
-use Rattle.grammar.specs.Grammar.{ws, structural, optional, *DIGIT, 1*DIGIT, int, number, string, *char, node, value, object, members, member, array, elements, JSON-text, name-separator, value-separator}
-use Rattle.grammar.proofs.Places.{From, here, one, join, cons, in-text, bytes}
-use Rattle.grammar.proofs.Tests.{byCases, either}
+use Rattle.grammar.specs.Grammar.{ws, structural, number, string, *char, node, value, object, members, member, array, elements, JSON-text, name-separator, value-separator}
+use Rattle.grammar.proofs.Places.{From, here, cons, bytes}
+use Rattle.grammar.proofs.Tests.{either}
 use Rattle.grammar.proofs.Members.{⧺-assoc}
-use Rattle.grammar.proofs.Sound.{Sound, finds, stops, other, Some, some, some-cons, exceeds, refuses, gives, weaken, choose, after, andThen, finish, past, expect-then}
+use Rattle.grammar.proofs.Sound.{Sound, finds, stops, other, Some, some, exceeds, refuses, gives, weaken, choose, after, andThen, finish, past, expect-then}
 use Rattle.grammar.proofs.StringsSound.{end, Means, string-sound}
 use Rattle.grammar.proofs.NumbersSound.{there, Derives, number-sound}
 

@@ -1,7 +1,7 @@
 -- What a reader finds is derived, and what it refuses by 3 is the beginning of what is derived. `Sound` says both of an outcome, and each way of
 -- putting readers together has a rule, so that what is said of a reader mirrors its definition.
-use Prim.Native.Nat.{ℕ, _+_, _-_, _<_, _≤_}
-use mathlib.Core.Path.{_≡_, refl, ap, subst, sym, _∙_}
+use Prim.Native.Nat.{ℕ, _+_, _<_, _≤_}
+use mathlib.Core.Path.{_≡_, refl, subst, sym}
 use mathlib.Core.Bool.{Bool, true, false}
 use mathlib.Core.List.{[], _∷_, _++_, append-assoc}
 use native.Mathlib.Omega.{arith}
@@ -9,7 +9,7 @@ use Rattle.spec.specs.Outcome.{Outcome, ok, refused, _>>=_, if_then_else_}
 use Rattle.spec.specs.Refusal.{not-json}
 use Rattle.spec.specs.Bytes.{Bytes, byte, within, byteIn}
 use Rattle.grammar.proofs.Places.{From, here, one, join, in-text}
-use Rattle.grammar.proofs.Tests.{byCases, within-true}
+use Rattle.grammar.proofs.Tests.{within-true}
 
 -- a relation that derives something
 pub record Some {X : Type 0} (P : Bytes → X → Type 0) : Type 0 where

@@ -1,19 +1,18 @@
 -- The reader of strings is complete: what the grammar derives it reads, with the same meaning.
 use Prim.Native.Nat.{ℕ, zero, suc, _+_, _-_, _*_, _<_, _≤_}
-use Prim.Native.Char.{code}
-use mathlib.Core.Path.{_≡_, refl, ap, ap₂, subst, sym, _∙_}
+use mathlib.Core.Path.{_≡_, refl, ap, sym, _∙_}
 use mathlib.Core.Bool.{Bool, true, false}
-use mathlib.Core.List.{[], _∷_, _++_}
+use mathlib.Core.List.{[], _∷_}
 use native.Mathlib.Omega.{arith}
 use native.Mathlib.Decide.{decLt}
 use lib.ListN.{length}
 use lib.Dec.{eqb}
-use borrow.Author.Tests.{eqb-true, eqb-false, eq-eqb, ne-eqb}
-use Rattle.spec.specs.Outcome.{Outcome, ok, refused, _>>=_, if_then_else_}
+use borrow.Author.Tests.{eqb-true, ne-eqb}
+use Rattle.spec.specs.Outcome.{ok, _>>=_, if_then_else_}
 use Rattle.spec.specs.Bytes.{Bytes, Text, byte, within, byteIn}
 use Rattle.spec.specs.Strings as Strings
 use Rattle.spec.specs.Strings.{hexValue, hexIn, lowSurrogate, afterHigh, secondLimit, unicodeEscape, shortEscape, escape, tail, multibyte, character, characters}
-use Rattle.grammar.specs.Grammar.{%x, UTF8-tail, two, three, four, UTF8-1, UTF8-2, UTF8-3, UTF8-4, UTF8-char, HEXDIG, 4HEXDIG, unescaped, char, *char, string}
+use Rattle.grammar.specs.Grammar.{%x, UTF8-1, UTF8-2, UTF8-3, UTF8-4, UTF8-char, HEXDIG, 4HEXDIG, unescaped, char, *char, string}
 use Rattle.grammar.proofs.Places.{From, in-text, first, nth, split}
 use Rattle.grammar.proofs.Tests.{in-range, below-range, above-range}
 use Rattle.grammar.proofs.StringsSound.{Tail, done, more}

@@ -1,8 +1,7 @@
 -- The reader of strings is sound.
 use Prim.Native.Nat.{ℕ, zero, suc, _+_, _-_, _*_, _<_, _≤_}
-use Prim.Native.Char.{code}
 use mathlib.Core.Path.{_≡_, refl, ap, subst, sym, _∙_}
-use mathlib.Core.Bool.{Bool, true, false, true≢false}
+use mathlib.Core.Bool.{Bool, true, false}
 use mathlib.Core.List.{[], _∷_, _++_, append-assoc}
 use native.Mathlib.Omega.{arith}
 use native.Mathlib.Decide.{decLt}
@@ -11,13 +10,13 @@ use lib.Dec.{eqb}
 use borrow.Author.Tests.{eqb-true, eqb-false}
 use Rattle.spec.specs.Outcome.{Outcome, ok, refused, _>>=_, if_then_else_}
 use Rattle.spec.specs.Refusal.{not-json}
-use Rattle.spec.specs.Bytes.{Bytes, Text, byte, within, byteIn}
+use Rattle.spec.specs.Bytes.{Bytes, Text, byte, within}
 use Rattle.spec.specs.Strings as Strings
 use Rattle.spec.specs.Strings.{hexValue, hexIn, lowSurrogate, afterHigh, secondLimit, unicodeEscape, shortEscape, escape, tail, multibyte, character, characters}
 use Rattle.grammar.specs.Grammar.{%x, UTF8-1, UTF8-2, UTF8-3, UTF8-4, UTF8-char, HEXDIG, 4HEXDIG, unescaped, char, *char, string}
-use Rattle.grammar.proofs.Places.{From, here, one, join, in-text}
+use Rattle.grammar.proofs.Places.{one}
 use Rattle.grammar.proofs.Tests.{byCases, within-true, past-range}
-use Rattle.grammar.proofs.Sound.{Sound, finds, Some, some, some-cons, refuses, gives, weaken, choose, after, andThen, finish, past, byteIn-then, expect-then}
+use Rattle.grammar.proofs.Sound.{Sound, Some, some, some-cons, refuses, gives, weaken, choose, andThen, finish, past, byteIn-then, expect-then}
 
 -- results that are a meaning and a place
 abbrev pub end : {A : Type 0} → A × ℕ → ℕ

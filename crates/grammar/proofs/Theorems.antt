@@ -1,12 +1,12 @@
 -- The theorems of specs/Theorems, each by the laws that it follows from.
 use Prim.Native.Nat.{ℕ, _<_, _≤_}
-use mathlib.Core.Path.{_≡_, ap, subst, sym, _∙_}
+use mathlib.Core.Path.{_≡_, subst, sym}
 use mathlib.Core.List.{_++_}
 use native.Mathlib.Omega.{arith}
 use native.Mathlib.Decide.{decLt}
 use lib.ListN.{length, take, drop, take-append-drop}
 use lib.Seq.{length-take-le, take-length}
-use Rattle.spec.specs.Outcome.{ok, refused}
+use Rattle.spec.specs.Outcome.{refused}
 use Rattle.spec.specs.Refusal.{not-json}
 use Rattle.spec.specs.Bytes.{Bytes}
 use Rattle.spec.specs.Read.{read}
@@ -14,7 +14,7 @@ use Rattle.grammar.specs.Grammar.{JSON-text}
 use Rattle.grammar.specs.Limits.{WithinLimits}
 use Rattle.grammar.specs.Theorems.{Soundness, Completeness, Exactness, Unambiguity, Refusals, Begins, PlaceOf3, CutShort}
 use Rattle.grammar.proofs.Places.{whole, prefix, inside}
-use Rattle.grammar.proofs.Sound.{Sound, found, Stopped, stopped}
+use Rattle.grammar.proofs.Sound.{Sound, found, stopped}
 use Rattle.grammar.proofs.Complete.{reads-it, refusal-reason, not-refused}
 use Rattle.grammar.proofs.ReadSound.{read-sound}
 use Rattle.grammar.proofs.ReadComplete.{read-complete}

@@ -1,12 +1,11 @@
 -- Two derivations from one place of a text, each up to where it ends, have one meaning and one end.
-use Prim.Native.Nat.{ℕ, zero, suc, _+_, _-_, _<_, _≤_}
+use Prim.Native.Nat.{ℕ, zero, _+_, _-_}
 use Prim.Native.Char.{code}
 use mathlib.Core.Path.{_≡_, refl, ap, ap₂, subst, sym, _∙_}
-use mathlib.Core.Bool.{Bool, true, false, _||_, true≢false}
+use mathlib.Core.Bool.{Bool, true, false, true≢false}
 use mathlib.Core.List.{[], _∷_, _++_}
 use native.Mathlib.Omega.{arith}
 use lib.ListN.{length, take, drop}
-use lib.Dec.{eqb}
 use Rattle.spec.specs.Outcome.{Outcome, ok}
 use Rattle.spec.specs.Bytes.{Bytes, Text, byte, within}
 use Rattle.spec.specs.Numbers.{isDigit, isE}
@@ -23,7 +22,7 @@ use Rattle.grammar.proofs.Tests.{in-range}
 use Rattle.grammar.proofs.Complete.{Reads, reads, reads-it}
 use Rattle.grammar.proofs.StringsComplete.{string-reads}
 use Rattle.grammar.proofs.NumbersComplete.{inNumber, Stops, number-begins}
-use Rattle.grammar.proofs.ReadComplete.{blanks-stay, blanks-skip, nothing-stops, ws-stops, Marked, Asked, ValueRead, Plain, string-plain, number-plain, null-read, true-read, false-read, string-read, opening-marked, closing-marked, comma-marked, colon-marked, openingBracket, containerOf, value-reads}
+use Rattle.grammar.proofs.ReadComplete.{blanks-stay, blanks-skip, nothing-stops, ws-stops, Marked, Asked, ValueRead, string-plain, number-plain, null-read, true-read, false-read, string-read, opening-marked, closing-marked, comma-marked, colon-marked, openingBracket, containerOf, value-reads}
 
 -- Numbers: their bytes are such as stand in numbers, and what follows is no such byte.
 

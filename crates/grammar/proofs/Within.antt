@@ -1,7 +1,7 @@
 -- What is read is within the limits.
 use Prim.Native.Nat.{ℕ, zero, suc, _+_, _-_, _*_, _<_, _≤_}
 use Prim.Native.Char.{code}
-use mathlib.Core.Path.{_≡_, refl, ap, subst, sym, _∙_}
+use mathlib.Core.Path.{_≡_, refl, subst, sym, _∙_}
 use mathlib.Core.Bool.{Bool, true, false, _||_, true≢false}
 use mathlib.Core.List.{[], _∷_, _++_}
 use native.Mathlib.Omega.{arith}
@@ -10,9 +10,9 @@ use lib.IntN.{natAbs}
 use lib.Dec.{eqb, leb, ltb}
 use borrow.Author.Tests.{eqb-true, leb-true, ltb-true}
 use Rattle.spec.specs.Outcome.{Outcome, ok, refused, _>>=_, if_then_else_}
-use Rattle.spec.specs.Refusal.{not-json, repeated-name, too-deep, too-many-nodes, number-over-limit}
+use Rattle.spec.specs.Refusal.{repeated-name, too-many-nodes}
 use Rattle.spec.specs.Limits.{maxDepth, maxNodes, maxNumber, maxExponent}
-use Rattle.spec.specs.Bytes.{Bytes, Text, ascii, byte, byteIn}
+use Rattle.spec.specs.Bytes.{Bytes, Text, byte, byteIn}
 use Rattle.spec.specs.Worth.{decimal, exponent, signedExponent}
 use Rattle.spec.specs.Numbers as Numbers
 use Rattle.spec.specs.Numbers.{isDigit, isE, counted, digits, someDigits, exponentDigits, signedDigits}
@@ -23,14 +23,14 @@ use Rattle.spec.specs.Value as Value
 use Rattle.spec.specs.Value.{Label, Members, leaf, named, has, depth, depths, levels, nodes}
 use Rattle.spec.specs.Read as Read
 use Rattle.spec.specs.Read.{blanks, spelled, roomFor, literalValue, numberValue, stringValue, scalar, fresh, nameFor, containerLabel, closingBracket, items, contents, container, read}
-use Rattle.grammar.specs.Grammar.{optional, *DIGIT, minus, int, frac, e, sign, node}
+use Rattle.grammar.specs.Grammar.{optional, *DIGIT, minus, int, frac, e, sign}
 use Rattle.grammar.specs.Limits.{NumberFits, Distinct, Fits, Everywhere, WithinLimits}
-use Rattle.grammar.proofs.Places.{From, here, one, join, cons, in-text, bytes}
-use Rattle.grammar.proofs.Tests.{byCases, either}
+use Rattle.grammar.proofs.Places.{From, here, join, cons, bytes}
+use Rattle.grammar.proofs.Tests.{either}
 use Rattle.grammar.proofs.Members.{size-⧺, depths-⧺, everywhere-⧺, distinct-add}
-use Rattle.grammar.proofs.Sound.{Sound, Found, found}
-use Rattle.grammar.proofs.NumbersSound.{there, Derives, digit, int-sound, frac-sound, sign-sound}
-use Rattle.grammar.proofs.NumbersComplete.{is-e, signed-size, minus-exponent, int-exponent, frac-exponent}
+use Rattle.grammar.proofs.Sound.{Sound, Found}
+use Rattle.grammar.proofs.NumbersSound.{digit, int-sound, frac-sound, sign-sound}
+use Rattle.grammar.proofs.NumbersComplete.{signed-size, minus-exponent, int-exponent, frac-exponent}
 use Rattle.grammar.proofs.ReadComplete.{Asked, containerOf}
 
 -- a result, if there is one, has the property

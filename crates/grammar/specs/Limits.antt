@@ -1,5 +1,5 @@
 -- What `read` asks of a value besides the grammar: document 01, "Numbers that bound the work", and "4: a member name repeated in one object".
-use Prim.Native.Nat.{ℕ, _≤_}
+use Prim.Native.Nat.{_≤_}
 use mathlib.Core.Path.{_≡_}
 use lib.ListN.{length}
 use lib.IntN.{natAbs}
