@@ -8,7 +8,9 @@ pub mod ReadSound
 pub mod Complete
 pub mod StringsComplete
 pub mod NumbersComplete
+pub mod Structural
 pub mod ReadComplete
+pub mod NumbersUnambiguous
 pub mod Unambiguous
 pub mod Local
 pub mod ReadLocal

@@ -13,104 +13,22 @@ use Rattle.spec.specs.Refusal.{repeated-name, too-deep, too-many-nodes}
 use Rattle.spec.specs.Limits.{maxDepth, maxNodes}
 use Rattle.spec.specs.Bytes.{Bytes, Text, ascii, byte, within}
 use Rattle.spec.specs.Numbers as Numbers
-use Rattle.spec.specs.Numbers.{isDigit, isE}
+use Rattle.spec.specs.Numbers.{isDigit}
 use Rattle.spec.specs.Forest as Forest
 use Rattle.spec.specs.Forest.{size, single, _⧺_}
 use Rattle.spec.specs.Value as Value
 use Rattle.spec.specs.Value.{Label, Members, leaf, named, has, depth, depths, levels, nodes}
 use Rattle.spec.specs.Read as Read
-use Rattle.spec.specs.Read.{isBlank, blanksFrom, blanks, spelled, roomFor, literalValue, numberValue, stringValue, scalar, fresh, nameFor, containerLabel, closingBracket, items, contents, container, read}
+use Rattle.spec.specs.Read.{isBlank, blanks, spelled, roomFor, literalValue, numberValue, stringValue, scalar, fresh, nameFor, containerLabel, closingBracket, items, contents, container, read}
 use Rattle.grammar.specs.Grammar.{ws, structural, number, string, node, value, object, members, member, array, elements, JSON-text, name-separator, value-separator}
 use Rattle.grammar.specs.Limits.{Distinct, Fits, Everywhere, WithinLimits}
-use Rattle.grammar.proofs.Places.{From, from-whole, past-end, in-text, first, split, bytes}
-use Rattle.grammar.proofs.Tests.{byCases}
+use Rattle.grammar.proofs.Places.{From, from-whole, in-text, first, split, bytes}
 use Rattle.grammar.proofs.Members.{⧺-assoc, size-⧺, fresh-name}
 use Rattle.grammar.proofs.ReadSound.{blanks-sound}
 use Rattle.grammar.proofs.Complete.{Reads, reads, exceeds, reads-ok, reads-same, asks-more, reads-then}
 use Rattle.grammar.proofs.StringsComplete.{byteIn-reads, string-reads}
-use Rattle.grammar.proofs.NumbersComplete.{inNumber, Stops, NumberBegins, number-begins, number-reads}
-
--- Blanks.
-
-pub nothing-blank : (s : Bytes) {at : ℕ} → length s ≤ at → isBlank (byte s at) ≡ false
-unfolding isBlank
-nothing-blank s l = rw (past-end s l)
-
-blanks-fuel : (fuel more : ℕ) (s : Bytes) (at : ℕ) → length s ≤ fuel + at → length s ≤ more + at → blanksFrom fuel s at ≡ blanksFrom more s at
-unfolding blanksFrom
-blanks-fuel zero zero s at l m = refl
-blanks-fuel zero (suc more) s at l m = rw (nothing-blank s {at = at} (omega arith))
-blanks-fuel (suc fuel) zero s at l m = rw (nothing-blank s {at = at} (omega arith))
-blanks-fuel (suc fuel) (suc more) s at l m =
-    byCases (isBlank (byte s at)) (λ e. rw e (blanks-fuel fuel more s (at + 1) (omega arith) (omega arith))) (λ e. rw e)
-
--- a byte that is no blank stays
-pub blanks-stay : (s : Bytes) (at : ℕ) → isBlank (byte s at) ≡ false → blanks s at ≡ at
-unfolding blanks blanksFrom
-blanks-stay s at e = go (length s)
-  where
-    go : (fuel : ℕ) → blanksFrom fuel s at ≡ at
-    go zero = refl
-    go (suc fuel) = rw e
-
-blank-step : (fuel : ℕ) (s : Bytes) (at : ℕ) {o : ℕ} → isBlank (byte s at) ≡ true → at < length s → length s ≤ fuel + at →
-    ((less : ℕ) → length s ≤ less + (at + 1) → blanksFrom less s (at + 1) ≡ o) → blanksFrom fuel s at ≡ o
-unfolding blanksFrom
-blank-step zero s at e i l rest = absurd (omega arith)
-blank-step (suc fuel) s at e i l rest = rw e (rest fuel (omega arith))
-
-blanksFrom-skip : (fuel more : ℕ) {s w : Bytes} {at next : ℕ} → ws w → From s at w next → length s ≤ fuel + at → length s ≤ more + next → blanksFrom fuel s at ≡ blanksFrom more s next
-unfolding isBlank
-blanksFrom-skip fuel more {s} {at = at} {next = next} ws.none f l m =
-    let far = f .far in
-    let same : at ≡ next = omega arith in
-    rw same (blanks-fuel fuel more s next (omega arith) m)
-blanksFrom-skip fuel more {s} {at = at} (ws.space d) f l m =
-    let (e, g, i) = first f in blank-step fuel s at (rw e) i l (λ less enough. blanksFrom-skip less more d g enough m)
-blanksFrom-skip fuel more {s} {at = at} (ws.tab d) f l m =
-    let (e, g, i) = first f in blank-step fuel s at (rw e) i l (λ less enough. blanksFrom-skip less more d g enough m)
-blanksFrom-skip fuel more {s} {at = at} (ws.line-feed d) f l m =
-    let (e, g, i) = first f in blank-step fuel s at (rw e) i l (λ less enough. blanksFrom-skip less more d g enough m)
-blanksFrom-skip fuel more {s} {at = at} (ws.carriage-return d) f l m =
-    let (e, g, i) = first f in blank-step fuel s at (rw e) i l (λ less enough. blanksFrom-skip less more d g enough m)
-
--- blanks are skipped
-pub blanks-skip : {s w : Bytes} {at next : ℕ} → ws w → From s at w next → blanks s at ≡ blanks s next
-unfolding blanks
-blanks-skip {s} d f = blanksFrom-skip (length s) (length s) d f (omega arith) (omega arith)
-
--- a byte that is no blank goes on with no number where it ..
-pub nothing-stops : (s : Bytes) {at : ℕ} → length s ≤ at → Stops (byte s at)
-unfolding inNumber isDigit isE within
-nothing-stops s l = rw (past-end s l) (record { outside = refl })
-
-pub ws-stops : {s w : Bytes} {at next : ℕ} → ws w → From s at w next → Stops (byte s next) → Stops (byte s at)
-unfolding inNumber isDigit isE within
-ws-stops {at = at} {next = next} ws.none f h = let far = f .far in let same : at ≡ next = omega arith in rw same h
-ws-stops (ws.space d) f h = rw (first f .0) (record { outside = refl })
-ws-stops (ws.tab d) f h = rw (first f .0) (record { outside = refl })
-ws-stops (ws.line-feed d) f h = rw (first f .0) (record { outside = refl })
-ws-stops (ws.carriage-return d) f h = rw (first f .0) (record { outside = refl })
-
--- a structural character with the blanks around it
-pub record Marked (s : Bytes) (at c next : ℕ) : Type 0 where
-  pub mark : byte s (blanks s at) ≡ c
-  pub after : blanks s (blanks s at + 1) ≡ blanks s next
-  pub grows : at < next
-  pub stops : Stops (byte s at)
-
-structural-reads : {c : ℕ} {s w : Bytes} {at next : ℕ} → structural c w → isBlank c ≡ false → Stops c → From s at w next → Marked s at c next
-structural-reads {c} {s} {at = at} (structural.around {before} {after} d d') no-blank stop f =
-    let (g, h) = split before (c ∷ after) f in
-    let (e, i, _) = first h in
-    let far = i .far in
-    let there : blanks s at ≡ at + length before = blanks-skip d g ∙ blanks-stay s (at + length before) (rw e no-blank) in
-    record {
-      mark = rw (there, e);
-      after = rw there (blanks-skip d' i);
-      grows = omega arith;
-      stops = ws-stops d g (rw e stop);
-    }
+use Rattle.grammar.proofs.NumbersComplete.{Stops, NumberBegins, number-begins, number-reads}
+use Rattle.grammar.proofs.Structural.{nothing-blank, blanks-stay, blanks-skip, nothing-stops, ws-stops, Marked, openingBracket, opening-marked, closing-marked, comma-marked, colon-marked}
 
 -- Scalars.
 
@@ -298,11 +216,6 @@ record ItemsRead (isObject : Bool) (s : Bytes) (left before at next : ℕ) (f : 
       Reads (so-far ⧺ f, blanks s next + 1) (AskedItems isObject left before so-far f) (items fuel (Read.value left s) isObject s before so-far (blanks s at))
   no-bracket : byte s (blanks s at) ≡ closingBracket isObject → ⊥
 
--- the brackets
-abbrev pub openingBracket : Bool → ℕ
-openingBracket false = code "["
-openingBracket true = code "{"
-
 abbrev pub containerOf : Bool → Members → Value.Value
 containerOf isObject f = record { label = containerLabel isObject; kids = f }
 
@@ -431,29 +344,6 @@ member-read {s} {name = name} {before = before} so-far {at} {p} {q} d f m r =
       after = v .after;
       no-bracket = rw (stay, quote) (λ i. omega arith);
     }
-
--- the six structural characters
-module _ {s w : Bytes} {at next : ℕ} where
-  marked : (c : ℕ) → isBlank c ≡ false → inNumber c ≡ false → structural c w → From s at w next → Marked s at c next
-  marked c b o h f = structural-reads h b (record { outside = o }) f
-
-  pub opening-marked : (isObject : Bool) → structural (openingBracket isObject) w → From s at w next → Marked s at (openingBracket isObject) next
-  unfolding isBlank inNumber isDigit isE within
-  opening-marked false h f = marked (code "[") refl refl h f
-  opening-marked true h f = marked (code "{") refl refl h f
-
-  pub closing-marked : (isObject : Bool) → structural (closingBracket isObject) w → From s at w next → Marked s at (closingBracket isObject) next
-  unfolding isBlank inNumber isDigit isE within closingBracket
-  closing-marked false h f = marked (code "]") refl refl h f
-  closing-marked true h f = marked (code "}") refl refl h f
-
-  pub comma-marked : value-separator w → From s at w next → Marked s at (code ",") next
-  unfolding isBlank inNumber isDigit isE within
-  comma-marked h f = marked (code ",") refl refl h f
-
-  pub colon-marked : name-separator w → From s at w next → Marked s at (code ":") next
-  unfolding isBlank inNumber isDigit isE within
-  colon-marked h f = marked (code ":") refl refl h f
 
 -- The induction on derivations.
 abbrev pub ReadsValue : Bytes → Value.Value → Type 0
