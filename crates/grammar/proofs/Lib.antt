@@ -1,6 +1,7 @@
 pub mod Places
 pub mod Tests
 pub mod Members
+pub mod Containers
 pub mod Sound
 pub mod StringsSound
 pub mod NumbersSound

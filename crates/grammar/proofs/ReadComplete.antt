@@ -22,13 +22,14 @@ use Rattle.spec.specs.Read as Read
 use Rattle.spec.specs.Read.{isBlank, blanks, spelled, roomFor, literalValue, numberValue, stringValue, scalar, fresh, nameFor, containerLabel, closingBracket, items, contents, container, read}
 use Rattle.grammar.specs.Grammar.{ws, structural, number, string, node, value, object, members, member, array, elements, JSON-text, name-separator, value-separator}
 use Rattle.grammar.specs.Limits.{Distinct, Fits, Everywhere, WithinLimits}
+use Rattle.grammar.proofs.Containers.{openingBracket, containerOf, closing-positive, comma-no-closing}
 use Rattle.grammar.proofs.Places.{From, from-whole, in-text, first, split, bytes}
 use Rattle.grammar.proofs.Members.{⧺-assoc, size-⧺, fresh-name}
 use Rattle.grammar.proofs.ReadSound.{blanks-sound}
 use Rattle.grammar.proofs.Complete.{Reads, reads, exceeds, reads-ok, reads-same, asks-more, reads-then}
 use Rattle.grammar.proofs.StringsComplete.{byteIn-reads, string-reads}
 use Rattle.grammar.proofs.NumbersComplete.{Stops, NumberBegins, number-begins, number-reads}
-use Rattle.grammar.proofs.Structural.{nothing-blank, blanks-stay, blanks-skip, nothing-stops, ws-stops, Marked, openingBracket, opening-marked, closing-marked, comma-marked, colon-marked}
+use Rattle.grammar.proofs.Structural.{nothing-blank, blanks-stay, blanks-skip, nothing-stops, ws-stops, Marked, opening-marked, closing-marked, comma-marked, colon-marked}
 
 -- Scalars.
 
@@ -198,15 +199,15 @@ module _ {isObject : Bool} {s : Bytes} {left before : ℕ} {so-far : Members} {a
       reads-then _ (asks-more (asked-name name v Forest.none) (r .named-so))
       (reads-then _ (asks-more (asked-value name v Forest.none) (r .valued)) (rw (r .after, mark, eq-eqb (closingBracket isObject) (closingBracket isObject) refl) reads))
 
-  items-more : {f kids : Members} {stop : ℕ} → byte s (blanks s next) ≡ code "," → eqb (code ",") (closingBracket isObject) ≡ false →
+  items-more : {f kids : Members} {stop : ℕ} → byte s (blanks s next) ≡ code "," →
       Reads (kids, stop) (AskedItems isObject left before (so-far ⧺ single (named name v)) f)
       (items fuel (Read.value left s) isObject s before (so-far ⧺ single (named name v)) (blanks s (blanks s next + 1))) →
       Reads (kids, stop) (AskedItems isObject left before so-far (node name v f)) (items (suc fuel) (Read.value left s) isObject s before so-far (blanks s at))
   unfolding items
-  items-more {f} mark not-closed rest =
+  items-more {f} mark rest =
       reads-then _ (asks-more (asked-name name v f) (r .named-so))
       (reads-then _ (asks-more (asked-value name v f) (r .valued))
-      (rw (r .after, mark, not-closed)
+      (rw (r .after, mark, ne-eqb (code ",") (closingBracket isObject) (comma-no-closing isObject))
       (reads-then (λ _. items fuel (Read.value left s) isObject s before (so-far ⧺ single (named name v)) (blanks s (blanks s next + 1)))
       (reads-ok _ (byteIn-reads s (blanks s next) (code ",") (code ",") mark (omega arith) (omega arith))) (asks-more (asked-rest name v f) rest))))
 
@@ -215,9 +216,6 @@ record ItemsRead (isObject : Bool) (s : Bytes) (left before at next : ℕ) (f : 
   outcome : (fuel : ℕ) (so-far : Members) → length s ≤ fuel + at →
       Reads (so-far ⧺ f, blanks s next + 1) (AskedItems isObject left before so-far f) (items fuel (Read.value left s) isObject s before so-far (blanks s at))
   no-bracket : byte s (blanks s at) ≡ closingBracket isObject → ⊥
-
-abbrev pub containerOf : Bool → Members → Value.Value
-containerOf isObject f = record { label = containerLabel isObject; kids = f }
 
 no-levels : (isObject : Bool) {before : ℕ} (f : Members) → Asked zero before (containerOf isObject f) → ⊥
 unfolding containerLabel depth levels Value.isContainer Value.tag
@@ -277,16 +275,6 @@ module _ (isObject : Bool) {s : Bytes} {at mid next : ℕ} (begin : Marked s at 
 in-blanks : (s : Bytes) (at : ℕ) {c : ℕ} → byte s (blanks s at) ≡ c → 0 < c → at < length s
 in-blanks s at e l = let far = blanks-sound s at .from .far in omega (arith, in-text s (blanks s at) (rw e l))
 
-closing-positive : (isObject : Bool) → 0 < closingBracket isObject
-unfolding closingBracket
-closing-positive false = omega arith
-closing-positive true = omega arith
-
-no-comma : (isObject : Bool) → eqb (code ",") (closingBracket isObject) ≡ false
-unfolding closingBracket
-no-comma false = refl
-no-comma true = refl
-
 module _ {isObject : Bool} {s : Bytes} {left before at next : ℕ} {name : Text} {v : Value.Value} (grows : at ≤ next) (r : (so-far : Members) → ItemRead isObject s left before so-far at next name v) where
   last-read : byte s (blanks s next) ≡ closingBracket isObject → ItemsRead isObject s left before at next (node name v Forest.none)
   last-read mark = record { outcome = outcome; no-bracket = r Forest.none .no-bracket }
@@ -307,7 +295,7 @@ module _ {isObject : Bool} {s : Bytes} {left before at next : ℕ} {name : Text}
           let further = m .grows in
           let others = rest .outcome fuel (so-far ⧺ single (named name v)) (omega arith) in
           reads-same (ap (λ k. (k, blanks s stop + 1)) (⧺-assoc so-far (single (named name v)) f))
-          (items-more fuel (r so-far) (m .mark) (no-comma isObject) (rw (m .after) others))
+          (items-more fuel (r so-far) (m .mark) (rw (m .after) others))
 
 -- an element, and a member
 element-read : {s : Bytes} {left before : ℕ} (so-far : Members) {at next : ℕ} {v : Value.Value} → ((before : ℕ) → ValueRead s left before at next v) →

@@ -22,6 +22,7 @@ use Rattle.spec.specs.Read.{isBlank, blanksFrom, blanks, spelled, roomFor, lite
 use Rattle.grammar.specs.Grammar.{ws, structural, number, string, *char, node, value, object, members, member, array, elements, JSON-text, name-separator, value-separator}
 use Rattle.grammar.proofs.Places.{From, here, cons, bytes}
 use Rattle.grammar.proofs.Tests.{either}
+use Rattle.grammar.proofs.Containers.{openingBracket, containerOf, opening-positive, closing-positive}
 use Rattle.grammar.proofs.Members.{⧺-assoc}
 use Rattle.grammar.proofs.Sound.{Sound, finds, stops, other, Some, some, exceeds, refuses, gives, weaken, choose, after, andThen, finish, past, expect-then}
 use Rattle.grammar.proofs.StringsSound.{end, Means, string-sound}
@@ -172,11 +173,6 @@ module _ {isObject : Bool} {so-far : Members} where
   some-value-rest : {n : Bytes} {name : Text} → NamePart isObject n name → Some (Means (λ w kids. Rest isObject so-far (n ++ w) kids))
   some-value-rest p = some _ (_, 0) (last-rest p value.null-literal ws.none)
 
-closing-positive : (isObject : Bool) → 0 < closingBracket isObject
-unfolding closingBracket
-closing-positive false = omega arith
-closing-positive true = omega arith
-
 some-name : (isObject : Bool) → Some (Means (NamePart isObject))
 some-name false = some [] ([], 0) nameless
 some-name true = some _ ([], 0) (under (string.quoted *char.none) (structural.around ws.none ws.none))
@@ -242,12 +238,8 @@ listed (more {n} {w} {b} {b'} {rest} {f = f} p d h h' others) =
     }
 
 -- a container after its opening bracket
-abbrev openingBracket : Bool → ℕ
-openingBracket false = code "["
-openingBracket true = code "{"
-
 abbrev Inside : Bool → Bytes → Members → Type 0
-Inside isObject w f = value (openingBracket isObject ∷ w) (record { label = containerLabel isObject; kids = f })
+Inside isObject w f = value (openingBracket isObject ∷ w) (containerOf isObject f)
 
 inside-empty : (isObject : Bool) {b : Bytes} → ws b → Inside isObject (b ++ (closingBracket isObject ∷ [])) Forest.none
 unfolding containerLabel closingBracket
@@ -278,10 +270,10 @@ module _ (s : Bytes) (reader : ℕ → ℕ → Outcome (Value.Value × ℕ)) (in
       (λ e. past _ (closingBracket isObject) (blanks s at + 1) (closing-positive isObject) (eqb-true _ _ e) refl (gives (Forest.none, blanks s at + 1) refl (inside-empty isObject h))) λ e.
       weaken (λ w x r. rest-inside h r) (items-sound s reader inner isObject nodes (length s) Forest.none (blanks s at))
 
-  container-sound : (at nodes : ℕ) → byte s at ≡ openingBracket isObject → 0 < openingBracket isObject → Sound s end at (Means value) (container reader isObject s at nodes)
+  container-sound : (at nodes : ℕ) → byte s at ≡ openingBracket isObject → Sound s end at (Means value) (container reader isObject s at nodes)
   unfolding container
-  container-sound at nodes e l =
-      room-then nodes at (past _ (openingBracket isObject) (at + 1) l e refl
+  container-sound at nodes e =
+      room-then nodes at (past _ (openingBracket isObject) (at + 1) (opening-positive isObject) e refl
       (finish (λ x. (record { label = containerLabel isObject; kids = x .0 }, x .1)) (λ x. refl) (λ w x d. d) (contents-sound (nodes + 1) (at + 1))))
 
 value-sound : (left : ℕ) (s : Bytes) (at nodes : ℕ) → Sound s end at (Means value) (Read.value left s at nodes)
@@ -291,8 +283,8 @@ value-sound zero s at nodes =
     choose (eqb (byte s at) (code "{")) (λ e. exceeds too-deep (omega arith)) λ _.
     scalar-sound s at nodes
 value-sound (suc left) s at nodes =
-    choose (eqb (byte s at) (code "[")) (λ e. container-sound s (Read.value left s) (value-sound left s) false at nodes (eqb-true _ _ e) (omega arith)) λ _.
-    choose (eqb (byte s at) (code "{")) (λ e. container-sound s (Read.value left s) (value-sound left s) true at nodes (eqb-true _ _ e) (omega arith)) λ _.
+    choose (eqb (byte s at) (code "[")) (λ e. container-sound s (Read.value left s) (value-sound left s) false at nodes (eqb-true _ _ e)) λ _.
+    choose (eqb (byte s at) (code "{")) (λ e. container-sound s (Read.value left s) (value-sound left s) true at nodes (eqb-true _ _ e)) λ _.
     scalar-sound s at nodes
 
 -- a value that is read has the whole text

@@ -10,6 +10,7 @@ use Rattle.spec.specs.Bytes.{Bytes, byte, within}
 use Rattle.spec.specs.Numbers.{isDigit, isE}
 use Rattle.spec.specs.Read.{isBlank, blanksFrom, blanks, closingBracket}
 use Rattle.grammar.specs.Grammar.{ws, structural, name-separator, value-separator}
+use Rattle.grammar.proofs.Containers.{openingBracket}
 use Rattle.grammar.proofs.Places.{From, past-end, first, split}
 use Rattle.grammar.proofs.Tests.{byCases}
 use Rattle.grammar.proofs.NumbersComplete.{inNumber, Stops}
@@ -61,7 +62,7 @@ pub blanks-skip : {s w : Bytes} {at next : ℕ} → ws w → From s at w next �
 unfolding blanks
 blanks-skip {s} d f = blanksFrom-skip (length s) (length s) d f (omega arith) (omega arith)
 
--- a byte that is no blank goes on with no number where it ..
+-- no number goes on past the end, or with a blank
 pub nothing-stops : (s : Bytes) {at : ℕ} → length s ≤ at → Stops (byte s at)
 unfolding inNumber isDigit isE within
 nothing-stops s l = rw (past-end s l) (record { outside = refl })
@@ -93,11 +94,6 @@ structural-reads {c} {s} {at = at} (structural.around {before} {after} d d') no-
       grows = omega arith;
       stops = ws-stops d g (rw e stop);
     }
-
--- the opening bracket of an array (false) or an object (true)
-abbrev pub openingBracket : Bool → ℕ
-openingBracket false = code "["
-openingBracket true = code "{"
 
 -- the six structural characters
 module _ {s w : Bytes} {at next : ℕ} where

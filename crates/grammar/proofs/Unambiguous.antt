@@ -16,12 +16,13 @@ use Rattle.spec.specs.Read as Read
 use Rattle.spec.specs.Read.{blanks, containerLabel, closingBracket}
 use Rattle.grammar.specs.Grammar.{%x, ws, structural, e, number, string, node, value, object, members, member, array, elements, JSON-text, value-separator}
 use Rattle.grammar.specs.Limits.{Fits, Everywhere}
+use Rattle.grammar.proofs.Containers.{openingBracket, containerOf, comma-no-closing}
 use Rattle.grammar.proofs.Places.{From, from-whole, split}
 use Rattle.grammar.proofs.Complete.{Reads, reads, reads-it}
 use Rattle.grammar.proofs.StringsComplete.{string-reads}
 use Rattle.grammar.proofs.NumbersComplete.{Stops, number-begins}
-use Rattle.grammar.proofs.Structural.{blanks-stay, blanks-skip, nothing-stops, ws-stops, Marked, opening-marked, closing-marked, comma-marked, colon-marked, openingBracket}
-use Rattle.grammar.proofs.ReadComplete.{Asked, ValueRead, string-plain, number-plain, null-read, true-read, false-read, string-read, containerOf, value-reads}
+use Rattle.grammar.proofs.Structural.{blanks-stay, blanks-skip, nothing-stops, ws-stops, Marked, opening-marked, closing-marked, comma-marked, colon-marked}
+use Rattle.grammar.proofs.ReadComplete.{Asked, ValueRead, string-plain, number-plain, null-read, true-read, false-read, string-read, value-reads}
 use Rattle.grammar.proofs.NumbersUnambiguous.{number-same}
 
 -- Values: the reader has one outcome, so that two values of which one is within every limit are the same.
@@ -223,11 +224,6 @@ filled-same isObject {s} w f ih e m d p n (items-in {w = w'} {f = f'} {mid = mid
     let r = ih s _ _ mid' stop' w' f' (marked-same e m m') p (n .mark) d' p' (n' .mark) in
     record { meaning = r .meaning; place = marked-same (r .place) n n' }
 
-no-comma : (isObject : Bool) → code "," ≡ closingBracket isObject → ⊥
-unfolding closingBracket
-no-comma false e = omega arith
-no-comma true e = omega arith
-
 -- the values of a container: one item against a list, by the places of its parts
 data Parted (isObject : Bool) (s : Bytes) (at next : ℕ) : Members → Type 0 where
   last-at : {w : Bytes} {name : Text} {v : Value.Value} → Item isObject w name v → Placed s at w next → Parted isObject s at next (node name v Forest.none)
@@ -252,14 +248,14 @@ last-same isObject {s} w name v ih e p mark (last-at {w = w'} {name = name'} {v 
     record { meaning = ap (λ x. node (x .0) (x .1) Forest.none) (r .meaning); place = r .place }
 last-same isObject {s} w name v ih e p mark (more-at {w = w'} {name = name'} {v = v'} i' p' m' d' q') =
     let r = ih s _ _ _ _ w' name' v' e p i' p' in
-    absurd (no-comma isObject (sym (m' .mark) ∙ ap (byte s) (sym (r .place)) ∙ mark))
+    absurd (comma-no-closing isObject (sym (m' .mark) ∙ ap (byte s) (sym (r .place)) ∙ mark))
 
 more-same : (isObject : Bool) {s : Bytes} {at mid after next at' next' : ℕ} (w rest : Bytes) (name : Text) (v : Value.Value) (f : Members) {f' : Members} → SameItem isObject w name v → SameItems isObject rest f →
     blanks s at ≡ blanks s at' → Placed s at w mid → Marked s mid (code ",") after → Placed s after rest next → byte s (blanks s next) ≡ closingBracket isObject →
     Parted isObject s at' next' f' → byte s (blanks s next') ≡ closingBracket isObject → Same s next next' {A = Members} (node name v f) f'
 more-same isObject {s} w rest name v f ih ih' e p m q mark (last-at {w = w'} {name = name'} {v = v'} i' p') mark' =
     let r = ih s _ _ _ _ w' name' v' e p i' p' in
-    absurd (no-comma isObject (sym (m .mark) ∙ ap (byte s) (r .place) ∙ mark'))
+    absurd (comma-no-closing isObject (sym (m .mark) ∙ ap (byte s) (r .place) ∙ mark'))
 more-same isObject {s} w rest name v f ih ih' e p m q mark (more-at {w = w'} {rest = rest'} {name = name'} {v = v'} {f = f'} i' p' m' d' q') mark' =
     let r = ih s _ _ _ _ w' name' v' e p i' p' in
     let o = ih' s _ _ _ _ rest' f' (marked-same (r .place) m m') q mark d' q' mark' in

@@ -25,13 +25,14 @@ use Rattle.spec.specs.Read as Read
 use Rattle.spec.specs.Read.{blanks, spelled, roomFor, literalValue, numberValue, stringValue, scalar, fresh, nameFor, containerLabel, closingBracket, items, contents, container, read}
 use Rattle.grammar.specs.Grammar.{optional, *DIGIT, minus, int, frac, e, sign}
 use Rattle.grammar.specs.Limits.{NumberFits, Distinct, Fits, Everywhere, WithinLimits}
+use Rattle.grammar.proofs.Containers.{containerOf}
 use Rattle.grammar.proofs.Places.{From, here, join, cons, bytes}
 use Rattle.grammar.proofs.Tests.{either}
 use Rattle.grammar.proofs.Members.{size-⧺, depths-⧺, everywhere-⧺, distinct-add}
 use Rattle.grammar.proofs.Sound.{Sound, Found}
 use Rattle.grammar.proofs.NumbersSound.{digit, int-sound, frac-sound, sign-sound}
 use Rattle.grammar.proofs.NumbersComplete.{signed-size, minus-exponent, int-exponent, frac-exponent}
-use Rattle.grammar.proofs.ReadComplete.{Asked, containerOf}
+use Rattle.grammar.proofs.ReadComplete.{Asked}
 
 -- a result, if there is one, has the property
 pub data Yields {X : Type 0} (P : X → Type 0) : Outcome X → Type 0 where
