@@ -52,7 +52,8 @@ module _ {m : ℕ} {X : Type 0} {place : X → ℕ} where
   exceeds number l = other {number = number} (λ e. omega arith)
 
   -- what t has counts only where the place is before m
-  pub under : {low : ℕ} (low' : ℕ) {o o' : Outcome X} (o'' : Outcome X) → low ≤ low' → (low' < m → o' ≡ o'') → Local m place low' o o'' → Local m place low o o'
+  pub under : {low : ℕ} (low' : ℕ) {o o' : Outcome X} (o'' : Outcome X) → low ≤ low' → (low' < m → o' ≡ o'') → Local m place low' o o'' →
+      Local m place low o o'
   under low' o'' l e (finds {x} h f) = finds {x = x} (omega arith) (λ i. e (omega arith) ∙ f i)
   under low' o'' l e (stops {p} h f) = stops {p = p} (omega arith) (λ i. e (omega arith) ∙ f i)
   under low' o'' l e (other h) = other h
@@ -60,7 +61,8 @@ module _ {m : ℕ} {X : Type 0} {place : X → ℕ} where
   pub later : {low : ℕ} (low' : ℕ) {o o' : Outcome X} → low ≤ low' → Local m place low' o o' → Local m place low o o'
   later low' {o' = o'} l r = under low' o' l (λ h. refl) r
 
-  pub choose : {low : ℕ} {c c' : Bool} {a a' b b' : Outcome X} → (low < m → c' ≡ c) → (c ≡ true → Local m place low a a') → (c ≡ false → Local m place low b b') →
+  pub choose : {low : ℕ} {c c' : Bool} {a a' b b' : Outcome X} → (low < m → c' ≡ c) → (c ≡ true → Local m place low a a') →
+      (c ≡ false → Local m place low b b') →
       Local m place low (if c then a else b) (if c' then a' else b')
   choose {low} {c} {c'} {a} {a'} {b} {b'} e f g = under low _ (omega arith) (λ l. ap (λ d. if d then a' else b') (e l)) (go c refl)
     where
@@ -69,7 +71,8 @@ module _ {m : ℕ} {X : Type 0} {place : X → ℕ} where
       go false h = g h
 
   -- one test for both
-  pub both : {low : ℕ} (c : Bool) {a a' b b' : Outcome X} → Local m place low a a' → Local m place low b b' → Local m place low (if c then a else b) (if c then a' else b')
+  pub both : {low : ℕ} (c : Bool) {a a' b b' : Outcome X} → Local m place low a a' → Local m place low b b' →
+      Local m place low (if c then a else b) (if c then a' else b')
   both true f g = f
   both false f g = g
 
@@ -83,7 +86,8 @@ andThen g g' (other h) rest = other h
 
 module _ {m : ℕ} {X : Type 0} {place : X → ℕ} where
   -- what is read at a place, between two bounds, and what comes after it
-  between-then : {at : ℕ} (a a' low high next : ℕ) (g g' : ℕ → Outcome X) → (at < m → a' ≡ a) → at ≤ next → ((b : ℕ) → Local m place next (g b) (g' b)) →
+  between-then : {at : ℕ} (a a' low high next : ℕ) (g g' : ℕ → Outcome X) → (at < m → a' ≡ a) → at ≤ next →
+      ((b : ℕ) → Local m place next (g b) (g' b)) →
       Local m place at ((if within low high a then ok a else refused not-json at) >>= g) ((if within low high a' then ok a' else refused not-json at) >>= g')
   unfolding _>>=_
   between-then {at} a a' low high next g g' e l rest =
@@ -93,12 +97,14 @@ module _ {m : ℕ} {X : Type 0} {place : X → ℕ} where
       go true = later next l (rest a)
       go false = refuses at (omega arith)
 
-  pub byteIn-then : {s t : Bytes} → Agree s t m → (at low high next : ℕ) (g g' : ℕ → Outcome X) → at ≤ next → ((b : ℕ) → Local m place next (g b) (g' b)) →
+  pub byteIn-then : {s t : Bytes} → Agree s t m → (at low high next : ℕ) (g g' : ℕ → Outcome X) → at ≤ next →
+      ((b : ℕ) → Local m place next (g b) (g' b)) →
       Local m place at (byteIn s at low high >>= g) (byteIn t at low high >>= g')
   unfolding byteIn
   byteIn-then {s} {t} agree at low high next g g' l rest = between-then (byte s at) (byte t at) low high next g g' (agree .bytes at) l rest
 
-  pub hexIn-then : {s t : Bytes} → Agree s t m → (at low high next : ℕ) (g g' : ℕ → Outcome X) → at ≤ next → ((b : ℕ) → Local m place next (g b) (g' b)) →
+  pub hexIn-then : {s t : Bytes} → Agree s t m → (at low high next : ℕ) (g g' : ℕ → Outcome X) → at ≤ next →
+      ((b : ℕ) → Local m place next (g b) (g' b)) →
       Local m place at (hexIn s at low high >>= g) (hexIn t at low high >>= g')
   unfolding hexIn
   hexIn-then {s} {t} agree at low high next g g' l rest = between-then (hexValue (byte s at)) (hexValue (byte t at)) low high next g g' (λ h. ap hexValue (agree .bytes at h)) l rest

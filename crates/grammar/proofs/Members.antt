@@ -47,7 +47,8 @@ unfolding find count
 has-named n none h = absurd (omega (arith, ltb-true 0 0 h))
 has-named n (tree e kids rest) h = go (sameText (e .name) n) refl h (has-named n rest)
   where
-    go : (c : Bool) → sameText (e .name) n ≡ c → ltb (if c then 0 else suc (find n rest)) (suc (count rest)) ≡ true → (has n rest ≡ true → Named n rest) → Named n (tree e kids rest)
+    go : (c : Bool) → sameText (e .name) n ≡ c → ltb (if c then 0 else suc (find n rest)) (suc (count rest)) ≡ true →
+        (has n rest ≡ true → Named n rest) → Named n (tree e kids rest)
     go true i h ih = here (sameText-true (e .name) n i)
     go false i h ih = later (ih (lt-ltb (find n rest) (count rest) (let l = ltb-true (suc (find n rest)) (suc (count rest)) h in omega arith)))
 

@@ -86,7 +86,8 @@ module _ {asked : Type 0} (s : Bytes) (start last : ℕ) (short : asked → last
       go true h = reads
       go false h = exceeds {number = number-over-limit} (λ i. omega arith) (λ a. let m = ltb-false at (start + maxNumber) h in let n = short a in omega arith)
 
-  digits-read : (fuel : ℕ) {w : Bytes} {at next : ℕ} → *DIGIT w → From s at w next → next ≤ last → isDigit (byte s next) ≡ false → length s ≤ fuel + at →
+  digits-read : (fuel : ℕ) {w : Bytes} {at next : ℕ} → *DIGIT w → From s at w next → next ≤ last → isDigit (byte s next) ≡ false →
+      length s ≤ fuel + at →
       Reads next asked (digits fuel s start at)
   unfolding digits
   digits-read zero {at = at} d f l stop enough = reads-ok (ok at) (ap ok (sym (at-end f (omega arith))))
@@ -100,13 +101,15 @@ module _ {asked : Type 0} (s : Bytes) (start last : ℕ) (short : asked → last
       let rest = digits-read fuel ds g l stop (omega arith) in
       rw (here, is-digit d) (reads-then (digits fuel s start) (counted-reads at (omega arith)) rest)
 
-  someDigits-read : {w : Bytes} {at next : ℕ} → 1*DIGIT w → From s at w next → next ≤ last → isDigit (byte s next) ≡ false → Reads next asked (someDigits s start at)
+  someDigits-read : {w : Bytes} {at next : ℕ} → 1*DIGIT w → From s at w next → next ≤ last → isDigit (byte s next) ≡ false →
+      Reads next asked (someDigits s start at)
   unfolding someDigits _>>=_
   someDigits-read {at = at} (1*DIGIT.some {d = b} d ds) f l stop =
       let (here, _, _) = first f in
       rw (byteIn-reads s at 0x30 0x39 here (d .0) (d .1)) (digits-read (length s) (*DIGIT.more d ds) f l stop (omega arith))
 
-  int-reads : {w : Bytes} {at next : ℕ} → int w → From s at w next → next ≤ last → isDigit (byte s next) ≡ false → Reads next asked (Numbers.int s start at)
+  int-reads : {w : Bytes} {at next : ℕ} → int w → From s at w next → next ≤ last → isDigit (byte s next) ≡ false →
+      Reads next asked (Numbers.int s start at)
   unfolding Numbers.int
   int-reads {at = at} int.zero f l stop =
       let (here, _, _) = first f in
@@ -116,7 +119,8 @@ module _ {asked : Type 0} (s : Bytes) (start last : ℕ) (short : asked → last
       let (here, _, _) = first f in
       rw (here, ne-eqb b 0x30 (λ i. omega arith)) (someDigits-read (1*DIGIT.some (omega arith) ds) f l stop)
 
-  frac-reads : {w : Bytes} {at next : ℕ} → optional frac w → From s at w next → next ≤ last → isDigit (byte s next) ≡ false → eqb (byte s next) 0x2E ≡ false →
+  frac-reads : {w : Bytes} {at next : ℕ} → optional frac w → From s at w next → next ≤ last → isDigit (byte s next) ≡ false →
+      eqb (byte s next) 0x2E ≡ false →
       Reads next asked (Numbers.frac s start at)
   unfolding Numbers.frac
   frac-reads {at = at} {next = next} optional.absent f l stop point =
@@ -129,7 +133,8 @@ module _ {asked : Type 0} (s : Bytes) (start last : ℕ) (short : asked → last
       let rest = someDigits-read ds g l stop in
       rw here (reads-then (someDigits s start) (counted-reads at (omega arith)) rest)
 
-  sign-reads : {w : Bytes} {at next : ℕ} → optional sign w → From s at w next → next ≤ last → DIGIT (byte s next) → Reads next asked (Numbers.sign s start at)
+  sign-reads : {w : Bytes} {at next : ℕ} → optional sign w → From s at w next → next ≤ last → DIGIT (byte s next) →
+      Reads next asked (Numbers.sign s start at)
   unfolding Numbers.sign
   sign-reads {at = at} {next = next} optional.absent f l d =
       let far = f .far in
@@ -138,7 +143,8 @@ module _ {asked : Type 0} (s : Bytes) (start last : ℕ) (short : asked → last
   sign-reads {at = at} (optional.present sign.minus-sign) f l d = let (here, _, _) = first f in let far = f .far in rw (here, far) (counted-reads at (omega arith))
   sign-reads {at = at} (optional.present sign.plus-sign) f l d = let (here, _, _) = first f in let far = f .far in rw (here, far) (counted-reads at (omega arith))
 
-  exponentDigits-read : (fuel size : ℕ) {w : Bytes} {at next : ℕ} → *DIGIT w → From s at w next → next ≤ last → isDigit (byte s next) ≡ false → length s ≤ fuel + at →
+  exponentDigits-read : (fuel size : ℕ) {w : Bytes} {at next : ℕ} → *DIGIT w → From s at w next → next ≤ last → isDigit (byte s next) ≡ false →
+      length s ≤ fuel + at →
       (asked → decimal size w ≤ maxExponent) → Reads next asked (exponentDigits fuel s start size at)
   unfolding exponentDigits decimal
   exponentDigits-read zero size {at = at} d f l stop enough fits = reads-ok (ok at) (ap ok (sym (at-end f (omega arith))))
@@ -152,13 +158,15 @@ module _ {asked : Type 0} (s : Bytes) (start last : ℕ) (short : asked → last
       let rest = exponentDigits-read fuel (size * 10 + (b - 0x30)) ds g l stop (omega arith) fits in
       rw (here, is-digit d) (go (leb (size * 10 + (b - 0x30)) maxExponent) refl (reads-then (exponentDigits fuel s start (size * 10 + (b - 0x30))) (counted-reads at (omega arith)) rest))
     where
-      go : (c : Bool) → leb (size * 10 + (b - 0x30)) maxExponent ≡ c → {o : Outcome ℕ} → Reads next asked o → Reads next asked (if c then o else refused number-over-limit at)
+      go : (c : Bool) → leb (size * 10 + (b - 0x30)) maxExponent ≡ c → {o : Outcome ℕ} → Reads next asked o →
+          Reads next asked (if c then o else refused number-over-limit at)
       go true h r = r
       go false h r =
           exceeds {number = number-over-limit} (λ i. omega arith)
           (λ a. let m = leb-false (size * 10 + (b - 0x30)) maxExponent h in let n = fits a in omega (arith, decimal-grows (size * 10 + (b - 0x30)) w))
 
-  signedDigits-read : {w ds : Bytes} {at next : ℕ} → optional sign w → 1*DIGIT ds → From s at (w ++ ds) next → next ≤ last → isDigit (byte s next) ≡ false →
+  signedDigits-read : {w ds : Bytes} {at next : ℕ} → optional sign w → 1*DIGIT ds → From s at (w ++ ds) next → next ≤ last →
+      isDigit (byte s next) ≡ false →
       (asked → decimal 0 ds ≤ maxExponent) → Reads next asked (signedDigits s start at)
   unfolding signedDigits _>>=_
   signedDigits-read {w} {at = at} p (1*DIGIT.some {d = b} {w = w'} d ds) f l stop fits =
@@ -168,7 +176,8 @@ module _ {asked : Type 0} (s : Bytes) (start last : ℕ) (short : asked → last
       reads-then _ (sign-reads p g (omega arith) (rw here d))
       (rw (byteIn-reads s (at + length w) 0x30 0x39 here (d .0) (d .1)) (exponentDigits-read (length s) 0 (*DIGIT.more d ds) h l stop (omega arith) fits))
 
-  exp-reads : {w : Bytes} {at next : ℕ} → optional exp w → From s at w next → next ≤ last → Stops (byte s next) → (asked → natAbs (exponent w) ≤ maxExponent) →
+  exp-reads : {w : Bytes} {at next : ℕ} → optional exp w → From s at w next → next ≤ last → Stops (byte s next) →
+      (asked → natAbs (exponent w) ≤ maxExponent) →
       Reads next asked (Numbers.exp s start at)
   unfolding Numbers.exp
   exp-reads {at = at} {next = next} optional.absent f l stop fits =
@@ -203,7 +212,8 @@ minus-exponent optional.absent t = refl
 minus-exponent (optional.present minus.minus-sign) t = refl
 
 -- with what the parts of a number begin
-exp-begins : {s w : Bytes} {at next : ℕ} → optional exp w → From s at w next → Stops (byte s next) → (isDigit (byte s at) ≡ false) × (eqb (byte s at) 0x2E ≡ false)
+exp-begins : {s w : Bytes} {at next : ℕ} → optional exp w → From s at w next → Stops (byte s next) →
+    (isDigit (byte s at) ≡ false) × (eqb (byte s at) 0x2E ≡ false)
 unfolding isDigit within
 exp-begins {at = at} {next = next} optional.absent f stop =
     let far = f .far in

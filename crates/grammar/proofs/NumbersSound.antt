@@ -35,7 +35,8 @@ counted-then {s = s} {place = place} {at = at} P g b start l h rest = go (ltb at
     go true = past P b (at + 1) l h refl rest
     go false = exceeds number-over-limit (omega arith)
 
-counted-sound : {s : Bytes} {at : ℕ} (P : Bytes → Type 0) (b start : ℕ) → 0 < b → byte s at ≡ b → P (b ∷ []) → Sound s there at (Derives P) (counted start at)
+counted-sound : {s : Bytes} {at : ℕ} (P : Bytes → Type 0) (b start : ℕ) → 0 < b → byte s at ≡ b → P (b ∷ []) →
+    Sound s there at (Derives P) (counted start at)
 unfolding counted
 counted-sound {s} {at} P b start l h d =
     choose (ltb at (start + maxNumber)) (λ _. past (Derives P) b (at + 1) l h refl (gives (at + 1) refl d)) (λ _. exceeds number-over-limit (omega arith))
@@ -53,7 +54,8 @@ digits-sound (suc fuel) s start at =
     gives at refl *DIGIT.none
 
 -- digits of which there must be one
-some-digits : (fuel : ℕ) (s : Bytes) (start at : ℕ) (P : Bytes → Type 0) → DIGIT (byte s at) → length s ≤ fuel + at → ((w : Bytes) → *DIGIT w → P (byte s at ∷ w)) →
+some-digits : (fuel : ℕ) (s : Bytes) (start at : ℕ) (P : Bytes → Type 0) → DIGIT (byte s at) → length s ≤ fuel + at →
+    ((w : Bytes) → *DIGIT w → P (byte s at ∷ w)) →
     Sound s there at (Derives P) (digits fuel s start at)
 unfolding digits isDigit
 some-digits zero s start at P d l derive = absurd (omega (arith, in-text s at (omega arith)))
@@ -61,7 +63,8 @@ some-digits (suc fuel) s start at P d l derive =
     rw (in-range 0x30 0x39 (byte s at) (d .0) (d .1))
     (counted-then (Derives P) (digits fuel s start) (byte s at) start (omega arith) refl (weaken (λ w x ds. derive w ds) (digits-sound fuel s start (at + 1))))
 
-someDigits-sound : (s : Bytes) (start at : ℕ) (P : Bytes → Type 0) → Some (Derives P) → (DIGIT (byte s at) → (w : Bytes) → *DIGIT w → P (byte s at ∷ w)) →
+someDigits-sound : (s : Bytes) (start at : ℕ) (P : Bytes → Type 0) → Some (Derives P) →
+    (DIGIT (byte s at) → (w : Bytes) → *DIGIT w → P (byte s at ∷ w)) →
     Sound s there at (Derives P) (someDigits s start at)
 unfolding someDigits
 someDigits-sound s start at P some derive = check-then 0x30 0x39 some λ l h. some-digits (length s) s start at P (l, h) (omega arith) (derive (l, h))
@@ -108,7 +111,8 @@ exponentDigits-sound (suc fuel) s start size at =
     exceeds number-over-limit (omega arith)) λ _.
     gives at refl *DIGIT.none
 
-some-exponentDigits : (fuel : ℕ) (s : Bytes) (start size at : ℕ) → DIGIT (byte s at) → length s ≤ fuel + at → Sound s there at (Derives 1*DIGIT) (exponentDigits fuel s start size at)
+some-exponentDigits : (fuel : ℕ) (s : Bytes) (start size at : ℕ) → DIGIT (byte s at) → length s ≤ fuel + at →
+    Sound s there at (Derives 1*DIGIT) (exponentDigits fuel s start size at)
 unfolding exponentDigits isDigit
 some-exponentDigits zero s start size at d l = absurd (omega (arith, in-text s at (omega arith)))
 some-exponentDigits (suc fuel) s start size at d l =

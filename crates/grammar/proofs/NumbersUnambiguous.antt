@@ -62,7 +62,8 @@ number-inside : {w : Bytes} → number w → Inside w
 number-inside (number.parts m i f x) = join (minus-inside m) (join (int-inside i) (join (frac-inside f) (exp-inside x)))
 
 -- such a run ends where it can go on no more
-runs-end : {s w w' : Bytes} {at next next' : ℕ} → Inside w → Inside w' → From s at w next → From s at w' next' → Stops (byte s next) → Stops (byte s next') → next ≡ next'
+runs-end : {s w w' : Bytes} {at next next' : ℕ} → Inside w → Inside w' → From s at w next → From s at w' next' → Stops (byte s next) →
+    Stops (byte s next') → next ≡ next'
 runs-end none none f g h i = f .far ∙ sym (g .far)
 runs-end {s} {at = at} {next = next} none (more in' r) f g h i =
     let far = f .far in
@@ -74,7 +75,8 @@ runs-end {s} {at = at} {next' = next'} (more in' r) none f g h i =
     absurd (true≢false (sym in' ∙ ap inNumber (sym (first f .0) ∙ ap (byte s) same) ∙ i .outside))
 runs-end (more in' r) (more in'' r') f g h i = runs-end r r' (first f .1) (first g .1) h i
 
-pub number-same : {s w w' : Bytes} {at next next' : ℕ} → number w → number w' → From s at w next → From s at w' next' → Stops (byte s next) → Stops (byte s next') → (w ≡ w') × (next ≡ next')
+pub number-same : {s w w' : Bytes} {at next next' : ℕ} → number w → number w' → From s at w next → From s at w' next' → Stops (byte s next) →
+    Stops (byte s next') → (w ≡ w') × (next ≡ next')
 number-same {s} {at = at} d d' f g h i =
     let same = runs-end (number-inside d) (number-inside d') f g h i in
     (sym (bytes f) ∙ ap (λ n. take (n - at) (drop at s)) same ∙ bytes g, same)

@@ -59,7 +59,8 @@ room : (left before : ℕ) (v : Value.Value) → Asked left before v → before 
 unfolding nodes
 room left before v a = let l = a .few in omega arith
 
-value-scalar : (left : ℕ) (s : Bytes) (at before : ℕ) → eqb (byte s at) (code "[") ≡ false → eqb (byte s at) (code "{") ≡ false → Read.value left s at before ≡ scalar s at before
+value-scalar : (left : ℕ) (s : Bytes) (at before : ℕ) → eqb (byte s at) (code "[") ≡ false → eqb (byte s at) (code "{") ≡ false →
+    Read.value left s at before ≡ scalar s at before
 unfolding Read.value
 value-scalar zero s at before e f = rw (e, f)
 value-scalar (suc left) s at before e f = rw (e, f)
@@ -71,7 +72,8 @@ pub record Plain (b : ℕ) : Type 0 where
   pub no-object : eqb b (code "{") ≡ false
   pub no-closing : b ≡ code "]" → ⊥
 
-scalar-read : {s : Bytes} {at next : ℕ} (left before : ℕ) {v : Value.Value} → Plain (byte s at) → Reads (v, next) (Asked left before v) (scalar s at before) → ValueRead s left before at next v
+scalar-read : {s : Bytes} {at next : ℕ} (left before : ℕ) {v : Value.Value} → Plain (byte s at) →
+    Reads (v, next) (Asked left before v) (scalar s at before) → ValueRead s left before at next v
 scalar-read {s} {at} {next} left before p r =
     let stay = blanks-stay s at (p .no-blank) in
     record {
@@ -86,7 +88,8 @@ unfolding spelled _>>=_
 spelled-reads [] {at = at} f = let far = f .far in ap ok (omega arith)
 spelled-reads (b ∷ word) {s} {at} f = let (e, g, _) = first f in rw (byteIn-reads s at b b e (omega arith) (omega arith)) (spelled-reads word g)
 
-literal-reads : (label : Label) (word : Bytes) {s : Bytes} {b at next : ℕ} → From s at (b ∷ word) next → literalValue label word s at ≡ ok (leaf label, next)
+literal-reads : (label : Label) (word : Bytes) {s : Bytes} {b at next : ℕ} → From s at (b ∷ word) next →
+    literalValue label word s at ≡ ok (leaf label, next)
 unfolding literalValue _>>=_
 literal-reads label word f = rw (spelled-reads word (first f .1))
 
@@ -107,7 +110,8 @@ number-plain {b} h =
 
 module _ {s : Bytes} {at next : ℕ} (left before : ℕ) where
   -- a literal by its first byte
-  pub literal-read : (label : Label) (word : Bytes) {b : ℕ} → (byte s at ≡ b → scalar s at before ≡ (roomFor before at >>= λ _. literalValue label word s at)) → Plain b → From s at (b ∷ word) next →
+  pub literal-read : (label : Label) (word : Bytes) {b : ℕ} →
+      (byte s at ≡ b → scalar s at before ≡ (roomFor before at >>= λ _. literalValue label word s at)) → Plain b → From s at (b ∷ word) next →
       ValueRead s left before at next (leaf label)
   literal-read label word begins p f =
       let (e, _, _) = first f in
@@ -161,7 +165,8 @@ module _ {isObject : Bool} {left before : ℕ} {so-far : Members} (name : Text) 
       let (fits, below, _) = parts (a .below) in
       record { shallow = omega arith; few = omega arith; fits = fits; below = below }
     where
-      parts : {e : Value.Entry} {kids rest : Members} → Everywhere (Forest.tree e kids rest) → Fits (e .label) kids × Everywhere kids × Everywhere rest
+      parts : {e : Value.Entry} {kids rest : Members} → Everywhere (Forest.tree e kids rest) →
+          Fits (e .label) kids × Everywhere kids × Everywhere rest
       parts (Everywhere.one-more fits below others) = (fits, below, others)
 
   asked-rest : AskedItems isObject left before (so-far ⧺ single (named name v)) f
@@ -222,7 +227,8 @@ unfolding containerLabel depth levels Value.isContainer Value.tag
 no-levels false f a = let l = a .shallow in omega arith
 no-levels true f a = let l = a .shallow in omega arith
 
-asked-items : (isObject : Bool) {left before : ℕ} (f : Members) → Asked (suc left) before (containerOf isObject f) → AskedItems isObject left (before + 1) Forest.none f
+asked-items : (isObject : Bool) {left before : ℕ} (f : Members) → Asked (suc left) before (containerOf isObject f) →
+    AskedItems isObject left (before + 1) Forest.none f
 unfolding containerLabel depth levels Value.isContainer Value.tag nodes size _⧺_
 asked-items false f a = let l = a .shallow in let m = a .few in record { distinct = λ e. absurd (true≢false (sym e)); shallow = omega arith; few = omega arith; below = a .below }
 asked-items true f a = let l = a .shallow in let m = a .few in record { distinct = λ e. a .fits; shallow = omega arith; few = omega arith; below = a .below }
@@ -264,7 +270,8 @@ module _ (isObject : Bool) {s : Bytes} {at mid next : ℕ} (begin : Marked s at 
       container-read isObject s left before at next (blanks s mid + 1) Forest.none (begin .mark)
       (λ left before. rw (begin .after, m .mark, eq-eqb (closingBracket isObject) (closingBracket isObject) refl) reads) (m .after)
 
-  filled-read : {f : Members} {stop : ℕ} (left before : ℕ) → ((left before : ℕ) → ItemsRead isObject s left before mid stop f) → Marked s stop (closingBracket isObject) next →
+  filled-read : {f : Members} {stop : ℕ} (left before : ℕ) → ((left before : ℕ) → ItemsRead isObject s left before mid stop f) →
+      Marked s stop (closingBracket isObject) next →
       ValueRead s left before at next (containerOf isObject f)
   unfolding contents _⧺_
   filled-read {f} {stop} left before r m =
@@ -284,7 +291,8 @@ module _ {isObject : Bool} {s : Bytes} {left before at next : ℕ} {name : Text}
       outcome zero so-far l = absurd (omega (arith, in-blanks s next mark (closing-positive isObject)))
       outcome (suc fuel) so-far l = items-last fuel (r so-far) mark
 
-  more-read : {mid stop : ℕ} {f : Members} → Marked s next (code ",") mid → ItemsRead isObject s left before mid stop f → ItemsRead isObject s left before at stop (node name v f)
+  more-read : {mid stop : ℕ} {f : Members} → Marked s next (code ",") mid → ItemsRead isObject s left before mid stop f →
+      ItemsRead isObject s left before at stop (node name v f)
   unfolding _⧺_
   more-read {mid} {stop} {f} m rest = record { outcome = outcome; no-bracket = r Forest.none .no-bracket }
     where
@@ -313,7 +321,8 @@ fresh-reads name so-far p = go (has name so-far) refl
     go true e = exceeds {number = repeated-name} (λ i. omega arith) (λ a. true≢false (sym e ∙ a refl))
     go false e = reads
 
-member-read : {s n : Bytes} {name : Text} {left before : ℕ} (so-far : Members) {at p q next : ℕ} {v : Value.Value} → string n name → From s at n p → Marked s p (code ":") q →
+member-read : {s n : Bytes} {name : Text} {left before : ℕ} (so-far : Members) {at p q next : ℕ} {v : Value.Value} → string n name → From s at n p →
+    Marked s p (code ":") q →
     ((before : ℕ) → ValueRead s left before q next v) → ItemRead true s left before so-far at next name v
 unfolding nameFor closingBracket
 member-read {s} {name = name} {before = before} so-far {at} {p} {q} d f m r =
@@ -348,12 +357,14 @@ abbrev ReadsMember : Bytes → Text → Value.Value → Type 0
 ReadsMember w name v = (s : Bytes) (at next : ℕ) → From s at w next → Stops (byte s next) → (left before : ℕ) (so-far : Members) → ItemRead true s left before so-far at next name v
 
 module _ (isObject : Bool) where
-  empty-reads : {b e : Bytes} → structural (openingBracket isObject) b → structural (closingBracket isObject) e → ReadsContainer isObject (b ++ e) Forest.none
+  empty-reads : {b e : Bytes} → structural (openingBracket isObject) b → structural (closingBracket isObject) e →
+      ReadsContainer isObject (b ++ e) Forest.none
   empty-reads {b} {e} hb he s at next f left before =
       let (g, h) = split b e f in
       empty-read isObject (opening-marked isObject hb g) left before (closing-marked isObject he h)
 
-  filled-reads : {b e : Bytes} (w : Bytes) (f : Members) → structural (openingBracket isObject) b → ReadsItems isObject w f → structural (closingBracket isObject) e → ReadsContainer isObject (b ++ (w ++ e)) f
+  filled-reads : {b e : Bytes} (w : Bytes) (f : Members) → structural (openingBracket isObject) b → ReadsItems isObject w f →
+      structural (closingBracket isObject) e → ReadsContainer isObject (b ++ (w ++ e)) f
   filled-reads {b} {e} w f hb ih he s at next from left before =
       let (g, h) = split b (w ++ e) from in
       let (i, j) = split w e h in
@@ -364,7 +375,8 @@ last-element-reads : (w : Bytes) (v : Value.Value) → ReadsValue w v → ReadsI
 last-element-reads w v ih s at next f stop mark left before =
     let far = f .far in last-read (omega arith) (λ so-far. element-read so-far (ih s at next f stop left)) mark
 
-more-elements-reads : (w : Bytes) {c : Bytes} (ws : Bytes) (v : Value.Value) (f : Members) → ReadsValue w v → value-separator c → ReadsItems false ws f → ReadsItems false (w ++ (c ++ ws)) (node [] v f)
+more-elements-reads : (w : Bytes) {c : Bytes} (ws : Bytes) (v : Value.Value) (f : Members) → ReadsValue w v → value-separator c →
+    ReadsItems false ws f → ReadsItems false (w ++ (c ++ ws)) (node [] v f)
 more-elements-reads w {c} ws v f ih hc rest s at next from stop mark left before =
     let (g, h) = split w (c ++ ws) from in
     let (i, j) = split c ws h in
@@ -376,7 +388,8 @@ last-member-reads : (w : Bytes) (name : Text) (v : Value.Value) → ReadsMember 
 last-member-reads w name v ih s at next f stop mark left before =
     let far = f .far in last-read (omega arith) (ih s at next f stop left before) mark
 
-more-members-reads : (w : Bytes) {c : Bytes} (ws : Bytes) (name : Text) (v : Value.Value) (f : Members) → ReadsMember w name v → value-separator c → ReadsItems true ws f → ReadsItems true (w ++ (c ++ ws)) (node name v f)
+more-members-reads : (w : Bytes) {c : Bytes} (ws : Bytes) (name : Text) (v : Value.Value) (f : Members) → ReadsMember w name v → value-separator c →
+    ReadsItems true ws f → ReadsItems true (w ++ (c ++ ws)) (node name v f)
 more-members-reads w {c} ws name v f ih hc rest s at next from stop mark left before =
     let (g, h) = split w (c ++ ws) from in
     let (i, j) = split c ws h in
@@ -384,7 +397,8 @@ more-members-reads w {c} ws name v f ih hc rest s at next from stop mark left be
     let far = g .far in
     more-read (omega arith) (ih s at _ g (m .stops) left before) m (rest s _ next j stop mark left before)
 
-pair-reads : {n c : Bytes} (w : Bytes) {name : Text} (v : Value.Value) → string n name → name-separator c → ReadsValue w v → ReadsMember (n ++ (c ++ w)) name v
+pair-reads : {n c : Bytes} (w : Bytes) {name : Text} (v : Value.Value) → string n name → name-separator c → ReadsValue w v →
+    ReadsMember (n ++ (c ++ w)) name v
 pair-reads {n} {c} w v d hc ih s at next f stop left before so-far =
     let (g, h) = split n (c ++ w) f in
     let (i, j) = split c w h in

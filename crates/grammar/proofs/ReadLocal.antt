@@ -107,7 +107,8 @@ module _ {s t : Bytes} {m : ℕ} (agree : Agree s t m) where
       andThen _ _ (rest (x .1) (omega arith) (omega arith)) λ y j k'.
       gives (x .0 ∷ y .0, y .1) (omega arith) (λ h. refl)
 
-  characters-local : (fuel fuel' at : ℕ) → length s ≤ fuel + at → length t ≤ fuel' + at → Local m end at (characters fuel s at) (characters fuel' t at)
+  characters-local : (fuel fuel' at : ℕ) → length s ≤ fuel + at → length t ≤ fuel' + at →
+      Local m end at (characters fuel s at) (characters fuel' t at)
   unfolding characters
   characters-local zero fuel' at l l' = let long = agree .long in under at (refused not-json at) (omega arith) (λ h. absurd (omega arith)) (refuses at (omega arith))
   characters-local (suc fuel) zero at l l' =
@@ -126,21 +127,25 @@ module _ {s t : Bytes} {m : ℕ} (agree : Agree s t m) where
   counted-local start at = both (ltb at (start + maxNumber)) (gives (at + 1) (omega arith) (λ h. refl)) (exceeds number-over-limit (omega arith))
 
   -- a byte of the number, and a reader after it
-  counted-then : (start at : ℕ) (g g' : ℕ → Outcome ℕ) → Local m there (at + 1) (g (at + 1)) (g' (at + 1)) → Local m there at (counted start at >>= g) (counted start at >>= g')
+  counted-then : (start at : ℕ) (g g' : ℕ → Outcome ℕ) → Local m there (at + 1) (g (at + 1)) (g' (at + 1)) →
+      Local m there at (counted start at >>= g) (counted start at >>= g')
   unfolding counted _>>=_
   counted-then start at g g' r = go (ltb at (start + maxNumber))
     where
-      go : (c : Bool) → Local m there at ((if c then ok (at + 1) else refused number-over-limit at) >>= g) ((if c then ok (at + 1) else refused number-over-limit at) >>= g')
+      go : (c : Bool) →
+          Local m there at ((if c then ok (at + 1) else refused number-over-limit at) >>= g) ((if c then ok (at + 1) else refused number-over-limit at) >>= g')
       go true = later (at + 1) (omega arith) r
       go false = exceeds number-over-limit (omega arith)
 
-  digits-more : (fuel fuel' start at : ℕ) → Local m there (at + 1) (digits fuel s start (at + 1)) (digits fuel' t start (at + 1)) → Local m there at (digits (suc fuel) s start at) (digits (suc fuel') t start at)
+  digits-more : (fuel fuel' start at : ℕ) → Local m there (at + 1) (digits fuel s start (at + 1)) (digits fuel' t start (at + 1)) →
+      Local m there at (digits (suc fuel) s start at) (digits (suc fuel') t start at)
   unfolding digits
   digits-more fuel fuel' start at rest =
       choose (test isDigit) (λ e. counted-then start at _ _ rest) λ e.
       gives at (omega arith) (λ h. refl)
 
-  digits-local : (fuel fuel' start at : ℕ) → length s ≤ fuel + at → length t ≤ fuel' + at → Local m there at (digits fuel s start at) (digits fuel' t start at)
+  digits-local : (fuel fuel' start at : ℕ) → length s ≤ fuel + at → length t ≤ fuel' + at →
+      Local m there at (digits fuel s start at) (digits fuel' t start at)
   unfolding digits
   digits-local zero fuel' start at l l' = let long = agree .long in under at (ok at) (omega arith) (λ h. absurd (omega arith)) (gives at (omega arith) (λ h. refl))
   digits-local (suc fuel) zero start at l l' =
@@ -168,7 +173,8 @@ module _ {s t : Bytes} {m : ℕ} (agree : Agree s t m) where
       choose (test (λ b. eqb b (code "+") || eqb b (code "-"))) (λ e. counted-local start at) λ e.
       gives at (omega arith) (λ h. refl)
 
-  exponentDigits-more : (fuel fuel' start size at : ℕ) → ((size : ℕ) → Local m there (at + 1) (exponentDigits fuel s start size (at + 1)) (exponentDigits fuel' t start size (at + 1))) →
+  exponentDigits-more : (fuel fuel' start size at : ℕ) →
+      ((size : ℕ) → Local m there (at + 1) (exponentDigits fuel s start size (at + 1)) (exponentDigits fuel' t start size (at + 1))) →
       Local m there at (exponentDigits (suc fuel) s start size at) (exponentDigits (suc fuel') t start size at)
   unfolding exponentDigits
   exponentDigits-more fuel fuel' start size at rest =
@@ -181,7 +187,8 @@ module _ {s t : Bytes} {m : ℕ} (agree : Agree s t m) where
       digit-of b =
           if leb (size * 10 + (b - code "0")) maxExponent then counted start at >>= exponentDigits fuel' t start (size * 10 + (b - code "0")) else refused number-over-limit at
 
-  exponentDigits-local : (fuel fuel' start size at : ℕ) → length s ≤ fuel + at → length t ≤ fuel' + at → Local m there at (exponentDigits fuel s start size at) (exponentDigits fuel' t start size at)
+  exponentDigits-local : (fuel fuel' start size at : ℕ) → length s ≤ fuel + at → length t ≤ fuel' + at →
+      Local m there at (exponentDigits fuel s start size at) (exponentDigits fuel' t start size at)
   unfolding exponentDigits
   exponentDigits-local zero fuel' start size at l l' = let long = agree .long in under at (ok at) (omega arith) (λ h. absurd (omega arith)) (gives at (omega arith) (λ h. refl))
   exponentDigits-local (suc fuel) zero start size at l l' =
@@ -212,7 +219,8 @@ module _ {s t : Bytes} {m : ℕ} (agree : Agree s t m) where
       parts : ℕ → Outcome ℕ
       parts at = Numbers.int t start at >>= λ fraction. Numbers.frac t start fraction >>= λ exponent. Numbers.exp t start exponent
 
-      from-int : (at : ℕ) → Local m there at (Numbers.int s start at >>= λ fraction. Numbers.frac s start fraction >>= λ exponent. Numbers.exp s start exponent) (parts at)
+      from-int : (at : ℕ) →
+          Local m there at (Numbers.int s start at >>= λ fraction. Numbers.frac s start fraction >>= λ exponent. Numbers.exp s start exponent) (parts at)
       from-int at = andThen _ _ (int-local start at) λ x e l. andThen _ _ (frac-local start x) λ y f l'. exp-local start y
 
       go : (c : Bool) →
@@ -222,7 +230,8 @@ module _ {s t : Bytes} {m : ℕ} (agree : Agree s t m) where
 
   -- Blanks.
 
-  blanksFrom-same : (fuel fuel' at : ℕ) → length s ≤ fuel + at → length t ≤ fuel' + at → blanksFrom fuel s at < m → blanksFrom fuel' t at ≡ blanksFrom fuel s at
+  blanksFrom-same : (fuel fuel' at : ℕ) → length s ≤ fuel + at → length t ≤ fuel' + at → blanksFrom fuel s at < m →
+      blanksFrom fuel' t at ≡ blanksFrom fuel s at
   unfolding blanksFrom
   blanksFrom-same zero fuel' at l l' h = let long = agree .long in absurd (omega arith)
   blanksFrom-same (suc fuel) zero at l l' h =
@@ -239,7 +248,8 @@ module _ {s t : Bytes} {m : ℕ} (agree : Agree s t m) where
       go true e same h rest = rw (same, e) (rest h)
       go false e same h rest = rw (same, e)
 
-  blanks-then : {X : Type 0} {place : X → ℕ} (at : ℕ) (g g' : ℕ → Outcome X) → (at ≤ blanks s at → Local m place (blanks s at) (g (blanks s at)) (g' (blanks s at))) →
+  blanks-then : {X : Type 0} {place : X → ℕ} (at : ℕ) (g g' : ℕ → Outcome X) →
+      (at ≤ blanks s at → Local m place (blanks s at) (g (blanks s at)) (g' (blanks s at))) →
       Local m place at (g (blanks s at)) (g' (blanks t at))
   unfolding blanks
   blanks-then at g g' rest =
@@ -249,11 +259,13 @@ module _ {s t : Bytes} {m : ℕ} (agree : Agree s t m) where
 
   -- Values.
 
-  room-then : {X : Type 0} {place : X → ℕ} {low : ℕ} {o o' : Outcome X} (nodes p : ℕ) → Local m place low o o' → Local m place low (roomFor nodes p >>= λ _. o) (roomFor nodes p >>= λ _. o')
+  room-then : {X : Type 0} {place : X → ℕ} {low : ℕ} {o o' : Outcome X} (nodes p : ℕ) → Local m place low o o' →
+      Local m place low (roomFor nodes p >>= λ _. o) (roomFor nodes p >>= λ _. o')
   unfolding roomFor _>>=_
   room-then {place = place} {low = low} {o = o} {o' = o'} nodes p r = go (ltb nodes maxNodes)
     where
-      go : (c : Bool) → Local m place low ((if c then ok p else refused too-many-nodes p) >>= λ _. o) ((if c then ok p else refused too-many-nodes p) >>= λ _. o')
+      go : (c : Bool) →
+          Local m place low ((if c then ok p else refused too-many-nodes p) >>= λ _. o) ((if c then ok p else refused too-many-nodes p) >>= λ _. o')
       go true = r
       go false = exceeds too-many-nodes (omega arith)
 
@@ -262,7 +274,8 @@ module _ {s t : Bytes} {m : ℕ} (agree : Agree s t m) where
   unfolding fresh _>>=_
   fresh-then {place = place} {low = low} {o = o} {o' = o'} name so-far p r = go (has name so-far)
     where
-      go : (c : Bool) → Local m place low ((if c then refused repeated-name p else ok p) >>= λ _. o) ((if c then refused repeated-name p else ok p) >>= λ _. o')
+      go : (c : Bool) →
+          Local m place low ((if c then refused repeated-name p else ok p) >>= λ _. o) ((if c then refused repeated-name p else ok p) >>= λ _. o')
       go true = exceeds repeated-name (omega arith)
       go false = r
 
@@ -342,7 +355,8 @@ module _ {s t : Bytes} {m : ℕ} (agree : Agree s t m) where
         choose (test (λ b. eqb b (closingBracket isObject))) (λ e. gives (Forest.none, blanks s at + 1) (omega arith) (λ h. refl)) λ e.
         items-local (length s) (length t) Forest.none (blanks s at) (omega arith) (omega arith)
 
-  container-local : (reader reader' : ℕ → ℕ → Outcome (Value.Value × ℕ)) → ((at nodes : ℕ) → Local m end at (reader at nodes) (reader' at nodes)) → (isObject : Bool) (at nodes : ℕ) →
+  container-local : (reader reader' : ℕ → ℕ → Outcome (Value.Value × ℕ)) → ((at nodes : ℕ) → Local m end at (reader at nodes) (reader' at nodes)) →
+      (isObject : Bool) (at nodes : ℕ) →
       Local m end at (container reader isObject s at nodes) (container reader' isObject t at nodes)
   unfolding container
   container-local reader reader' inner isObject at nodes =
@@ -373,6 +387,7 @@ module _ {s t : Bytes} {m : ℕ} (agree : Agree s t m) where
       finish : Bytes → Value.Value × ℕ → Outcome Value.Value
       finish s x = if eqb (blanks s (x .1)) (length s) then ok (x .0) else refused not-json (blanks s (x .1))
 
-      ended : (v : Value.Value) (p : ℕ) (c : Bool) → eqb p (length s) ≡ c → Local m (λ v. length s) p (if c then ok v else refused not-json p) (if eqb p (length t) then ok v else refused not-json p)
+      ended : (v : Value.Value) (p : ℕ) (c : Bool) → eqb p (length s) ≡ c →
+          Local m (λ v. length s) p (if c then ok v else refused not-json p) (if eqb p (length t) then ok v else refused not-json p)
       ended v p true e = let same = eqb-true p (length s) e in let long = agree .long in finds {x = v} (omega arith) (λ h. absurd (omega arith))
       ended v p false e = let long = agree .long in stops {p = p} (omega arith) (λ h. ap (λ c. if c then ok v else refused not-json p) (ne-eqb p (length t) (λ i. omega arith)))

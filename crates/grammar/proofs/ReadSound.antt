@@ -50,7 +50,8 @@ unfolding blanksFrom
 blanksFrom-sound zero s at = record { text = []; from = here at; derived = ws.none }
 blanksFrom-sound (suc fuel) s at = go (isBlank (byte s at)) refl (blanksFrom-sound fuel s (at + 1))
   where
-    go : (c : Bool) → isBlank (byte s at) ≡ c → Blanks s (at + 1) (blanksFrom fuel s (at + 1)) → Blanks s at (if c then blanksFrom fuel s (at + 1) else at)
+    go : (c : Bool) → isBlank (byte s at) ≡ c → Blanks s (at + 1) (blanksFrom fuel s (at + 1)) →
+        Blanks s at (if c then blanksFrom fuel s (at + 1) else at)
     go true e r =
         let (positive, d) = blank (byte s at) e (r .derived) in
         record { text = byte s at ∷ r .text; from = cons (byte s at) positive refl (r .from); derived = d }
@@ -65,7 +66,8 @@ past-blanks : {X : Type 0} {s : Bytes} {place : X → ℕ} {at : ℕ} (P : Bytes
 past-blanks {s = s} {at = at} P rest = let r = blanks-sound s at in after P (r .from) (rest (r .text) (r .derived))
 
 -- checks
-room-then : {X : Type 0} {s : Bytes} {place : X → ℕ} {at : ℕ} {P : Bytes → X → Type 0} {o : Outcome X} (nodes p : ℕ) → Sound s place at P o → Sound s place at P (roomFor nodes p >>= λ _. o)
+room-then : {X : Type 0} {s : Bytes} {place : X → ℕ} {at : ℕ} {P : Bytes → X → Type 0} {o : Outcome X} (nodes p : ℕ) → Sound s place at P o →
+    Sound s place at P (roomFor nodes p >>= λ _. o)
 unfolding roomFor _>>=_
 room-then {s = s} {place = place} {at = at} {P = P} {o = o} nodes p r = go (ltb nodes maxNodes)
   where
@@ -93,7 +95,8 @@ spelled-sound [] h s at = gives at refl refl
 spelled-sound (b ∷ word) h s at =
     expect-then _ b (at + 1) (h .0) refl (some (b ∷ word) 0 refl) (weaken (λ w x e. ap (λ w. b ∷ w) e) (spelled-sound word (h .1) s (at + 1)))
 
-literal-sound : {b : ℕ} (label : Label) (word : Bytes) → 0 < b → Positive word → value (b ∷ word) (leaf label) → (s : Bytes) (at : ℕ) → byte s at ≡ b →
+literal-sound : {b : ℕ} (label : Label) (word : Bytes) → 0 < b → Positive word → value (b ∷ word) (leaf label) → (s : Bytes) (at : ℕ) →
+    byte s at ≡ b →
     Sound s end at (Means value) (literalValue label word s at)
 unfolding literalValue
 literal-sound {b} label word l h d s at e =
@@ -105,7 +108,8 @@ numberValue-sound : (s : Bytes) (at : ℕ) → Sound s end at (Means value) (num
 unfolding numberValue _>>=_
 numberValue-sound s at = go (number-sound s at)
   where
-    go : {o : Outcome ℕ} → Sound s there at (Derives number) o → Sound s end at (Means value) (o >>= λ next. ok (leaf (Label.number (take (next - at) (drop at s))), next))
+    go : {o : Outcome ℕ} → Sound s there at (Derives number) o →
+        Sound s end at (Means value) (o >>= λ next. ok (leaf (Label.number (take (next - at) (drop at s))), next))
     go (finds {w} {x} f d) = finds {w = w} {x = (leaf (Label.number (take (x - at) (drop at s))), x)} f (rw (bytes f) (value.of-number d))
     go (stops {w} f r) = stops f (some (r .text) (leaf (Label.number (w ++ r .text)), 0) (value.of-number (r .derived)))
     go (other h) = other h
@@ -150,7 +154,8 @@ nameFor-sound true s so-far at =
 data Items (isObject : Bool) : Bytes → Members → Type 0 where
   last : {n w b : Bytes} {name : Text} {v : Value.Value} → NamePart isObject n name → value w v → ws b →
       Items isObject (n ++ (w ++ (b ++ (closingBracket isObject ∷ [])))) (node name v Forest.none)
-  more : {n w b b' rest : Bytes} {name : Text} {v : Value.Value} {f : Members} → NamePart isObject n name → value w v → ws b → ws b' → Items isObject rest f →
+  more : {n w b b' rest : Bytes} {name : Text} {v : Value.Value} {f : Members} → NamePart isObject n name → value w v → ws b → ws b' →
+      Items isObject rest f →
       Items isObject (n ++ (w ++ (b ++ (code "," ∷ (b' ++ rest))))) (node name v f)
 
 -- they come after those that were read before
@@ -212,11 +217,13 @@ record Listed (isObject : Bool) (w : Bytes) (f : Members) : Type 0 where
 pair : {n c w : Bytes} {name : Text} {v : Value.Value} → string n name → name-separator c → value w v → member ((n ++ c) ++ w) name v
 pair {n} {c} {w} {name} {v} q h d = subst (λ x. member x name v) (sym (append-assoc n c w)) (member.pair q h d)
 
-last-between : {isObject : Bool} {n w : Bytes} {name : Text} {v : Value.Value} → NamePart isObject n name → value w v → Between isObject (n ++ w) (node name v Forest.none)
+last-between : {isObject : Bool} {n w : Bytes} {name : Text} {v : Value.Value} → NamePart isObject n name → value w v →
+    Between isObject (n ++ w) (node name v Forest.none)
 last-between nameless d = elements.last-element d
 last-between (under q h) d = members.last-member (pair q h d)
 
-more-between : {isObject : Bool} {n w c : Bytes} {name : Text} {v : Value.Value} (rest : Bytes) (f : Members) → NamePart isObject n name → value w v → value-separator c → Between isObject rest f →
+more-between : {isObject : Bool} {n w c : Bytes} {name : Text} {v : Value.Value} (rest : Bytes) (f : Members) → NamePart isObject n name → value w v →
+    value-separator c → Between isObject rest f →
     Between isObject ((n ++ w) ++ (c ++ rest)) (node name v f)
 more-between rest f nameless d h r = elements.more-elements d h r
 more-between rest f (under q i) d h r = members.more-members (pair q i d) h r

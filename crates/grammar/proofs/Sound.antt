@@ -98,14 +98,16 @@ finish f same derive (stops {w} from r) = stops from (some (r .text) (f (r .mean
 finish f same derive (other h) = other h
 
 -- a byte that is known, and a reader after it
-pub past : {X : Type 0} {s : Bytes} {place : X → ℕ} {at : ℕ} (P : Bytes → X → Type 0) {o : Outcome X} (b next : ℕ) → 0 < b → byte s at ≡ b → next ≡ at + 1 →
+pub past : {X : Type 0} {s : Bytes} {place : X → ℕ} {at : ℕ} (P : Bytes → X → Type 0) {o : Outcome X} (b next : ℕ) → 0 < b → byte s at ≡ b →
+    next ≡ at + 1 →
     Sound s place next (λ w x. P (b ∷ w) x) o → Sound s place at P o
 past {s = s} {at = at} P b next h e n r =
     let from : From s at (b ∷ []) next = rw (n, ← e) (one at (in-text s at (omega arith))) in
     after P from r
 
 -- a byte between two bounds, and a reader after it
-pub byteIn-then : {X : Type 0} {s : Bytes} {place : X → ℕ} {at : ℕ} (P : Bytes → X → Type 0) (g : ℕ → Outcome X) (low high next : ℕ) → 0 < low → next ≡ at + 1 → Some P →
+pub byteIn-then : {X : Type 0} {s : Bytes} {place : X → ℕ} {at : ℕ} (P : Bytes → X → Type 0) (g : ℕ → Outcome X) (low high next : ℕ) → 0 < low →
+    next ≡ at + 1 → Some P →
     ((b : ℕ) → low ≤ b → b ≤ high → Sound s place next (λ w x. P (b ∷ w) x) (g b)) → Sound s place at P (byteIn s at low high >>= g)
 unfolding byteIn _>>=_
 byteIn-then {s = s} {place = place} {at = at} P g low high next h n some rest = go (within low high (byte s at)) refl
@@ -117,7 +119,8 @@ byteIn-then {s = s} {place = place} {at = at} P g low high next h n some rest = 
     go false e = refuses some
 
 -- the byte that must stand there, and a reader after it
-pub expect-then : {X : Type 0} {s : Bytes} {place : X → ℕ} {at : ℕ} (P : Bytes → X → Type 0) {o : Outcome X} (b next : ℕ) → 0 < b → next ≡ at + 1 → Some P →
+pub expect-then : {X : Type 0} {s : Bytes} {place : X → ℕ} {at : ℕ} (P : Bytes → X → Type 0) {o : Outcome X} (b next : ℕ) → 0 < b → next ≡ at + 1 →
+    Some P →
     Sound s place next (λ w x. P (b ∷ w) x) o → Sound s place at P (byteIn s at b b >>= λ _. o)
 expect-then {s = s} {place = place} P {o = o} b next h n some rest =
     byteIn-then P (λ _. o) b b next h n some λ c l m. let same : b ≡ c = omega arith in subst (λ c. Sound s place next (λ w x. P (c ∷ w) x) o) same rest

@@ -85,7 +85,8 @@ char-read f other e =
     record { reads = e; no-quote = λ i. other (sym same ∙ i); grows = omega arith }
 
 -- a character of several bytes
-several-reads : {s w : Bytes} {a n low high bits c d at next : ℕ} → %x 0x80 0xFF a → multibyte s at a ≡ tail n s (at + 1) low high bits → Tail n low high bits w d → d ≡ c →
+several-reads : {s w : Bytes} {a n low high bits c d at next : ℕ} → %x 0x80 0xFF a → multibyte s at a ≡ tail n s (at + 1) low high bits →
+    Tail n low high bits w d → d ≡ c →
     From s at (a ∷ w) next → CharRead s at c next
 unfolding character
 several-reads {a = a} {next = next} h row t same f =
@@ -136,7 +137,8 @@ record Digits (s : Bytes) (at h i j k next : ℕ) : Type 0 where
   far : next ≡ at + 4
   small : (h ≤ 0xF) × (i ≤ 0xF) × (j ≤ 0xF) × (k ≤ 0xF)
 
-digits-at : {s : Bytes} {a b c d h i j k at next : ℕ} → HEXDIG a h → HEXDIG b i → HEXDIG c j → HEXDIG d k → From s at (a ∷ b ∷ c ∷ d ∷ []) next → Digits s at h i j k next
+digits-at : {s : Bytes} {a b c d h i j k at next : ℕ} → HEXDIG a h → HEXDIG b i → HEXDIG c j → HEXDIG d k → From s at (a ∷ b ∷ c ∷ d ∷ []) next →
+    Digits s at h i j k next
 digits-at {s} {at = at} da db dc dd f =
     record {
       first-digit = λ low high l m. hexIn-reads s at low high (first f .0) da l m;
@@ -180,7 +182,8 @@ module _ {s : Bytes} {at h i j k next : ℕ} (d : Digits s at h i j k next) wher
       go true e (no l) = omega arith
       go false e l = d .small .1
 
-  unit-reads : (0xDC00 ≤ (unit h i j k) → (unit h i j k) ≤ 0xDFFF → ⊥) → unicodeEscape s at ≡ (if within 0xD800 0xDBFF (unit h i j k) then afterHigh s (unit h i j k) (at + 4) else ok ((unit h i j k), at + 4))
+  unit-reads : (0xDC00 ≤ (unit h i j k) → (unit h i j k) ≤ 0xDFFF → ⊥) →
+      unicodeEscape s at ≡ (if within 0xD800 0xDBFF (unit h i j k) then afterHigh s (unit h i j k) (at + 4) else ok ((unit h i j k), at + 4))
   unfolding unicodeEscape _>>=_
   unit-reads other =
       rw (d .first-digit 0x0 0xF (omega arith) (d .small .0), d .second-digit 0x0 (secondLimit h) (omega arith) (second-limit other), d .third-digit, d .fourth-digit)
@@ -194,14 +197,16 @@ module _ {s : Bytes} {at h i j k next : ℕ} (d : Digits s at h i j k next) wher
   high-reads : %x 0xD800 0xDBFF (unit h i j k) → unicodeEscape s at ≡ afterHigh s (unit h i j k) (at + 4)
   high-reads r = rw (unit-reads (λ m n. omega arith), in-range 0xD800 0xDBFF (unit h i j k) (r .0) (r .1))
 
-  low-reads : (high : ℕ) → %x 0xDC00 0xDFFF (unit h i j k) → lowSurrogate s high at ≡ ok (0x1_0000 + (high - 0xD800) * 0x400 + ((unit h i j k) - 0xDC00), next)
+  low-reads : (high : ℕ) → %x 0xDC00 0xDFFF (unit h i j k) →
+      lowSurrogate s high at ≡ ok (0x1_0000 + (high - 0xD800) * 0x400 + ((unit h i j k) - 0xDC00), next)
   unfolding lowSurrogate _>>=_
   low-reads high r =
       let small = d .small in
       let same : (i - 0xC) * 0x100 + j * 0x10 + k ≡ (unit h i j k) - 0xDC00 = omega arith in
       rw (d .first-digit 0xD 0xD (omega arith) (omega arith), d .second-digit 0xC 0xF (omega arith) (d .small .1), d .third-digit, d .fourth-digit, ← d .far, same)
 
-pair-reads : {s : Bytes} {a b c d a' b' c' d' h i j k h' i' j' k' at next : ℕ} → HEXDIG a h → HEXDIG b i → HEXDIG c j → HEXDIG d k → HEXDIG a' h' → HEXDIG b' i' → HEXDIG c' j' → HEXDIG d' k' →
+pair-reads : {s : Bytes} {a b c d a' b' c' d' h i j k h' i' j' k' at next : ℕ} → HEXDIG a h → HEXDIG b i → HEXDIG c j → HEXDIG d k → HEXDIG a' h' →
+    HEXDIG b' i' → HEXDIG c' j' → HEXDIG d' k' →
     %x 0xD800 0xDBFF (unit h i j k) → %x 0xDC00 0xDFFF (unit h' i' j' k') →
     From s at (a ∷ b ∷ c ∷ d ∷ 0x5C ∷ 0x75 ∷ a' ∷ b' ∷ c' ∷ d' ∷ []) next →
     unicodeEscape s at ≡ ok (0x1_0000 + (unit h i j k - 0xD800) * 0x400 + (unit h' i' j' k' - 0xDC00), next)
@@ -232,7 +237,8 @@ char-reads (char.below-surrogates (4HEXDIG.digits da db dc dd) l) f = unicode-re
 char-reads (char.above-surrogates (4HEXDIG.digits da db dc dd) l) f = unicode-reads f (above-reads (digits-at da db dc dd (after-u f)) (omega arith))
 char-reads (char.surrogate-pair (4HEXDIG.digits da db dc dd) high (4HEXDIG.digits da' db' dc' dd') low) f = unicode-reads f (pair-reads da db dc dd da' db' dc' dd' high low (after-u f))
 
-chars-read : (fuel : ℕ) {s w : Bytes} {cs : Text} {at end : ℕ} → *char w cs → From s at w end → byte s end ≡ 0x22 → length s ≤ fuel + at → characters fuel s at ≡ ok (cs, end + 1)
+chars-read : (fuel : ℕ) {s w : Bytes} {cs : Text} {at end : ℕ} → *char w cs → From s at w end → byte s end ≡ 0x22 → length s ≤ fuel + at →
+    characters fuel s at ≡ ok (cs, end + 1)
 unfolding characters _>>=_
 chars-read zero {s} {end = end} d f e l = let far = f .far in absurd (omega (arith, in-text s end (omega arith)))
 chars-read (suc fuel) {at = at} {end = end} *char.none f e l =

@@ -36,7 +36,8 @@ some-tail (suc n) low high bits l =
     let rest = some-tail n 0x80 0xBF (bits * 64 + (low - 0x80)) (omega arith) in
     some (low ∷ rest .text) (rest .meaning) (more (omega arith, l) (rest .derived))
 
-tail-sound : (n : ℕ) (s : Bytes) (at low high bits : ℕ) → 0 < low → low ≤ high → Sound s end at (Means (Tail n low high bits)) (tail n s at low high bits)
+tail-sound : (n : ℕ) (s : Bytes) (at low high bits : ℕ) → 0 < low → low ≤ high →
+    Sound s end at (Means (Tail n low high bits)) (tail n s at low high bits)
 unfolding tail
 tail-sound zero s at low high bits l m = gives (bits, at) refl done
 tail-sound (suc n) s at low high bits l m =
@@ -115,12 +116,14 @@ hex-positive (HEXDIG.digit h) = omega arith
 hex-positive (HEXDIG.upper-case h) = omega arith
 hex-positive (HEXDIG.lower-case h) = omega arith
 
-hexIn-then : {X : Type 0} {s : Bytes} {place : X → ℕ} {at : ℕ} (P : Bytes → X → Type 0) (g : ℕ → Outcome X) (low high next : ℕ) → high ≤ 0xF → next ≡ at + 1 → Some P →
+hexIn-then : {X : Type 0} {s : Bytes} {place : X → ℕ} {at : ℕ} (P : Bytes → X → Type 0) (g : ℕ → Outcome X) (low high next : ℕ) → high ≤ 0xF →
+    next ≡ at + 1 → Some P →
     ((b h : ℕ) → HEXDIG b h → low ≤ h → h ≤ high → Sound s place next (λ w x. P (b ∷ w) x) (g h)) → Sound s place at P (hexIn s at low high >>= g)
 unfolding hexIn _>>=_
 hexIn-then {s = s} {place = place} {at = at} P g low high next f n some rest = go (within low high (hexValue (byte s at))) refl
   where
-    go : (c : Bool) → within low high (hexValue (byte s at)) ≡ c → Sound s place at P ((if c then ok (hexValue (byte s at)) else refused not-json at) >>= g)
+    go : (c : Bool) → within low high (hexValue (byte s at)) ≡ c →
+        Sound s place at P ((if c then ok (hexValue (byte s at)) else refused not-json at) >>= g)
     go true e =
         let (l, m) = within-true low high (hexValue (byte s at)) e in
         let d = hex-digit (byte s at) (omega arith) in
@@ -196,7 +199,8 @@ module _ {a b c d h i j k : ℕ} (da : HEXDIG a h) (db : HEXDIG b i) (dc : HEXDI
   unfolding unit
   some-unit = byCases (within 0xD800 0xDBFF unit) (λ e. some-after-high (4HEXDIG.digits da db dc dd) (within-true _ _ _ e)) (λ e. some [] (unit, 0) (unit-char e))
 
-  unit-sound : (s : Bytes) (at : ℕ) → Sound s end at (Means (AfterUnit (a ∷ b ∷ c ∷ d ∷ []))) (if within 0xD800 0xDBFF unit then afterHigh s unit at else ok (unit, at))
+  unit-sound : (s : Bytes) (at : ℕ) →
+      Sound s end at (Means (AfterUnit (a ∷ b ∷ c ∷ d ∷ []))) (if within 0xD800 0xDBFF unit then afterHigh s unit at else ok (unit, at))
   unfolding unit
   unit-sound s at =
       choose (within 0xD800 0xDBFF unit) (λ e. afterHigh-sound (4HEXDIG.digits da db dc dd) (within-true _ _ _ e) s at) (λ e. gives (unit, at) refl (unit-char e))
@@ -214,7 +218,8 @@ unicodeEscape-sound s at =
     hexIn-then _ _ 0x0 0xF (at + 4) (omega arith) (omega arith) (some-third da db dc ha hb hc) λ d k dd ld hd.
     unit-sound da db dc dd ha hb hc hd s (at + 4)
   where
-    some-third : {a b c h i j : ℕ} → HEXDIG a h → HEXDIG b i → HEXDIG c j → h ≤ 0xF → i ≤ secondLimit h → j ≤ 0xF → Some (Means (AfterUnit (a ∷ b ∷ c ∷ [])))
+    some-third : {a b c h i j : ℕ} → HEXDIG a h → HEXDIG b i → HEXDIG c j → h ≤ 0xF → i ≤ secondLimit h → j ≤ 0xF →
+        Some (Means (AfterUnit (a ∷ b ∷ c ∷ [])))
     some-third da db dc ha hb hc = some-cons 0x30 (some-unit da db dc hex-0 ha hb hc (omega arith))
 
     some-second : {a b h i : ℕ} → HEXDIG a h → HEXDIG b i → h ≤ 0xF → i ≤ secondLimit h → Some (Means (AfterUnit (a ∷ b ∷ [])))
@@ -235,7 +240,8 @@ short-escape b =
     (try 0x66 char.U+000C (omega arith) (try 0x6E char.U+000A (omega arith) (try 0x72 char.U+000D (omega arith) (try 0x74 char.U+0009 (omega arith)
     (λ h. absurd (h refl)))))))))
   where
-    try : (a : ℕ) {c o : ℕ} → char (0x5C ∷ a ∷ []) c → 0 < a → ((o ≡ 0 → ⊥) → Short b o) → ((if eqb b a then c else o) ≡ 0 → ⊥) → Short b (if eqb b a then c else o)
+    try : (a : ℕ) {c o : ℕ} → char (0x5C ∷ a ∷ []) c → 0 < a → ((o ≡ 0 → ⊥) → Short b o) → ((if eqb b a then c else o) ≡ 0 → ⊥) →
+        Short b (if eqb b a then c else o)
     try a {c} {o} d l rest = go (eqb b a) refl
       where
         go : (t : Bool) → eqb b a ≡ t → ((if t then c else o) ≡ 0 → ⊥) → Short b (if t then c else o)

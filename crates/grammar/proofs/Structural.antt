@@ -42,7 +42,8 @@ unfolding blanksFrom
 blank-step zero s at e i l rest = absurd (omega arith)
 blank-step (suc fuel) s at e i l rest = rw e (rest fuel (omega arith))
 
-blanksFrom-skip : (fuel more : ℕ) {s w : Bytes} {at next : ℕ} → ws w → From s at w next → length s ≤ fuel + at → length s ≤ more + next → blanksFrom fuel s at ≡ blanksFrom more s next
+blanksFrom-skip : (fuel more : ℕ) {s w : Bytes} {at next : ℕ} → ws w → From s at w next → length s ≤ fuel + at → length s ≤ more + next →
+    blanksFrom fuel s at ≡ blanksFrom more s next
 unfolding isBlank
 blanksFrom-skip fuel more {s} {at = at} {next = next} ws.none f l m =
     let far = f .far in

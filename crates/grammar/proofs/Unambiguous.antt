@@ -38,7 +38,8 @@ one-result : {X : Type 0} {asked : Type 0} {x y : X} {o : Outcome X} → o ≡ o
 one-result {x = x} {y = y} e reads = let same : x ≡ y = cc in same
 one-result e (Reads.exceeds h n) = absurd (let z : _≡_ {A = ℕ} 0 1 = cc in omega arith)
 
-by-reader : {s : Bytes} {at next at' next' : ℕ} {v v' : Value.Value} → Asked 0 0 v → ValueRead s 0 0 at next v → ValueRead s 0 0 at' next' v' → blanks s at ≡ blanks s at' → Same s next next' v v'
+by-reader : {s : Bytes} {at next at' next' : ℕ} {v v' : Value.Value} → Asked 0 0 v → ValueRead s 0 0 at next v → ValueRead s 0 0 at' next' v' →
+    blanks s at ≡ blanks s at' → Same s next next' v v'
 by-reader {s} {v = v} {v' = v'} a r r' e =
     let same = one-result (ap (λ p. Read.value 0 s p 0) (sym e) ∙ reads-it (r .outcome) a) (r' .outcome) in
     record { meaning = sym (ap (λ x. x .0) same); place = sym (r .after) ∙ sym (ap (λ x. blanks s (x .1)) same) ∙ r' .after }
@@ -51,7 +52,8 @@ data Between : Bool → Bytes → Members → Type 0 where
 
 data Brackets (isObject : Bool) : Bytes → Members → Type 0 where
   empty : {b e : Bytes} → structural (openingBracket isObject) b → structural (closingBracket isObject) e → Brackets isObject (b ++ e) Forest.none
-  filled : {b w e : Bytes} {f : Members} → structural (openingBracket isObject) b → Between isObject w f → structural (closingBracket isObject) e → Brackets isObject (b ++ (w ++ e)) f
+  filled : {b w e : Bytes} {f : Members} → structural (openingBracket isObject) b → Between isObject w f → structural (closingBracket isObject) e →
+      Brackets isObject (b ++ (w ++ e)) f
 
 array-brackets : {w : Bytes} {f : Members} → array w f → Brackets false w f
 unfolding closingBracket
@@ -69,7 +71,8 @@ data Item : Bool → Bytes → Text → Value.Value → Type 0 where
 
 data Listed (isObject : Bool) : Bytes → Members → Type 0 where
   last : {w : Bytes} {name : Text} {v : Value.Value} → Item isObject w name v → Listed isObject w (node name v Forest.none)
-  more-items : {w c rest : Bytes} {name : Text} {v : Value.Value} {f : Members} → Item isObject w name v → value-separator c → Between isObject rest f → Listed isObject (w ++ (c ++ rest)) (node name v f)
+  more-items : {w c rest : Bytes} {name : Text} {v : Value.Value} {f : Members} → Item isObject w name v → value-separator c →
+      Between isObject rest f → Listed isObject (w ++ (c ++ rest)) (node name v f)
 
 listed : {isObject : Bool} {w : Bytes} {f : Members} → Between isObject w f → Listed isObject w f
 listed (of-elements (elements.last-element d)) = last (element d)
@@ -128,7 +131,8 @@ SameItems isObject w f =
 easy-same : {w : Bytes} {v : Value.Value} → value w v → Asked 0 0 v → SameValue w v
 easy-same d a s at next at' next' w' v' e p d' p' = by-reader a (value-reads d s at next (p .from) (p .stops) 0 0) (value-reads d' s at' next' (p' .from) (p' .stops) 0 0) e
 
-bracket-mark : {isObject : Bool} {s w : Bytes} {f : Members} {at next : ℕ} → Brackets isObject w f → From s at w next → byte s (blanks s at) ≡ openingBracket isObject
+bracket-mark : {isObject : Bool} {s w : Bytes} {f : Members} {at next : ℕ} → Brackets isObject w f → From s at w next →
+    byte s (blanks s at) ≡ openingBracket isObject
 bracket-mark {isObject} (empty {b} {e} hb he) f = opening-marked isObject hb (split b e f .0) .mark
 bracket-mark {isObject} (filled {b} {w} {e} hb d he) f = opening-marked isObject hb (split b (w ++ e) f .0) .mark
 
@@ -161,7 +165,8 @@ one-bracket false true e = absurd (omega arith)
 one-bracket true false e = absurd (omega arith)
 one-bracket true true e = refl
 
-container-same-value : (isObject : Bool) (w : Bytes) (f : Members) → value w (containerOf isObject f) → Brackets isObject w f → SameContainer isObject w f → SameValue w (containerOf isObject f)
+container-same-value : (isObject : Bool) (w : Bytes) (f : Members) → value w (containerOf isObject f) → Brackets isObject w f →
+    SameContainer isObject w f → SameValue w (containerOf isObject f)
 container-same-value isObject w f d b ih s at next at' next' w' v' e p d' p' = go (shape d') p'
   where
     go : {w' : Bytes} {v' : Value.Value} → Shape w' v' → Placed s at' w' next' → Same s next next' (containerOf isObject f) v'
@@ -173,11 +178,13 @@ container-same-value isObject w f d b ih s at next at' next' w' v' e p d' p' = g
         record { meaning = ap₂ containerOf (sym same) (r .meaning); place = r .place }
 
 -- the same character with the blanks around it
-marked-same : {s : Bytes} {c at next at' next' : ℕ} → blanks s at ≡ blanks s at' → Marked s at c next → Marked s at' c next' → blanks s next ≡ blanks s next'
+marked-same : {s : Bytes} {c at next at' next' : ℕ} → blanks s at ≡ blanks s at' → Marked s at c next → Marked s at' c next' →
+    blanks s next ≡ blanks s next'
 marked-same {s} e m m' = sym (m .after) ∙ ap (λ p. blanks s (p + 1)) e ∙ m' .after
 
 -- the values of a container begin with no closing bracket
-item-begins : {isObject : Bool} {s w : Bytes} {name : Text} {v : Value.Value} {at next : ℕ} → Item isObject w name v → Placed s at w next → byte s (blanks s at) ≡ closingBracket isObject → ⊥
+item-begins : {isObject : Bool} {s w : Bytes} {name : Text} {v : Value.Value} {at next : ℕ} → Item isObject w name v → Placed s at w next →
+    byte s (blanks s at) ≡ closingBracket isObject → ⊥
 unfolding closingBracket
 item-begins {s = s} {at = at} {next = next} (element d) p e = value-reads d s at next (p .from) (p .stops) 0 0 .no-bracket e
 item-begins {s = s} {at = at} (pair (member.pair {n} {c} {w} q h d)) p e =
@@ -185,7 +192,8 @@ item-begins {s = s} {at = at} (pair (member.pair {n} {c} {w} q h d)) p e =
     let same : byte s at ≡ code "}" = sym (ap (byte s) (blanks-stay s at (plain .no-blank))) ∙ e in
     omega arith
 
-items-begin : {isObject : Bool} {s w : Bytes} {f : Members} {at next : ℕ} → Between isObject w f → Placed s at w next → byte s (blanks s at) ≡ closingBracket isObject → ⊥
+items-begin : {isObject : Bool} {s w : Bytes} {f : Members} {at next : ℕ} → Between isObject w f → Placed s at w next →
+    byte s (blanks s at) ≡ closingBracket isObject → ⊥
 items-begin {isObject} {s} {at = at} {next = next} d p e = go (listed d) p
   where
     go : {w : Bytes} {f : Members} → Listed isObject w f → Placed s at w next → ⊥
@@ -197,7 +205,8 @@ items-begin {isObject} {s} {at = at} {next = next} d p e = go (listed d) p
 
 -- a container by the places of its brackets
 data Bracketed (isObject : Bool) (s : Bytes) (at next : ℕ) : Members → Type 0 where
-  nothing-in : {mid : ℕ} → Marked s at (openingBracket isObject) mid → Marked s mid (closingBracket isObject) next → Bracketed isObject s at next Forest.none
+  nothing-in : {mid : ℕ} → Marked s at (openingBracket isObject) mid → Marked s mid (closingBracket isObject) next →
+      Bracketed isObject s at next Forest.none
   items-in : {w : Bytes} {f : Members} {mid stop : ℕ} → Marked s at (openingBracket isObject) mid → Between isObject w f → Placed s mid w stop →
       Marked s stop (closingBracket isObject) next → Bracketed isObject s at next f
 
@@ -212,12 +221,14 @@ bracketed {isObject} (filled {b} {w} {e} hb d he) from =
     items-in (opening-marked isObject hb g) d (record { from = i; stops = m .stops }) m
 
 -- an empty container against another, and one that is not empty
-empty-same : (isObject : Bool) {s : Bytes} {at mid next at' next' : ℕ} {f' : Members} → blanks s at ≡ blanks s at' → Marked s at (openingBracket isObject) mid → Marked s mid (closingBracket isObject) next →
+empty-same : (isObject : Bool) {s : Bytes} {at mid next at' next' : ℕ} {f' : Members} → blanks s at ≡ blanks s at' →
+    Marked s at (openingBracket isObject) mid → Marked s mid (closingBracket isObject) next →
     Bracketed isObject s at' next' f' → Same s next next' {A = Members} Forest.none f'
 empty-same isObject e m n (nothing-in m' n') = record { meaning = refl; place = marked-same (marked-same e m m') n n' }
 empty-same isObject {s} e m n (items-in m' d' p' n') = absurd (items-begin d' p' (ap (byte s) (sym (marked-same e m m')) ∙ n .mark))
 
-filled-same : (isObject : Bool) {s : Bytes} {at mid stop next at' next' : ℕ} (w : Bytes) (f : Members) {f' : Members} → SameItems isObject w f → blanks s at ≡ blanks s at' →
+filled-same : (isObject : Bool) {s : Bytes} {at mid stop next at' next' : ℕ} (w : Bytes) (f : Members) {f' : Members} → SameItems isObject w f →
+    blanks s at ≡ blanks s at' →
     Marked s at (openingBracket isObject) mid → Between isObject w f → Placed s mid w stop → Marked s stop (closingBracket isObject) next → Bracketed isObject s at' next' f' → Same s next next' {A = Members} f f'
 filled-same isObject {s} w f ih e m d p n (nothing-in m' n') = absurd (items-begin d p (ap (byte s) (marked-same e m m') ∙ n' .mark))
 filled-same isObject {s} w f ih e m d p n (items-in {w = w'} {f = f'} {mid = mid'} {stop = stop'} m' d' p' n') =
@@ -226,8 +237,10 @@ filled-same isObject {s} w f ih e m d p n (items-in {w = w'} {f = f'} {mid = mid
 
 -- the values of a container: one item against a list, by the places of its parts
 data Parted (isObject : Bool) (s : Bytes) (at next : ℕ) : Members → Type 0 where
-  last-at : {w : Bytes} {name : Text} {v : Value.Value} → Item isObject w name v → Placed s at w next → Parted isObject s at next (node name v Forest.none)
-  more-at : {w rest : Bytes} {name : Text} {v : Value.Value} {f : Members} {mid after : ℕ} → Item isObject w name v → Placed s at w mid → Marked s mid (code ",") after →
+  last-at : {w : Bytes} {name : Text} {v : Value.Value} → Item isObject w name v → Placed s at w next →
+      Parted isObject s at next (node name v Forest.none)
+  more-at : {w rest : Bytes} {name : Text} {v : Value.Value} {f : Members} {mid after : ℕ} → Item isObject w name v → Placed s at w mid →
+      Marked s mid (code ",") after →
       Between isObject rest f → Placed s after rest next → Parted isObject s at next (node name v f)
 
 parted : {isObject : Bool} {s w : Bytes} {f : Members} {at next : ℕ} → Between isObject w f → Placed s at w next → Parted isObject s at next f
@@ -241,7 +254,8 @@ parted {isObject} {s} {at = at} {next = next} d p = go (listed d) p
         let m = comma-marked h k in
         more-at i (record { from = g; stops = m .stops }) m r (record { from = l; stops = p .stops })
 
-last-same : (isObject : Bool) {s : Bytes} {at next at' next' : ℕ} (w : Bytes) (name : Text) (v : Value.Value) {f' : Members} → SameItem isObject w name v → blanks s at ≡ blanks s at' → Placed s at w next →
+last-same : (isObject : Bool) {s : Bytes} {at next at' next' : ℕ} (w : Bytes) (name : Text) (v : Value.Value) {f' : Members} →
+    SameItem isObject w name v → blanks s at ≡ blanks s at' → Placed s at w next →
     byte s (blanks s next) ≡ closingBracket isObject → Parted isObject s at' next' f' → Same s next next' {A = Members} (node name v Forest.none) f'
 last-same isObject {s} w name v ih e p mark (last-at {w = w'} {name = name'} {v = v'} i' p') =
     let r = ih s _ _ _ _ w' name' v' e p i' p' in
@@ -250,7 +264,8 @@ last-same isObject {s} w name v ih e p mark (more-at {w = w'} {name = name'} {v 
     let r = ih s _ _ _ _ w' name' v' e p i' p' in
     absurd (comma-no-closing isObject (sym (m' .mark) ∙ ap (byte s) (sym (r .place)) ∙ mark))
 
-more-same : (isObject : Bool) {s : Bytes} {at mid after next at' next' : ℕ} (w rest : Bytes) (name : Text) (v : Value.Value) (f : Members) {f' : Members} → SameItem isObject w name v → SameItems isObject rest f →
+more-same : (isObject : Bool) {s : Bytes} {at mid after next at' next' : ℕ} (w rest : Bytes) (name : Text) (v : Value.Value) (f : Members) {f' : Members} →
+    SameItem isObject w name v → SameItems isObject rest f →
     blanks s at ≡ blanks s at' → Placed s at w mid → Marked s mid (code ",") after → Placed s after rest next → byte s (blanks s next) ≡ closingBracket isObject →
     Parted isObject s at' next' f' → byte s (blanks s next') ≡ closingBracket isObject → Same s next next' {A = Members} (node name v f) f'
 more-same isObject {s} w rest name v f ih ih' e p m q mark (last-at {w = w'} {name = name'} {v = v'} i' p') mark' =
@@ -264,13 +279,16 @@ more-same isObject {s} w rest name v f ih ih' e p m q mark (more-at {w = w'} {re
 element-same : (w : Bytes) (v : Value.Value) → SameValue w v → SameItem false w [] v
 element-same w v ih s at next at' next' w' name' v' e p i' p' = go i' p'
   where
-    go : {w' : Bytes} {name' : Text} {v' : Value.Value} → Item false w' name' v' → Placed s at' w' next' → Same s next next' {A = Text × Value.Value} ([], v) (name', v')
+    go : {w' : Bytes} {name' : Text} {v' : Value.Value} → Item false w' name' v' → Placed s at' w' next' →
+        Same s next next' {A = Text × Value.Value} ([], v) (name', v')
     go (element {w = w'} {v = v'} d') p' = let r = ih s at next at' next' w' v' e p d' p' in record { meaning = ap (λ v. ([], v)) (r .meaning); place = r .place }
 
-pair-same : {n c : Bytes} (w : Bytes) {name : Text} (v : Value.Value) → string n name → structural (code ":") c → SameValue w v → SameItem true (n ++ (c ++ w)) name v
+pair-same : {n c : Bytes} (w : Bytes) {name : Text} (v : Value.Value) → string n name → structural (code ":") c → SameValue w v →
+    SameItem true (n ++ (c ++ w)) name v
 pair-same {n} {c} w {name} v q h ih s at next at' next' w' name' v' e p i' p' = go i' p'
   where
-    go : {w' : Bytes} {name' : Text} {v' : Value.Value} → Item true w' name' v' → Placed s at' w' next' → Same s next next' {A = Text × Value.Value} (name, v) (name', v')
+    go : {w' : Bytes} {name' : Text} {v' : Value.Value} → Item true w' name' v' → Placed s at' w' next' →
+        Same s next next' {A = Text × Value.Value} (name, v) (name', v')
     go (pair (member.pair {n = n'} {c = c'} {w = w'} {name = name'} {v = v'} q' h' d')) p' =
         let (fn, f) = split n (c ++ w) (p .from) in
         let (fc, fw) = split c w f in
@@ -311,12 +329,14 @@ value-same d =
       | elements.more-elements {w = w} {ws = ws} {v = v} {f = f} (_ → ih) hc (_ → ih') ↦ more-items-same false w ws [] v f (element-same w v ih) hc ih'
     ]
   where
-    no-items : (isObject : Bool) {b e : Bytes} → structural (openingBracket isObject) b → structural (closingBracket isObject) e → SameContainer isObject (b ++ e) Forest.none
+    no-items : (isObject : Bool) {b e : Bytes} → structural (openingBracket isObject) b → structural (closingBracket isObject) e →
+        SameContainer isObject (b ++ e) Forest.none
     no-items isObject {b} {e} hb he s at next at' next' w' f' same from d' from' =
         let (g, h) = split b e from in
         empty-same isObject same (opening-marked isObject hb g) (closing-marked isObject he h) (bracketed d' from')
 
-    some-items : (isObject : Bool) {b e : Bytes} (w : Bytes) (f : Members) → structural (openingBracket isObject) b → Between isObject w f → structural (closingBracket isObject) e → SameItems isObject w f →
+    some-items : (isObject : Bool) {b e : Bytes} (w : Bytes) (f : Members) → structural (openingBracket isObject) b → Between isObject w f →
+        structural (closingBracket isObject) e → SameItems isObject w f →
         SameContainer isObject (b ++ (w ++ e)) f
     some-items isObject {b} {e} w f hb d he ih s at next at' next' w' f' same from d' from' =
         let (g, h) = split b (w ++ e) from in
@@ -324,10 +344,12 @@ value-same d =
         let m = closing-marked isObject he j in
         filled-same isObject w f ih same (opening-marked isObject hb g) d (record { from = i; stops = m .stops }) m (bracketed d' from')
 
-    last-item : (isObject : Bool) (w : Bytes) (name : Text) (v : Value.Value) → SameItem isObject w name v → SameItems isObject w (node name v Forest.none)
+    last-item : (isObject : Bool) (w : Bytes) (name : Text) (v : Value.Value) → SameItem isObject w name v →
+        SameItems isObject w (node name v Forest.none)
     last-item isObject w name v ih s at next at' next' w' f' same p mark d' p' mark' = last-same isObject w name v ih same p mark (parted d' p')
 
-    more-items-same : (isObject : Bool) (w : Bytes) {c : Bytes} (rest : Bytes) (name : Text) (v : Value.Value) (f : Members) → SameItem isObject w name v → value-separator c → SameItems isObject rest f →
+    more-items-same : (isObject : Bool) (w : Bytes) {c : Bytes} (rest : Bytes) (name : Text) (v : Value.Value) (f : Members) →
+        SameItem isObject w name v → value-separator c → SameItems isObject rest f →
         SameItems isObject (w ++ (c ++ rest)) (node name v f)
     more-items-same isObject w {c} rest name v f ih hc ih' s at next at' next' w' f' same p mark d' p' mark' =
         let (g, h) = split w (c ++ rest) (p .from) in
@@ -336,7 +358,8 @@ value-same d =
         more-same isObject w rest name v f ih ih' same (record { from = g; stops = m .stops }) m (record { from = j; stops = p .stops }) mark (parted d' p') mark'
 
 -- two derivations of one text
-text-same : {t t' : Bytes} {v v' : Value.Value} (s : Bytes) → JSON-text t v → From s 0 t (length s) → JSON-text t' v' → From s 0 t' (length s) → v ≡ v'
+text-same : {t t' : Bytes} {v v' : Value.Value} (s : Bytes) → JSON-text t v → From s 0 t (length s) → JSON-text t' v' → From s 0 t' (length s) →
+    v ≡ v'
 text-same s (JSON-text.text {before = b} {w = w} {after = a} hb d ha) f (JSON-text.text {before = b'} {w = w'} {after = a'} {v = v'} hb' d' ha') f' =
     let (g, h) = split b (w ++ a) f in
     let (i, j) = split w a h in

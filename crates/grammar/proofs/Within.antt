@@ -42,11 +42,13 @@ pub data Yields {X : Type 0} (P : X → Type 0) : Outcome X → Type 0 where
 pub yielded : {X : Type 0} {P : X → Type 0} {x : X} → Yields P (ok x) → P x
 yielded (yields h) = h
 
-choose : {X : Type 0} {P : X → Type 0} (c : Bool) {a b : Outcome X} → (c ≡ true → Yields P a) → (c ≡ false → Yields P b) → Yields P (if c then a else b)
+choose : {X : Type 0} {P : X → Type 0} (c : Bool) {a b : Outcome X} → (c ≡ true → Yields P a) → (c ≡ false → Yields P b) →
+    Yields P (if c then a else b)
 choose true f g = f refl
 choose false f g = g refl
 
-andThen : {X Y : Type 0} {P : X → Type 0} {Q : Y → Type 0} {o : Outcome X} (g : X → Outcome Y) → Yields P o → ((x : X) → o ≡ ok x → P x → Yields Q (g x)) → Yields Q (o >>= g)
+andThen : {X Y : Type 0} {P : X → Type 0} {Q : Y → Type 0} {o : Outcome X} (g : X → Outcome Y) → Yields P o →
+    ((x : X) → o ≡ ok x → P x → Yields Q (g x)) → Yields Q (o >>= g)
 unfolding _>>=_
 andThen g (yields {x} h) rest = rest x refl h
 andThen g refuses rest = refuses
@@ -107,7 +109,8 @@ module _ (s : Bytes) (start : ℕ) where
       (λ e. yields l)
 
 -- What a sound reader finds.
-sound-yields : {X : Type 0} {s : Bytes} {place : X → ℕ} {at : ℕ} {P : Bytes → X → Type 0} {o : Outcome X} → Sound s place at P o → Yields (Found s place at P) o
+sound-yields : {X : Type 0} {s : Bytes} {place : X → ℕ} {at : ℕ} {P : Bytes → X → Type 0} {o : Outcome X} → Sound s place at P o →
+    Yields (Found s place at P) o
 sound-yields (Sound.finds {w} f d) = yields (record { text = w; from = f; derived = d })
 sound-yields (Sound.stops f r) = refuses
 sound-yields (Sound.other h) = refuses
@@ -132,7 +135,8 @@ counted-place : (start at : ℕ) → Yields (λ x. x ≡ at + 1) (counted start 
 unfolding counted
 counted-place start at = choose (ltb at (start + maxNumber)) (λ e. yields refl) (λ e. refuses)
 
-exponentDigits-fit : (fuel : ℕ) (s : Bytes) (start size at : ℕ) → size ≤ maxExponent → Yields (DigitsFit s size at) (exponentDigits fuel s start size at)
+exponentDigits-fit : (fuel : ℕ) (s : Bytes) (start size at : ℕ) → size ≤ maxExponent →
+    Yields (DigitsFit s size at) (exponentDigits fuel s start size at)
 unfolding exponentDigits decimal
 exponentDigits-fit zero s start size at l = yields (record { text = []; from = here at; derived = *DIGIT.none; fits = l })
 exponentDigits-fit (suc fuel) s start size at l =
@@ -215,7 +219,8 @@ room-then {P = P} {o = o} before at f = go (ltb before maxNodes) refl
 Bounded : ℕ → ℕ → Value.Value × ℕ → Type 0
 Bounded left before x = Asked left before (x .0)
 
-literal-within : (left before : ℕ) (label : Label) (word s : Bytes) (at : ℕ) → Value.isContainer label ≡ false → Fits label Forest.none → before < maxNodes → Yields (Bounded left before) (literalValue label word s at)
+literal-within : (left before : ℕ) (label : Label) (word s : Bytes) (at : ℕ) → Value.isContainer label ≡ false → Fits label Forest.none →
+    before < maxNodes → Yields (Bounded left before) (literalValue label word s at)
 unfolding literalValue Bounded
 literal-within left before label word s at e h l = andThen _ (anything (spelled word s (at + 1))) λ x _ _. yields (easy label e h l)
 
@@ -240,7 +245,8 @@ kept-none : {isObject : Bool} {left before : ℕ} → before ≤ maxNodes → Ke
 unfolding depths size
 kept-none l = record { distinct = λ _. Distinct.none-left; shallow = omega arith; few = omega arith; below = Everywhere.none-left }
 
-kept-more : {isObject : Bool} {left before : ℕ} {f : Members} (name : Text) (v : Value.Value) → Kept isObject left before f → (isObject ≡ true → has name f ≡ false) → Asked left (before + size f) v →
+kept-more : {isObject : Bool} {left before : ℕ} {f : Members} (name : Text) (v : Value.Value) → Kept isObject left before f →
+    (isObject ≡ true → has name f ≡ false) → Asked left (before + size f) v →
     Kept isObject left before (f ⧺ single (named name v))
 unfolding depths depth nodes size
 kept-more {f = f} name v k new a =
@@ -258,7 +264,8 @@ kept-more {f = f} name v k new a =
 New : Bool → Members → Text × ℕ → Type 0
 New isObject so-far x = isObject ≡ true → has (x .0) so-far ≡ false
 
-fresh-then : (so-far : Members) (name : Text) (p : ℕ) {o : Outcome (Text × ℕ)} → (has name so-far ≡ false → Yields (New true so-far) o) → Yields (New true so-far) (fresh name so-far p >>= λ _. o)
+fresh-then : (so-far : Members) (name : Text) (p : ℕ) {o : Outcome (Text × ℕ)} → (has name so-far ≡ false → Yields (New true so-far) o) →
+    Yields (New true so-far) (fresh name so-far p >>= λ _. o)
 unfolding fresh _>>=_
 fresh-then so-far name p {o} f = go (has name so-far) refl
   where
@@ -279,7 +286,8 @@ module _ (s : Bytes) (left : ℕ) (reader : ℕ → ℕ → Outcome (Value.Value
   KeptAll : Members × ℕ → Type 0
   KeptAll x = Kept isObject left before (x .0)
 
-  items-within : (fuel : ℕ) (so-far : Members) (at : ℕ) → Kept isObject left before so-far → Yields KeptAll (items fuel reader isObject s before so-far at)
+  items-within : (fuel : ℕ) (so-far : Members) (at : ℕ) → Kept isObject left before so-far →
+      Yields KeptAll (items fuel reader isObject s before so-far at)
   unfolding items KeptAll Bounded New
   items-within zero so-far at k = refuses
   items-within (suc fuel) so-far at k =
@@ -295,12 +303,14 @@ module _ (s : Bytes) (left : ℕ) (reader : ℕ → ℕ → Outcome (Value.Value
   contents-within at l =
       choose (eqb (byte s (blanks s at)) (closingBracket isObject)) (λ e. yields (kept-none l)) (λ e. items-within (length s) Forest.none (blanks s at) (kept-none l))
 
-asked-container : (isObject : Bool) {left before : ℕ} (f : Members) → Kept isObject left (before + 1) f → Asked (suc left) before (containerOf isObject f)
+asked-container : (isObject : Bool) {left before : ℕ} (f : Members) → Kept isObject left (before + 1) f →
+    Asked (suc left) before (containerOf isObject f)
 unfolding containerLabel depth levels Value.isContainer Value.tag nodes
 asked-container false f k = let l = k .shallow in let m = k .few in record { shallow = omega arith; few = omega arith; fits = tt; below = k .below }
 asked-container true f k = let l = k .shallow in let m = k .few in record { shallow = omega arith; few = omega arith; fits = k .distinct refl; below = k .below }
 
-container-within : (s : Bytes) (left : ℕ) (reader : ℕ → ℕ → Outcome (Value.Value × ℕ)) → ((at before : ℕ) → Yields (Bounded left before) (reader at before)) → (isObject : Bool) (at before : ℕ) →
+container-within : (s : Bytes) (left : ℕ) (reader : ℕ → ℕ → Outcome (Value.Value × ℕ)) →
+    ((at before : ℕ) → Yields (Bounded left before) (reader at before)) → (isObject : Bool) (at before : ℕ) →
     Yields (Bounded (suc left) before) (container reader isObject s at before)
 unfolding container Bounded KeptAll
 container-within s left reader inner isObject at before =
