@@ -91,7 +91,8 @@ module _ {m : ℕ} {X : Type 0} {place : X → ℕ} where
       Local m place at ((if within low high a then ok a else refused not-json at) >>= g) ((if within low high a' then ok a' else refused not-json at) >>= g')
   unfolding _>>=_
   between-then {at} a a' low high next g g' e l rest =
-      under at ((if within low high a then ok a else refused not-json at) >>= g') (omega arith) (λ h. ap (λ a. (if within low high a then ok a else refused not-json at) >>= g') (e h)) (go (within low high a))
+      under at ((if within low high a then ok a else refused not-json at) >>= g') (omega arith)
+      (λ h. ap (λ a. (if within low high a then ok a else refused not-json at) >>= g') (e h)) (go (within low high a))
     where
       go : (c : Bool) → Local m place at ((if c then ok a else refused not-json at) >>= g) ((if c then ok a else refused not-json at) >>= g')
       go true = later next l (rest a)
@@ -107,4 +108,5 @@ module _ {m : ℕ} {X : Type 0} {place : X → ℕ} where
       ((b : ℕ) → Local m place next (g b) (g' b)) →
       Local m place at (hexIn s at low high >>= g) (hexIn t at low high >>= g')
   unfolding hexIn
-  hexIn-then {s} {t} agree at low high next g g' l rest = between-then (hexValue (byte s at)) (hexValue (byte t at)) low high next g g' (λ h. ap hexValue (agree .bytes at h)) l rest
+  hexIn-then {s} {t} agree at low high next g g' l rest =
+      between-then (hexValue (byte s at)) (hexValue (byte t at)) low high next g g' (λ h. ap hexValue (agree .bytes at h)) l rest

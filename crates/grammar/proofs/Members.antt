@@ -79,7 +79,8 @@ has-test n e rest c = ltb (if c then 0 else suc (find n rest)) (suc (count rest)
 
 named-has : {n : Text} {f : Members} → Named n f → has n f ≡ true
 unfolding find count has-test
-named-has {n} (here {e = e} {rest = rest} h) = ap (has-test n e rest) (ap (sameText (e .name)) (sym h) ∙ sameText-refl (e .name)) ∙ lt-ltb 0 (suc (count rest)) (omega arith)
+named-has {n} (here {e = e} {rest = rest} h) =
+    ap (has-test n e rest) (ap (sameText (e .name)) (sym h) ∙ sameText-refl (e .name)) ∙ lt-ltb 0 (suc (count rest)) (omega arith)
 named-has {n} (later {e = e} {rest = rest} m) = go (sameText (e .name) n) (named-has m)
   where
     go : (c : Bool) → has n rest ≡ true → has-test n e rest c ≡ true
@@ -107,4 +108,5 @@ distinct-add f e kids d h = go f d (λ m. true≢false (sym (named-has m) ∙ h)
   where
     go : (f : Members) → Distinct f → (Named (e .name) f → ⊥) → Distinct (f ⧺ tree e kids none)
     go none d new = Distinct.one-more no-one Distinct.none-left
-    go (tree d below rest) (Distinct.one-more other r) new = Distinct.one-more (λ m. new (here (sym (named-last rest e kids m other)))) (go rest r (λ m. new (later m)))
+    go (tree d below rest) (Distinct.one-more other r) new =
+        Distinct.one-more (λ m. new (here (sym (named-last rest e kids m other)))) (go rest r (λ m. new (later m)))

@@ -84,7 +84,8 @@ module _ {asked : Type 0} (s : Bytes) (start last : ℕ) (short : asked → last
     where
       go : (c : Bool) → ltb at (start + maxNumber) ≡ c → Reads (at + 1) asked (if c then ok (at + 1) else refused number-over-limit at)
       go true h = reads
-      go false h = exceeds {number = number-over-limit} (λ i. omega arith) (λ a. let m = ltb-false at (start + maxNumber) h in let n = short a in omega arith)
+      go false h =
+          exceeds {number = number-over-limit} (λ i. omega arith) (λ a. let m = ltb-false at (start + maxNumber) h in let n = short a in omega arith)
 
   digits-read : (fuel : ℕ) {w : Bytes} {at next : ℕ} → *DIGIT w → From s at w next → next ≤ last → isDigit (byte s next) ≡ false →
       length s ≤ fuel + at →
@@ -140,8 +141,14 @@ module _ {asked : Type 0} (s : Bytes) (start last : ℕ) (short : asked → last
       let far = f .far in
       let same : at ≡ next = omega arith in
       rw (same, ne-eqb (byte s next) 0x2B (λ i. omega arith), ne-eqb (byte s next) 0x2D (λ i. omega arith)) reads
-  sign-reads {at = at} (optional.present sign.minus-sign) f l d = let (here, _, _) = first f in let far = f .far in rw (here, far) (counted-reads at (omega arith))
-  sign-reads {at = at} (optional.present sign.plus-sign) f l d = let (here, _, _) = first f in let far = f .far in rw (here, far) (counted-reads at (omega arith))
+  sign-reads {at = at} (optional.present sign.minus-sign) f l d =
+      let (here, _, _) = first f in
+      let far = f .far in
+      rw (here, far) (counted-reads at (omega arith))
+  sign-reads {at = at} (optional.present sign.plus-sign) f l d =
+      let (here, _, _) = first f in
+      let far = f .far in
+      rw (here, far) (counted-reads at (omega arith))
 
   exponentDigits-read : (fuel size : ℕ) {w : Bytes} {at next : ℕ} → *DIGIT w → From s at w next → next ≤ last → isDigit (byte s next) ≡ false →
       length s ≤ fuel + at →
@@ -156,7 +163,8 @@ module _ {asked : Type 0} (s : Bytes) (start last : ℕ) (short : asked → last
       let (here, g, _) = first f in
       let far = f .far in
       let rest = exponentDigits-read fuel (size * 10 + (b - 0x30)) ds g l stop (omega arith) fits in
-      rw (here, is-digit d) (go (leb (size * 10 + (b - 0x30)) maxExponent) refl (reads-then (exponentDigits fuel s start (size * 10 + (b - 0x30))) (counted-reads at (omega arith)) rest))
+      rw (here, is-digit d)
+      (go (leb (size * 10 + (b - 0x30)) maxExponent) refl (reads-then (exponentDigits fuel s start (size * 10 + (b - 0x30))) (counted-reads at (omega arith)) rest))
     where
       go : (c : Bool) → leb (size * 10 + (b - 0x30)) maxExponent ≡ c → {o : Outcome ℕ} → Reads next asked o →
           Reads next asked (if c then o else refused number-over-limit at)
@@ -263,7 +271,8 @@ number-reads {s} {at = at} {next = next} (number.parts {m} {i} {f} {x} pm pi pf 
     let far = fx .far in
     let short : NumberFits (m ++ (i ++ (f ++ x))) → next ≤ at + maxNumber = λ a. let l = a .short in let far = from .far in omega arith in
     let (no-digit, no-point) = exp-begins px fx stop in
-    let fits : NumberFits (m ++ (i ++ (f ++ x))) → natAbs (exponent x) ≤ maxExponent = λ a. subst (λ z. natAbs z ≤ maxExponent) (minus-exponent pm _ ∙ int-exponent pi _ ∙ frac-exponent pf x) (a .exponent-fits) in
+    let fits : NumberFits (m ++ (i ++ (f ++ x))) → natAbs (exponent x) ≤ maxExponent =
+    λ a. subst (λ z. natAbs z ≤ maxExponent) (minus-exponent pm _ ∙ int-exponent pi _ ∙ frac-exponent pf x) (a .exponent-fits) in
     rw (minus-reads pm fm (int-begins pi fi))
     (reads-then _ (int-reads s at next short pi fi (omega arith) (frac-begins pf ff no-digit))
     (reads-then _ (frac-reads s at next short pf ff (omega arith) no-digit no-point)

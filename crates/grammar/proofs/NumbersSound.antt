@@ -39,7 +39,8 @@ counted-sound : {s : Bytes} {at : ℕ} (P : Bytes → Type 0) (b start : ℕ) �
     Sound s there at (Derives P) (counted start at)
 unfolding counted
 counted-sound {s} {at} P b start l h d =
-    choose (ltb at (start + maxNumber)) (λ _. past (Derives P) b (at + 1) l h refl (gives (at + 1) refl d)) (λ _. exceeds number-over-limit (omega arith))
+    choose (ltb at (start + maxNumber)) (λ _. past (Derives P) b (at + 1) l h refl (gives (at + 1) refl d))
+    (λ _. exceeds number-over-limit (omega arith))
 
 pub digit : (b : ℕ) → isDigit b ≡ true → DIGIT b
 unfolding isDigit

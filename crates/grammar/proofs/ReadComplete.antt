@@ -95,14 +95,17 @@ literal-reads label word f = rw (spelled-reads word (first f .1))
 
 pub string-plain : {s w : Bytes} {cs : Text} {at next : ℕ} → string w cs → From s at w next → (byte s at ≡ 0x22) × Plain (byte s at)
 unfolding isBlank
-string-plain (string.quoted d) f = let (e, _, _) = first f in (e, rw e (record { no-blank = refl; no-array = refl; no-object = refl; no-closing = λ i. omega arith }))
+string-plain (string.quoted d) f =
+    let (e, _, _) = first f in
+    (e, rw e (record { no-blank = refl; no-array = refl; no-object = refl; no-closing = λ i. omega arith }))
 
 pub number-plain : {b : ℕ} → NumberBegins b → Plain b
 unfolding isBlank
 number-plain {b} h =
     let (low, high) = h .range in
     record {
-      no-blank = rw (ne-eqb b 0x20 (λ i. omega arith), ne-eqb b 0x09 (λ i. omega arith), ne-eqb b 0x0A (λ i. omega arith), ne-eqb b 0x0D (λ i. omega arith));
+      no-blank = rw
+          (ne-eqb b 0x20 (λ i. omega arith), ne-eqb b 0x09 (λ i. omega arith), ne-eqb b 0x0A (λ i. omega arith), ne-eqb b 0x0D (λ i. omega arith));
       no-array = ne-eqb b (code "[") (λ i. omega arith);
       no-object = ne-eqb b (code "{") (λ i. omega arith);
       no-closing = λ i. omega arith;
@@ -120,15 +123,18 @@ module _ {s : Bytes} {at next : ℕ} (left before : ℕ) where
 
   pub null-read : From s at (ascii "null") next → ValueRead s left before at next (leaf Label.null-literal)
   unfolding ascii scalar isDigit within isBlank
-  null-read f = literal-read Label.null-literal _ (λ e. rw e) (record { no-blank = refl; no-array = refl; no-object = refl; no-closing = λ i. omega arith }) f
+  null-read f =
+      literal-read Label.null-literal _ (λ e. rw e) (record { no-blank = refl; no-array = refl; no-object = refl; no-closing = λ i. omega arith }) f
 
   pub true-read : From s at (ascii "true") next → ValueRead s left before at next (leaf Label.true-literal)
   unfolding ascii scalar isDigit within isBlank
-  true-read f = literal-read Label.true-literal _ (λ e. rw e) (record { no-blank = refl; no-array = refl; no-object = refl; no-closing = λ i. omega arith }) f
+  true-read f =
+      literal-read Label.true-literal _ (λ e. rw e) (record { no-blank = refl; no-array = refl; no-object = refl; no-closing = λ i. omega arith }) f
 
   pub false-read : From s at (ascii "false") next → ValueRead s left before at next (leaf Label.false-literal)
   unfolding ascii scalar isDigit within isBlank
-  false-read f = literal-read Label.false-literal _ (λ e. rw e) (record { no-blank = refl; no-array = refl; no-object = refl; no-closing = λ i. omega arith }) f
+  false-read f =
+      literal-read Label.false-literal _ (λ e. rw e) (record { no-blank = refl; no-array = refl; no-object = refl; no-closing = λ i. omega arith }) f
 
   pub string-read : {w : Bytes} {cs : Text} → string w cs → From s at w next → ValueRead s left before at next (leaf (Label.string cs))
   unfolding scalar stringValue _>>=_
@@ -230,8 +236,14 @@ no-levels true f a = let l = a .shallow in omega arith
 asked-items : (isObject : Bool) {left before : ℕ} (f : Members) → Asked (suc left) before (containerOf isObject f) →
     AskedItems isObject left (before + 1) Forest.none f
 unfolding containerLabel depth levels Value.isContainer Value.tag nodes size _⧺_
-asked-items false f a = let l = a .shallow in let m = a .few in record { distinct = λ e. absurd (true≢false (sym e)); shallow = omega arith; few = omega arith; below = a .below }
-asked-items true f a = let l = a .shallow in let m = a .few in record { distinct = λ e. a .fits; shallow = omega arith; few = omega arith; below = a .below }
+asked-items false f a =
+    let l = a .shallow in
+    let m = a .few in
+    record { distinct = λ e. absurd (true≢false (sym e)); shallow = omega arith; few = omega arith; below = a .below }
+asked-items true f a =
+    let l = a .shallow in
+    let m = a .few in
+    record { distinct = λ e. a .fits; shallow = omega arith; few = omega arith; below = a .below }
 
 value-deep : (isObject : Bool) (s : Bytes) (at before : ℕ) → byte s at ≡ openingBracket isObject → Read.value zero s at before ≡ refused too-deep at
 unfolding Read.value
@@ -347,14 +359,18 @@ abbrev pub ReadsValue : Bytes → Value.Value → Type 0
 ReadsValue w v = (s : Bytes) (at next : ℕ) → From s at w next → Stops (byte s next) → (left before : ℕ) → ValueRead s left before at next v
 
 abbrev ReadsContainer : Bool → Bytes → Members → Type 0
-ReadsContainer isObject w f = (s : Bytes) (at next : ℕ) → From s at w next → (left before : ℕ) → ValueRead s left before at next (containerOf isObject f)
+ReadsContainer isObject w f =
+    (s : Bytes) (at next : ℕ) → From s at w next → (left before : ℕ) → ValueRead s left before at next (containerOf isObject f)
 
 abbrev ReadsItems : Bool → Bytes → Members → Type 0
 ReadsItems isObject w f =
-    (s : Bytes) (at next : ℕ) → From s at w next → Stops (byte s next) → byte s (blanks s next) ≡ closingBracket isObject → (left before : ℕ) → ItemsRead isObject s left before at next f
+    (s : Bytes) (at next : ℕ) → From s at w next → Stops (byte s next) → byte s (blanks s next) ≡ closingBracket isObject →
+    (left before : ℕ) → ItemsRead isObject s left before at next f
 
 abbrev ReadsMember : Bytes → Text → Value.Value → Type 0
-ReadsMember w name v = (s : Bytes) (at next : ℕ) → From s at w next → Stops (byte s next) → (left before : ℕ) (so-far : Members) → ItemRead true s left before so-far at next name v
+ReadsMember w name v =
+    (s : Bytes) (at next : ℕ) → From s at w next → Stops (byte s next) →
+    (left before : ℕ) (so-far : Members) → ItemRead true s left before so-far at next name v
 
 module _ (isObject : Bool) where
   empty-reads : {b e : Bytes} → structural (openingBracket isObject) b → structural (closingBracket isObject) e →
@@ -408,7 +424,8 @@ pub value-reads : {w : Bytes} {v : Value.Value} → value w v → ReadsValue w v
 unfolding containerLabel closingBracket
 value-reads d =
     elim d as
-    (λ w v _. ReadsValue w v) (λ w f _. ReadsContainer true w f) (λ w f _. ReadsItems true w f) (λ w name v _. ReadsMember w name v) (λ w f _. ReadsContainer false w f) (λ w f _. ReadsItems false w f) [
+    (λ w v _. ReadsValue w v) (λ w f _. ReadsContainer true w f) (λ w f _. ReadsItems true w f) (λ w name v _. ReadsMember w name v)
+    (λ w f _. ReadsContainer false w f) (λ w f _. ReadsItems false w f) [
       | value.false-literal ↦ λ s at next f stop left before. false-read left before f
       | value.null-literal ↦ λ s at next f stop left before. null-read left before f
       | value.true-literal ↦ λ s at next f stop left before. true-read left before f
@@ -435,7 +452,8 @@ text-reads {v = v} s (JSON-text.text {before} {w} {after} hb d ha) f =
     let (i, j) = split w after h in
     let stop = ws-stops ha j (nothing-stops s {at = length s} (omega arith)) in
     let r = value-reads d s _ _ i stop maxDepth 0 in
-    let ended : blanks s (r .end) ≡ length s = r .after ∙ blanks-skip ha j ∙ blanks-stay s (length s) (nothing-blank s {at = length s} (omega arith)) in
+    let ended : blanks s (r .end) ≡ length s =
+    r .after ∙ blanks-skip ha j ∙ blanks-stay s (length s) (nothing-blank s {at = length s} (omega arith)) in
     rw (blanks-skip hb g)
     (reads-then _ (asks-more (λ a. let few = a .few in record { shallow = a .shallow; few = omega arith; fits = a .fits; below = a .below }) (r .outcome))
     (rw (ended, eq-eqb (length s) (length s) refl) reads))

@@ -77,7 +77,8 @@ module _ {s t : Bytes} {m : ℕ} (agree : Agree s t m) where
   multibyte-local : (at b : ℕ) → Local m end at (multibyte s at b) (multibyte t at b)
   unfolding multibyte
   multibyte-local at b =
-      row 0xC2 0xDF 1 0x80 0xBF 0xC0 (row 0xE0 0xE0 2 0xA0 0xBF 0xE0 (row 0xE1 0xEC 2 0x80 0xBF 0xE0 (row 0xED 0xED 2 0x80 0x9F 0xE0 (row 0xEE 0xEF 2 0x80 0xBF 0xE0
+      row 0xC2 0xDF 1 0x80 0xBF 0xC0
+      (row 0xE0 0xE0 2 0xA0 0xBF 0xE0 (row 0xE1 0xEC 2 0x80 0xBF 0xE0 (row 0xED 0xED 2 0x80 0x9F 0xE0 (row 0xEE 0xEF 2 0x80 0xBF 0xE0
       (row 0xF0 0xF0 3 0x90 0xBF 0xF0 (row 0xF1 0xF3 3 0x80 0xBF 0xF0 (row 0xF4 0xF4 3 0x80 0x8F 0xF0 (refuses at (omega arith)))))))))
     where
       row : (first last n low high base : ℕ) {o o' : Outcome (ℕ × ℕ)} → Local m end at o o' →
@@ -98,7 +99,8 @@ module _ {s t : Bytes} {m : ℕ} (agree : Agree s t m) where
       char-reads (r .derived) (r .from) .grows
 
   characters-more : (fuel fuel' at : ℕ) → length s ≤ suc fuel + at → length t ≤ suc fuel' + at →
-      ((at : ℕ) → length s ≤ fuel + at → length t ≤ fuel' + at → Local m end at (characters fuel s at) (characters fuel' t at)) → Local m end at (characters (suc fuel) s at) (characters (suc fuel') t at)
+      ((at : ℕ) → length s ≤ fuel + at → length t ≤ fuel' + at → Local m end at (characters fuel s at) (characters fuel' t at)) →
+      Local m end at (characters (suc fuel) s at) (characters (suc fuel') t at)
   unfolding characters
   characters-more fuel fuel' at l l' rest =
       choose (test (λ b. eqb b (code "\""))) (λ e. gives ([], at + 1) (omega arith) (λ h. refl)) λ e.
@@ -110,15 +112,19 @@ module _ {s t : Bytes} {m : ℕ} (agree : Agree s t m) where
   characters-local : (fuel fuel' at : ℕ) → length s ≤ fuel + at → length t ≤ fuel' + at →
       Local m end at (characters fuel s at) (characters fuel' t at)
   unfolding characters
-  characters-local zero fuel' at l l' = let long = agree .long in under at (refused not-json at) (omega arith) (λ h. absurd (omega arith)) (refuses at (omega arith))
+  characters-local zero fuel' at l l' =
+      let long = agree .long in
+      under at (refused not-json at) (omega arith) (λ h. absurd (omega arith)) (refuses at (omega arith))
   characters-local (suc fuel) zero at l l' =
       let long = agree .long in
-      under at (characters (suc (length t)) t at) (omega arith) (λ h. absurd (omega arith)) (characters-more fuel (length t) at l (omega arith) (characters-local fuel (length t)))
+      under at (characters (suc (length t)) t at) (omega arith) (λ h. absurd (omega arith))
+      (characters-more fuel (length t) at l (omega arith) (characters-local fuel (length t)))
   characters-local (suc fuel) (suc fuel') at l l' = characters-more fuel fuel' at l l' (characters-local fuel fuel')
 
   string-local : (at : ℕ) → Local m end at (Strings.string s at) (Strings.string t at)
   unfolding Strings.string
-  string-local at = byteIn-then agree at (code "\"") (code "\"") (at + 1) _ _ (omega arith) λ b. characters-local (length s) (length t) (at + 1) (omega arith) (omega arith)
+  string-local at =
+      byteIn-then agree at (code "\"") (code "\"") (at + 1) _ _ (omega arith) λ b. characters-local (length s) (length t) (at + 1) (omega arith) (omega arith)
 
   -- Numbers.
 
@@ -147,15 +153,20 @@ module _ {s t : Bytes} {m : ℕ} (agree : Agree s t m) where
   digits-local : (fuel fuel' start at : ℕ) → length s ≤ fuel + at → length t ≤ fuel' + at →
       Local m there at (digits fuel s start at) (digits fuel' t start at)
   unfolding digits
-  digits-local zero fuel' start at l l' = let long = agree .long in under at (ok at) (omega arith) (λ h. absurd (omega arith)) (gives at (omega arith) (λ h. refl))
+  digits-local zero fuel' start at l l' =
+      let long = agree .long in
+      under at (ok at) (omega arith) (λ h. absurd (omega arith)) (gives at (omega arith) (λ h. refl))
   digits-local (suc fuel) zero start at l l' =
       let long = agree .long in
-      under at (digits (suc (length t)) t start at) (omega arith) (λ h. absurd (omega arith)) (digits-more fuel (length t) start at (digits-local fuel (length t) start (at + 1) (omega arith) (omega arith)))
-  digits-local (suc fuel) (suc fuel') start at l l' = digits-more fuel fuel' start at (digits-local fuel fuel' start (at + 1) (omega arith) (omega arith))
+      under at (digits (suc (length t)) t start at) (omega arith) (λ h. absurd (omega arith))
+      (digits-more fuel (length t) start at (digits-local fuel (length t) start (at + 1) (omega arith) (omega arith)))
+  digits-local (suc fuel) (suc fuel') start at l l' =
+      digits-more fuel fuel' start at (digits-local fuel fuel' start (at + 1) (omega arith) (omega arith))
 
   someDigits-local : (start at : ℕ) → Local m there at (someDigits s start at) (someDigits t start at)
   unfolding someDigits
-  someDigits-local start at = byteIn-then agree at (code "0") (code "9") at _ _ (omega arith) λ b. digits-local (length s) (length t) start at (omega arith) (omega arith)
+  someDigits-local start at =
+      byteIn-then agree at (code "0") (code "9") at _ _ (omega arith) λ b. digits-local (length s) (length t) start at (omega arith) (omega arith)
 
   int-local : (start at : ℕ) → Local m there at (Numbers.int s start at) (Numbers.int t start at)
   unfolding Numbers.int
@@ -185,12 +196,15 @@ module _ {s t : Bytes} {m : ℕ} (agree : Agree s t m) where
     where
       digit-of : ℕ → Outcome ℕ
       digit-of b =
-          if leb (size * 10 + (b - code "0")) maxExponent then counted start at >>= exponentDigits fuel' t start (size * 10 + (b - code "0")) else refused number-over-limit at
+          let more = size * 10 + (b - code "0") in
+          if leb more maxExponent then counted start at >>= exponentDigits fuel' t start more else refused number-over-limit at
 
   exponentDigits-local : (fuel fuel' start size at : ℕ) → length s ≤ fuel + at → length t ≤ fuel' + at →
       Local m there at (exponentDigits fuel s start size at) (exponentDigits fuel' t start size at)
   unfolding exponentDigits
-  exponentDigits-local zero fuel' start size at l l' = let long = agree .long in under at (ok at) (omega arith) (λ h. absurd (omega arith)) (gives at (omega arith) (λ h. refl))
+  exponentDigits-local zero fuel' start size at l l' =
+      let long = agree .long in
+      under at (ok at) (omega arith) (λ h. absurd (omega arith)) (gives at (omega arith) (λ h. refl))
   exponentDigits-local (suc fuel) zero start size at l l' =
       let long = agree .long in
       under at (exponentDigits (suc (length t)) t start size at) (omega arith) (λ h. absurd (omega arith))
@@ -214,7 +228,8 @@ module _ {s t : Bytes} {m : ℕ} (agree : Agree s t m) where
   number-local : (start : ℕ) → Local m there start (Numbers.number s start) (Numbers.number t start)
   unfolding Numbers.number Numbers.minus
   number-local start =
-      under start (parts (if eqb (byte s start) (code "-") then start + 1 else start)) (omega arith) (λ h. ap (λ c. parts (if c then start + 1 else start)) (test (λ b. eqb b (code "-")) h)) (go (eqb (byte s start) (code "-")))
+      under start (parts (if eqb (byte s start) (code "-") then start + 1 else start)) (omega arith)
+      (λ h. ap (λ c. parts (if c then start + 1 else start)) (test (λ b. eqb b (code "-")) h)) (go (eqb (byte s start) (code "-")))
     where
       parts : ℕ → Outcome ℕ
       parts at = Numbers.int t start at >>= λ fraction. Numbers.frac t start fraction >>= λ exponent. Numbers.exp t start exponent
@@ -293,7 +308,8 @@ module _ {s t : Bytes} {m : ℕ} (agree : Agree s t m) where
   unfolding numberValue
   numberValue-local at =
       andThen _ _ (number-local at) λ x e l.
-      gives (leaf (Label.number (take (x - at) (drop at s))), x) (omega arith) (λ h. ap (λ w. (leaf (Label.number w), x)) (agree .part at x l (omega arith)))
+      gives (leaf (Label.number (take (x - at) (drop at s))), x) (omega arith)
+      (λ h. ap (λ w. (leaf (Label.number w), x)) (agree .part at x l (omega arith)))
 
   stringValue-local : (at : ℕ) → Local m end at (stringValue s at) (stringValue t at)
   unfolding stringValue
@@ -340,10 +356,13 @@ module _ {s t : Bytes} {m : ℕ} (agree : Agree s t m) where
     items-local : (fuel fuel' : ℕ) (so-far : Members) (at : ℕ) → length s ≤ fuel + at → length t ≤ fuel' + at →
         Local m end at (items fuel reader isObject s nodes so-far at) (items fuel' reader' isObject t nodes so-far at)
     unfolding items
-    items-local zero fuel' so-far at l l' = let long = agree .long in under at (refused not-json at) (omega arith) (λ h. absurd (omega arith)) (refuses at (omega arith))
+    items-local zero fuel' so-far at l l' =
+        let long = agree .long in
+        under at (refused not-json at) (omega arith) (λ h. absurd (omega arith)) (refuses at (omega arith))
     items-local (suc fuel) zero so-far at l l' =
         let long = agree .long in
-        under at (items (suc (length t)) reader' isObject t nodes so-far at) (omega arith) (λ h. absurd (omega arith)) (items-more fuel (length t) so-far at l (omega arith) (items-local fuel (length t)))
+        under at (items (suc (length t)) reader' isObject t nodes so-far at) (omega arith) (λ h. absurd (omega arith))
+        (items-more fuel (length t) so-far at l (omega arith) (items-local fuel (length t)))
     items-local (suc fuel) (suc fuel') so-far at l l' = items-more fuel fuel' so-far at l l' (items-local fuel fuel')
 
     contents-local : (at : ℕ) → Local m end at (contents reader isObject s nodes at) (contents reader' isObject t nodes at)
@@ -381,7 +400,8 @@ module _ {s t : Bytes} {m : ℕ} (agree : Agree s t m) where
   read-local =
       blanks-then 0 (λ p. Read.value maxDepth s p 0 >>= λ x. finish s x) (λ p. Read.value maxDepth t p 0 >>= λ x. finish t x) λ k.
       andThen _ _ (value-local maxDepth (blanks s 0) 0) λ x e l.
-      blanks-then (x .1) (λ p. if eqb p (length s) then ok (x .0) else refused not-json p) (λ p. if eqb p (length t) then ok (x .0) else refused not-json p) λ k'.
+      blanks-then (x .1) (λ p. if eqb p (length s) then ok (x .0) else refused not-json p)
+      (λ p. if eqb p (length t) then ok (x .0) else refused not-json p) λ k'.
       ended (x .0) (blanks s (x .1)) (eqb (blanks s (x .1)) (length s)) refl
     where
       finish : Bytes → Value.Value × ℕ → Outcome Value.Value
@@ -390,4 +410,6 @@ module _ {s t : Bytes} {m : ℕ} (agree : Agree s t m) where
       ended : (v : Value.Value) (p : ℕ) (c : Bool) → eqb p (length s) ≡ c →
           Local m (λ v. length s) p (if c then ok v else refused not-json p) (if eqb p (length t) then ok v else refused not-json p)
       ended v p true e = let same = eqb-true p (length s) e in let long = agree .long in finds {x = v} (omega arith) (λ h. absurd (omega arith))
-      ended v p false e = let long = agree .long in stops {p = p} (omega arith) (λ h. ap (λ c. if c then ok v else refused not-json p) (ne-eqb p (length t) (λ i. omega arith)))
+      ended v p false e =
+          let long = agree .long in
+          stops {p = p} (omega arith) (λ h. ap (λ c. if c then ok v else refused not-json p) (ne-eqb p (length t) (λ i. omega arith)))

@@ -126,9 +126,12 @@ unfolding scalar ascii
 scalar-sound s at nodes =
     choose (eqb (byte s at) 0x22) (λ _. room-then nodes at (stringValue-sound s at)) λ _.
     choose (isDigit (byte s at) || eqb (byte s at) 0x2D) (λ _. room-then nodes at (numberValue-sound s at)) λ _.
-    choose (eqb (byte s at) (code "n")) (λ e. room-then nodes at (literal-sound Label.null-literal _ (omega arith) (omega arith) value.null-literal s at (eqb-true _ _ e))) λ _.
-    choose (eqb (byte s at) (code "t")) (λ e. room-then nodes at (literal-sound Label.true-literal _ (omega arith) (omega arith) value.true-literal s at (eqb-true _ _ e))) λ _.
-    choose (eqb (byte s at) (code "f")) (λ e. room-then nodes at (literal-sound Label.false-literal _ (omega arith) (omega arith) value.false-literal s at (eqb-true _ _ e))) λ _.
+    choose (eqb (byte s at) (code "n"))
+    (λ e. room-then nodes at (literal-sound Label.null-literal _ (omega arith) (omega arith) value.null-literal s at (eqb-true _ _ e))) λ _.
+    choose (eqb (byte s at) (code "t"))
+    (λ e. room-then nodes at (literal-sound Label.true-literal _ (omega arith) (omega arith) value.true-literal s at (eqb-true _ _ e))) λ _.
+    choose (eqb (byte s at) (code "f"))
+    (λ e. room-then nodes at (literal-sound Label.false-literal _ (omega arith) (omega arith) value.false-literal s at (eqb-true _ _ e))) λ _.
     refuses some-value
 
 -- a member's name with its colon; an array's element has none

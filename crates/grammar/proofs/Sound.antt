@@ -91,7 +91,8 @@ andThen g (other h) go-on rest = other h
 
 -- a reader, and its result made into another that ends at the same place
 pub finish : {X Y : Type 0} {s : Bytes} {place : X → ℕ} {place' : Y → ℕ} {at : ℕ} {P : Bytes → X → Type 0} {Q : Bytes → Y → Type 0} {o : Outcome X}
-    (f : X → Y) → ((x : X) → place' (f x) ≡ place x) → ((w : Bytes) (x : X) → P w x → Q w (f x)) → Sound s place at P o → Sound s place' at Q (o >>= λ x. ok (f x))
+    (f : X → Y) → ((x : X) → place' (f x) ≡ place x) → ((w : Bytes) (x : X) → P w x → Q w (f x)) → Sound s place at P o →
+    Sound s place' at Q (o >>= λ x. ok (f x))
 unfolding _>>=_
 finish {s = s} {at = at} f same derive (finds {w} {x} from d) = finds {x = f x} (subst (From s at w) (sym (same x)) from) (derive w x d)
 finish f same derive (stops {w} from r) = stops from (some (r .text) (f (r .meaning)) (derive (w ++ r .text) (r .meaning) (r .derived)))
@@ -123,7 +124,9 @@ pub expect-then : {X : Type 0} {s : Bytes} {place : X → ℕ} {at : ℕ} (P : B
     Some P →
     Sound s place next (λ w x. P (b ∷ w) x) o → Sound s place at P (byteIn s at b b >>= λ _. o)
 expect-then {s = s} {place = place} P {o = o} b next h n some rest =
-    byteIn-then P (λ _. o) b b next h n some λ c l m. let same : b ≡ c = omega arith in subst (λ c. Sound s place next (λ w x. P (c ∷ w) x) o) same rest
+    byteIn-then P (λ _. o) b b next h n some λ c l m.
+    let same : b ≡ c = omega arith in
+    subst (λ c. Sound s place next (λ w x. P (c ∷ w) x) o) same rest
 
 -- a byte between two bounds, which is not passed
 pub check-then : {X : Type 0} {s : Bytes} {place : X → ℕ} {at : ℕ} {P : Bytes → X → Type 0} {o : Outcome X} (low high : ℕ) → Some P →

@@ -25,7 +25,9 @@ byteIn-reads s at {b} low high e l h = rw (e, in-range low high b l h)
 tail-reads : {s w : Bytes} {n low high bits c at next : ℕ} → Tail n low high bits w c → From s at w next → tail n s at low high bits ≡ ok (c, next)
 unfolding tail _>>=_
 tail-reads {at = at} {next = next} (done {bits = bits}) f = let a = f .far in let same : at ≡ next = omega arith in ap (λ p. ok (bits, p)) same
-tail-reads {s} {at = at} (more {low = low} {high = high} r d) f = let (e, g, _) = first f in rw (byteIn-reads s at low high e (r .0) (r .1)) (tail-reads d g)
+tail-reads {s} {at = at} (more {low = low} {high = high} r d) f =
+    let (e, g, _) = first f in
+    rw (byteIn-reads s at low high e (r .0) (r .1)) (tail-reads d g)
 
 -- the rows of multibyte
 module _ (s : Bytes) (at : ℕ) {a : ℕ} where
@@ -91,7 +93,8 @@ several-reads : {s w : Bytes} {a n low high bits c d at next : ℕ} → %x 0x80 
 unfolding character
 several-reads {a = a} {next = next} h row t same f =
     let (e, g, _) = first f in
-    char-read f (λ i. omega arith) (rw (e, ne-eqb a 0x5C (λ i. omega arith), above-range 0x20 0x7F a (omega arith), row) (tail-reads t g ∙ ap (λ c. ok (c, next)) same))
+    char-read f (λ i. omega arith)
+    (rw (e, ne-eqb a 0x5C (λ i. omega arith), above-range 0x20 0x7F a (omega arith), row) (tail-reads t g ∙ ap (λ c. ok (c, next)) same))
 
 -- a character of one byte
 plain : {c : ℕ} → unescaped c → (0x20 ≤ c) × (c ≡ 0x22 → ⊥) × (c ≡ 0x5C → ⊥)
@@ -109,20 +112,28 @@ one-reads {a = a} {at = at} h u f =
 utf8-reads : {s w : Bytes} {c at next : ℕ} → UTF8-char w c → unescaped c → From s at w next → CharRead s at c next
 utf8-reads (UTF8-char.of-1 (UTF8-1.one {a} h)) u f = one-reads (h .1) u f
 utf8-reads (UTF8-char.of-2 (UTF8-2.C2-DF h i)) u f = several-reads (omega arith) (multibyte-2 _ _ (omega arith)) (more i done) (omega arith) f
-utf8-reads (UTF8-char.of-3 (UTF8-3.E0 {b = b} h i)) u f = several-reads (omega arith) (multibyte-E0 _ _) (more {b = b} (omega arith) (more i done)) (omega arith) f
-utf8-reads (UTF8-char.of-3 (UTF8-3.E1-EC h i j)) u f = several-reads (omega arith) (multibyte-E1-EC _ _ (omega arith)) (more i (more j done)) (omega arith) f
-utf8-reads (UTF8-char.of-3 (UTF8-3.ED {b = b} h i)) u f = several-reads (omega arith) (multibyte-ED _ _) (more {b = b} (omega arith) (more i done)) (omega arith) f
-utf8-reads (UTF8-char.of-3 (UTF8-3.EE-EF h i j)) u f = several-reads (omega arith) (multibyte-EE-EF _ _ (omega arith)) (more i (more j done)) (omega arith) f
-utf8-reads (UTF8-char.of-4 (UTF8-4.F0 {b = b} h i j)) u f = several-reads (omega arith) (multibyte-F0 _ _) (more {b = b} (omega arith) (more i (more j done))) (omega arith) f
-utf8-reads (UTF8-char.of-4 (UTF8-4.F1-F3 h i j k)) u f = several-reads (omega arith) (multibyte-F1-F3 _ _ (omega arith)) (more i (more j (more k done))) (omega arith) f
-utf8-reads (UTF8-char.of-4 (UTF8-4.F4 {b = b} h i j)) u f = several-reads (omega arith) (multibyte-F4 _ _) (more {b = b} (omega arith) (more i (more j done))) (omega arith) f
+utf8-reads (UTF8-char.of-3 (UTF8-3.E0 {b = b} h i)) u f =
+    several-reads (omega arith) (multibyte-E0 _ _) (more {b = b} (omega arith) (more i done)) (omega arith) f
+utf8-reads (UTF8-char.of-3 (UTF8-3.E1-EC h i j)) u f =
+    several-reads (omega arith) (multibyte-E1-EC _ _ (omega arith)) (more i (more j done)) (omega arith) f
+utf8-reads (UTF8-char.of-3 (UTF8-3.ED {b = b} h i)) u f =
+    several-reads (omega arith) (multibyte-ED _ _) (more {b = b} (omega arith) (more i done)) (omega arith) f
+utf8-reads (UTF8-char.of-3 (UTF8-3.EE-EF h i j)) u f =
+    several-reads (omega arith) (multibyte-EE-EF _ _ (omega arith)) (more i (more j done)) (omega arith) f
+utf8-reads (UTF8-char.of-4 (UTF8-4.F0 {b = b} h i j)) u f =
+    several-reads (omega arith) (multibyte-F0 _ _) (more {b = b} (omega arith) (more i (more j done))) (omega arith) f
+utf8-reads (UTF8-char.of-4 (UTF8-4.F1-F3 h i j k)) u f =
+    several-reads (omega arith) (multibyte-F1-F3 _ _ (omega arith)) (more i (more j (more k done))) (omega arith) f
+utf8-reads (UTF8-char.of-4 (UTF8-4.F4 {b = b} h i j)) u f =
+    several-reads (omega arith) (multibyte-F4 _ _) (more {b = b} (omega arith) (more i (more j done))) (omega arith) f
 
 -- hexadecimal digits
 hexValue-digit : {b h : ℕ} → HEXDIG b h → (hexValue b ≡ h) × (h ≤ 0xF)
 unfolding hexValue
 hexValue-digit (HEXDIG.digit {b} r) = (rw (in-range 0x30 0x39 b (r .0) (r .1)), omega arith)
 hexValue-digit (HEXDIG.upper-case {b} r) = (rw (above-range 0x30 0x39 b (omega arith), in-range 0x41 0x46 b (r .0) (r .1)), omega arith)
-hexValue-digit (HEXDIG.lower-case {b} r) = (rw (above-range 0x30 0x39 b (omega arith), above-range 0x41 0x46 b (omega arith), in-range 0x61 0x66 b (r .0) (r .1)), omega arith)
+hexValue-digit (HEXDIG.lower-case {b} r) =
+    (rw (above-range 0x30 0x39 b (omega arith), above-range 0x41 0x46 b (omega arith), in-range 0x61 0x66 b (r .0) (r .1)), omega arith)
 
 hexIn-reads : (s : Bytes) (at : ℕ) {b h : ℕ} (low high : ℕ) → byte s at ≡ b → HEXDIG b h → low ≤ h → h ≤ high → hexIn s at low high ≡ ok h
 unfolding hexIn
@@ -235,7 +246,8 @@ char-reads char.U+000D f = short-reads f refl refl (omega arith)
 char-reads char.U+0009 f = short-reads f refl refl (omega arith)
 char-reads (char.below-surrogates (4HEXDIG.digits da db dc dd) l) f = unicode-reads f (below-reads (digits-at da db dc dd (after-u f)) (omega arith))
 char-reads (char.above-surrogates (4HEXDIG.digits da db dc dd) l) f = unicode-reads f (above-reads (digits-at da db dc dd (after-u f)) (omega arith))
-char-reads (char.surrogate-pair (4HEXDIG.digits da db dc dd) high (4HEXDIG.digits da' db' dc' dd') low) f = unicode-reads f (pair-reads da db dc dd da' db' dc' dd' high low (after-u f))
+char-reads (char.surrogate-pair (4HEXDIG.digits da db dc dd) high (4HEXDIG.digits da' db' dc' dd') low) f =
+    unicode-reads f (pair-reads da db dc dd da' db' dc' dd' high low (after-u f))
 
 chars-read : (fuel : ℕ) {s w : Bytes} {cs : Text} {at end : ℕ} → *char w cs → From s at w end → byte s end ≡ 0x22 → length s ≤ fuel + at →
     characters fuel s at ≡ ok (cs, end + 1)

@@ -90,12 +90,14 @@ multibyte-sound s at =
     refuses some-char
   where
     row : (first last n low high base : ℕ) {o : Outcome (ℕ × ℕ)} → (0 < first) × (0 < low) × (low ≤ high) →
-        ((b : ℕ) (w : Bytes) (c : ℕ) → first ≤ b → b ≤ last → Tail n low high (b - base) w c → char (b ∷ w) c) → (within first last (byte s at) ≡ false → Sound s end at (Means char) o) →
+        ((b : ℕ) (w : Bytes) (c : ℕ) → first ≤ b → b ≤ last → Tail n low high (b - base) w c → char (b ∷ w) c) →
+        (within first last (byte s at) ≡ false → Sound s end at (Means char) o) →
         Sound s end at (Means char) (if within first last (byte s at) then tail n s (at + 1) low high (byte s at - base) else o)
     row first last n low high base bounds derive rest =
         choose (within first last (byte s at))
         (λ e. let (l, h) = within-true first last (byte s at) e in
-        past (Means char) (byte s at) (at + 1) (omega arith) refl refl (weaken (λ w x d. derive (byte s at) w (x .0) l h d) (tail-sound n s (at + 1) low high (byte s at - base) (bounds .1) (bounds .2))))
+        past (Means char) (byte s at) (at + 1) (omega arith) refl refl
+        (weaken (λ w x d. derive (byte s at) w (x .0) l h d) (tail-sound n s (at + 1) low high (byte s at - base) (bounds .1) (bounds .2))))
         rest
 
 -- hexadecimal digits
@@ -156,10 +158,14 @@ module _ {u : Bytes} {high : ℕ} (escaped : 4HEXDIG u high) (range : %x 0xD800 
   lowSurrogate-sound : (s : Bytes) (at : ℕ) → Sound s end at (Means (λ w c. AfterUnit u (0x5C ∷ 0x75 ∷ w) c)) (lowSurrogate s high at)
   unfolding lowSurrogate
   lowSurrogate-sound s at =
-      hexIn-then _ _ 0xD 0xD (at + 1) (omega arith) refl (some _ (_, 0) (low-digits hex-D hex-C hex-0 hex-0 (omega arith) (omega arith) (omega arith) (omega arith))) λ a h da la ha.
-      hexIn-then _ _ 0xC 0xF (at + 2) (omega arith) (omega arith) (some _ (_, 0) (low-digits da hex-C hex-0 hex-0 (omega arith) (omega arith) (omega arith) (omega arith))) λ b i db lb hb.
-      hexIn-then _ _ 0x0 0xF (at + 3) (omega arith) (omega arith) (some _ (_, 0) (low-digits da db hex-0 hex-0 (omega arith) (omega arith) (omega arith) (omega arith))) λ c j dc lc hc.
-      hexIn-then _ _ 0x0 0xF (at + 4) (omega arith) (omega arith) (some _ (_, 0) (low-digits da db dc hex-0 (omega arith) (omega arith) (omega arith) (omega arith))) λ d k dd ld hd.
+      hexIn-then _ _ 0xD 0xD (at + 1) (omega arith) refl
+      (some _ (_, 0) (low-digits hex-D hex-C hex-0 hex-0 (omega arith) (omega arith) (omega arith) (omega arith))) λ a h da la ha.
+      hexIn-then _ _ 0xC 0xF (at + 2) (omega arith) (omega arith)
+      (some _ (_, 0) (low-digits da hex-C hex-0 hex-0 (omega arith) (omega arith) (omega arith) (omega arith))) λ b i db lb hb.
+      hexIn-then _ _ 0x0 0xF (at + 3) (omega arith) (omega arith)
+      (some _ (_, 0) (low-digits da db hex-0 hex-0 (omega arith) (omega arith) (omega arith) (omega arith))) λ c j dc lc hc.
+      hexIn-then _ _ 0x0 0xF (at + 4) (omega arith) (omega arith)
+      (some _ (_, 0) (low-digits da db dc hex-0 (omega arith) (omega arith) (omega arith) (omega arith))) λ d k dd ld hd.
       gives _ refl (low-digits da db dc dd (la, ha) (lb, hb) (lc, hc) (ld, hd))
 
   some-low : Some (Means (λ w c. AfterUnit u (0x5C ∷ 0x75 ∷ w) c))
@@ -197,13 +203,16 @@ module _ {a b c d h i j k : ℕ} (da : HEXDIG a h) (db : HEXDIG b i) (dc : HEXDI
 
   some-unit : Some (Means (AfterUnit (a ∷ b ∷ c ∷ d ∷ [])))
   unfolding unit
-  some-unit = byCases (within 0xD800 0xDBFF unit) (λ e. some-after-high (4HEXDIG.digits da db dc dd) (within-true _ _ _ e)) (λ e. some [] (unit, 0) (unit-char e))
+  some-unit =
+      byCases (within 0xD800 0xDBFF unit) (λ e. some-after-high (4HEXDIG.digits da db dc dd) (within-true _ _ _ e))
+      (λ e. some [] (unit, 0) (unit-char e))
 
   unit-sound : (s : Bytes) (at : ℕ) →
       Sound s end at (Means (AfterUnit (a ∷ b ∷ c ∷ d ∷ []))) (if within 0xD800 0xDBFF unit then afterHigh s unit at else ok (unit, at))
   unfolding unit
   unit-sound s at =
-      choose (within 0xD800 0xDBFF unit) (λ e. afterHigh-sound (4HEXDIG.digits da db dc dd) (within-true _ _ _ e) s at) (λ e. gives (unit, at) refl (unit-char e))
+      choose (within 0xD800 0xDBFF unit) (λ e. afterHigh-sound (4HEXDIG.digits da db dc dd) (within-true _ _ _ e) s at)
+      (λ e. gives (unit, at) refl (unit-char e))
 
 small-limit : (h : ℕ) → secondLimit h ≤ 0xF
 unfolding secondLimit

@@ -43,8 +43,10 @@ refusals s v number p d e = refusal-reason (read-complete d) e
 -- what is refused at p on s is refused at p on every text that begins with more of s than that
 no-longer : (s : Bytes) (p : ℕ) → read s ≡ refused not-json p → (n : ℕ) → p < n → n ≤ length s → ¬ Begins (take n s)
 no-longer s p e n l h b =
-    let alike : Agree s (take n s ++ b .rest) (length (take n s)) = subst (λ x. Agree x (take n s ++ b .rest) (length (take n s))) (take-append-drop n s) (agree (take n s) (drop n s) (b .rest)) in
-    let refused-too = same-stop (subst (λ o. Local (length (take n s)) (λ v. length s) 0 o (read (take n s ++ b .rest))) e (read-local alike)) (omega (arith, length-take-le n s h)) in
+    let alike : Agree s (take n s ++ b .rest) (length (take n s)) =
+    subst (λ x. Agree x (take n s ++ b .rest) (length (take n s))) (take-append-drop n s) (agree (take n s) (drop n s) (b .rest)) in
+    let refused-too =
+    same-stop (subst (λ o. Local (length (take n s)) (λ v. length s) 0 o (read (take n s ++ b .rest))) e (read-local alike)) (omega (arith, length-take-le n s h)) in
     not-refused (read-complete (b .derived)) refused-too
 
 pub place-of-3 : PlaceOf3

@@ -112,24 +112,29 @@ record Placed (s : Bytes) (at : ℕ) (w : Bytes) (next : ℕ) : Type 0 where
 -- what is shown of one derivation against any other from the same place
 abbrev SameValue : Bytes → Value.Value → Type 0
 SameValue w v =
-    (s : Bytes) (at next at' next' : ℕ) (w' : Bytes) (v' : Value.Value) → blanks s at ≡ blanks s at' → Placed s at w next → value w' v' → Placed s at' w' next' → Same s next next' v v'
+    (s : Bytes) (at next at' next' : ℕ) (w' : Bytes)
+    (v' : Value.Value) → blanks s at ≡ blanks s at' → Placed s at w next → value w' v' → Placed s at' w' next' → Same s next next' v v'
 
 abbrev SameContainer : Bool → Bytes → Members → Type 0
 SameContainer isObject w f =
-    (s : Bytes) (at next at' next' : ℕ) (w' : Bytes) (f' : Members) → blanks s at ≡ blanks s at' → From s at w next → Brackets isObject w' f' → From s at' w' next' → Same s next next' f f'
+    (s : Bytes) (at next at' next' : ℕ) (w' : Bytes)
+    (f' : Members) → blanks s at ≡ blanks s at' → From s at w next → Brackets isObject w' f' → From s at' w' next' → Same s next next' f f'
 
 abbrev SameItem : Bool → Bytes → Text → Value.Value → Type 0
 SameItem isObject w name v =
-    (s : Bytes) (at next at' next' : ℕ) (w' : Bytes) (name' : Text) (v' : Value.Value) → blanks s at ≡ blanks s at' → Placed s at w next → Item isObject w' name' v' → Placed s at' w' next' →
+    (s : Bytes) (at next at' next' : ℕ) (w' : Bytes) (name' : Text)
+    (v' : Value.Value) → blanks s at ≡ blanks s at' → Placed s at w next → Item isObject w' name' v' → Placed s at' w' next' →
     Same s next next' {A = Text × Value.Value} (name, v) (name', v')
 
 abbrev SameItems : Bool → Bytes → Members → Type 0
 SameItems isObject w f =
-    (s : Bytes) (at next at' next' : ℕ) (w' : Bytes) (f' : Members) → blanks s at ≡ blanks s at' → Placed s at w next → byte s (blanks s next) ≡ closingBracket isObject →
+    (s : Bytes) (at next at' next' : ℕ) (w' : Bytes) (f' : Members) → blanks s at ≡ blanks s at' → Placed s at w next → byte s
+    (blanks s next) ≡ closingBracket isObject →
     Between isObject w' f' → Placed s at' w' next' → byte s (blanks s next') ≡ closingBracket isObject → Same s next next' f f'
 
 easy-same : {w : Bytes} {v : Value.Value} → value w v → Asked 0 0 v → SameValue w v
-easy-same d a s at next at' next' w' v' e p d' p' = by-reader a (value-reads d s at next (p .from) (p .stops) 0 0) (value-reads d' s at' next' (p' .from) (p' .stops) 0 0) e
+easy-same d a s at next at' next' w' v' e p d' p' =
+    by-reader a (value-reads d s at next (p .from) (p .stops) 0 0) (value-reads d' s at' next' (p' .from) (p' .stops) 0 0) e
 
 bracket-mark : {isObject : Bool} {s w : Bytes} {f : Members} {at next : ℕ} → Brackets isObject w f → From s at w next →
     byte s (blanks s at) ≡ openingBracket isObject
@@ -150,7 +155,8 @@ number-same-value : {w : Bytes} → number w → SameValue w (leaf (Label.number
 number-same-value {w} d s at next at' next' w' v' e p d' p' = go (shape d') p'
   where
     go : {w' : Bytes} {v' : Value.Value} → Shape w' v' → Placed s at' w' next' → Same s next next' (leaf (Label.number w)) v'
-    go (easy h) p' = flip (by-reader (h .asked) (h .read-so s at' next' (p' .from)) (value-reads (value.of-number d) s at next (p .from) (p .stops) 0 0) (sym e))
+    go (easy h) p' =
+        flip (by-reader (h .asked) (h .read-so s at' next' (p' .from)) (value-reads (value.of-number d) s at next (p .from) (p .stops) 0 0) (sym e))
     go (is-number d') p' =
         let (stay, _) = number-at d (p .from) in
         let (stay', _) = number-at d' (p' .from) in
@@ -173,7 +179,8 @@ container-same-value isObject w f d b ih s at next at' next' w' v' e p d' p' = g
     go (easy h) p' = flip (by-reader (h .asked) (h .read-so s at' next' (p' .from)) (value-reads d s at next (p .from) (p .stops) 0 0) (sym e))
     go (is-number d') p' = absurd (no-number-bracket isObject (number-at d' (p' .from) .1) (ap (byte s) (sym e) ∙ bracket-mark b (p .from)))
     go (is-container {w = w'} {f = f'} isObject' b') p' =
-        let same : isObject' ≡ isObject = one-bracket isObject' isObject (sym (bracket-mark b' (p' .from)) ∙ ap (byte s) (sym e) ∙ bracket-mark b (p .from)) in
+        let same : isObject' ≡ isObject =
+        one-bracket isObject' isObject (sym (bracket-mark b' (p' .from)) ∙ ap (byte s) (sym e) ∙ bracket-mark b (p .from)) in
         let r = ih s at next at' next' w' f' e (p .from) (subst (λ o. Brackets o w' f') same b') (p' .from) in
         record { meaning = ap₂ containerOf (sym same) (r .meaning); place = r .place }
 
@@ -229,7 +236,8 @@ empty-same isObject {s} e m n (items-in m' d' p' n') = absurd (items-begin d' p'
 
 filled-same : (isObject : Bool) {s : Bytes} {at mid stop next at' next' : ℕ} (w : Bytes) (f : Members) {f' : Members} → SameItems isObject w f →
     blanks s at ≡ blanks s at' →
-    Marked s at (openingBracket isObject) mid → Between isObject w f → Placed s mid w stop → Marked s stop (closingBracket isObject) next → Bracketed isObject s at' next' f' → Same s next next' {A = Members} f f'
+    Marked s at (openingBracket isObject) mid → Between isObject w f → Placed s mid w stop → Marked s stop (closingBracket isObject) next →
+    Bracketed isObject s at' next' f' → Same s next next' {A = Members} f f'
 filled-same isObject {s} w f ih e m d p n (nothing-in m' n') = absurd (items-begin d p (ap (byte s) (marked-same e m m') ∙ n' .mark))
 filled-same isObject {s} w f ih e m d p n (items-in {w = w'} {f = f'} {mid = mid'} {stop = stop'} m' d' p' n') =
     let r = ih s _ _ mid' stop' w' f' (marked-same e m m') p (n .mark) d' p' (n' .mark) in
@@ -266,7 +274,8 @@ last-same isObject {s} w name v ih e p mark (more-at {w = w'} {name = name'} {v 
 
 more-same : (isObject : Bool) {s : Bytes} {at mid after next at' next' : ℕ} (w rest : Bytes) (name : Text) (v : Value.Value) (f : Members) {f' : Members} →
     SameItem isObject w name v → SameItems isObject rest f →
-    blanks s at ≡ blanks s at' → Placed s at w mid → Marked s mid (code ",") after → Placed s after rest next → byte s (blanks s next) ≡ closingBracket isObject →
+    blanks s at ≡ blanks s at' → Placed s at w mid → Marked s mid (code ",") after → Placed s after rest next →
+    byte s (blanks s next) ≡ closingBracket isObject →
     Parted isObject s at' next' f' → byte s (blanks s next') ≡ closingBracket isObject → Same s next next' {A = Members} (node name v f) f'
 more-same isObject {s} w rest name v f ih ih' e p m q mark (last-at {w = w'} {name = name'} {v = v'} i' p') mark' =
     let r = ih s _ _ _ _ w' name' v' e p i' p' in
@@ -281,7 +290,9 @@ element-same w v ih s at next at' next' w' name' v' e p i' p' = go i' p'
   where
     go : {w' : Bytes} {name' : Text} {v' : Value.Value} → Item false w' name' v' → Placed s at' w' next' →
         Same s next next' {A = Text × Value.Value} ([], v) (name', v')
-    go (element {w = w'} {v = v'} d') p' = let r = ih s at next at' next' w' v' e p d' p' in record { meaning = ap (λ v. ([], v)) (r .meaning); place = r .place }
+    go (element {w = w'} {v = v'} d') p' =
+        let r = ih s at next at' next' w' v' e p d' p' in
+        record { meaning = ap (λ v. ([], v)) (r .meaning); place = r .place }
 
 pair-same : {n c : Bytes} (w : Bytes) {name : Text} (v : Value.Value) → string n name → structural (code ":") c → SameValue w v →
     SameItem true (n ++ (c ++ w)) name v
@@ -299,7 +310,8 @@ pair-same {n} {c} w {name} v q h ih s at next at' next' w' name' v' e p i' p' = 
         let start : at ≡ at' = sym stay ∙ e ∙ stay' in
         let same-name = one-string (sym (string-reads q fn) ∙ ap (Strings.string s) start ∙ string-reads q' fn') in
         let r =
-        ih s _ next _ next' w' v' (marked-same (ap (blanks s) (same-name .1)) (colon-marked h fc) (colon-marked h' fc')) (record { from = fw; stops = p .stops }) d' (record { from = fw'; stops = p' .stops }) in
+        ih s _ next _ next' w' v' (marked-same (ap (blanks s) (same-name .1)) (colon-marked h fc) (colon-marked h' fc'))
+        (record { from = fw; stops = p .stops }) d' (record { from = fw'; stops = p' .stops }) in
         record { meaning = ap₂ (λ n v. (n, v)) (same-name .0) (r .meaning); place = r .place }
       where
         one-string : {a a' : Text} {x x' : ℕ} → _≡_ {A = Outcome (Text × ℕ)} (ok (a, x)) (ok (a', x')) → (a ≡ a') × (x ≡ x')
@@ -310,7 +322,8 @@ value-same : {w : Bytes} {v : Value.Value} → value w v → SameValue w v
 unfolding levels Value.isContainer Value.tag containerLabel closingBracket
 value-same d =
     elim d as
-    (λ w v _. SameValue w v) (λ w f _. SameContainer true w f) (λ w f _. SameItems true w f) (λ w name v _. SameItem true w name v) (λ w f _. SameContainer false w f) (λ w f _. SameItems false w f) [
+    (λ w v _. SameValue w v) (λ w f _. SameContainer true w f) (λ w f _. SameItems true w f) (λ w name v _. SameItem true w name v)
+    (λ w f _. SameContainer false w f) (λ w f _. SameItems false w f) [
       | value.false-literal ↦ easy-same value.false-literal (easy-asked Label.false-literal refl tt)
       | value.null-literal ↦ easy-same value.null-literal (easy-asked Label.null-literal refl tt)
       | value.true-literal ↦ easy-same value.true-literal (easy-asked Label.true-literal refl tt)
@@ -326,7 +339,8 @@ value-same d =
       | array.no-elements {b} {e} hb he ↦ no-items false hb he
       | array.with-elements {w = w} {f = f} hb (d → ih) he ↦ some-items false w f hb (of-elements d) he ih
       | elements.last-element {w} {v} (_ → ih) ↦ last-item false w [] v (element-same w v ih)
-      | elements.more-elements {w = w} {ws = ws} {v = v} {f = f} (_ → ih) hc (_ → ih') ↦ more-items-same false w ws [] v f (element-same w v ih) hc ih'
+      | elements.more-elements {w = w} {ws = ws} {v = v} {f = f} (_ → ih) hc (_ → ih') ↦ more-items-same false w ws [] v f
+          (element-same w v ih) hc ih'
     ]
   where
     no-items : (isObject : Bool) {b e : Bytes} → structural (openingBracket isObject) b → structural (closingBracket isObject) e →
@@ -355,7 +369,8 @@ value-same d =
         let (g, h) = split w (c ++ rest) (p .from) in
         let (i, j) = split c rest h in
         let m = comma-marked hc i in
-        more-same isObject w rest name v f ih ih' same (record { from = g; stops = m .stops }) m (record { from = j; stops = p .stops }) mark (parted d' p') mark'
+        more-same isObject w rest name v f ih ih' same (record { from = g; stops = m .stops }) m (record { from = j; stops = p .stops }) mark
+        (parted d' p') mark'
 
 -- two derivations of one text
 text-same : {t t' : Bytes} {v v' : Value.Value} (s : Bytes) → JSON-text t v → From s 0 t (length s) → JSON-text t' v' → From s 0 t' (length s) →
@@ -366,7 +381,8 @@ text-same s (JSON-text.text {before = b} {w = w} {after = a} hb d ha) f (JSON-te
     let (g', h') = split b' (w' ++ a') f' in
     let (i', j') = split w' a' h' in
     let stop = nothing-stops s {at = length s} (omega arith) in
-    value-same d s _ _ _ _ w' v' (sym (blanks-skip hb g) ∙ blanks-skip hb' g') (record { from = i; stops = ws-stops ha j stop }) d' (record { from = i'; stops = ws-stops ha' j' stop }) .meaning
+    value-same d s _ _ _ _ w' v' (sym (blanks-skip hb g) ∙ blanks-skip hb' g') (record { from = i; stops = ws-stops ha j stop }) d'
+    (record { from = i'; stops = ws-stops ha' j' stop }) .meaning
 
 pub one-meaning : {s : Bytes} {v v' : Value.Value} → JSON-text s v → JSON-text s v' → v ≡ v'
 one-meaning {s} d d' = text-same s d (from-whole s) d' (from-whole s)

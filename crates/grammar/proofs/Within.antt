@@ -68,7 +68,8 @@ module _ (s : Bytes) (start : ℕ) where
 
   counted-short : (at : ℕ) → Yields Short (counted start at)
   unfolding counted Short
-  counted-short at = choose (ltb at (start + maxNumber)) (λ e. let l = ltb-true at (start + maxNumber) e in yields {x = at + 1} (omega arith)) (λ e. refuses)
+  counted-short at =
+      choose (ltb at (start + maxNumber)) (λ e. let l = ltb-true at (start + maxNumber) e in yields {x = at + 1} (omega arith)) (λ e. refuses)
 
   digits-short : (fuel at : ℕ) → Short at → Yields Short (digits fuel s start at)
   unfolding digits
@@ -227,8 +228,10 @@ literal-within left before label word s at e h l = andThen _ (anything (spelled 
 scalar-within : (left before : ℕ) (s : Bytes) (at : ℕ) → Yields (Bounded left before) (scalar s at before)
 unfolding scalar stringValue numberValue Bounded Value.isContainer Value.tag
 scalar-within left before s at =
-    choose (eqb (byte s at) (code "\"")) (λ _. room-then before at λ l. andThen _ (anything (Strings.string s at)) λ x _ _. yields (easy (Label.string (x .0)) refl tt l)) λ _.
-    choose (isDigit (byte s at) || eqb (byte s at) (code "-")) (λ _. room-then before at λ l. andThen _ (number-fits s at) λ x _ h. yields (easy (Label.number _) refl h l)) λ _.
+    choose (eqb (byte s at) (code "\""))
+    (λ _. room-then before at λ l. andThen _ (anything (Strings.string s at)) λ x _ _. yields (easy (Label.string (x .0)) refl tt l)) λ _.
+    choose (isDigit (byte s at) || eqb (byte s at) (code "-"))
+    (λ _. room-then before at λ l. andThen _ (number-fits s at) λ x _ h. yields (easy (Label.number _) refl h l)) λ _.
     choose (eqb (byte s at) (code "n")) (λ _. room-then before at λ l. literal-within left before Label.null-literal _ s at refl tt l) λ _.
     choose (eqb (byte s at) (code "t")) (λ _. room-then before at λ l. literal-within left before Label.true-literal _ s at refl tt l) λ _.
     choose (eqb (byte s at) (code "f")) (λ _. room-then before at λ l. literal-within left before Label.false-literal _ s at refl tt l) λ _.
@@ -301,13 +304,17 @@ module _ (s : Bytes) (left : ℕ) (reader : ℕ → ℕ → Outcome (Value.Value
   contents-within : (at : ℕ) → before ≤ maxNodes → Yields KeptAll (contents reader isObject s before at)
   unfolding contents KeptAll
   contents-within at l =
-      choose (eqb (byte s (blanks s at)) (closingBracket isObject)) (λ e. yields (kept-none l)) (λ e. items-within (length s) Forest.none (blanks s at) (kept-none l))
+      choose (eqb (byte s (blanks s at)) (closingBracket isObject)) (λ e. yields (kept-none l))
+      (λ e. items-within (length s) Forest.none (blanks s at) (kept-none l))
 
 asked-container : (isObject : Bool) {left before : ℕ} (f : Members) → Kept isObject left (before + 1) f →
     Asked (suc left) before (containerOf isObject f)
 unfolding containerLabel depth levels Value.isContainer Value.tag nodes
 asked-container false f k = let l = k .shallow in let m = k .few in record { shallow = omega arith; few = omega arith; fits = tt; below = k .below }
-asked-container true f k = let l = k .shallow in let m = k .few in record { shallow = omega arith; few = omega arith; fits = k .distinct refl; below = k .below }
+asked-container true f k =
+    let l = k .shallow in
+    let m = k .few in
+    record { shallow = omega arith; few = omega arith; fits = k .distinct refl; below = k .below }
 
 container-within : (s : Bytes) (left : ℕ) (reader : ℕ → ℕ → Outcome (Value.Value × ℕ)) →
     ((at before : ℕ) → Yields (Bounded left before) (reader at before)) → (isObject : Bool) (at before : ℕ) →
@@ -333,4 +340,5 @@ pub read-within : (s : Bytes) → Yields WithinLimits (read s)
 unfolding read Bounded
 read-within s =
     andThen _ (value-within maxDepth s (blanks s 0) 0) λ x _ a.
-    choose (eqb (blanks s (x .1)) (length s)) (λ e. let few = a .few in yields (record { shallow = a .shallow; few = omega arith; fits = a .fits; below = a .below })) (λ e. refuses)
+    choose (eqb (blanks s (x .1)) (length s))
+    (λ e. let few = a .few in yields (record { shallow = a .shallow; few = omega arith; fits = a .fits; below = a .below })) (λ e. refuses)
