@@ -55,7 +55,7 @@ place-of-3 s p e =
     record {
       inside = inside (r .from) (omega arith);
       begins = subst Begins (sym (prefix (r .from))) (record { rest = r .some .text; meaning = r .some .meaning; derived = r .some .derived });
-      longest = no-longer s p e;
+      longest = λ n l h. no-longer s p e n (omega arith) h;
     }
 
 pub cut-short : CutShort
