@@ -1,0 +1,336 @@
+// Equality of two JSON numbers by their exact value: document 01, "drop zeros on both ends of the digits and adjust a signed power of ten".
+// Each function reads a number's text where it lies: no digit is copied, and no float is made.
+
+ghost use mathlib.Core.Path.{_≡_};
+ghost use mathlib.Core.Bool.{Bool};
+ghost use Prim.Native.Nat.{_+_, _-_, _≤_, min};
+ghost use lib.ListN.{length, take, drop};
+ghost use lib.Dec.{eqb};
+ghost use lib.IntN.{pos, negℤ, natAbs, _+ℤ_, _-ℤ_};
+ghost use Rattle.spec.specs.Outcome.{if_then_else_};
+ghost use Rattle.spec.specs.Limits.{maxNumber, maxExponent};
+ghost use Rattle.spec.specs.Numbers.{isDigit, isE};
+ghost use Rattle.spec.specs.Worth.{mantissa, fractionDigits, decimal, signedExponent, exponent, trimmed, isNegative, worth};
+ghost use Rattle.spec.specs.Value.{sameText};
+ghost use Rattle.spec.specs.Equality.{sameBool, sameInteger, sameWorth};
+ghost use Rattle.decimal.specs.Normal.{isNonzeroDigit, firstDigit, normalForm, normalized, sameNumber};
+
+// Bytes of a number.
+const MAX_NUMBER: usize = 128;
+
+// The size of a number's written exponent.
+const MAX_EXPONENT: usize = 9_999;
+
+// A number's text in normal form: its sign; where its significant digits begin, and how many they are, without zeros at either end and with the
+// point between them not counted; and the power of ten of the last of them. A zero has no significant digits and the power 0.
+pub struct Normal {
+    pub negative: bool,
+    pub first: usize,
+    pub count: usize,
+    pub power: i32,
+}
+
+pub enum Normalized {
+    Number(Normal),
+    // The text is longer than a number may be, or its exponent larger.
+    OverLimit,
+}
+
+// Whether two numbers are equal by their exact value. A text that is over a limit of numbers equals none.
+pub fn same_number(a: &[u8], b: &[u8]) -> bool
+    ensures { λ r. ⌜ r ≡ sameNumber (now (a .entry)) (now (b .entry)) ⌝ }
+{
+    let Normalized::Number(x) = normalize(a) else {
+        return false;
+    };
+    let Normalized::Number(y) = normalize(b) else {
+        return false;
+    };
+    same_normal(a, x, b, y)
+}
+
+pub fn normalize(t: &[u8]) -> Normalized
+    ensures { λ r. ⌜ r ≡ normalized (now (t .entry)) ⌝ }
+{
+    if MAX_NUMBER < t.len() {
+        return Normalized::OverLimit;
+    }
+    let letter = after_letter(t);
+    let size = exponent_size(t, letter);
+    if MAX_EXPONENT < size {
+        return Normalized::OverLimit;
+    }
+    let exponent = signed(minus_at(t, letter), size);
+    let first = first_digit(t);
+    let count = significant(t, first);
+    let dropped = digits(t, first) - count;
+    Normalized::Number(Normal {
+        negative: minus_at(t, 0),
+        first,
+        count,
+        power: power(count, exponent, fraction(t), dropped),
+    })
+}
+
+// Whether two texts are equal numbers, by their normal forms.
+fn same_normal(a: &[u8], x: Normal, b: &[u8], y: Normal) -> bool
+    requires { ⌜ (x ≡ normalForm (now a)) × (y ≡ normalForm (now b)) ⌝ }
+    ensures { λ r. ⌜ r ≡ sameWorth (worth (now (a .entry))) (worth (now (b .entry))) ⌝ }
+{
+    if !same_sign(x.negative, y.negative) {
+        return false;
+    }
+    if !same_power(x.power, y.power) {
+        return false;
+    }
+    if x.count != y.count {
+        return false;
+    }
+    same_digits(a, x.first, b, y.first, x.count)
+}
+
+// A zero keeps its sign, so -0 and 0 differ.
+fn same_sign(a: bool, b: bool) -> bool
+    ensures { λ r. ⌜ r ≡ sameBool a b ⌝ }
+{
+    if a { b } else { !b }
+}
+
+fn same_power(a: i32, b: i32) -> bool
+    ensures { λ r. ⌜ r ≡ sameInteger a b ⌝ }
+{
+    a == b
+}
+
+// Whether two texts have the same digits, so many of each, from a place of each on.
+fn same_digits(a: &[u8], first: usize, b: &[u8], other: usize, count: usize) -> bool
+    requires { ⌜ (count ≤ length (mantissa (drop first (now a)))) × (count ≤ length (mantissa (drop other (now b)))) ⌝ }
+    ensures { λ r. ⌜ r ≡ sameText (take count (mantissa (drop first (now (a .entry))))) (take count (mantissa (drop other (now (b .entry))))) ⌝ }
+{
+    let mut i = first;
+    let mut j = other;
+    let mut left = count;
+    while 0 < left {
+        let x = a[i];
+        let y = b[j];
+        if !is_digit(x) {
+            i += 1;
+            continue;
+        }
+        if !is_digit(y) {
+            j += 1;
+            continue;
+        }
+        if x != y {
+            return false;
+        }
+        i += 1;
+        j += 1;
+        left -= 1;
+    }
+    true
+}
+
+// The place of the first significant digit, or where the mantissa ends.
+fn first_digit(t: &[u8]) -> usize
+    ensures { λ r. ⌜ r ≡ firstDigit (now (t .entry)) ⌝ }
+{
+    let mut i = 0;
+    while i < t.len() {
+        let b = t[i];
+        if is_e(b) {
+            return i;
+        }
+        if is_nonzero_digit(b) {
+            return i;
+        }
+        i += 1;
+    }
+    i
+}
+
+// How many digits the mantissa has from a place on, without the zeros at its end.
+fn significant(t: &[u8], at: usize) -> usize
+    ensures { λ r. ⌜ r ≡ length (trimmed (mantissa (drop at (now (t .entry))))) ⌝ }
+{
+    let mut i = at;
+    let mut seen = 0;
+    let mut kept = 0;
+    while i < t.len() {
+        let b = t[i];
+        if is_e(b) {
+            return kept;
+        }
+        i += 1;
+        if !is_digit(b) {
+            continue;
+        }
+        seen += 1;
+        if b == b'0' {
+            continue;
+        }
+        kept = seen;
+    }
+    kept
+}
+
+// How many digits the mantissa has from a place on.
+fn digits(t: &[u8], at: usize) -> usize
+    ensures { λ r. ⌜ r ≡ length (mantissa (drop at (now (t .entry)))) ⌝ }
+{
+    let mut i = at;
+    let mut n = 0;
+    while i < t.len() {
+        let b = t[i];
+        if is_e(b) {
+            return n;
+        }
+        i += 1;
+        if is_digit(b) {
+            n += 1;
+        }
+    }
+    n
+}
+
+fn fraction(t: &[u8]) -> usize
+    ensures { λ r. ⌜ r ≡ fractionDigits (now (t .entry)) ⌝ }
+{
+    digits(t, after_point(t))
+}
+
+// The place after the point, or where the mantissa ends if it has none.
+fn after_point(t: &[u8]) -> usize
+    ensures { λ r. ⌜ length (mantissa (drop r (now (t .entry)))) ≡ fractionDigits (now (t .entry)) ⌝ }
+{
+    let mut i = 0;
+    while i < t.len() {
+        let b = t[i];
+        if b == b'.' {
+            return i + 1;
+        }
+        if is_e(b) {
+            return i;
+        }
+        i += 1;
+    }
+    i
+}
+
+// The place after the letter of the exponent, or the end if there is none.
+fn after_letter(t: &[u8]) -> usize
+    ensures { λ r. ⌜ signedExponent (drop r (now (t .entry))) ≡ exponent (now (t .entry)) ⌝ }
+{
+    let mut i = 0;
+    while i < t.len() {
+        if is_e(t[i]) {
+            return i + 1;
+        }
+        i += 1;
+    }
+    i
+}
+
+// The size of an exponent that begins at a place with its sign, if it has one.
+fn exponent_size(t: &[u8], at: usize) -> usize
+    ensures { λ r. ⌜ r ≡ min (natAbs (signedExponent (drop at (now (t .entry))))) (maxExponent + 1) ⌝ }
+{
+    integer(t, after_sign(t, at))
+}
+
+fn after_sign(t: &[u8], at: usize) -> usize
+    ensures { λ r. ⌜ decimal 0 (drop r (now (t .entry))) ≡ natAbs (signedExponent (drop at (now (t .entry)))) ⌝ }
+{
+    if at < t.len() {
+        let b = t[at];
+        if b == b'-' {
+            return at + 1;
+        }
+        if b == b'+' {
+            return at + 1;
+        }
+    }
+    at
+}
+
+// The integer that digits write from a place on, or 10,000 if it is larger.
+fn integer(t: &[u8], at: usize) -> usize
+    ensures { λ r. ⌜ r ≡ min (decimal 0 (drop at (now (t .entry)))) (maxExponent + 1) ⌝ }
+{
+    let mut i = at;
+    let mut n = 0;
+    while i < t.len() {
+        n = n * 10 + digit_value(t[i]);
+        if MAX_EXPONENT < n {
+            return MAX_EXPONENT + 1;
+        }
+        i += 1;
+    }
+    n
+}
+
+fn digit_value(b: u8) -> usize
+    ensures { λ r. ⌜ r ≡ b - 48 ⌝ }
+{
+    if b < b'0' {
+        return 0;
+    }
+    (b - b'0') as usize
+}
+
+fn minus_at(t: &[u8], at: usize) -> bool
+    ensures { λ r. ⌜ r ≡ isNegative (drop at (now (t .entry))) ⌝ }
+{
+    if at < t.len() {
+        return t[at] == b'-';
+    }
+    false
+}
+
+fn signed(negative: bool, size: usize) -> i32
+    requires { ⌜ size ≤ maxExponent ⌝ }
+    ensures { λ r. ⌜ r ≡ (if negative then negℤ (pos size) else pos size) ⌝ }
+{
+    if negative {
+        return 0 - size as i32;
+    }
+    size as i32
+}
+
+// The power of ten of the last significant digit.
+fn power(count: usize, exponent: i32, fraction: usize, dropped: usize) -> i32
+    requires { ⌜ (natAbs exponent ≤ maxExponent) × ((fraction ≤ maxNumber) × (dropped ≤ maxNumber)) ⌝ }
+    ensures { λ r. ⌜ r ≡ (if eqb count 0 then pos 0 else (exponent -ℤ pos fraction) +ℤ pos dropped) ⌝ }
+{
+    if count == 0 {
+        return 0;
+    }
+    exponent - fraction as i32 + dropped as i32
+}
+
+fn is_digit(b: u8) -> bool
+    ensures { λ r. ⌜ r ≡ isDigit b ⌝ }
+{
+    if b < b'0' {
+        return false;
+    }
+    b <= b'9'
+}
+
+fn is_nonzero_digit(b: u8) -> bool
+    ensures { λ r. ⌜ r ≡ isNonzeroDigit b ⌝ }
+{
+    if b < b'1' {
+        return false;
+    }
+    b <= b'9'
+}
+
+fn is_e(b: u8) -> bool
+    ensures { λ r. ⌜ r ≡ isE b ⌝ }
+{
+    if b == b'e' {
+        return true;
+    }
+    b == b'E'
+}
