@@ -16,6 +16,7 @@ use Rattle.spec.specs.Bytes.{Bytes}
 use Rattle.spec.specs.Numbers.{isE}
 use Rattle.spec.specs.Worth.{decimal, signedExponent, exponent, isNegative}
 use Rattle.decimal.proofs.Mantissa.{from-here}
+use Rattle.decimal.proofs.Integers.{negated-size}
 
 module _ (t : Bytes) (i : ℕ) (h : i < length t) where
   pub exponent-here : isE (getD t i 0) ≡ true → exponent (drop i t) ≡ signedExponent (drop (i + 1) t)
@@ -46,14 +47,10 @@ decimal-grows (b ∷ t) n = omega (arith, decimal-grows t (n * 10 + (b - code "0
 
 -- ---- the sign of an exponent
 
-pub size-negated : (n : ℕ) → natAbs (negℤ (pos n)) ≡ n
-size-negated zero = refl
-size-negated (suc n) = refl
-
 module _ (t : Bytes) (i : ℕ) (h : i < length t) where
   pub size-minus : getD t i 0 ≡ code "-" → decimal 0 (drop (i + 1) t) ≡ natAbs (signedExponent (drop i t))
   unfolding signedExponent
-  size-minus m = rw (from-here t i h, eq-eqb _ _ m) (sym (size-negated _))
+  size-minus m = rw (from-here t i h, eq-eqb _ _ m) (sym (negated-size _))
 
   module _ (m : getD t i 0 ≡ code "-" → ⊥) where
     pub size-plus : getD t i 0 ≡ code "+" → decimal 0 (drop (i + 1) t) ≡ natAbs (signedExponent (drop i t))
@@ -86,7 +83,7 @@ signed-size (b ∷ t) = go (eqb b (code "-")) (eqb b (code "+"))
     e : Bool → Bool → ℤ
     e minus plus = if minus then negℤ (pos (decimal 0 t)) else if plus then pos (decimal 0 t) else pos (decimal 0 (b ∷ t))
     go : (minus plus : Bool) → (if minus then negℤ (pos (natAbs (e minus plus))) else pos (natAbs (e minus plus))) ≡ e minus plus
-    go true plus = ap (λ n. negℤ (pos n)) (size-negated (decimal 0 t))
+    go true plus = ap (λ n. negℤ (pos n)) (negated-size (decimal 0 t))
     go false true = refl
     go false false = refl
 

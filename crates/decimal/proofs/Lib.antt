@@ -1,2 +1,3 @@
 pub mod Mantissa
 pub mod Exponent
+pub mod Integers

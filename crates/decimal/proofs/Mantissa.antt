@@ -1,5 +1,5 @@
 -- Laws of a number's digits, for the loops that go over its text a byte a turn.
-use Prim.Native.Nat.{ℕ, zero, suc, _+_, _≤_, _<_}
+use Prim.Native.Nat.{ℕ, zero, suc, _+_, _-_, _≤_, _<_}
 use Prim.Native.Char.{code}
 use mathlib.Core.Path.{_≡_, refl, sym, _∙_, ap}
 use mathlib.Core.List.{List, [], _∷_, _++_, append-nil, reverse, reverse-append, reverse-reverse}
@@ -189,3 +189,26 @@ module _ {a : Bytes} {i : ℕ} {b : Bytes} {j left : ℕ} {answer : Bool} (s : C
   passing-other d =
       let e = digits-later b j (omega arith) d in
       record { enough = s .enough; enough-other = rw e at (s .enough-other); comes = rw e at (s .comes) }
+
+  module _ (d : isDigit (getD a i 0) ≡ true) (d-other : isDigit (getD b j 0) ≡ true) where
+    digit : mantissa (drop i a) ≡ getD a i 0 ∷ mantissa (drop (i + 1) a)
+    digit = mantissa-digit a i inside (digit-not-e _ d) d
+
+    digit-other : mantissa (drop j b) ≡ getD b j 0 ∷ mantissa (drop (j + 1) b)
+    digit-other = mantissa-digit b j inside-other (digit-not-e _ d-other) d-other
+
+    comes-digit : (more : ℕ) → left ≡ suc more →
+        (eqb (getD a i 0) (getD b j 0) && sameText (take more (mantissa (drop (i + 1) a))) (take more (mantissa (drop (j + 1) b)))) ≡ answer
+    unfolding sameText
+    comes-digit more n = rw (n, digit, digit-other) at (s .comes)
+
+    pub differing : (getD a i 0 ≡ getD b j 0 → ⊥) → false ≡ answer
+    differing f = rw (ne-eqb _ _ f) at (comes-digit (left - 1) (omega arith))
+
+    pub agreeing : getD a i 0 ≡ getD b j 0 → Comparing a (i + 1) b (j + 1) (left - 1) answer
+    agreeing e =
+        record {
+          enough = omega (arith, ap length digit);
+          enough-other = omega (arith, ap length digit-other);
+          comes = rw (eq-eqb _ _ e) at (comes-digit (left - 1) (omega arith));
+        }

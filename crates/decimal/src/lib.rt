@@ -292,7 +292,7 @@ fn signed(negative: bool, size: usize) -> i32
     ensures { λ r. ⌜ r ≡ (if negative then negℤ (pos size) else pos size) ⌝ }
 {
     if negative {
-        return 0 - size as i32;
+        return -(size as i32);
     }
     size as i32
 }
@@ -300,7 +300,7 @@ fn signed(negative: bool, size: usize) -> i32
 // The power of ten of the last significant digit.
 fn power(count: usize, exponent: i32, fraction: usize, dropped: usize) -> i32
     requires { ⌜ (natAbs exponent ≤ maxExponent) × ((fraction ≤ maxNumber) × (dropped ≤ maxNumber)) ⌝ }
-    ensures { λ r. ⌜ r ≡ (if eqb count 0 then pos 0 else (exponent -ℤ pos fraction) +ℤ pos dropped) ⌝ }
+    ensures { λ r. ⌜ r ≡ (if eqb count 0 then pos 0 else ((exponent -ℤ pos fraction) +ℤ pos dropped)) ⌝ }
 {
     if count == 0 {
         return 0;

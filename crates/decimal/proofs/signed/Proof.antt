@@ -1,20 +1,23 @@
+use native.Mathlib.Omega.{arith}
+use mathlib.Core.Path.{_∙_, sym}
+use mir.Syntax.{w32}
+use mir.ValLaws.{toZ-pos}
 use borrow.Author.Needs.{needs}
+use Rattle.decimal.proofs.Integers.{negated-fits, negated}
 use Rattle.decimal.proofs.signed.Statement.{statement}
 use Rattle.decimal.proofs.signed.Tie as tie
-use Rattle.decimal.proofs.signed.Reads as reads
-use Rattle.decimal.proofs.signed.Lts as lts
 
 pub signed-spec : {M : Type 1} → statement M
 signed-spec =
     tie.close
     (tie.spec
     -- cast-result
-    (λ c. ?cast-result)
+    (λ c. search needs)
     -- sub-result
-    (λ c. ?sub-result)
+    (λ c. negated-fits (c .before .args .size) (omega arith))
     -- returns
-    (λ c. ?returns)
+    (λ c. rw (c .if1 .taken) (negated (c .before .args .size) (omega arith)))
     -- cast-result-2
-    (λ c. ?cast-result-2)
+    (λ c. search needs)
     -- returns-2
-    (λ c. ?returns-2))
+    (λ c. rw (c .if1 .left) (toZ-pos w32 (c .before .args .size) (omega arith))))
