@@ -1,3 +1,4 @@
 pub mod Mantissa
 pub mod Exponent
 pub mod Integers
+pub mod NormalForm

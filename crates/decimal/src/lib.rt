@@ -60,10 +60,10 @@ pub fn normalize(t: &[u8]) -> Normalized
     if MAX_EXPONENT < size {
         return Normalized::OverLimit;
     }
-    let exponent = signed(minus_at(t, letter), size);
     let first = first_digit(t);
     let count = significant(t, first);
     let dropped = digits(t, first) - count;
+    let exponent = signed(minus_at(t, letter), size);
     Normalized::Number(Normal {
         negative: minus_at(t, 0),
         first,
