@@ -82,6 +82,7 @@ signed-size (b ∷ t) = go (eqb b (code "-")) (eqb b (code "+"))
   where
     e : Bool → Bool → ℤ
     e minus plus = if minus then negℤ (pos (decimal 0 t)) else if plus then pos (decimal 0 t) else pos (decimal 0 (b ∷ t))
+
     go : (minus plus : Bool) → (if minus then negℤ (pos (natAbs (e minus plus))) else pos (natAbs (e minus plus))) ≡ e minus plus
     go true plus = ap (λ n. negℤ (pos n)) (negated-size (decimal 0 t))
     go false true = refl

@@ -37,6 +37,10 @@ pub fits : (z : ℤ) → natAbs z < 2_147_483_648 → SFits w32 z
 fits (pos n) h = record { sfits = h }
 fits (negsuc n) h = record { sfits = omega arith }
 
+-- an i32 is read back from its bits
+pub back : (z : ℤ) → mag z < 2_147_483_648 → toZ w32 (ofZ w32 z) ≡ z
+back z h = toZ-ofZ w32 z (record { sfits = h })
+
 -- ---- the code's operations
 
 module _ (n : ℕ) (h : n < 2_147_483_648) where

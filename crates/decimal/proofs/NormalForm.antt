@@ -11,12 +11,12 @@ use borrow.Author.Tests.{eq-eqb, ne-eqb, le-leb, lt-leb, leb-true, leb-false}
 use lib.ListN.{length, take, drop, length-append, length-reverse}
 use lib.Seq.{take-append-le, take-all}
 use lib.Dec.{eqb, leb, eqb·suc-zero}
-use lib.IntN.{ℤ, pos, natAbs, _+ℤ_, _-ℤ_}
+use lib.IntN.{ℤ, pos, negℤ, natAbs, _+ℤ_, _-ℤ_}
 use Rattle.spec.specs.Outcome.{if_then_else_}
 use Rattle.spec.specs.Limits.{maxNumber, maxExponent}
 use Rattle.spec.specs.Bytes.{Bytes, within}
 use Rattle.spec.specs.Numbers.{isDigit, isE}
-use Rattle.spec.specs.Worth.{Worth, mantissa, fractionDigits, exponent, dropZeros, trimmed, isNegative, power, worth}
+use Rattle.spec.specs.Worth.{Worth, mantissa, fractionDigits, exponent, signedExponent, dropZeros, trimmed, isNegative, power, worth}
 use Rattle.spec.specs.Value.{sameText}
 use Rattle.spec.specs.Equality.{sameBool, sameInteger, sameWorth}
 use Rattle.decimal.specs.declared.Normal.{Normal}
@@ -24,6 +24,7 @@ use Rattle.decimal.specs.declared.Normalized.{Normalized}
 use Rattle.decimal.specs.declared.Normalized.the-variants.{Number, OverLimit}
 use Rattle.decimal.specs.Normal.{isNonzeroDigit, firstDigit, limited, normalForm, normalized, sameNumber}
 use Rattle.decimal.proofs.Mantissa.{within-bounds}
+use Rattle.decimal.proofs.Exponent.{signed-size}
 
 -- ---- where the significant digits begin
 
@@ -144,18 +145,27 @@ pub over-length : (t : Bytes) → maxNumber < length t → OverLimit ≡ normali
 unfolding normalized limited
 over-length t h = rw (lt-leb (length t) maxNumber h)
 
--- the size of an exponent as the code has it, capped
-pub over-exponent : (t : Bytes) (n : ℕ) → n ≡ natAbs (exponent t) → maxExponent < min n (maxExponent + 1) → OverLimit ≡ normalized t
-unfolding normalized limited
-over-exponent t n e h =
-    rw (← e, lt-leb n maxExponent (omega (arith, min-le-left n (maxExponent + 1))), and-false (leb (length t) maxNumber))
+-- the code has the size of the exponent capped at one past its limit
+module _ (t written : Bytes) (size : ℕ) (found : signedExponent written ≡ exponent t) (capped : size ≡ min (natAbs (signedExponent written)) (maxExponent + 1)) where
+  pub over-exponent : maxExponent < size → OverLimit ≡ normalized t
+  unfolding normalized limited
+  over-exponent h =
+      rw (← found, lt-leb (natAbs (signedExponent written)) maxExponent (omega (arith, min-le-left (natAbs (signedExponent written)) (maxExponent + 1))), and-false (leb (length t) maxNumber))
 
-pub uncapped : (n m : ℕ) → m ≡ min n (maxExponent + 1) → m ≤ maxExponent → m ≡ n
-uncapped n m e h = go (decLt n (maxExponent + 1))
-  where
-    go : Dec (n < maxExponent + 1) → m ≡ n
-    go (yes l) = e ∙ min-eq-left (omega arith)
-    go (no l) = let z : min n (maxExponent + 1) ≡ maxExponent + 1 = min-eq-right (omega arith) in absurd (omega arith)
+  module _ (h : size ≤ maxExponent) where
+    size-is : size ≡ natAbs (signedExponent written)
+    size-is = go (decLt maxExponent (natAbs (signedExponent written)))
+      where
+        go : Dec (maxExponent < natAbs (signedExponent written)) → size ≡ natAbs (signedExponent written)
+        go (yes l) =
+            let z : min (natAbs (signedExponent written)) (maxExponent + 1) ≡ maxExponent + 1 = min-eq-right (omega arith) in absurd (omega arith)
+        go (no l) = capped ∙ min-eq-left (omega arith)
+
+    pub exponent-small : natAbs (exponent t) ≤ maxExponent
+    exponent-small = rw (← found, ← size-is) h
+
+    pub exponent-is : (minus : Bool) (e : ℤ) → minus ≡ isNegative written → e ≡ (if minus then negℤ (pos size) else pos size) → e ≡ exponent t
+    exponent-is minus e m is = is ∙ rw (m, size-is) (signed-size written ∙ found)
 
 pub within-limits : (t : Bytes) (n : Normal) → length t ≤ maxNumber → natAbs (exponent t) ≤ maxExponent → n ≡ normalForm t → Number n ≡ normalized t
 unfolding normalized limited
@@ -197,12 +207,33 @@ module _ (a b : Bytes) (x y : Normal) (is-x : x ≡ normalForm a) (is-y : y ≡ 
   pub enough-right : x .count ≡ y .count → x .count ≤ length (mantissa (drop (y .first) b))
   enough-right c = rw (c, is-y) (normal-enough b)
 
--- ---- the answer
+-- ---- what the code's answer says of the text
 
-pub over-left : (a b : Bytes) → normalized a ≡ OverLimit → false ≡ sameNumber a b
-unfolding normalized sameNumber
-over-left a b h = go (limited a) refl
+pub is-over : (t : Bytes) → normalized t ≡ OverLimit → limited t ≡ false
+unfolding normalized
+is-over t h = go (limited t) h
   where
-    go : (l : Bool) → limited a ≡ l → false ≡ sameNumber a b
-    go true e = ?
-    go false e = rw e
+    go : (l : Bool) → (if l then Number (normalForm t) else OverLimit) ≡ OverLimit → l ≡ false
+    go true e = let z : _≡_ {A = ℕ} 0 1 = cc in absurd (omega arith)
+    go false e = refl
+
+pub is-number : (t : Bytes) (n : Normal) → normalized t ≡ Number n → (limited t ≡ true) × (n ≡ normalForm t)
+unfolding normalized
+is-number t n h = go (limited t) h
+  where
+    go : (l : Bool) → (if l then Number (normalForm t) else OverLimit) ≡ Number n → (l ≡ true) × (n ≡ normalForm t)
+    go true e = (refl, cc)
+    go false e = let z : _≡_ {A = ℕ} 0 1 = cc in absurd (omega arith)
+
+module _ (a b : Bytes) where
+  pub over-left : limited a ≡ false → false ≡ sameNumber a b
+  unfolding sameNumber
+  over-left h = rw h
+
+  pub over-right : limited b ≡ false → false ≡ sameNumber a b
+  unfolding sameNumber
+  over-right h = rw (h, and-false (limited a))
+
+  pub both-limited : limited a ≡ true → limited b ≡ true → sameNumber a b ≡ sameWorth (worth a) (worth b)
+  unfolding sameNumber
+  both-limited h k = rw (h, k)

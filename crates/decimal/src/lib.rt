@@ -10,7 +10,7 @@ ghost use lib.IntN.{pos, negℤ, natAbs, _+ℤ_, _-ℤ_};
 ghost use Rattle.spec.specs.Outcome.{if_then_else_};
 ghost use Rattle.spec.specs.Limits.{maxNumber, maxExponent};
 ghost use Rattle.spec.specs.Numbers.{isDigit, isE};
-ghost use Rattle.spec.specs.Worth.{mantissa, fractionDigits, decimal, signedExponent, exponent, trimmed, isNegative, worth};
+ghost use Rattle.spec.specs.Worth.{mantissa, fractionDigits, decimal, signedExponent, exponent as exponentOf, trimmed, isNegative, worth};
 ghost use Rattle.spec.specs.Value.{sameText};
 ghost use Rattle.spec.specs.Equality.{sameBool, sameInteger, sameWorth};
 ghost use Rattle.decimal.specs.Normal.{isNonzeroDigit, firstDigit, normalForm, normalized, sameNumber};
@@ -60,16 +60,23 @@ pub fn normalize(t: &[u8]) -> Normalized
     if MAX_EXPONENT < size {
         return Normalized::OverLimit;
     }
+    Normalized::Number(normal_form(t, signed(minus_at(t, letter), size)))
+}
+
+// The normal form of a text that has the given exponent.
+fn normal_form(t: &[u8], exponent: i32) -> Normal
+    requires { ⌜ (length (now t) ≤ maxNumber) × ((exponent ≡ exponentOf (now t)) × (natAbs exponent ≤ maxExponent)) ⌝ }
+    ensures { λ r. ⌜ r ≡ normalForm (now (t .entry)) ⌝ }
+{
     let first = first_digit(t);
     let count = significant(t, first);
     let dropped = digits(t, first) - count;
-    let exponent = signed(minus_at(t, letter), size);
-    Normalized::Number(Normal {
+    Normal {
         negative: minus_at(t, 0),
         first,
         count,
         power: power(count, exponent, fraction(t), dropped),
-    })
+    }
 }
 
 // Whether two texts are equal numbers, by their normal forms.
@@ -219,7 +226,7 @@ fn after_point(t: &[u8]) -> usize
 
 // The place after the letter of the exponent, or the end if there is none.
 fn after_letter(t: &[u8]) -> usize
-    ensures { λ r. ⌜ signedExponent (drop r (now (t .entry))) ≡ exponent (now (t .entry)) ⌝ }
+    ensures { λ r. ⌜ signedExponent (drop r (now (t .entry))) ≡ exponentOf (now (t .entry)) ⌝ }
 {
     let mut i = 0;
     while i < t.len() {

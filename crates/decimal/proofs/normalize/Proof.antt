@@ -1,47 +1,38 @@
-use borrow.Author.Needs.{needs}
+-- `decimal::normalize` meets its contract. Assumes nothing.
+use mathlib.Core.Path.{_∙_, ap}
+use native.Mathlib.Omega.{arith}
+use Rattle.decimal.proofs.Integers.{back}
+use Rattle.decimal.proofs.NormalForm.{over-length, over-exponent, within-limits, exponent-is, exponent-small}
 use Rattle.decimal.proofs.normalize.Statement.{statement}
 use Rattle.decimal.proofs.normalize.Tie as tie
-use Rattle.decimal.proofs.normalize.Reads as reads
-use Rattle.decimal.proofs.normalize.Lts as lts
-use Rattle.decimal.proofs.after_letter.Reads as after-letter-reads
-use Rattle.decimal.proofs.digits.Reads as digits-reads
-use Rattle.decimal.proofs.exponent_size.Reads as exponent-size-reads
-use Rattle.decimal.proofs.first_digit.Reads as first-digit-reads
-use Rattle.decimal.proofs.fraction.Reads as fraction-reads
-use Rattle.decimal.proofs.minus_at.Reads as minus-at-reads
-use Rattle.decimal.proofs.power.Reads as power-reads
-use Rattle.decimal.proofs.signed.Reads as signed-reads
-use Rattle.decimal.proofs.significant.Reads as significant-reads
 
 pub normalize-spec : {M : Type 1} → statement M
 normalize-spec =
     tie.close
     (tie.spec
     -- returns
-    (λ c. ?returns)
+    (λ c. over-length _ (c .if1 .taken))
     -- after-letter-requires
-    (λ c κs. ?after-letter-requires)
+    (λ c κs. tt)
     -- exponent-size-requires
-    (λ c κs. ?exponent-size-requires)
+    (λ c κs. tt)
     -- returns-2
-    (λ c. ?returns-2)
-    -- first-digit-requires
-    (λ c κs. ?first-digit-requires)
-    -- significant-requires
-    (λ c κs. ?significant-requires)
-    -- digits-requires
-    (λ c κs. ?digits-requires)
-    -- sub-dropped
-    (λ c. ?sub-dropped)
+    (λ c. over-exponent _ _ _ (c .before .before .after-letter .ensures) (c .before .exponent-size .ensures) (c .if2 .taken))
     -- minus-at-requires
-    (λ c κs. ?minus-at-requires)
+    (λ c κs. tt)
     -- signed-requires
-    (λ c κs. ?signed-requires)
-    -- minus-at-requires-2
-    (λ c κs. ?minus-at-requires-2)
-    -- fraction-requires
-    (λ c κs. ?fraction-requires)
-    -- power-requires
-    (λ c κs. ?power-requires)
+    (λ c κs. c .before .if2 .left)
+    -- normal-form-requires
+    (λ c κs.
+    let e = c .before .before in
+    let a = e .before .before in
+    let small = exponent-small _ _ _ (a .after-letter .ensures) (e .before .exponent-size .ensures) (e .if2 .left) in
+    let is = back (c .signed .result) (c .signed .ok) ∙ exponent-is _ _ _ (a .after-letter .ensures) (e .before .exponent-size .ensures) (e .if2 .left) _ _ (c .before .minus-at .ensures) (c .signed .ensures) in
+    (a .before .if1 .left, (is, rw is small)))
     -- returns-3
-    (λ c. ?returns-3))
+    (λ c.
+    let e = c .before .before .before in
+    let a = e .before .before in
+    within-limits _ _ (a .before .if1 .left)
+    (exponent-small _ _ _ (a .after-letter .ensures) (e .before .exponent-size .ensures) (e .if2 .left))
+    (c .normal-form .ensures)))

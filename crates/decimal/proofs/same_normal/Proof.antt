@@ -2,10 +2,8 @@
 use mathlib.Core.Path.{_≡_, _∙_}
 use native.Mathlib.Omega.{arith}
 use borrow.Author.Tests.{not-true, not-false}
-use mir.Syntax.{w32}
-use mir.Val.{SFits}
-use mir.ValLaws.{toZ-ofZ}
 use Rattle.spec.specs.Equality.{sameInteger}
+use Rattle.decimal.proofs.Integers.{back}
 use Rattle.decimal.proofs.Mantissa.{told}
 use Rattle.decimal.proofs.NormalForm.{sign-differs, power-differs, count-differs, digits-decide, enough-left, enough-right}
 use Rattle.decimal.proofs.same_normal.Statement.{statement}
@@ -16,9 +14,7 @@ powers : (c : tie.After-same-power) →
     let a = c .before .before .before .before .before .before .before .args in c .same-power .result ≡ sameInteger (a .x .power) (a .y .power)
 powers c =
     let a = c .before .before .before .before .before .before .before .args in
-    let x : SFits w32 (a .x .power) = record { sfits = omega arith } in
-    let y : SFits w32 (a .y .power) = record { sfits = omega arith } in
-    c .same-power .ensures ∙ rw (toZ-ofZ w32 _ x, toZ-ofZ w32 _ y)
+    c .same-power .ensures ∙ rw (back (a .x .power) (omega arith), back (a .y .power) (omega arith))
 
 pub same-normal-spec : {M : Type 1} → statement M
 same-normal-spec =

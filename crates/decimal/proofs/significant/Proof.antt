@@ -39,9 +39,10 @@ significant-spec =
     (λ c. omega arith)
     -- loop-again
     (λ c.
-    let l = c .before .before in
-    (omega arith,
-     rw (mantissa-other _ _ (l .before .before .before .loop-test .taken) (told (l .before .is-e .ensures) (l .if1 .left)) (told (c .before .is-digit .ensures) (not-true _ (c .if2 .taken)))) at (l .before .before .before .before .loop .inv .1)))
+    let l = c .before .before in (
+      omega arith,
+      rw (mantissa-other _ _ (l .before .before .before .loop-test .taken) (told (l .before .is-e .ensures) (l .if1 .left)) (told (c .before .is-digit .ensures) (not-true _ (c .if2 .taken)))) at (l .before .before .before .before .loop .inv .1),
+    ))
     -- add-seen
     (λ c. omega arith)
     -- loop-less-2
@@ -49,16 +50,18 @@ significant-spec =
     -- loop-again-2
     (λ c.
     let d = c .before in
-    let l = d .before .before in
-    (omega arith,
-     seen-zero (rw (mantissa-digit _ _ (l .before .before .before .loop-test .taken) (told (l .before .is-e .ensures) (l .if1 .left)) (told (d .before .is-digit .ensures) (not-false _ (d .if2 .left)))) at (l .before .before .before .before .loop .inv .1)) (c .if3 .taken)))
+    let l = d .before .before in (
+      omega arith,
+      seen-zero (rw (mantissa-digit _ _ (l .before .before .before .loop-test .taken) (told (l .before .is-e .ensures) (l .if1 .left)) (told (d .before .is-digit .ensures) (not-false _ (d .if2 .left)))) at (l .before .before .before .before .loop .inv .1)) (c .if3 .taken),
+    ))
     -- loop-less-3
     (λ c. omega arith)
     -- loop-again-3
     (λ c.
     let d = c .before in
-    let l = d .before .before in
-    (omega arith,
-     seen-digit (rw (mantissa-digit _ _ (l .before .before .before .loop-test .taken) (told (l .before .is-e .ensures) (l .if1 .left)) (told (d .before .is-digit .ensures) (not-false _ (d .if2 .left)))) at (l .before .before .before .before .loop .inv .1)) (c .if3 .left)))
+    let l = d .before .before in (
+      omega arith,
+      seen-digit (rw (mantissa-digit _ _ (l .before .before .before .loop-test .taken) (told (l .before .is-e .ensures) (l .if1 .left)) (told (d .before .is-digit .ensures) (not-false _ (d .if2 .left)))) at (l .before .before .before .before .loop .inv .1)) (c .if3 .left),
+    ))
     -- returns-2
     (λ c. seen-all (rw (mantissa-past _ _ (c .loop-test .left)) at (c .before .loop .inv .1))))
