@@ -20,9 +20,9 @@ use Rattle.spec.specs.Limits.{maxNumber, maxExponent}
 use Rattle.spec.specs.Bytes.{Bytes, byte, byteIn, within}
 use Rattle.spec.specs.Numbers.{isDigit, isE, counted, digits, someDigits, int, frac, sign, exponentDigits, signedDigits, exp, minus, number}
 use Rattle.spec.specs.Worth.{decimal, signedExponent, exponent}
-use Rattle.decimal.specs.Normal.{limited}
-use Rattle.decimal.proofs.Mantissa.{from-here, within-bounds}
-use Rattle.decimal.proofs.Integers.{negated-size}
+use Rattle.decimal.specs.Normal.{withinLimits}
+use Rattle.decimal.proofs.MantissaLaws.{from-here, within-bounds}
+use Rattle.decimal.proofs.IntegerLaws.{negated-size}
 
 -- ---- steps that succeed
 
@@ -293,17 +293,17 @@ number-ends s start end e =
     (passed-ends (frac-passes s start (f .0) (g .0) (g .1 .0)) (exp-ends s start (g .0) end (g .1 .1))))
 
 -- the text that the reader gives a number
-pub number-limited : (s : Bytes) (start end : ℕ) → number s start ≡ ok end → limited (take (end - start) (drop start s)) ≡ true
-unfolding limited
-number-limited s start end e =
+pub number-within-limits : (s : Bytes) (start end : ℕ) → number s start ≡ ok end → withinLimits (take (end - start) (drop start s)) ≡ true
+unfolding withinLimits
+number-within-limits s start end e =
     let r = number-ends s start end e in
     let short : end ≤ start + maxNumber = r .short (omega arith) in
     let shorter : length (take (end - start) (drop start s)) ≤ maxNumber = omega (arith, length-take (end - start) (drop start s), min-le-left (end - start) (length (drop start s))) in
     rw (le-leb (length (take (end - start) (drop start s))) maxNumber shorter, le-leb (natAbs (exponent (take (end - start) (drop start s)))) maxExponent (r .small))
 
 -- a text that is a number and nothing more
-pub whole-limited : (t : Bytes) → number t 0 ≡ ok (length t) → limited t ≡ true
-whole-limited t e =
+pub whole-within-limits : (t : Bytes) → number t 0 ≡ ok (length t) → withinLimits t ≡ true
+whole-within-limits t e =
     let n : length t - 0 ≡ length t = omega arith in
     let same : take (length t - 0) (drop 0 t) ≡ t = rw n (take-length t) in
-    rw same at (number-limited t 0 (length t) e)
+    rw same at (number-within-limits t 0 (length t) e)

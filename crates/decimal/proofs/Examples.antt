@@ -8,7 +8,7 @@ use Rattle.spec.specs.Numbers.{isDigit, isE}
 use Rattle.spec.specs.Worth.{mantissa, fractionDigits, decimal, signedExponent, exponent, dropZeros, trimmed, isNegative, power, worth}
 use Rattle.spec.specs.Value.{sameText}
 use Rattle.spec.specs.Equality.{sameBool, sameInteger, sameWorth}
-use Rattle.decimal.specs.Normal.{limited, sameNumber}
+use Rattle.decimal.specs.Normal.{withinLimits, sameNumber}
 
 pub data Example : Type 0 where
   equal differ : String → String → Example
@@ -35,5 +35,5 @@ pub examples :
     equal "12.50e-0001" "1.25" ∷
     -- the exponent is over its limit
     differ "1e10000" "1e10000" ∷ [])
-unfolding ascii within isDigit isE mantissa fractionDigits decimal signedExponent exponent dropZeros trimmed isNegative power worth sameText sameBool sameInteger sameWorth limited sameNumber
+unfolding ascii within isDigit isE mantissa fractionDigits decimal signedExponent exponent dropZeros trimmed isNegative power worth sameText sameBool sameInteger sameWorth withinLimits sameNumber
 examples = (refl, (refl, (refl, (refl, (refl, (refl, (refl, (refl, (refl, (refl, (refl, tt)))))))))))

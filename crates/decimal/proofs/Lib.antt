@@ -1,6 +1,6 @@
-pub mod Mantissa
-pub mod Exponent
-pub mod Integers
-pub mod NormalForm
+pub mod MantissaLaws
+pub mod ExponentLaws
+pub mod IntegerLaws
+pub mod NormalLaws
 pub mod Accepted
 pub mod Examples

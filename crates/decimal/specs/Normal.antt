@@ -27,8 +27,8 @@ firstDigit (b ∷ t) = if isE b then 0 else if isNonzeroDigit b then 0 else suc 
 
 -- the limits of document 01: the length, and the size of the written exponent. Every number that the reader takes is within them, and proofs/Accepted
 -- proves it.
-unfoldable pub limited : Bytes → Bool
-limited t = leb (length t) maxNumber && leb (natAbs (exponent t)) maxExponent
+unfoldable pub withinLimits : Bytes → Bool
+withinLimits t = leb (length t) maxNumber && leb (natAbs (exponent t)) maxExponent
 
 unfoldable pub normalForm : Bytes → Normal
 normalForm t =
@@ -40,8 +40,8 @@ normalForm t =
     }
 
 unfoldable pub normalized : Bytes → Normalized
-normalized t = if limited t then Number (normalForm t) else OverLimit
+normalized t = if withinLimits t then Number (normalForm t) else OverLimit
 
 -- the equality of two numbers' texts; a text over a limit equals none
 unfoldable pub sameNumber : Bytes → Bytes → Bool
-sameNumber a b = limited a && (limited b && sameWorth (worth a) (worth b))
+sameNumber a b = withinLimits a && (withinLimits b && sameWorth (worth a) (worth b))

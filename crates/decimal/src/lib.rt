@@ -1,19 +1,27 @@
 // Equality of two JSON numbers by their exact value: document 01, "drop zeros on both ends of the digits and adjust a signed power of ten".
 // Each function reads a number's text where it lies: no digit is copied, and no float is made.
 
+mod exponent; // exponent.rt: what is written after the letter e
+mod mantissa; // mantissa.rt: the digits before it
+
+use exponent::after_letter;
+use exponent::exponent_size;
+use mantissa::digits;
+use mantissa::first_digit;
+use mantissa::fraction;
+use mantissa::is_digit;
+use mantissa::significant;
 ghost use mathlib.Core.Path.{_≡_};
-ghost use mathlib.Core.Bool.{Bool};
-ghost use Prim.Native.Nat.{_+_, _-_, _≤_, min};
+ghost use Prim.Native.Nat.{_≤_};
 ghost use lib.ListN.{length, take, drop};
 ghost use lib.Dec.{eqb};
 ghost use lib.IntN.{pos, negℤ, natAbs, _+ℤ_, _-ℤ_};
 ghost use Rattle.spec.specs.Outcome.{if_then_else_};
 ghost use Rattle.spec.specs.Limits.{maxNumber, maxExponent};
-ghost use Rattle.spec.specs.Numbers.{isDigit, isE};
-ghost use Rattle.spec.specs.Worth.{mantissa, fractionDigits, decimal, signedExponent, exponent as exponentOf, trimmed, isNegative, worth};
+ghost use Rattle.spec.specs.Worth.{mantissa as mantissaOf, exponent as exponentOf, isNegative, worth};
 ghost use Rattle.spec.specs.Value.{sameText};
 ghost use Rattle.spec.specs.Equality.{sameBool, sameInteger, sameWorth};
-ghost use Rattle.decimal.specs.Normal.{isNonzeroDigit, firstDigit, normalForm, normalized, sameNumber};
+ghost use Rattle.decimal.specs.Normal.{normalForm, normalized, sameNumber};
 
 // Bytes of a number.
 const MAX_NUMBER: usize = 128;
@@ -79,6 +87,37 @@ fn normal_form(t: &[u8], exponent: i32) -> Normal
     }
 }
 
+// Whether a minus stands at a place.
+fn minus_at(t: &[u8], at: usize) -> bool
+    ensures { λ r. ⌜ r ≡ isNegative (drop at (now (t .entry))) ⌝ }
+{
+    if at < t.len() {
+        return t[at] == b'-';
+    }
+    false
+}
+
+fn signed(negative: bool, size: usize) -> i32
+    requires { ⌜ size ≤ maxExponent ⌝ }
+    ensures { λ r. ⌜ r ≡ (if negative then negℤ (pos size) else pos size) ⌝ }
+{
+    if negative {
+        return -(size as i32);
+    }
+    size as i32
+}
+
+// The power of ten of the last significant digit.
+fn power(count: usize, exponent: i32, fraction: usize, dropped: usize) -> i32
+    requires { ⌜ (natAbs exponent ≤ maxExponent) × ((fraction ≤ maxNumber) × (dropped ≤ maxNumber)) ⌝ }
+    ensures { λ r. ⌜ r ≡ (if eqb count 0 then pos 0 else ((exponent -ℤ pos fraction) +ℤ pos dropped)) ⌝ }
+{
+    if count == 0 {
+        return 0;
+    }
+    exponent - fraction as i32 + dropped as i32
+}
+
 // Whether two texts are equal numbers, by their normal forms.
 fn same_normal(a: &[u8], x: Normal, b: &[u8], y: Normal) -> bool
     requires { ⌜ (x ≡ normalForm (now a)) × (y ≡ normalForm (now b)) ⌝ }
@@ -111,8 +150,8 @@ fn same_power(a: i32, b: i32) -> bool
 
 // Whether two texts have the same digits, so many of each, from a place of each on.
 fn same_digits(a: &[u8], first: usize, b: &[u8], other: usize, count: usize) -> bool
-    requires { ⌜ (count ≤ length (mantissa (drop first (now a)))) × (count ≤ length (mantissa (drop other (now b)))) ⌝ }
-    ensures { λ r. ⌜ r ≡ sameText (take count (mantissa (drop first (now (a .entry))))) (take count (mantissa (drop other (now (b .entry))))) ⌝ }
+    requires { ⌜ (count ≤ length (mantissaOf (drop first (now a)))) × (count ≤ length (mantissaOf (drop other (now b)))) ⌝ }
+    ensures { λ r. ⌜ r ≡ sameText (take count (mantissaOf (drop first (now (a .entry))))) (take count (mantissaOf (drop other (now (b .entry))))) ⌝ }
 {
     let mut i = first;
     let mut j = other;
@@ -136,208 +175,4 @@ fn same_digits(a: &[u8], first: usize, b: &[u8], other: usize, count: usize) -> 
         left -= 1;
     }
     true
-}
-
-// The place of the first significant digit, or where the mantissa ends.
-fn first_digit(t: &[u8]) -> usize
-    ensures { λ r. ⌜ r ≡ firstDigit (now (t .entry)) ⌝ }
-{
-    let mut i = 0;
-    while i < t.len() {
-        let b = t[i];
-        if is_e(b) {
-            return i;
-        }
-        if is_nonzero_digit(b) {
-            return i;
-        }
-        i += 1;
-    }
-    i
-}
-
-// How many digits the mantissa has from a place on, without the zeros at its end.
-fn significant(t: &[u8], at: usize) -> usize
-    ensures { λ r. ⌜ r ≡ length (trimmed (mantissa (drop at (now (t .entry))))) ⌝ }
-{
-    let mut i = at;
-    let mut seen = 0;
-    let mut kept = 0;
-    while i < t.len() {
-        let b = t[i];
-        if is_e(b) {
-            return kept;
-        }
-        i += 1;
-        if !is_digit(b) {
-            continue;
-        }
-        seen += 1;
-        if b == b'0' {
-            continue;
-        }
-        kept = seen;
-    }
-    kept
-}
-
-// How many digits the mantissa has from a place on.
-fn digits(t: &[u8], at: usize) -> usize
-    ensures { λ r. ⌜ r ≡ length (mantissa (drop at (now (t .entry)))) ⌝ }
-{
-    let mut i = at;
-    let mut n = 0;
-    while i < t.len() {
-        let b = t[i];
-        if is_e(b) {
-            return n;
-        }
-        i += 1;
-        if is_digit(b) {
-            n += 1;
-        }
-    }
-    n
-}
-
-fn fraction(t: &[u8]) -> usize
-    ensures { λ r. ⌜ r ≡ fractionDigits (now (t .entry)) ⌝ }
-{
-    digits(t, after_point(t))
-}
-
-// The place after the point, or where the mantissa ends if it has none.
-fn after_point(t: &[u8]) -> usize
-    ensures { λ r. ⌜ length (mantissa (drop r (now (t .entry)))) ≡ fractionDigits (now (t .entry)) ⌝ }
-{
-    let mut i = 0;
-    while i < t.len() {
-        let b = t[i];
-        if b == b'.' {
-            return i + 1;
-        }
-        if is_e(b) {
-            return i;
-        }
-        i += 1;
-    }
-    i
-}
-
-// The place after the letter of the exponent, or the end if there is none.
-fn after_letter(t: &[u8]) -> usize
-    ensures { λ r. ⌜ signedExponent (drop r (now (t .entry))) ≡ exponentOf (now (t .entry)) ⌝ }
-{
-    let mut i = 0;
-    while i < t.len() {
-        if is_e(t[i]) {
-            return i + 1;
-        }
-        i += 1;
-    }
-    i
-}
-
-// The size of an exponent that begins at a place with its sign, if it has one.
-fn exponent_size(t: &[u8], at: usize) -> usize
-    ensures { λ r. ⌜ r ≡ min (natAbs (signedExponent (drop at (now (t .entry))))) (maxExponent + 1) ⌝ }
-{
-    integer(t, after_sign(t, at))
-}
-
-fn after_sign(t: &[u8], at: usize) -> usize
-    ensures { λ r. ⌜ decimal 0 (drop r (now (t .entry))) ≡ natAbs (signedExponent (drop at (now (t .entry)))) ⌝ }
-{
-    if at < t.len() {
-        let b = t[at];
-        if b == b'-' {
-            return at + 1;
-        }
-        if b == b'+' {
-            return at + 1;
-        }
-    }
-    at
-}
-
-// The integer that digits write from a place on, or 10,000 if it is larger.
-fn integer(t: &[u8], at: usize) -> usize
-    ensures { λ r. ⌜ r ≡ min (decimal 0 (drop at (now (t .entry)))) (maxExponent + 1) ⌝ }
-{
-    let mut i = at;
-    let mut n = 0;
-    while i < t.len() {
-        n = n * 10 + digit_value(t[i]);
-        if MAX_EXPONENT < n {
-            return MAX_EXPONENT + 1;
-        }
-        i += 1;
-    }
-    n
-}
-
-fn digit_value(b: u8) -> usize
-    ensures { λ r. ⌜ r ≡ b - 48 ⌝ }
-{
-    if b < b'0' {
-        return 0;
-    }
-    (b - b'0') as usize
-}
-
-fn minus_at(t: &[u8], at: usize) -> bool
-    ensures { λ r. ⌜ r ≡ isNegative (drop at (now (t .entry))) ⌝ }
-{
-    if at < t.len() {
-        return t[at] == b'-';
-    }
-    false
-}
-
-fn signed(negative: bool, size: usize) -> i32
-    requires { ⌜ size ≤ maxExponent ⌝ }
-    ensures { λ r. ⌜ r ≡ (if negative then negℤ (pos size) else pos size) ⌝ }
-{
-    if negative {
-        return -(size as i32);
-    }
-    size as i32
-}
-
-// The power of ten of the last significant digit.
-fn power(count: usize, exponent: i32, fraction: usize, dropped: usize) -> i32
-    requires { ⌜ (natAbs exponent ≤ maxExponent) × ((fraction ≤ maxNumber) × (dropped ≤ maxNumber)) ⌝ }
-    ensures { λ r. ⌜ r ≡ (if eqb count 0 then pos 0 else ((exponent -ℤ pos fraction) +ℤ pos dropped)) ⌝ }
-{
-    if count == 0 {
-        return 0;
-    }
-    exponent - fraction as i32 + dropped as i32
-}
-
-fn is_digit(b: u8) -> bool
-    ensures { λ r. ⌜ r ≡ isDigit b ⌝ }
-{
-    if b < b'0' {
-        return false;
-    }
-    b <= b'9'
-}
-
-fn is_nonzero_digit(b: u8) -> bool
-    ensures { λ r. ⌜ r ≡ isNonzeroDigit b ⌝ }
-{
-    if b < b'1' {
-        return false;
-    }
-    b <= b'9'
-}
-
-fn is_e(b: u8) -> bool
-    ensures { λ r. ⌜ r ≡ isE b ⌝ }
-{
-    if b == b'e' {
-        return true;
-    }
-    b == b'E'
 }

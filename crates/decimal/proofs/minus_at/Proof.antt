@@ -1,5 +1,5 @@
 use native.Mathlib.Omega.{arith}
-use Rattle.decimal.proofs.Exponent.{negative-here, negative-past}
+use Rattle.decimal.proofs.ExponentLaws.{negative-here, negative-past}
 use Rattle.decimal.proofs.minus_at.Statement.{statement}
 use Rattle.decimal.proofs.minus_at.Tie as tie
 

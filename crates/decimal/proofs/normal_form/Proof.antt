@@ -3,8 +3,8 @@ use mathlib.Core.Path.{_∙_}
 use native.Mathlib.Omega.{arith}
 use lib.ListN.{drop, length-drop}
 use Rattle.spec.specs.Worth.{mantissa}
-use Rattle.decimal.proofs.Integers.{back}
-use Rattle.decimal.proofs.NormalForm.{normal-is, trimmed-shorter, mantissa-shorter, fraction-shorter}
+use Rattle.decimal.proofs.IntegerLaws.{back}
+use Rattle.decimal.proofs.NormalLaws.{normal-is, trimmed-shorter, mantissa-shorter, fraction-shorter}
 use Rattle.decimal.proofs.normal_form.Statement.{statement}
 use Rattle.decimal.proofs.normal_form.Tie as tie
 

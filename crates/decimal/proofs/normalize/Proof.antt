@@ -1,8 +1,7 @@
 -- `decimal::normalize` meets its contract. Assumes nothing.
-use mathlib.Core.Path.{_∙_, ap}
-use native.Mathlib.Omega.{arith}
-use Rattle.decimal.proofs.Integers.{back}
-use Rattle.decimal.proofs.NormalForm.{over-length, over-exponent, within-limits, exponent-is, exponent-small}
+use mathlib.Core.Path.{_∙_}
+use Rattle.decimal.proofs.IntegerLaws.{back}
+use Rattle.decimal.proofs.NormalLaws.{over-length, over-exponent, within-limits, exponent-is, exponent-small}
 use Rattle.decimal.proofs.normalize.Statement.{statement}
 use Rattle.decimal.proofs.normalize.Tie as tie
 
@@ -25,14 +24,13 @@ normalize-spec =
     -- normal-form-requires
     (λ c κs.
     let e = c .before .before in
-    let a = e .before .before in
-    let small = exponent-small _ _ _ (a .after-letter .ensures) (e .before .exponent-size .ensures) (e .if2 .left) in
-    let is = back (c .signed .result) (c .signed .ok) ∙ exponent-is _ _ _ (a .after-letter .ensures) (e .before .exponent-size .ensures) (e .if2 .left) _ _ (c .before .minus-at .ensures) (c .signed .ensures) in
-    (a .before .if1 .left, (is, rw is small)))
+    let size = e .before .exponent-size .ensures in
+    let found = e .before .before .after-letter .ensures in
+    let is = exponent-is _ _ _ found size (e .if2 .left) _ _ (c .before .minus-at .ensures) (c .signed .ensures) in
+    let read = back (c .signed .result) (c .signed .ok) ∙ is in
+    (e .before .before .before .if1 .left, (read, rw read (exponent-small _ _ _ found size (e .if2 .left)))))
     -- returns-3
     (λ c.
     let e = c .before .before .before in
-    let a = e .before .before in
-    within-limits _ _ (a .before .if1 .left)
-    (exponent-small _ _ _ (a .after-letter .ensures) (e .before .exponent-size .ensures) (e .if2 .left))
-    (c .normal-form .ensures)))
+    let small = exponent-small _ _ _ (e .before .before .after-letter .ensures) (e .before .exponent-size .ensures) (e .if2 .left) in
+    within-limits _ _ (e .before .before .before .if1 .left) small (c .normal-form .ensures)))

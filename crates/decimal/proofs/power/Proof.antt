@@ -1,7 +1,7 @@
 use native.Mathlib.Omega.{arith}
 use borrow.Author.Needs.{needs}
 use borrow.Author.Tests.{eq-eqb, ne-eqb}
-use Rattle.decimal.proofs.Integers.{less-fits, more-fits, more}
+use Rattle.decimal.proofs.IntegerLaws.{less-fits, more-fits, more}
 use Rattle.decimal.proofs.power.Statement.{statement}
 use Rattle.decimal.proofs.power.Tie as tie
 

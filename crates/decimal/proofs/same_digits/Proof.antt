@@ -6,7 +6,7 @@ use borrow.Author.Tests.{not-true, not-false}
 use lib.ListN.{length, take, drop}
 use Rattle.spec.specs.Worth.{mantissa}
 use Rattle.spec.specs.Value.{sameText}
-use Rattle.decimal.proofs.Mantissa.{told, Comparing, compared, inside, inside-other, passing, passing-other, differing, agreeing}
+use Rattle.decimal.proofs.MantissaLaws.{told, Comparing, compared, inside, inside-other, passing, passing-other, differing, agreeing}
 use Rattle.decimal.proofs.same_digits.Statement.{statement}
 use Rattle.decimal.proofs.same_digits.Tie as tie
 

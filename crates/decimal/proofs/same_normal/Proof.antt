@@ -3,9 +3,9 @@ use mathlib.Core.Path.{_≡_, _∙_}
 use native.Mathlib.Omega.{arith}
 use borrow.Author.Tests.{not-true, not-false}
 use Rattle.spec.specs.Equality.{sameInteger}
-use Rattle.decimal.proofs.Integers.{back}
-use Rattle.decimal.proofs.Mantissa.{told}
-use Rattle.decimal.proofs.NormalForm.{sign-differs, power-differs, count-differs, digits-decide, enough-left, enough-right}
+use Rattle.decimal.proofs.IntegerLaws.{back}
+use Rattle.decimal.proofs.MantissaLaws.{told}
+use Rattle.decimal.proofs.NormalLaws.{sign-differs, power-differs, count-differs, digits-decide, enough-left, enough-right}
 use Rattle.decimal.proofs.same_normal.Statement.{statement}
 use Rattle.decimal.proofs.same_normal.Tie as tie
 

@@ -1,8 +1,8 @@
 -- `decimal::same_number` meets its contract. Assumes nothing.
 use mathlib.Core.Path.{sym, _∙_}
 use borrow.Author.Needs.{needs}
-use Rattle.decimal.proofs.Mantissa.{told}
-use Rattle.decimal.proofs.NormalForm.{is-over, is-number, over-left, over-right, both-limited}
+use Rattle.decimal.proofs.MantissaLaws.{told}
+use Rattle.decimal.proofs.NormalLaws.{is-over, is-number, over-left, over-right, both-within-limits}
 use Rattle.decimal.proofs.same_number.Statement.{statement}
 use Rattle.decimal.proofs.same_number.Tie as tie
 
@@ -38,6 +38,6 @@ same-number-spec =
     let y = c .before .before in
     let x = y .before .before .before .before in
     c .same-normal .ensures
-    ∙ sym (both-limited _ _
+    ∙ sym (both-within-limits _ _
     (is-number _ _ (told (x .before .before .normalize .ensures) (x .x .given .1)) .0)
     (is-number _ _ (told (y .before .before .normalize2 .ensures) (y .y .given .1)) .0))))

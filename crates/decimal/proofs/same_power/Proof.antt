@@ -1,4 +1,4 @@
-use Rattle.decimal.proofs.Integers.{same-integer}
+use Rattle.decimal.proofs.IntegerLaws.{same-integer}
 use Rattle.decimal.proofs.same_power.Statement.{statement}
 use Rattle.decimal.proofs.same_power.Tie as tie
 

@@ -3,7 +3,7 @@ use mathlib.Core.Path.{_∙_, sym}
 use mir.Syntax.{w32}
 use mir.ValLaws.{toZ-pos}
 use borrow.Author.Needs.{needs}
-use Rattle.decimal.proofs.Integers.{negated-fits, negated}
+use Rattle.decimal.proofs.IntegerLaws.{negated-fits, negated}
 use Rattle.decimal.proofs.signed.Statement.{statement}
 use Rattle.decimal.proofs.signed.Tie as tie
 

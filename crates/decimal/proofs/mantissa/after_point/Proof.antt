@@ -1,12 +1,12 @@
--- `decimal::after_point` meets its contract: as many digits follow the point in what is left as in the whole. Assumes nothing.
+-- `decimal::mantissa::after_point` meets its contract: as many digits follow the point in what is left as in the whole. Assumes nothing.
 use Prim.Native.Nat.{_-_}
 use mathlib.Core.Path.{_≡_, sym, _∙_, ap}
 use native.Mathlib.Omega.{arith}
 use lib.ListN.{length, drop}
 use Rattle.spec.specs.Worth.{fractionDigits}
-use Rattle.decimal.proofs.Mantissa.{told, mantissa-ends, mantissa-past, fraction-point, fraction-ends, fraction-later, fraction-past}
-use Rattle.decimal.proofs.after_point.Statement.{statement}
-use Rattle.decimal.proofs.after_point.Tie as tie
+use Rattle.decimal.proofs.MantissaLaws.{told, mantissa-ends, mantissa-past, fraction-point, fraction-ends, fraction-later, fraction-past}
+use Rattle.decimal.proofs.mantissa.after_point.Statement.{statement}
+use Rattle.decimal.proofs.mantissa.after_point.Tie as tie
 
 abbrev Inv-loop : tie.InvT-loop
 Inv-loop t i₀ i = fractionDigits (drop i t) ≡ fractionDigits t
@@ -44,8 +44,10 @@ after-point-spec =
     (λ c. omega arith)
     -- loop-again
     (λ c.
-    let l = c .before .before in
-    sym (fraction-later _ _ (l .before .before .loop-test .taken) (l .if1 .left) (told (c .before .is-e .ensures) (c .if2 .left))) ∙ l .before .before .before .loop .inv)
+    let p = c .before .before in
+    let b = p .before .before in
+    let e = told (c .before .is-e .ensures) (c .if2 .left) in
+    sym (fraction-later _ _ (b .loop-test .taken) (p .if1 .left) e) ∙ b .before .loop .inv)
     -- returns-3
     (λ c.
     let t = c .before .before .before .args .t .now in

@@ -22,9 +22,9 @@ use Rattle.spec.specs.Equality.{sameBool, sameInteger, sameWorth}
 use Rattle.decimal.specs.declared.Normal.{Normal}
 use Rattle.decimal.specs.declared.Normalized.{Normalized}
 use Rattle.decimal.specs.declared.Normalized.the-variants.{Number, OverLimit}
-use Rattle.decimal.specs.Normal.{isNonzeroDigit, firstDigit, limited, normalForm, normalized, sameNumber}
-use Rattle.decimal.proofs.Mantissa.{within-bounds}
-use Rattle.decimal.proofs.Exponent.{signed-size}
+use Rattle.decimal.specs.Normal.{isNonzeroDigit, firstDigit, withinLimits, normalForm, normalized, sameNumber}
+use Rattle.decimal.proofs.MantissaLaws.{within-bounds}
+use Rattle.decimal.proofs.ExponentLaws.{signed-size}
 
 -- ---- where the significant digits begin
 
@@ -142,13 +142,13 @@ module _ (t : Bytes) (n : Normal) (e : ℤ) (fraction all : ℕ) where
 -- ---- the limits
 
 pub over-length : (t : Bytes) → maxNumber < length t → OverLimit ≡ normalized t
-unfolding normalized limited
+unfolding normalized withinLimits
 over-length t h = rw (lt-leb (length t) maxNumber h)
 
 -- the code has the size of the exponent capped at one past its limit
 module _ (t written : Bytes) (size : ℕ) (found : signedExponent written ≡ exponent t) (capped : size ≡ min (natAbs (signedExponent written)) (maxExponent + 1)) where
   pub over-exponent : maxExponent < size → OverLimit ≡ normalized t
-  unfolding normalized limited
+  unfolding normalized withinLimits
   over-exponent h =
       rw (← found, lt-leb (natAbs (signedExponent written)) maxExponent (omega (arith, min-le-left (natAbs (signedExponent written)) (maxExponent + 1))), and-false (leb (length t) maxNumber))
 
@@ -168,7 +168,7 @@ module _ (t written : Bytes) (size : ℕ) (found : signedExponent written ≡ ex
     exponent-is minus e m is = is ∙ rw (m, size-is) (signed-size written ∙ found)
 
 pub within-limits : (t : Bytes) (n : Normal) → length t ≤ maxNumber → natAbs (exponent t) ≤ maxExponent → n ≡ normalForm t → Number n ≡ normalized t
-unfolding normalized limited
+unfolding normalized withinLimits
 within-limits t n l e h = rw (le-leb (length t) maxNumber l, le-leb (natAbs (exponent t)) maxExponent e) (ap Number h)
 
 -- ---- two normal forms
@@ -209,31 +209,31 @@ module _ (a b : Bytes) (x y : Normal) (is-x : x ≡ normalForm a) (is-y : y ≡ 
 
 -- ---- what the code's answer says of the text
 
-pub is-over : (t : Bytes) → normalized t ≡ OverLimit → limited t ≡ false
+pub is-over : (t : Bytes) → normalized t ≡ OverLimit → withinLimits t ≡ false
 unfolding normalized
-is-over t h = go (limited t) h
+is-over t h = go (withinLimits t) h
   where
     go : (l : Bool) → (if l then Number (normalForm t) else OverLimit) ≡ OverLimit → l ≡ false
     go true e = let z : _≡_ {A = ℕ} 0 1 = cc in absurd (omega arith)
     go false e = refl
 
-pub is-number : (t : Bytes) (n : Normal) → normalized t ≡ Number n → (limited t ≡ true) × (n ≡ normalForm t)
+pub is-number : (t : Bytes) (n : Normal) → normalized t ≡ Number n → (withinLimits t ≡ true) × (n ≡ normalForm t)
 unfolding normalized
-is-number t n h = go (limited t) h
+is-number t n h = go (withinLimits t) h
   where
     go : (l : Bool) → (if l then Number (normalForm t) else OverLimit) ≡ Number n → (l ≡ true) × (n ≡ normalForm t)
     go true e = (refl, cc)
     go false e = let z : _≡_ {A = ℕ} 0 1 = cc in absurd (omega arith)
 
 module _ (a b : Bytes) where
-  pub over-left : limited a ≡ false → false ≡ sameNumber a b
+  pub over-left : withinLimits a ≡ false → false ≡ sameNumber a b
   unfolding sameNumber
   over-left h = rw h
 
-  pub over-right : limited b ≡ false → false ≡ sameNumber a b
+  pub over-right : withinLimits b ≡ false → false ≡ sameNumber a b
   unfolding sameNumber
-  over-right h = rw (h, and-false (limited a))
+  over-right h = rw (h, and-false (withinLimits a))
 
-  pub both-limited : limited a ≡ true → limited b ≡ true → sameNumber a b ≡ sameWorth (worth a) (worth b)
+  pub both-within-limits : withinLimits a ≡ true → withinLimits b ≡ true → sameNumber a b ≡ sameWorth (worth a) (worth b)
   unfolding sameNumber
-  both-limited h k = rw (h, k)
+  both-within-limits h k = rw (h, k)

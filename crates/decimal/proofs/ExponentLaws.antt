@@ -15,8 +15,8 @@ use Rattle.spec.specs.Limits.{maxExponent}
 use Rattle.spec.specs.Bytes.{Bytes}
 use Rattle.spec.specs.Numbers.{isE}
 use Rattle.spec.specs.Worth.{decimal, signedExponent, exponent, isNegative}
-use Rattle.decimal.proofs.Mantissa.{from-here}
-use Rattle.decimal.proofs.Integers.{negated-size}
+use Rattle.decimal.proofs.MantissaLaws.{from-here}
+use Rattle.decimal.proofs.IntegerLaws.{negated-size}
 
 module _ (t : Bytes) (i : ℕ) (h : i < length t) where
   pub exponent-here : isE (getD t i 0) ≡ true → exponent (drop i t) ≡ signedExponent (drop (i + 1) t)

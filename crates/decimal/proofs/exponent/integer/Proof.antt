@@ -1,12 +1,12 @@
--- `decimal::integer` meets its contract: the integer so far and the digits left write the whole one. Assumes nothing.
+-- `decimal::exponent::integer` meets its contract: the integer so far and the digits left write the whole one. Assumes nothing.
 use Prim.Native.Nat.{_-_, _≤_}
 use mathlib.Core.Path.{_≡_, refl, sym, _∙_}
 use native.Mathlib.Omega.{arith}
 use lib.ListN.{length, drop}
 use Rattle.spec.specs.Worth.{decimal}
-use Rattle.decimal.proofs.Exponent.{decimal-next, decimal-past, decimal-large, decimal-small}
-use Rattle.decimal.proofs.integer.Statement.{statement}
-use Rattle.decimal.proofs.integer.Tie as tie
+use Rattle.decimal.proofs.ExponentLaws.{decimal-next, decimal-past, decimal-large, decimal-small}
+use Rattle.decimal.proofs.exponent.integer.Statement.{statement}
+use Rattle.decimal.proofs.exponent.integer.Tie as tie
 
 abbrev Inv-loop : tie.InvT-loop
 Inv-loop t at i₀ n₀ i n = (n ≤ 9_999) × (decimal n (drop i t) ≡ decimal 0 (drop at t))
@@ -35,7 +35,8 @@ integer-spec =
     -- returns
     (λ c.
     let b = c .before .before .before in
-    decimal-large (b .before .before .before .args .t .now) (b .before .loop .i) (b .loop-test .taken) _ _ _ (c .before .digit-value .ensures) (c .if1 .taken) (b .before .loop .inv .1))
+    let t = b .before .before .before .args .t .now in
+    decimal-large t (b .before .loop .i) (b .loop-test .taken) _ _ _ (c .before .digit-value .ensures) (c .if1 .taken) (b .before .loop .inv .1))
     -- add-i
     (λ c. omega arith)
     -- loop-less

@@ -1,7 +1,7 @@
 use native.Mathlib.Omega.{arith}
-use Rattle.decimal.proofs.Exponent.{size-minus, size-plus, size-plain, size-past}
-use Rattle.decimal.proofs.after_sign.Statement.{statement}
-use Rattle.decimal.proofs.after_sign.Tie as tie
+use Rattle.decimal.proofs.ExponentLaws.{size-minus, size-plus, size-plain, size-past}
+use Rattle.decimal.proofs.exponent.after_sign.Statement.{statement}
+use Rattle.decimal.proofs.exponent.after_sign.Tie as tie
 
 pub after-sign-spec : {M : Type 1} → statement M
 after-sign-spec =

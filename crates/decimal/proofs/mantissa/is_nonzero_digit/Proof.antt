@@ -1,8 +1,8 @@
 use borrow.Author.Tests.{le-leb, lt-leb}
 use Rattle.spec.specs.Bytes.{within}
 use Rattle.decimal.specs.Normal.{isNonzeroDigit}
-use Rattle.decimal.proofs.is_nonzero_digit.Statement.{statement}
-use Rattle.decimal.proofs.is_nonzero_digit.Tie as tie
+use Rattle.decimal.proofs.mantissa.is_nonzero_digit.Statement.{statement}
+use Rattle.decimal.proofs.mantissa.is_nonzero_digit.Tie as tie
 
 pub is-nonzero-digit-spec : {M : Type 1} → statement M
 unfolding isNonzeroDigit within

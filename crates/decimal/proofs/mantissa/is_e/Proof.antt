@@ -1,7 +1,7 @@
 use borrow.Author.Tests.{eq-eqb, ne-eqb}
 use Rattle.spec.specs.Numbers.{isE}
-use Rattle.decimal.proofs.is_e.Statement.{statement}
-use Rattle.decimal.proofs.is_e.Tie as tie
+use Rattle.decimal.proofs.mantissa.is_e.Statement.{statement}
+use Rattle.decimal.proofs.mantissa.is_e.Tie as tie
 
 pub is-e-spec : {M : Type 1} → statement M
 unfolding isE

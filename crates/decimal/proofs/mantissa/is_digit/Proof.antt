@@ -1,8 +1,8 @@
 use borrow.Author.Tests.{le-leb, lt-leb}
 use Rattle.spec.specs.Bytes.{within}
 use Rattle.spec.specs.Numbers.{isDigit}
-use Rattle.decimal.proofs.is_digit.Statement.{statement}
-use Rattle.decimal.proofs.is_digit.Tie as tie
+use Rattle.decimal.proofs.mantissa.is_digit.Statement.{statement}
+use Rattle.decimal.proofs.mantissa.is_digit.Tie as tie
 
 pub is-digit-spec : {M : Type 1} → statement M
 unfolding isDigit within
