@@ -1,28 +1,28 @@
--- A number that the reader takes is within the limits: the texts of which `same_number` says what document 01 asks are all those that it is
--- called with.
-use Prim.Native.Nat.{ℕ, zero, suc, _+_, _-_, _*_, _≤_, _<_, min}
+-- A number that the reader takes is within the limits, so that `same_number` answers by what the two numbers are worth.
+use Prim.Native.Nat.{ℕ, zero, suc, _+_, _-_, _*_, _≤_, _<_}
 use Prim.Native.Char.{code}
-use mathlib.Core.Path.{_≡_, refl, sym, _∙_, ap}
-use mathlib.Core.List.{List, [], _∷_}
+use mathlib.Core.Path.{_≡_, refl, sym, _∙_}
+use mathlib.Core.List.{[], _∷_}
 use mathlib.Core.Bool.{Bool, true, false, _||_, true≢false}
 use native.Mathlib.Omega.{arith}
 use native.Mathlib.Nat.{min-le-left}
-use native.Mathlib.Numerals.{add-one}
 use native.Mathlib.Decide.{decLt}
-use borrow.Author.Tests.{eq-eqb, ne-eqb, eqb-true, eqb-false, le-leb, leb-true, ltb-true, lt-ltb}
+use borrow.Author.Tests.{ne-eqb, eqb-true, le-leb, leb-true, ltb-true, lt-ltb}
 use lib.ListN.{length, getD, take, drop, length-take, List·getD-eq-default}
 use lib.Seq.{take-length}
 use lib.Dec.{eqb, leb, ltb}
-use lib.IntN.{ℤ, pos, negℤ, natAbs}
+use lib.IntN.{pos, negℤ, natAbs}
 use Rattle.spec.specs.Outcome.{Outcome, ok, refused, _>>=_, if_then_else_}
 use Rattle.spec.specs.Refusal.{not-json, number-over-limit}
 use Rattle.spec.specs.Limits.{maxNumber, maxExponent}
 use Rattle.spec.specs.Bytes.{Bytes, byte, byteIn, within}
 use Rattle.spec.specs.Numbers.{isDigit, isE, counted, digits, someDigits, int, frac, sign, exponentDigits, signedDigits, exp, minus, number}
-use Rattle.spec.specs.Worth.{decimal, signedExponent, exponent}
-use Rattle.decimal.specs.Normal.{withinLimits}
+use Rattle.spec.specs.Worth.{decimal, signedExponent, exponent, worth}
+use Rattle.spec.specs.Equality.{sameWorth}
+use Rattle.decimal.specs.Normal.{withinLimits, sameNumber}
 use Rattle.decimal.proofs.MantissaLaws.{from-here, within-bounds}
 use Rattle.decimal.proofs.IntegerLaws.{negated-size}
+use Rattle.decimal.proofs.NormalLaws.{both-within-limits}
 
 -- ---- steps that succeed
 
@@ -296,10 +296,11 @@ number-ends s start end e =
 pub number-within-limits : (s : Bytes) (start end : ℕ) → number s start ≡ ok end → withinLimits (take (end - start) (drop start s)) ≡ true
 unfolding withinLimits
 number-within-limits s start end e =
+    let t = part s start end in
     let r = number-ends s start end e in
     let short : end ≤ start + maxNumber = r .short (omega arith) in
-    let shorter : length (take (end - start) (drop start s)) ≤ maxNumber = omega (arith, length-take (end - start) (drop start s), min-le-left (end - start) (length (drop start s))) in
-    rw (le-leb (length (take (end - start) (drop start s))) maxNumber shorter, le-leb (natAbs (exponent (take (end - start) (drop start s)))) maxExponent (r .small))
+    let shorter : length t ≤ maxNumber = omega (arith, length-take (end - start) (drop start s), min-le-left (end - start) (length (drop start s))) in
+    rw (le-leb (length t) maxNumber shorter, le-leb (exponent-size t) maxExponent (r .small))
 
 -- a text that is a number and nothing more
 pub whole-within-limits : (t : Bytes) → number t 0 ≡ ok (length t) → withinLimits t ≡ true
@@ -307,3 +308,7 @@ whole-within-limits t e =
     let n : length t - 0 ≡ length t = omega arith in
     let same : take (length t - 0) (drop 0 t) ≡ t = rw n (take-length t) in
     rw same at (number-within-limits t 0 (length t) e)
+
+-- So of two numbers `same_number` says whether they are worth the same.
+pub same-number-worth : (a b : Bytes) → number a 0 ≡ ok (length a) → number b 0 ≡ ok (length b) → sameNumber a b ≡ sameWorth (worth a) (worth b)
+same-number-worth a b e f = both-within-limits a b (whole-within-limits a e) (whole-within-limits b f)

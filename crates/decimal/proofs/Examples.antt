@@ -1,7 +1,7 @@
 -- Numbers that are equal and numbers that are not, by computation: those of document 01, "Examples on each side", and one for each rule.
 use mathlib.Core.Path.{_≡_, refl}
 use mathlib.Core.List.{List, [], _∷_}
-use mathlib.Core.Bool.{Bool, true, false}
+use mathlib.Core.Bool.{true, false}
 use Prim.Native.String.{String}
 use Rattle.spec.specs.Bytes.{ascii, within}
 use Rattle.spec.specs.Numbers.{isDigit, isE}

@@ -1,14 +1,14 @@
 -- The normal form says what a number is worth, and two normal forms say whether the numbers are equal.
-use Prim.Native.Nat.{ℕ, zero, suc, _+_, _-_, _≤_, _<_, min}
+use Prim.Native.Nat.{ℕ, suc, _+_, _-_, _≤_, _<_, min}
 use Prim.Native.Char.{code}
 use mathlib.Core.Path.{_≡_, refl, sym, _∙_, ap}
-use mathlib.Core.List.{List, [], _∷_, _++_, reverse, reverse-cons, reverse-reverse}
-use mathlib.Core.Bool.{Bool, true, false, _&&_, and-true, and-false, true≢false}
+use mathlib.Core.List.{[], _∷_, reverse, reverse-cons, reverse-reverse}
+use mathlib.Core.Bool.{Bool, true, false, and-true, and-false, true≢false}
 use native.Mathlib.Omega.{arith}
 use native.Mathlib.Nat.{min-le-left, min-eq-left, min-eq-right}
 use native.Mathlib.Decide.{decLt}
-use borrow.Author.Tests.{eq-eqb, ne-eqb, le-leb, lt-leb, leb-true, leb-false}
-use lib.ListN.{length, take, drop, length-append, length-reverse}
+use borrow.Author.Tests.{eq-eqb, ne-eqb, le-leb, lt-leb}
+use lib.ListN.{length, take, drop, length-reverse}
 use lib.Seq.{take-append-le, take-all}
 use lib.Dec.{eqb, leb, eqb·suc-zero}
 use lib.IntN.{ℤ, pos, negℤ, natAbs, _+ℤ_, _-ℤ_}
@@ -16,11 +16,10 @@ use Rattle.spec.specs.Outcome.{if_then_else_}
 use Rattle.spec.specs.Limits.{maxNumber, maxExponent}
 use Rattle.spec.specs.Bytes.{Bytes, within}
 use Rattle.spec.specs.Numbers.{isDigit, isE}
-use Rattle.spec.specs.Worth.{Worth, mantissa, fractionDigits, exponent, signedExponent, dropZeros, trimmed, isNegative, power, worth}
+use Rattle.spec.specs.Worth.{mantissa, fractionDigits, exponent, signedExponent, dropZeros, trimmed, isNegative, power, worth}
 use Rattle.spec.specs.Value.{sameText}
 use Rattle.spec.specs.Equality.{sameBool, sameInteger, sameWorth}
 use Rattle.decimal.specs.declared.Normal.{Normal}
-use Rattle.decimal.specs.declared.Normalized.{Normalized}
 use Rattle.decimal.specs.declared.Normalized.the-variants.{Number, OverLimit}
 use Rattle.decimal.specs.Normal.{isNonzeroDigit, firstDigit, withinLimits, normalForm, normalized, sameNumber}
 use Rattle.decimal.proofs.MantissaLaws.{within-bounds}
@@ -145,21 +144,23 @@ pub over-length : (t : Bytes) → maxNumber < length t → OverLimit ≡ normali
 unfolding normalized withinLimits
 over-length t h = rw (lt-leb (length t) maxNumber h)
 
--- the code has the size of the exponent capped at one past its limit
-module _ (t written : Bytes) (size : ℕ) (found : signedExponent written ≡ exponent t) (capped : size ≡ min (natAbs (signedExponent written)) (maxExponent + 1)) where
+-- The code finds the exponent as it is written, and its size, capped at one past the limit.
+module _ (t written : Bytes) (size : ℕ)
+    (found : signedExponent written ≡ exponent t) (capped : size ≡ min (natAbs (signedExponent written)) (maxExponent + 1)) where
   pub over-exponent : maxExponent < size → OverLimit ≡ normalized t
   unfolding normalized withinLimits
   over-exponent h =
-      rw (← found, lt-leb (natAbs (signedExponent written)) maxExponent (omega (arith, min-le-left (natAbs (signedExponent written)) (maxExponent + 1))), and-false (leb (length t) maxNumber))
+      let n = natAbs (signedExponent written) in
+      let large : maxExponent < n = omega (arith, min-le-left n (maxExponent + 1)) in
+      rw (← found, lt-leb n maxExponent large, and-false (leb (length t) maxNumber))
 
   module _ (h : size ≤ maxExponent) where
     size-is : size ≡ natAbs (signedExponent written)
-    size-is = go (decLt maxExponent (natAbs (signedExponent written)))
+    size-is = go (natAbs (signedExponent written)) capped (decLt maxExponent (natAbs (signedExponent written)))
       where
-        go : Dec (maxExponent < natAbs (signedExponent written)) → size ≡ natAbs (signedExponent written)
-        go (yes l) =
-            let z : min (natAbs (signedExponent written)) (maxExponent + 1) ≡ maxExponent + 1 = min-eq-right (omega arith) in absurd (omega arith)
-        go (no l) = capped ∙ min-eq-left (omega arith)
+        go : (n : ℕ) → size ≡ min n (maxExponent + 1) → Dec (maxExponent < n) → size ≡ n
+        go n e (yes l) = let z : min n (maxExponent + 1) ≡ maxExponent + 1 = min-eq-right (omega arith) in absurd (omega arith)
+        go n e (no l) = e ∙ min-eq-left (omega arith)
 
     pub exponent-small : natAbs (exponent t) ≤ maxExponent
     exponent-small = rw (← found, ← size-is) h

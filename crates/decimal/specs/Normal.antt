@@ -25,8 +25,8 @@ unfoldable pub firstDigit : Bytes → ℕ
 firstDigit [] = 0
 firstDigit (b ∷ t) = if isE b then 0 else if isNonzeroDigit b then 0 else suc (firstDigit t)
 
--- the limits of document 01: the length, and the size of the written exponent. Every number that the reader takes is within them, and proofs/Accepted
--- proves it.
+-- Document 01's limits of a number: its length, and the size of its written exponent. Every number that the reader takes is within them
+-- (proofs/Accepted).
 unfoldable pub withinLimits : Bytes → Bool
 withinLimits t = leb (length t) maxNumber && leb (natAbs (exponent t)) maxExponent
 

@@ -23,13 +23,14 @@ pub fn after_letter(t: &[u8]) -> usize
     i
 }
 
-// The size of an exponent that begins at a place with its sign, if it has one.
+// The size of an exponent that begins at a place with its sign, if it has one; 10,000 if it is larger.
 pub fn exponent_size(t: &[u8], at: usize) -> usize
     ensures { λ r. ⌜ r ≡ min (natAbs (signedExponent (drop at (now (t .entry))))) (maxExponent + 1) ⌝ }
 {
     integer(t, after_sign(t, at))
 }
 
+// The place after a sign, if one stands at the place.
 fn after_sign(t: &[u8], at: usize) -> usize
     ensures { λ r. ⌜ decimal 0 (drop r (now (t .entry))) ≡ natAbs (signedExponent (drop at (now (t .entry)))) ⌝ }
 {
@@ -61,6 +62,7 @@ fn integer(t: &[u8], at: usize) -> usize
     n
 }
 
+// What a digit counts, and 0 for a byte before the digits.
 fn digit_value(b: u8) -> usize
     ensures { λ r. ⌜ r ≡ b - 48 ⌝ }
 {

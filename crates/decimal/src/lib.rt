@@ -23,10 +23,9 @@ ghost use Rattle.spec.specs.Value.{sameText};
 ghost use Rattle.spec.specs.Equality.{sameBool, sameInteger, sameWorth};
 ghost use Rattle.decimal.specs.Normal.{normalForm, normalized, sameNumber};
 
-// Bytes of a number.
+// Document 01, "Numbers that bound the work": the bytes of a number, and the size of its written exponent.
 const MAX_NUMBER: usize = 128;
 
-// The size of a number's written exponent.
 const MAX_EXPONENT: usize = 9_999;
 
 // A number's text in normal form: its sign; where its significant digits begin, and how many they are, without zeros at either end and with the
@@ -57,6 +56,7 @@ pub fn same_number(a: &[u8], b: &[u8]) -> bool
     same_normal(a, x, b, y)
 }
 
+// A number's text in normal form.
 pub fn normalize(t: &[u8]) -> Normalized
     ensures { λ r. ⌜ r ≡ normalized (now (t .entry)) ⌝ }
 {
@@ -71,7 +71,7 @@ pub fn normalize(t: &[u8]) -> Normalized
     Normalized::Number(normal_form(t, signed(minus_at(t, letter), size)))
 }
 
-// The normal form of a text that has the given exponent.
+// The same where the text is within the limits and its exponent is given.
 fn normal_form(t: &[u8], exponent: i32) -> Normal
     requires { ⌜ (length (now t) ≤ maxNumber) × ((exponent ≡ exponentOf (now t)) × (natAbs exponent ≤ maxExponent)) ⌝ }
     ensures { λ r. ⌜ r ≡ normalForm (now (t .entry)) ⌝ }
@@ -97,6 +97,7 @@ fn minus_at(t: &[u8], at: usize) -> bool
     false
 }
 
+// The exponent of a sign and a size.
 fn signed(negative: bool, size: usize) -> i32
     requires { ⌜ size ≤ maxExponent ⌝ }
     ensures { λ r. ⌜ r ≡ (if negative then negℤ (pos size) else pos size) ⌝ }
@@ -107,7 +108,7 @@ fn signed(negative: bool, size: usize) -> i32
     size as i32
 }
 
-// The power of ten of the last significant digit.
+// The power of ten of the last of `count` significant digits, after which `dropped` zeros stood. The digits after the point lower it.
 fn power(count: usize, exponent: i32, fraction: usize, dropped: usize) -> i32
     requires { ⌜ (natAbs exponent ≤ maxExponent) × ((fraction ≤ maxNumber) × (dropped ≤ maxNumber)) ⌝ }
     ensures { λ r. ⌜ r ≡ (if eqb count 0 then pos 0 else ((exponent -ℤ pos fraction) +ℤ pos dropped)) ⌝ }
@@ -148,7 +149,7 @@ fn same_power(a: i32, b: i32) -> bool
     a == b
 }
 
-// Whether two texts have the same digits, so many of each, from a place of each on.
+// Whether two texts have the same digits, so many of each, from a place of each on. Neither text ends before that, so no index is tested.
 fn same_digits(a: &[u8], first: usize, b: &[u8], other: usize, count: usize) -> bool
     requires { ⌜ (count ≤ length (mantissaOf (drop first (now a)))) × (count ≤ length (mantissaOf (drop other (now b)))) ⌝ }
     ensures { λ r. ⌜ r ≡ sameText (take count (mantissaOf (drop first (now (a .entry))))) (take count (mantissaOf (drop other (now (b .entry))))) ⌝ }

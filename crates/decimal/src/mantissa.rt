@@ -68,6 +68,7 @@ pub fn digits(t: &[u8], at: usize) -> usize
     n
 }
 
+// How many digits follow the point.
 pub fn fraction(t: &[u8]) -> usize
     ensures { λ r. ⌜ r ≡ fractionDigits (now (t .entry)) ⌝ }
 {
