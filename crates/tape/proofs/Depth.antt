@@ -1,13 +1,13 @@
 -- Laws of how deep containers are nested, and of the loop that judges a node's children.
-use Prim.Native.Nat.{ℕ, zero, suc, _+_, _-_, _≤_, _<_, max}
+use Prim.Native.Nat.{ℕ, suc, _+_, _-_, _≤_, _<_, max}
 use native.Mathlib.Omega.{arith}
 use mathlib.Core.Path.{_≡_, refl, sym, ap, _∙_, subst}
 use mathlib.Core.Bool.{Bool, true, false, _&&_}
 use mathlib.Core.List.{List, _++_}
 use lib.Dec.{leb}
-use lib.ListN.{length, getD}
+use lib.ListN.{getD}
 use borrow.Author.Tests.{le-leb, lt-leb, leb-true, leb-false}
-use Rattle.spec.specs.Forest.{Forest, none, tree, size}
+use Rattle.spec.specs.Forest.{Forest, tree, size}
 use Rattle.tape.specs.Layout.{arrayKind}
 use Rattle.tape.specs.Packing.{kindOf}
 use Rattle.tape.specs.Tape.{tape}

@@ -1,13 +1,13 @@
 -- The functions on forests commute with replacing what the nodes bear.
 use Prim.Native.Nat.{ℕ, zero, suc, _+_, _≤_, _<_, max}
 use native.Mathlib.Omega.{arith}
-use mathlib.Core.Path.{_≡_, refl, sym, ap, ap₂, _∙_}
+use mathlib.Core.Path.{_≡_, refl, ap, ap₂, _∙_}
 use mathlib.Core.Bool.{Bool, true, false}
 use lib.Dec.{leb}
 use Rattle.spec.specs.Outcome.{if_then_else_}
 use Rattle.spec.specs.Bytes.{Text}
 use Rattle.spec.specs.Forest.{Forest, none, tree, Tree, single, count, size, before, from, insertAt, removeAt, replaceAt, nth, _⧺_}
-use Rattle.spec.specs.Value.{Label, Entry, tag, isContainer, levels, depths, sameText, find}
+use Rattle.spec.specs.Value.{Entry, tag, isContainer, levels, depths, sameText, find}
 use Rattle.tape.specs.Layout.{arrayKind, objectKind}
 use Rattle.tape.specs.Cell.{Cell, Formed, formed-none, formed-tree, level, deep}
 use Rattle.tape.specs.Map.{mapForest, mapTree, position}
