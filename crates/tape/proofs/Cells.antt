@@ -1,9 +1,12 @@
 -- Laws of cells: what a node's word tells, and of which forests the words tell all.
-use Prim.Native.Nat.{ℕ, zero, suc, _%_, _<_}
+use Prim.Native.Nat.{ℕ, zero, suc, _%_, _≤_, _<_}
 use native.Mathlib.Omega.{arith}
 use mathlib.Core.Path.{_≡_, refl, ap, _∙_}
+use mathlib.Core.Bool.{Bool, true, false}
+use lib.Dec.{leb}
+use borrow.Author.Tests.{leb-true, leb-false}
 use Rattle.spec.specs.Forest.{Forest, tree, Tree, single, count, size, before, from, nth, insertAt, removeAt, replaceAt, _⧺_}
-use Rattle.tape.specs.Layout.{kinds, spans, spellings}
+use Rattle.tape.specs.Layout.{arrayKind, kinds, spans, spellings}
 use Rattle.tape.specs.Packing.{packed, kindOf, spanOf, payloadOf, withSpan}
 use Rattle.tape.specs.Cell.{Cell, word, nameWord, Fit, Formed, formed-none, formed-tree}
 use Rattle.tape.proofs.Packing.{kind-packed, span-packed, payload-packed, withSpan-packed, packed-fits}
@@ -33,6 +36,18 @@ module _ {c : Cell} {kids : Forest Cell} (fit : Fit c kids) where
   pub packed-word : c .payload < spellings → packed (c .kind % kinds) (size kids % spans) (c .payload % spellings) ≡ word c kids
   unfolding word
   packed-word h = packed-fits (c .kind) (size kids) (c .payload) (omega (arith, fit .kind)) (fit .small) h
+
+-- a node with children is a container, and a container may have any children that its word can tell
+pub container-fit : {c : Cell} {kids : Forest Cell} → Fit c kids → 0 < count kids → arrayKind ≤ c .kind
+unfolding count
+container-fit {c} {kids} fit some = go (leb arrayKind (c .kind)) refl
+  where
+    go : (b : Bool) → leb arrayKind (c .kind) ≡ b → arrayKind ≤ c .kind
+    go true e = leb-true arrayKind (c .kind) e
+    go false e = absurd (omega (arith, ap count (fit .scalar (leb-false arrayKind (c .kind) e))))
+
+pub fit-container : {c : Cell} {kids : Forest Cell} (others : Forest Cell) → Fit c kids → arrayKind ≤ c .kind → size others < spans → Fit c others
+fit-container others fit container small = record { kind = fit .kind; small = small; scalar = λ h. absurd (omega arith) }
 
 -- the column of names tells nothing of the children
 pub nameWord-same : (c : Cell) (kids others : Forest Cell) → nameWord c kids ≡ nameWord c others
