@@ -1,7 +1,7 @@
 -- Laws of cells: what a node's word tells, and of which forests the words tell all.
 use Prim.Native.Nat.{ℕ, zero, suc, _%_, _≤_, _<_}
 use native.Mathlib.Omega.{arith}
-use mathlib.Core.Path.{_≡_, refl, ap, _∙_}
+use mathlib.Core.Path.{_≡_, refl, ap, _∙_, subst}
 use mathlib.Core.Bool.{Bool, true, false}
 use lib.Dec.{leb}
 use borrow.Author.Tests.{leb-true, leb-false}
@@ -9,6 +9,7 @@ use Rattle.spec.specs.Forest.{Forest, tree, Tree, single, count, size, before, 
 use Rattle.tape.specs.Layout.{arrayKind, kinds, spans, spellings}
 use Rattle.tape.specs.Packing.{packed, kindOf, spanOf, payloadOf, withSpan}
 use Rattle.tape.specs.Cell.{Cell, word, nameWord, Fit, Formed, formed-none, formed-tree}
+use Rattle.tape.proofs.Forests.{from-nth}
 use Rattle.tape.proofs.Packing.{kind-packed, span-packed, payload-packed, withSpan-packed, packed-fits}
 
 -- ---- a node's word
@@ -85,12 +86,14 @@ formed-from zero o = o
 formed-from (suc k) formed-none = formed-none
 formed-from (suc k) (formed-tree fit o r) = formed-from k r
 
--- the k-th tree
-pub formed-nth : {f : Forest Cell} (t : Tree Cell) (k : ℕ) → Formed f → k < count f → Formed (single (nth t k f))
-unfolding nth count
-formed-nth t k formed-none h = absurd (omega arith)
-formed-nth t zero (formed-tree fit o r) h = formed-tree fit o formed-none
-formed-nth t (suc k) (formed-tree fit o r) h = formed-nth t k r (omega arith)
+-- the trees from the k-th on, by the k-th; t is any tree
+pub formed-child : {f : Forest Cell} (t : Tree Cell) (k : ℕ) → k < count f → Formed f → Formed (tree (nth t k f .root) (nth t k f .kids) (from (suc k) f))
+unfolding _⧺_
+formed-child {f} t k h o = subst Formed (from-nth t k f h) (formed-from k o)
+
+-- the k-th tree alone
+pub formed-nth : {f : Forest Cell} (t : Tree Cell) (k : ℕ) → k < count f → Formed f → Formed (single (nth t k f))
+formed-nth {f} t k h o = let c = formed-child t k h o in formed-tree (formed-fit c) (formed-kids c) formed-none
 
 -- the three changes
 module _ {f : Forest Cell} (k : ℕ) (formed : Formed f) where
