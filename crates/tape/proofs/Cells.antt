@@ -27,7 +27,8 @@ module _ {c : Cell} {kids : Forest Cell} (fit : Fit c kids) where
   payload-word = payload-packed (c .kind) (size kids) (c .payload) (omega (arith, fit .kind)) (fit .small)
 
   -- the word of the same node with other children
-  pub withSpan-word : (others : Forest Cell) (span : ℕ) → span ≡ size others → size others < spans → withSpan (word c kids) (span % spans) ≡ word c others
+  pub withSpan-word : (others : Forest Cell) (span : ℕ) → span ≡ size others → size others < spans
+      → withSpan (word c kids) (span % spans) ≡ word c others
   unfolding word
   withSpan-word others span e h =
       let n : span % spans ≡ size others = omega arith in
@@ -87,7 +88,8 @@ formed-from (suc k) formed-none = formed-none
 formed-from (suc k) (formed-tree fit o r) = formed-from k r
 
 -- the trees from the k-th on, by the k-th; t is any tree
-pub formed-child : {f : Forest Cell} (t : Tree Cell) (k : ℕ) → k < count f → Formed f → Formed (tree (nth t k f .root) (nth t k f .kids) (from (suc k) f))
+pub formed-child : {f : Forest Cell} (t : Tree Cell) (k : ℕ) → k < count f → Formed f
+    → Formed (tree (nth t k f .root) (nth t k f .kids) (from (suc k) f))
 unfolding _⧺_
 formed-child {f} t k h o = subst Formed (from-nth t k f h) (formed-from k o)
 

@@ -46,7 +46,8 @@ module _ {vs ns : List ℕ} {at : ℕ} {c : Cell} {kids rest : Forest Cell} (h :
   held-next = record { after = h .after; behind = h .behind; words = holds-next (h .words); titles = holds-next (h .titles); formed = formed-rest (h .formed) }
 
   -- the k-th child, with the trees behind it; t is any tree
-  pub held-child : (t : Tree Cell) (k : ℕ) → k < count kids → Held vs ns (childRow at k kids) (tree (nth t k kids .root) (nth t k kids .kids) (from (suc k) kids))
+  pub held-child : (t : Tree Cell) (k : ℕ) → k < count kids
+      → Held vs ns (childRow at k kids) (tree (nth t k kids .root) (nth t k kids .kids) (from (suc k) kids))
   unfolding childRow _⧺_
   held-child t k l = subst (Held vs ns (childRow at k kids)) (from-nth t k kids l) (held-from k held-kids)
 
@@ -58,11 +59,13 @@ pub record Remaining (vs ns : List ℕ) (row end : ℕ) (f : Forest Cell) : Type
 
 module _ {vs ns : List ℕ} where
   -- before the first turn all children are left
-  pub remaining-all : {at : ℕ} {c : Cell} {kids rest : Forest Cell} (end : ℕ) → end ≡ endOf vs at → Held vs ns at (tree c kids rest) → Remaining vs ns (at + 1) end kids
+  pub remaining-all : {at : ℕ} {c : Cell} {kids rest : Forest Cell} (end : ℕ) → end ≡ endOf vs at → Held vs ns at (tree c kids rest)
+      → Remaining vs ns (at + 1) end kids
   remaining-all end e h = record { held = held-kids h; ends = sym (e ∙ end-here (held-node h)) }
 
   -- a turn passes the first of them
-  pub remaining-next : {row end : ℕ} {c : Cell} {kids rest : Forest Cell} (next : ℕ) → next ≡ endOf vs row → Remaining vs ns row end (tree c kids rest) → Remaining vs ns next end rest
+  pub remaining-next : {row end : ℕ} {c : Cell} {kids rest : Forest Cell} (next : ℕ) → next ≡ endOf vs row
+      → Remaining vs ns row end (tree c kids rest) → Remaining vs ns next end rest
   unfolding size
   remaining-next next e r =
       let n = e ∙ end-here (held-node (r .held)) in
@@ -78,7 +81,8 @@ module _ {vs ns : List ℕ} where
       first-tree f (omega (arith, r .ends)) (λ c kids rest e. then-it c kids rest e (subst (Remaining vs ns row end) e r))
 
 -- ---- what is held where words in use are laid
-pub node-laid : {xs : List ℕ} {used : ℕ} {front back : List ℕ} {c : Cell} {kids rest : Forest Cell} (at : ℕ) → at ≡ length front → Laid word xs used front (tree c kids rest) back
+pub node-laid : {xs : List ℕ} {used : ℕ} {front back : List ℕ} {c : Cell} {kids rest : Forest Cell} (at : ℕ) → at ≡ length front
+    → Laid word xs used front (tree c kids rest) back
     → Formed (tree c kids rest) → Node xs at c kids
 node-laid {xs} {used} {front} {back} {c} {kids} {rest} at e l o = record { rest = rest; after = back ++ drop used xs; held = rw e (laid-holds l); formed = o }
 

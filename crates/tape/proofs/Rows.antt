@@ -65,7 +65,8 @@ module _ {A : Type 0} (at k : ℕ) (kids : Forest A) where
   unfolding childOf
   childOf-at row e = go (ltb k (count kids)) refl e
     where
-      go : (b : Bool) → ltb k (count kids) ≡ b → At row ≡ (if b then At (childRow at k kids) else Fewer (count kids)) → (k < count kids) × (row ≡ childRow at k kids)
+      go : (b : Bool) → ltb k (count kids) ≡ b → At row ≡ (if b then At (childRow at k kids) else Fewer (count kids))
+          → (k < count kids) × (row ≡ childRow at k kids)
       go true p q = (ltb-true k (count kids) p, (cc))
       go false p q = absurd (let z : _≡_ {A = ℕ} 0 1 = cc in omega arith)
 
@@ -107,7 +108,8 @@ module _ {A : Type 0} {at row k : ℕ} {kids : Forest A} (p : Passed at row k ki
       go false e = absurd (omega (arith, p .place, childRow-inside at kids k (leb-false (count kids) k e)))
 
 -- a turn of the loop, to the row that `end_of` answers
-pub passed-next : {xs : List ℕ} {at row k : ℕ} {c : Cell} {kids : Forest Cell} (next : ℕ) → next ≡ endOf xs row → Node xs at c kids → Passed at row k kids → row < at + 1 + size kids → Passed at next (k + 1) kids
+pub passed-next : {xs : List ℕ} {at row k : ℕ} {c : Cell} {kids : Forest Cell} (next : ℕ) → next ≡ endOf xs row → Node xs at c kids
+    → Passed at row k kids → row < at + 1 + size kids → Passed at next (k + 1) kids
 passed-next {xs} {at} {row} {k} {c} {kids} next n node p h =
     let l : k < count kids = passed-more p h in
     let t : Tree Cell = record { root = c; kids = none } in
