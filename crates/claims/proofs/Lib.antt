@@ -1,0 +1,4 @@
+pub mod LabelLaws
+pub mod Alike
+pub mod Found
+pub mod EqualityTheorem
