@@ -36,7 +36,7 @@ unfolding sameInteger
 sameInteger-refl (pos m) = eq-eqb m m refl
 sameInteger-refl (negsuc m) = eq-eqb m m refl
 
-worth-path : (v w : Worth) → v .negative ≡ w .negative → v .significand ≡ w .significand → v .power ≡ w .power → v ≡ w
+pub worth-path : (v w : Worth) → v .negative ≡ w .negative → v .significand ≡ w .significand → v .power ≡ w .power → v ≡ w
 worth-path v w n s p = λ i. record { negative = n i; significand = s i; power = p i }
 
 pub sameWorth-true : (v w : Worth) → sameWorth v w ≡ true → v ≡ w

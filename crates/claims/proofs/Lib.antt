@@ -2,3 +2,8 @@ pub mod LabelLaws
 pub mod Alike
 pub mod Found
 pub mod EqualityTheorem
+pub mod Scaling
+pub mod Normal
+pub mod NumberParts
+pub mod NumberRead
+pub mod NumbersTheorem
