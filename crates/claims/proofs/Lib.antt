@@ -7,3 +7,6 @@ pub mod Normal
 pub mod NumberParts
 pub mod NumberRead
 pub mod NumbersTheorem
+pub mod RemoveAddLaws
+pub mod ReplaceLaws
+pub mod OperationsTheorem

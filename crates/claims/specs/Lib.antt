@@ -1,2 +1,4 @@
+pub mod Proper
 pub mod Equality
 pub mod Numbers
+pub mod Operations

@@ -1,0 +1,44 @@
+-- Values as texts are read: RFC 8259, sections 3 to 7, at every depth. The limits on depth and nodes are apart from this.
+use mathlib.Core.Path.{_≡_}
+use Prim.Native.Nat.{ℕ}
+use mathlib.Core.List.{[], _∷_}
+use mathlib.Core.Bool.{Bool, true, false, _&&_, _||_}
+use lib.ListN.{length}
+use lib.Dec.{leb}
+use Rattle.spec.specs.Outcome.{ok}
+use Rattle.spec.specs.Bytes.{Bytes, Text, within}
+use Rattle.spec.specs.Numbers as Numbers
+use Rattle.spec.specs.Forest.{none, tree}
+use Rattle.spec.specs.Value as Value
+use Rattle.spec.specs.Value.{Label, Entry, Members, isObject, has}
+
+-- a Unicode scalar value: any code point but the surrogates, D800 to DFFF
+unfoldable pub isScalarValue : ℕ → Bool
+isScalarValue c = leb c 0xD7FF || within 0xE000 0x10FFFF c
+
+unfoldable pub allScalarValues : Text → Bool
+allScalarValues [] = true
+allScalarValues (c ∷ cs) = isScalarValue c && allScalarValues cs
+
+-- what a label allows: a number's text is one number, a string is of characters, and only a container has values in it
+pub data Allows : Label → Members → Type 0 where
+  null-literal : Allows Label.null-literal none
+  true-literal : Allows Label.true-literal none
+  false-literal : Allows Label.false-literal none
+  number : {t : Bytes} → Numbers.number t 0 ≡ ok (length t) → Allows (Label.number t) none
+  string : {cs : Text} → allScalarValues cs ≡ true → Allows (Label.string cs) none
+  array : {kids : Members} → Allows Label.array kids
+  object : {kids : Members} → Allows Label.object kids
+
+-- The values of a container. The first argument says whether they are an object's members, each with a name of its own, or an array's
+-- elements, which have none.
+pub data ProperItems : Bool → Members → Type 0 where
+  empty : {object : Bool} → ProperItems object none
+  element : {e : Entry} {kids rest : Members} → e .name ≡ [] → Allows (e .label) kids → ProperItems (isObject (e .label)) kids →
+      ProperItems false rest → ProperItems false (tree e kids rest)
+  member : {e : Entry} {kids rest : Members} → allScalarValues (e .name) ≡ true → has (e .name) rest ≡ false → Allows (e .label) kids →
+      ProperItems (isObject (e .label)) kids → ProperItems true rest → ProperItems true (tree e kids rest)
+
+pub record Proper (v : Value.Value) : Type 0 where
+  pub allows : Allows (v .label) (v .kids)
+  pub items : ProperItems (isObject (v .label)) (v .kids)
