@@ -10,3 +10,4 @@ pub mod NumbersTheorem
 pub mod RemoveAddLaws
 pub mod ReplaceLaws
 pub mod OperationsTheorem
+pub mod PointersTheorem

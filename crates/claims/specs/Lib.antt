@@ -2,3 +2,4 @@ pub mod Proper
 pub mod Equality
 pub mod Numbers
 pub mod Operations
+pub mod Pointers
