@@ -11,3 +11,5 @@ pub mod RemoveAddLaws
 pub mod ReplaceLaws
 pub mod OperationsTheorem
 pub mod PointersTheorem
+pub mod Rest
+pub mod CharacterBack

@@ -3,3 +3,4 @@ pub mod Equality
 pub mod Numbers
 pub mod Operations
 pub mod Pointers
+pub mod RoundTrip
