@@ -13,3 +13,7 @@ pub mod OperationsTheorem
 pub mod PointersTheorem
 pub mod Rest
 pub mod CharacterBack
+pub mod StringBack
+pub mod NumberBack
+pub mod ScalarBack
+pub mod ValueBack

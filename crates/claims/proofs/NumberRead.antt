@@ -40,7 +40,7 @@ pub drop-byte : (s : Bytes) (at : ℕ) → (byte s at ≡ 0 → ⊥) → drop at
 unfolding byte
 drop-byte s at n = drop-cons s at 0 (byte-there s at n) ∙ rw (add-one at)
 
-counted-next : (start at next : ℕ) → counted start at ≡ ok next → next ≡ at + 1
+pub counted-next : (start at next : ℕ) → counted start at ≡ ok next → next ≡ at + 1
 unfolding counted
 counted-next start at next h = either-ok (ltb at (start + 128)) h (λ i. cc) (λ i. absurd (refused≢ok i))
 
