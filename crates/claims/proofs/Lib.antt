@@ -17,3 +17,4 @@ pub mod StringBack
 pub mod NumberBack
 pub mod ScalarBack
 pub mod ValueBack
+pub mod ReadBack

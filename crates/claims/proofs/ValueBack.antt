@@ -75,7 +75,7 @@ write-opening : (v : Value.Value) (r : Bytes) → write v ++ r ≡ opening (v .l
 unfolding write
 write-opening v r = simp append-assoc
 
-value-begins : {s : Bytes} {at : ℕ} (v : Value.Value) (r : Bytes) → Allows (v .label) (v .kids) → Rest s at (write v ++ r) → Begins (byte s at)
+pub value-begins : {s : Bytes} {at : ℕ} (v : Value.Value) (r : Bytes) → Allows (v .label) (v .kids) → Rest s at (write v ++ r) → Begins (byte s at)
 value-begins v r a h = opening-begins _ a (rw (write-opening v r) at h)
 
 items-begin : {s : Bytes} {at : ℕ} {object : Bool} {f : Members} (r : Bytes) → ProperItems object f → 0 < count f → Rest s at (writeItems object true f ++ r) → Begins (byte s at)
@@ -144,7 +144,7 @@ item (tree d below g) e kids rest (member n h a k p) =
 
 -- Items: the reader stands at an item, and those before it were read.
 
-record Fits (s : Bytes) (object : Bool) (left fuel nodes : ℕ) (so-far f : Members) (at : ℕ) (r : Bytes) : Type 0 where
+pub record Fits (s : Bytes) (object : Bool) (left fuel nodes : ℕ) (so-far f : Members) (at : ℕ) (r : Bytes) : Type 0 where
   some : 0 < count f
   proper : ProperItems object (so-far ⧺ f)
   shallow : depths f ≤ left
@@ -152,7 +152,7 @@ record Fits (s : Bytes) (object : Bool) (left fuel nodes : ℕ) (so-far f : Memb
   fuelled : count f ≤ fuel
   text : Rest s at (writeItems object true f ++ (closingBracket object ∷ r))
 
-abbrev ItemsBack : Bytes → Members → Type 0
+abbrev pub ItemsBack : Bytes → Members → Type 0
 ItemsBack s f =
     (object : Bool) (left fuel nodes : ℕ) (so-far : Members) (at : ℕ) (r : Bytes) → Fits s object left fuel nodes so-far f at r →
     items fuel (value left s) object s nodes so-far at ≡ ok (so-far ⧺ f, at + (length (writeItems object true f) + 1))
@@ -240,7 +240,7 @@ module _ {s : Bytes} {at : ℕ} (nodes : ℕ) (r : Bytes) {kids : Members} (back
       (container-back true left nodes 123 kids r back p (omega arith) n text)
 
 module _ {s : Bytes} {at : ℕ} (left nodes : ℕ) (r : Bytes) where
-  value-back : {l : Label} {kids : Members} → ItemsBack s kids → Allows l kids → ProperItems (isObject l) kids → levels l (depths kids) ≤ left →
+  pub value-back : {l : Label} {kids : Members} → ItemsBack s kids → Allows l kids → ProperItems (isObject l) kids → levels l (depths kids) ≤ left →
       suc (nodes + size kids) ≤ 2048 → Ends (byte r 0) → Rest s at (write (record { label = l; kids = kids }) ++ r) →
       value left s at nodes ≡ ok (record { label = l; kids = kids }, at + length (write (record { label = l; kids = kids })))
   unfolding closing opening levels isContainer isObject tag ascii
@@ -385,7 +385,7 @@ more-back s e kids d below rest back others object left (suc fuel) nodes so-far 
     let one = one-read s object left nodes so-far e kids at (44 ∷ (writeItems object true (tree d below rest) ++ (closingBracket object ∷ r))) i back (omega arith) (omega arith) comma-ends refl text in
     read-others s object left fuel nodes so-far e kids d below rest at r fits one others
 
-items-back : (s : Bytes) (f : Members) → ItemsBack s f
+pub items-back : (s : Bytes) (f : Members) → ItemsBack s f
 unfolding count
 items-back s none = λ object left fuel nodes so-far at r fits. absurd (omega (arith, fits .some))
 items-back s (tree e kids none) = last-back s e kids (items-back s kids)
