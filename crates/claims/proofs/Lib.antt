@@ -18,3 +18,5 @@ pub mod NumberBack
 pub mod ScalarBack
 pub mod ValueBack
 pub mod ReadBack
+pub mod CharacterScalar
+pub mod ReadProper
