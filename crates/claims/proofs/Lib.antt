@@ -17,6 +17,6 @@ pub mod StringBack
 pub mod NumberBack
 pub mod ScalarBack
 pub mod ValueBack
-pub mod ReadBack
 pub mod CharacterScalar
 pub mod ReadProper
+pub mod RoundTripTheorem

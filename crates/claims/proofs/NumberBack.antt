@@ -50,9 +50,9 @@ module _ {at n : ℕ} where
   andThen {o} g g' m rest =
       record {
         moves = λ q h.
-          let (p, e, i) = both-ok o g q h in
-          let r = m .moves p e in
-          rw (r .0) (rest p (r .1) e .moves q i);
+            let (p, e, i) = both-ok o g q h in
+            let r = m .moves p e in
+            rw (r .0) (rest p (r .1) e .moves q i);
       }
 
   choose : {c c' : Bool} {a a' b b' : Outcome ℕ} → c' ≡ c → (c ≡ true → Moves at n a a') → (c ≡ false → Moves at n b b') →
@@ -132,7 +132,7 @@ module _ {s t : Bytes} {at : ℕ} (stands : Stands s t at) where
   digits-moves (suc f) (suc f') p l m m' =
       choose (digit-agrees p l)
       (λ h. andThen _ _ (counted-moves p (digit-before p h)) λ q l' e.
-        let next = counted-next 0 p q e in digits-moves f f' q l' (omega arith) (omega arith))
+      let next = counted-next 0 p q e in digits-moves f f' q l' (omega arith) (omega arith))
       (λ h. result p (at + p) refl l)
 
   exponent-end : (f f' size p : ℕ) → p ≤ length t → length t ≤ p → Moves at (length t) (exponentDigits f t 0 size p) (exponentDigits f' s at size (at + p))
@@ -147,12 +147,12 @@ module _ {s t : Bytes} {at : ℕ} (stands : Stands s t at) where
   exponent-moves (suc f) (suc f') size p l m m' =
       choose (digit-agrees p l)
       (λ h.
-          let byte-same = stands .same p (digit-before p h) in
-          choose (ap (λ b. leb (size * 10 + (b - 48)) maxExponent) byte-same)
-          (λ i. andThen _ _ (counted-moves p (digit-before p h)) λ q l' e.
-            let next = counted-next 0 p q e in
-            rw byte-same (exponent-moves f f' (size * 10 + (byte t p - 48)) q l' (omega arith) (omega arith)))
-          (λ i. none))
+      let byte-same = stands .same p (digit-before p h) in
+      choose (ap (λ b. leb (size * 10 + (b - 48)) maxExponent) byte-same)
+      (λ i. andThen _ _ (counted-moves p (digit-before p h)) λ q l' e.
+      let next = counted-next 0 p q e in
+      rw byte-same (exponent-moves f f' (size * 10 + (byte t p - 48)) q l' (omega arith) (omega arith)))
+      (λ i. none))
       (λ h. result p (at + p) refl l)
 
   -- a first digit, which must be there
@@ -227,16 +227,19 @@ written-first (writes m i f x negative fraction exponent Statement.minus j k e) 
 written-first (writes m i f x negative fraction exponent Statement.none Statement.zero k e) = refl
 written-first (writes m i f x negative fraction exponent Statement.none (nonzero d ds h n a) k e) = rw h
 
-pub number-first : (t : Bytes) → number t 0 ≡ ok (length t) → (isDigit (byte t 0) || eqb (byte t 0) 45) ≡ true
-number-first t h = written-first (number-valued t h .1)
-
-pub number-some : (t : Bytes) → number t 0 ≡ ok (length t) → 1 ≤ length t
+pub written-some : {t : Bytes} {x : Exact} → Writes t x → 1 ≤ length t
 unfolding byte isDigit within
-number-some t h = go t (number-first t h)
+written-some {t} w = go t (written-first w)
   where
     go : (t : Bytes) → (isDigit (byte t 0) || eqb (byte t 0) 45) ≡ true → 1 ≤ length t
     go [] h = absurd (true≢false (sym h))
     go (c ∷ t) h = omega arith
+
+pub number-first : (t : Bytes) → number t 0 ≡ ok (length t) → (isDigit (byte t 0) || eqb (byte t 0) 45) ≡ true
+number-first t h = written-first (number-valued t h .1)
+
+pub number-some : (t : Bytes) → number t 0 ≡ ok (length t) → 1 ≤ length t
+number-some t h = written-some (number-valued t h .1)
 
 stands : {s : Bytes} {at : ℕ} (t r : Bytes) → 1 ≤ length t → Ends (byte s (at + length t)) → Rest s at (t ++ r) → Stands s t at
 unfolding byte

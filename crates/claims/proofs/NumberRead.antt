@@ -7,7 +7,7 @@ use native.Mathlib.Omega.{arith}
 use native.Mathlib.Numerals.{add-one}
 use native.Mathlib.Decide.{decLt}
 use lib.Dec.{eqb, leb, ltb}
-use lib.ListN.{length, drop}
+use lib.ListN.{length, drop, length-append}
 use lib.Seq.{drop-cons, drop-length}
 use lib.IntN.{ℤ, pos, negℤ}
 use borrow.Author.Tests.{eqb-true, eqb-false, eq-eqb, ne-eqb}
@@ -26,6 +26,7 @@ use Rattle.claims.proofs.Normal.{digit-bounds, digits-cons}
 pub record Spans (P : Bytes → Type 0) (s : Bytes) (at next : ℕ) : Type 0 where
   pub text : Bytes
   pub is : drop at s ≡ text ++ drop next s
+  pub place : next ≡ at + length text
   pub holds : P text
 
 -- a byte that is not 0 stands before the end
@@ -53,14 +54,20 @@ is-there s at c n h = let e = eqb-true (byte s at) c h in drop-byte s at (λ z. 
 -- one more byte in front
 one-more : {P Q : Bytes → Type 0} {s : Bytes} {at next : ℕ} (c : ℕ) → drop at s ≡ c ∷ drop (at + 1) s → ((t : Bytes) → P t → Q (c ∷ t)) →
     Spans P s (at + 1) next → Spans Q s at next
-one-more c h f p = record { text = c ∷ p .text; is = h ∙ ap (_∷_ c) (p .is); holds = f (p .text) (p .holds) }
+one-more {s = s} {at} {next} c h f p =
+    let there = p .place in
+    record { text = c ∷ p .text; is = h ∙ ap (_∷_ c) (p .is); place = omega arith; holds = f (p .text) (p .holds) }
+
+-- nothing
+nothing : {P : Bytes → Type 0} (s : Bytes) (at : ℕ) → P [] → Spans P s at at
+nothing s at p = record { text = []; is = refl; place = omega arith; holds = p }
 
 abbrev AllDigits : Bytes → Type 0
 AllDigits t = allDigits t ≡ true
 
 no-digits : (s : Bytes) (at : ℕ) → Spans AllDigits s at at
 unfolding allDigits
-no-digits s at = record { text = []; is = refl; holds = refl }
+no-digits s at = nothing s at refl
 
 digits-spans : (fuel : ℕ) (s : Bytes) (start at next : ℕ) → digits fuel s start at ≡ ok next → Spans AllDigits s at next
 unfolding digits
@@ -155,7 +162,7 @@ int-spans s start at next h = go (eqb (byte s at) 48) refl h
   where
     go : (b : Bool) → eqb (byte s at) 48 ≡ b → (if b then counted start at else someDigits s start at) ≡ ok next → Spans Int s at next
     go true q h =
-        rw (counted-next start at next h) (record { text = 48 ∷ []; is = is-there s at 48 (λ z. omega arith) q; holds = Statement.zero })
+        rw (counted-next start at next h) (record { text = 48 ∷ []; is = is-there s at 48 (λ z. omega arith) q; place = refl; holds = Statement.zero })
     go false q h =
         let o = some-digits s start at next h in
         one-more (byte s at) (digit-there s at (o .first)) (λ t i. nonzero (byte s at) t (o .first) (eqb-false _ _ q) i) (o .others)
@@ -172,7 +179,7 @@ frac-spans s start at next h = go (eqb (byte s at) 46) refl h
         let (place, e, i) = both-ok (counted start at) (someDigits s start) next h in
         let o = some-digits s start (at + 1) next (rw (← counted-next start at place e) i) in
         one-more 46 (is-there s at 46 (λ z. omega arith) q) (λ t d. (t, point t d)) (one-or-more o)
-    go false q h = let same : at ≡ next = cc in rw (← same) (record { text = []; is = refl; holds = ([], Statement.none) })
+    go false q h = let same : at ≡ next = cc in rw (← same) (nothing s at ([], Statement.none))
 
 abbrev IsExp : Bytes → Type 0
 IsExp x = (e : ℤ) × Exp x e
@@ -197,7 +204,7 @@ signed-spans s start at next h =
     go false false q r first h o =
         let same : first ≡ at = cc in
         let p = rw same at o in
-        record { text = p .text; is = p .is; holds = λ e i. (_, plain e (p .text) i (p .holds)) }
+        record { text = p .text; is = p .is; place = p .place; holds = λ e i. (_, plain e (p .text) i (p .holds)) }
 
 e-there : (s : Bytes) (at : ℕ) → isE (byte s at) ≡ true → drop at s ≡ byte s at ∷ drop (at + 1) s
 unfolding isE
@@ -212,7 +219,7 @@ exp-spans s start at next h = go (isE (byte s at)) refl h
         let (place, e, i) = both-ok (counted start at) (signedDigits s start) next h in
         let p = signed-spans s start (at + 1) next (rw (← counted-next start at place e) i) in
         one-more (byte s at) (e-there s at q) (λ t f. f (byte s at) q) p
-    go false q h = let same : at ≡ next = cc in rw (← same) (record { text = []; is = refl; holds = (pos 0, Statement.none) })
+    go false q h = let same : at ≡ next = cc in rw (← same) (nothing s at (pos 0, Statement.none))
 
 abbrev IsMinus : Bytes → Type 0
 IsMinus m = (negative : Bool) × Minus m negative
@@ -222,25 +229,35 @@ unfolding minus
 minus-spans s at = go (eqb (byte s at) 45) refl
   where
     go : (b : Bool) → eqb (byte s at) 45 ≡ b → Spans IsMinus s at (if b then at + 1 else at)
-    go true q = record { text = 45 ∷ []; is = is-there s at 45 (λ z. omega arith) q; holds = (true, Statement.minus) }
-    go false q = record { text = []; is = refl; holds = (false, Statement.none) }
+    go true q = record { text = 45 ∷ []; is = is-there s at 45 (λ z. omega arith) q; place = refl; holds = (true, Statement.minus) }
+    go false q = nothing s at (false, Statement.none)
 
--- four pieces in a row up to the end of the text
-joined : (t : Bytes) {p q r : ℕ} → Spans IsMinus t 0 p → Spans Int t p q → Spans IsFrac t q r → Spans IsExp t r (length t) → (x : Exact) × Writes t x
-joined t a b c d =
-    let parts : t ≡ a .text ++ (b .text ++ (c .text ++ d .text)) =
-    a .is ∙ ap (λ r. a .text ++ r) (b .is ∙ ap (λ r. b .text ++ r) (c .is ∙ ap (λ r. c .text ++ r) (d .is ∙ ends (d .text)))) in
-    moved parts (writes _ _ _ _ _ _ _ (a .holds .1) (b .holds) (c .holds .1) (d .holds .1))
-  where
-    moved : {u : Bytes} {x : Exact} → t ≡ u → Writes u x → (x : Exact) × Writes t x
-    moved {x = x} h w = (x, subst (λ r. Writes r x) (sym h) w)
+abbrev IsNumber : Bytes → Type 0
+IsNumber t = (x : Exact) × Writes t x
 
-    ends : (x : Bytes) → x ++ drop (length t) t ≡ x
-    ends x = ap (λ r. x ++ r) (drop-length t) ∙ append-nil x
+-- four pieces in a row
+joined : {s : Bytes} {p q r u v : ℕ} → Spans IsMinus s p q → Spans Int s q r → Spans IsFrac s r u → Spans IsExp s u v → Spans IsNumber s p v
+joined {s} {p} {q} {r} {u} {v} a b c d =
+    let first = a .place in
+    let second = b .place in
+    let third = c .place in
+    let fourth = d .place in
+    record {
+      text = a .text ++ (b .text ++ (c .text ++ d .text));
+      is = a .is ∙ ap (λ w. a .text ++ w) (b .is ∙ ap (λ w. b .text ++ w) (c .is ∙ ap (λ w. c .text ++ w) (d .is))) ∙ simp append-assoc;
+      place = simp length-append (omega arith);
+      holds = (_, writes _ _ _ _ _ _ _ (a .holds .1) (b .holds) (c .holds .1) (d .holds .1));
+    }
+
+pub number-spans : (s : Bytes) (at next : ℕ) → number s at ≡ ok next → Spans IsNumber s at next
+unfolding number
+number-spans s at next h =
+    let (fraction, e, i) = both-ok (int s at (minus s at)) _ next h in
+    let (exponent, f, g) = both-ok (frac s at fraction) _ next i in
+    joined (minus-spans s at) (int-spans s at (minus s at) fraction e) (frac-spans s at fraction exponent f) (exp-spans s at exponent next g)
 
 pub number-valued : (t : Bytes) → number t 0 ≡ ok (length t) → (x : Exact) × Writes t x
-unfolding number
 number-valued t h =
-    let (fraction, e, i) = both-ok (int t 0 (minus t 0)) _ (length t) h in
-    let (exponent, f, g) = both-ok (frac t 0 fraction) _ (length t) i in
-    joined t (minus-spans t 0) (int-spans t 0 (minus t 0) fraction e) (frac-spans t 0 fraction exponent f) (exp-spans t 0 exponent (length t) g)
+    let p = number-spans t 0 (length t) h in
+    let whole : t ≡ p .text = p .is ∙ ap (λ r. p .text ++ r) (drop-length t) ∙ append-nil (p .text) in
+    subst IsNumber (sym whole) (p .holds)

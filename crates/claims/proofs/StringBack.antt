@@ -26,7 +26,7 @@ characters-back {s} {at} (suc fuel) (c ∷ cs) r l scalars h =
     let b = character-back c (writeCharacters cs ++ (34 ∷ r)) (q .0) here in
     let others = characters-back fuel cs r (omega arith) (q .1) (rest-more (writeCharacter c) here) in
     let place : at + length (writeCharacter c) + (length (writeCharacters cs) + 1) ≡ at + (length (writeCharacter c ++ writeCharacters cs) + 1) =
-        omega (arith, length-append (writeCharacter c) (writeCharacters cs)) in
+    omega (arith, length-append (writeCharacter c) (writeCharacters cs)) in
     rw (b .no-quote, b .reads, others, place)
 
 characters-length : (cs : Text) → length cs ≤ length (writeCharacters cs)
@@ -41,7 +41,7 @@ unfolding string writeString _>>=_
 string-back {s} {at} cs r scalars h =
     let inside = rw (append-assoc (writeCharacters cs) (34 ∷ []) r) at (rest-next h) in
     let fuel : length cs < length s =
-        omega (arith, rest-length inside, characters-length cs, length-append (writeCharacters cs) (34 ∷ r)) in
+    omega (arith, rest-length inside, characters-length cs, length-append (writeCharacters cs) (34 ∷ r)) in
     let place : at + 1 + (length (writeCharacters cs) + 1) ≡ at + suc (length (writeCharacters cs ++ (34 ∷ []))) =
-        omega (arith, length-append (writeCharacters cs) (34 ∷ [])) in
+    omega (arith, length-append (writeCharacters cs) (34 ∷ [])) in
     rw (byteIn-ok s at 34 34 34 (first-byte h) (omega arith) (omega arith), characters-back (length s) cs r fuel scalars inside, place)

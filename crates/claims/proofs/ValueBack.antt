@@ -29,9 +29,6 @@ use Rattle.claims.proofs.ScalarBack.{blanks-none, room, Begins, string-
 
 -- The text of a container, item by item
 
-valueAt : Entry → Members → Value.Value
-valueAt e kids = record { label = e .label; kids = kids }
-
 items-split : (object : Bool) (e : Entry) (kids rest : Members) →
     writeItems object true (tree e kids rest) ≡ writeName object (e .name) ++ (write (record { label = e .label; kids = kids }) ++ writeItems object false rest)
 unfolding writeItems write comma
@@ -54,8 +51,12 @@ opening-some Proper.object = omega arith
 write-some : (v : Value.Value) → Allows (v .label) (v .kids) → 1 ≤ length (write v)
 unfolding write
 write-some v a =
-    omega (arith, opening-some a, length-append (opening (v .label)) (writeItems (isObject (v .label)) true (v .kids)),
-      length-append (opening (v .label) ++ writeItems (isObject (v .label)) true (v .kids)) (closing (v .label)))
+    omega (
+      arith,
+      opening-some a,
+      length-append (opening (v .label)) (writeItems (isObject (v .label)) true (v .kids)),
+      length-append (opening (v .label) ++ writeItems (isObject (v .label)) true (v .kids)) (closing (v .label)),
+    )
 
 -- there are at least as many bytes as items
 items-length : {object : Bool} {f : Members} (first : Bool) → ProperItems object f → count f ≤ length (writeItems object first f)
@@ -99,8 +100,14 @@ name-back {s} {at} true name so-far r e m b h =
     let next = at + length (writeString name) in
     let colon = first-byte (rest-more (writeString name) here) in
     let place : next + 1 ≡ at + length (writeString name ++ (58 ∷ [])) = omega (arith, length-append (writeString name) (58 ∷ [])) in
-    rw (string-back name (58 ∷ r) (facts .0) here, facts .1, blanks-none s next (rw colon), byteIn-ok s next 58 58 58 colon (omega arith) (omega arith), place,
-      blanks-none s (at + length (writeString name ++ (58 ∷ []))) b)
+    rw (
+      string-back name (58 ∷ r) (facts .0) here,
+      facts .1,
+      blanks-none s next (rw colon),
+      byteIn-ok s next 58 58 58 colon (omega arith) (omega arith),
+      place,
+      blanks-none s (at + length (writeString name ++ (58 ∷ []))) b,
+    )
 
 -- An item after others, in a container without repeated names
 
@@ -109,7 +116,7 @@ unfolding _⧺_
 append-assoc-⧺ none g h = refl
 append-assoc-⧺ (tree e kids rest) g h = ap (tree e kids) (append-assoc-⧺ rest g h)
 
-size-append : (f g : Members) → size (f ⧺ g) ≡ size f + size g
+pub size-append : (f g : Members) → size (f ⧺ g) ≡ size f + size g
 unfolding _⧺_ size
 size-append none g = omega arith
 size-append (tree e kids rest) g = let ih = size-append rest g in omega arith
@@ -120,11 +127,11 @@ unfolding _⧺_
 absent-after n none e kids rest h q = absent-parts n e kids rest h .0 q
 absent-after n (tree d below g) e kids rest h q = absent-after n g e kids rest (absent-parts n d below (g ⧺ tree e kids rest) h .1) q
 
-record Item (object : Bool) (so-far : Members) (e : Entry) (kids : Members) : Type 0 where
-  unnamed : object ≡ false → e .name ≡ []
-  fresh-name : object ≡ true → (allScalarValues (e .name) ≡ true) × (has (e .name) so-far ≡ false)
-  allows : Allows (e .label) kids
-  inside : ProperItems (isObject (e .label)) kids
+pub record Item (object : Bool) (so-far : Members) (e : Entry) (kids : Members) : Type 0 where
+  pub unnamed : object ≡ false → e .name ≡ []
+  pub fresh-name : object ≡ true → (allScalarValues (e .name) ≡ true) × (has (e .name) so-far ≡ false)
+  pub allows : Allows (e .label) kids
+  pub inside : ProperItems (isObject (e .label)) kids
 
 item : {object : Bool} (so-far : Members) (e : Entry) (kids rest : Members) → ProperItems object (so-far ⧺ tree e kids rest) → Item object so-far e kids
 unfolding _⧺_ count find
@@ -188,10 +195,10 @@ contents-back {s} {at} object left nodes none r back p d n h =
 contents-back {s} {at} object left nodes (tree e kids rest) r back p d n h =
     let begins = items-begin (closingBracket object ∷ r) p (omega arith) h in
     let fuel : suc (count rest) ≤ length s =
-        omega (arith, items-length true p, rest-length h, length-append (writeItems object true (tree e kids rest)) (closingBracket object ∷ r)) in
+    omega (arith, items-length true p, rest-length h, length-append (writeItems object true (tree e kids rest)) (closingBracket object ∷ r)) in
     rw (blanks-none s at (begins .no-blank), begins-no-closing object (byte s at) begins)
     (back object left (length s) nodes none at r
-      (record { some = omega arith; proper = p; shallow = d; few = omega arith; fuelled = fuel; text = h }))
+    (record { some = omega arith; proper = p; shallow = d; few = omega arith; fuelled = fuel; text = h }))
 
 container-back : {s : Bytes} {at : ℕ} (object : Bool) (left nodes b : ℕ) (kids : Members) (r : Bytes) → ItemsBack s kids → ProperItems object kids → depths kids ≤ left →
     suc (nodes + size kids) ≤ 2048 → Rest s at (b ∷ (writeItems object true kids ++ (closingBracket object ∷ r))) →
@@ -260,8 +267,8 @@ module _ {s : Bytes} {at : ℕ} (left nodes : ℕ) (r : Bytes) where
 items-step : (fuel : ℕ) (value : ℕ → ℕ → Outcome (Value.Value × ℕ)) (object : Bool) (s : Bytes) (nodes : ℕ) (so-far : Members) (at : ℕ) (name : Text) (v : Value.Value) (place next : ℕ) →
     nameFor object s so-far at ≡ ok (name, place) → value place (nodes + size so-far) ≡ ok (v, next) → isBlank (byte s next) ≡ false →
     items (suc fuel) value object s nodes so-far at ≡
-      (if eqb (byte s next) (closingBracket object) then ok (so-far ⧺ single (named name v), next + 1) else
-      (byteIn s next 44 44 >>= λ _. items fuel value object s nodes (so-far ⧺ single (named name v)) (blanks s (next + 1))))
+    (if eqb (byte s next) (closingBracket object) then ok (so-far ⧺ single (named name v), next + 1) else
+    (byteIn s next 44 44 >>= λ _. items fuel value object s nodes (so-far ⧺ single (named name v)) (blanks s (next + 1))))
 unfolding items _>>=_
 items-step fuel value object s nodes so-far at name v place next n r b = rw (n, r, blanks-none s next b)
 
@@ -284,9 +291,9 @@ record OneRead (s : Bytes) (object : Bool) (left nodes : ℕ) (so-far : Members)
   rest : Rest s (after at object e kids) more
   step : (fuel : ℕ) →
       items (suc fuel) (value left s) object s nodes so-far at ≡
-        (if eqb (byte s (after at object e kids)) (closingBracket object) then ok (so-far ⧺ tree e kids none, after at object e kids + 1) else
-        (byteIn s (after at object e kids) 44 44 >>= λ _.
-          items fuel (value left s) object s nodes (so-far ⧺ tree e kids none) (blanks s (after at object e kids + 1))))
+      (if eqb (byte s (after at object e kids)) (closingBracket object) then ok (so-far ⧺ tree e kids none, after at object e kids + 1) else
+      (byteIn s (after at object e kids) 44 44 >>= λ _.
+      items fuel (value left s) object s nodes (so-far ⧺ tree e kids none) (blanks s (after at object e kids + 1))))
 
 one-read : (s : Bytes) (object : Bool) (left nodes : ℕ) (so-far : Members) (e : Entry) (kids : Members) (at : ℕ) (more : Bytes) → Item object so-far e kids →
     ItemsBack s kids → levels (e .label) (depths kids) ≤ left → suc (nodes + size so-far + size kids) ≤ 2048 → Ends (byte more 0) → isBlank (byte more 0) ≡ false →
@@ -300,10 +307,10 @@ one-read s object left nodes so-far e kids at more i back shallow few ends blank
     record {
       rest = rest-more (write v) here;
       step = λ fuel.
-        items-step fuel (value left s) object s nodes so-far at (e .name) v (at + length name) (at + length name + length (write v))
-        (name-back object (e .name) so-far (write v ++ more) (i .unnamed) (i .fresh-name) (begins .no-blank) text)
-        (value-back left (nodes + size so-far) more back (i .allows) (i .inside) shallow few ends here)
-        (rw (follows (write v) more here) blank);
+          items-step fuel (value left s) object s nodes so-far at (e .name) v (at + length name) (at + length name + length (write v))
+          (name-back object (e .name) so-far (write v ++ more) (i .unnamed) (i .fresh-name) (begins .no-blank) text)
+          (value-back left (nodes + size so-far) more back (i .allows) (i .inside) shallow few ends here)
+          (rw (follows (write v) more here) blank);
     }
 
 -- All items from one on
@@ -368,10 +375,17 @@ module _ (s : Bytes) (object : Bool) (left fuel nodes : ℕ) (so-far : Members) 
       let here = one .rest in
       let begins = items-begin (closingBracket object ∷ r) (proper-rest (so-far ⧺ tree e kids none) (tree d below rest) proper-others) (omega arith) (rest-next here) in
       let end : next + 1 + (length (writeItems object true (tree d below rest)) + 1) ≡ at + (length (writeItems object true (tree e kids (tree d below rest))) + 1) =
-          omega (arith, after-length at object e kids (tree d below rest), ap length (items-comma object d below rest)) in
+      omega (arith, after-length at object e kids (tree d below rest), ap length (items-comma object d below rest)) in
       one .step fuel ∙
-      rw (first-byte here, comma-no-closing object, byteIn-ok s next 44 44 44 (first-byte here) (omega arith) (omega arith), blanks-none s (next + 1) (begins .no-blank),
-        others object left fuel nodes (so-far ⧺ tree e kids none) (next + 1) r fits-others, append-assoc-⧺ so-far (tree e kids none) (tree d below rest), end)
+      rw (
+        first-byte here,
+        comma-no-closing object,
+        byteIn-ok s next 44 44 44 (first-byte here) (omega arith) (omega arith),
+        blanks-none s (next + 1) (begins .no-blank),
+        others object left fuel nodes (so-far ⧺ tree e kids none) (next + 1) r fits-others,
+        append-assoc-⧺ so-far (tree e kids none) (tree d below rest),
+        end,
+      )
 
 more-back : (s : Bytes) (e : Entry) (kids : Members) (d : Entry) (below rest : Members) → ItemsBack s kids → ItemsBack s (tree d below rest) →
     ItemsBack s (tree e kids (tree d below rest))
