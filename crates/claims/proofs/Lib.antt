@@ -1,7 +1,7 @@
 pub mod LabelLaws
 pub mod Alike
 pub mod Found
-pub mod EqualityTheorem
+pub mod Matching
 pub mod Scaling
 pub mod Normal
 pub mod NumberParts
@@ -20,3 +20,5 @@ pub mod ValueBack
 pub mod CharacterScalar
 pub mod ReadProper
 pub mod RoundTripTheorem
+pub mod EqualityRules
+pub mod EqualityTheorem

@@ -1,6 +1,6 @@
 pub mod Proper
-pub mod Equality
 pub mod Numbers
+pub mod Equality
 pub mod Operations
 pub mod Pointers
 pub mod RoundTrip
