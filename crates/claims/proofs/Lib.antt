@@ -19,6 +19,9 @@ pub mod ScalarBack
 pub mod ValueBack
 pub mod CharacterScalar
 pub mod ReadProper
+pub mod ProperOperations
+pub mod ProperPatch
 pub mod RoundTripTheorem
 pub mod EqualityRules
 pub mod EqualityTheorem
+pub mod ClaimsTheorem

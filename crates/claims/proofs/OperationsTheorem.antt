@@ -32,7 +32,7 @@ use Rattle.claims.proofs.ReplaceLaws.{AtParent, end, step, at-parent, c
 
 -- Replace
 
-proper-nth : (z : Tree Entry) (object : Bool) (k : ℕ) (f : Members) → ProperItems object f → k < count f → Proper (valueOf (nth z k f))
+pub proper-nth : (z : Tree Entry) (object : Bool) (k : ℕ) (f : Members) → ProperItems object f → k < count f → Proper (valueOf (nth z k f))
 unfolding nth count
 proper-nth z object k none p h = absurd (omega arith)
 proper-nth z false zero (tree e kids rest) (element n l i p) h = record { allows = l; items = i }

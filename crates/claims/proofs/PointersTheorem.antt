@@ -13,12 +13,12 @@ use Rattle.spec.proofs.OutcomeLaws.{refused≢ok, both-ok, either-ok}
 use Rattle.claims.specs.Pointers.{escapeCharacter, escapeToken, pointerOf, PointersStatement}
 
 -- a character by its escape
-data Escaped : ℕ → Text → Type 0 where
+pub data Escaped : ℕ → Text → Type 0 where
   tilde-escaped : Escaped 126 (126 ∷ 48 ∷ [])
   slash-escaped : Escaped 47 (126 ∷ 49 ∷ [])
   plain : {c : ℕ} → eqb c 126 ≡ false → eqb c 47 ≡ false → Escaped c (c ∷ [])
 
-escaped : (c : ℕ) → Escaped c (escapeCharacter c)
+pub escaped : (c : ℕ) → Escaped c (escapeCharacter c)
 unfolding escapeCharacter ascii
 escaped c = go (eqb c 126) (eqb c 47) refl refl
   where

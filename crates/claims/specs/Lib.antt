@@ -4,3 +4,4 @@ pub mod Equality
 pub mod Operations
 pub mod Pointers
 pub mod RoundTrip
+pub mod Claims

@@ -1,16 +1,17 @@
--- Values as texts are read: RFC 8259, sections 3 to 7, at every depth. The limits on depth and nodes are apart from this.
+-- Values as texts are read: RFC 8259, sections 3 to 7, at every depth, and within the limits of document 01.
 use mathlib.Core.Path.{_≡_}
-use Prim.Native.Nat.{ℕ}
+use Prim.Native.Nat.{ℕ, _≤_}
 use mathlib.Core.List.{[], _∷_}
 use mathlib.Core.Bool.{Bool, true, false, _&&_, _||_}
 use lib.ListN.{length}
 use lib.Dec.{leb}
 use Rattle.spec.specs.Outcome.{ok}
+use Rattle.spec.specs.Limits.{maxDepth, maxNodes}
 use Rattle.spec.specs.Bytes.{Bytes, Text, within}
 use Rattle.spec.specs.Numbers as Numbers
 use Rattle.spec.specs.Forest.{none, tree}
 use Rattle.spec.specs.Value as Value
-use Rattle.spec.specs.Value.{Label, Entry, Members, isObject, has}
+use Rattle.spec.specs.Value.{Label, Entry, Members, isObject, has, depth, nodes}
 
 -- a Unicode scalar value: any code point but the surrogates, D800 to DFFF
 unfoldable pub isScalarValue : ℕ → Bool
@@ -42,3 +43,9 @@ pub data ProperItems : Bool → Members → Type 0 where
 pub record Proper (v : Value.Value) : Type 0 where
   pub allows : Allows (v .label) (v .kids)
   pub items : ProperItems (isObject (v .label)) (v .kids)
+
+-- proper, and within the limits: the values that texts are read as (`RoundTrip`)
+pub record Readable (v : Value.Value) : Type 0 where
+  pub proper : Proper v
+  pub shallow : depth v ≤ maxDepth
+  pub few : nodes v ≤ maxNodes
