@@ -112,16 +112,19 @@ module _ {s : Bytes} {at : ℕ} where
       )
 
 -- what a scalar value is not
+either-true : {C : Type 0} (a b : Bool) → (a || b) ≡ true → (a ≡ true → C) → (b ≡ true → C) → C
+either-true true b h f g = f refl
+either-true false b h f g = g h
+
 scalar-bounds : (c : ℕ) → isScalarValue c ≡ true → (c < 0xE000 → c ≤ 0xD7FF) × (c ≤ 0x10_FFFF)
 unfolding isScalarValue within
-scalar-bounds c h = go (leb c 0xD7FF) refl h
-  where
-    go : (b : Bool) → leb c 0xD7FF ≡ b → (b || (leb 0xE000 c && leb c 0x10_FFFF)) ≡ true → (c < 0xE000 → c ≤ 0xD7FF) × (c ≤ 0x10_FFFF)
-    go true q h = let l = leb-true c 0xD7FF q in (λ _. l, omega arith)
-    go false q h =
-        let t = both-true (leb 0xE000 c) (leb c 0x10_FFFF) h in
-        let low = leb-true 0xE000 c (t .0) in
-        (λ p. absurd (omega arith), leb-true c 0x10_FFFF (t .1))
+scalar-bounds c h =
+    either-true (leb c 0xD7FF) (leb 0xE000 c && leb c 0x10_FFFF) h
+    (λ t. let low = leb-true c 0xD7FF t in (λ _. low, omega arith))
+    (λ t.
+    let q = both-true (leb 0xE000 c) (leb c 0x10_FFFF) t in
+    let low = leb-true 0xE000 c (q .0) in
+    (λ p. absurd (omega arith), leb-true c 0x10_FFFF (q .1)))
 
 before-surrogates : (c : ℕ) → isScalarValue c ≡ true → c < 0xE000 → c ≤ 0xD7FF
 before-surrogates c h = scalar-bounds c h .0

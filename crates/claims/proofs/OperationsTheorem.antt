@@ -124,21 +124,6 @@ run-stops (e ∷ earlier) later o op v w number place h i = go (limited e v) h (
     go (ok u) h ih = let count : length earlier + (op + 1) ≡ suc (length earlier) + op = omega arith in ih u h i ∙ ap (stopped number) count
     go (refused n p) h ih = cc
 
-failure : (document patch : Bytes) (lent : Lent) (d w : Value.Value) (earlier later : List Operation) (o : Operation) (number place : ℕ) →
-    Accepted document d → WellFormed patch (earlier ++ (o ∷ later)) → workSuffices lent ≡ true → run limited 1 earlier d ≡ finished w →
-    limited o w ≡ refused number place → answer document patch lent ≡ refusal number 0 (length earlier + 1) 0
-unfolding answer onDocument onPatch patched answerOf onFinish
-failure document patch lent d w earlier later o number place accepted formed work h i =
-    rw (
-      work,
-      le-leb _ _ (accepted .fits),
-      le-leb _ _ (formed .fits),
-      accepted .reads,
-      formed .reads,
-      formed .shaped,
-      run-stops earlier later o 1 d w number place h i,
-    )
-
 -- no text beside a refusal: so of each step that makes an answer
 record Silent (a : Answer) : Type 0 where
   silent : (a .number ≡ 0 → ⊥) → a .written ≡ []
@@ -178,7 +163,7 @@ answer-silent document patch lent =
     (refusal-silent _ _ _ _)
 
 pub operations : OperationsStatement
-unfolding perform replaceAtPath addAt removeAtPath moveTo copyTo
+unfolding perform replaceAtPath addAt removeAtPath moveTo copyTo answer onDocument onPatch patched answerOf onFinish
 operations =
     record {
       replace = replace-reordered;
@@ -187,6 +172,15 @@ operations =
       move = λ t ts path v. refl;
       copy = λ from path v. refl;
       test = test-found;
-      failure = failure;
+      failure = λ document patch lent d w earlier later o number place accepted formed work h i.
+          rw (
+            work,
+            le-leb _ _ (accepted .fits),
+            le-leb _ _ (formed .fits),
+            accepted .reads,
+            formed .reads,
+            formed .shaped,
+            run-stops earlier later o 1 d w number place h i,
+          );
       nothing-written = λ document patch lent. answer-silent document patch lent .silent;
     }

@@ -18,14 +18,16 @@ pub data Escaped : ℕ → Text → Type 0 where
   slash-escaped : Escaped 47 (126 ∷ 49 ∷ [])
   plain : {c : ℕ} → eqb c 126 ≡ false → eqb c 47 ≡ false → Escaped c (c ∷ [])
 
+either : {c : ℕ} (test : Bool) {a b : Text} → (test ≡ true → Escaped c a) → (test ≡ false → Escaped c b) → Escaped c (if test then a else b)
+either true f g = f refl
+either false f g = g refl
+
 pub escaped : (c : ℕ) → Escaped c (escapeCharacter c)
 unfolding escapeCharacter ascii
-escaped c = go (eqb c 126) (eqb c 47) refl refl
-  where
-    go : (t s : Bool) → eqb c 126 ≡ t → eqb c 47 ≡ s → Escaped c (if t then ascii "~0" else if s then ascii "~1" else c ∷ [])
-    go true s q r = rw (eqb-true c 126 q) tilde-escaped
-    go false true q r = rw (eqb-true c 47 r) slash-escaped
-    go false false q r = plain q r
+escaped c =
+    either (eqb c 126) (λ q. rw (eqb-true c 126 q) tilde-escaped) λ q.
+    either (eqb c 47) (λ r. rw (eqb-true c 47 r) slash-escaped) λ r.
+    plain q r
 
 -- Written, then read
 
