@@ -2,10 +2,8 @@
 -- repeated names or without.
 use mathlib.Core.Path.{_≡_, refl, sym, _∙_}
 use mathlib.Core.Bool.{Bool, true, false}
-use Rattle.spec.specs.Bytes.{Text}
-use Rattle.spec.specs.Forest.{Forest, none, tree, Tree}
-use Rattle.spec.specs.Value as Value
-use Rattle.spec.specs.Value.{Label, Entry, Members, isObject}
+use Rattle.spec.specs.Forest.{Forest, none, tree}
+use Rattle.spec.specs.Value.{Entry, Members, isObject}
 use Rattle.claims.specs.Equality.{Permuted, empty, same, swap, more}
 use Rattle.claims.proofs.LabelLaws.{SameLabels, same-refl, same-sym, same-trans, isObject-same}
 

@@ -1,20 +1,20 @@
 -- A character that is written is read back.
-use mathlib.Core.Path.{_≡_, refl, ap, ap₂, sym, _∙_}
-use mathlib.Core.List.{List, [], _∷_, _++_}
-use mathlib.Core.Bool.{Bool, true, false, _&&_, _||_, true≢false}
-use Prim.Native.Nat.{ℕ, zero, suc, _+_, _-_, _*_, _/_, _%_, _≤_, _<_}
+use mathlib.Core.Path.{_≡_, refl, _∙_}
+use mathlib.Core.List.{[], _∷_, _++_}
+use mathlib.Core.Bool.{Bool, true, false, _&&_, _||_}
+use Prim.Native.Nat.{ℕ, _+_, _-_, _*_, _/_, _%_, _≤_, _<_}
 use native.Mathlib.Omega.{arith}
 use native.Mathlib.Decide.{decLt}
 use lib.Dec.{eqb, leb, ltb}
-use lib.ListN.{length, drop, getD}
-use borrow.Author.Tests.{eqb-true, eqb-false, eq-eqb, ne-eqb, leb-true, leb-false, le-leb, lt-leb, ltb-true, ltb-false, lt-ltb, le-ltb}
-use Rattle.spec.specs.Outcome.{Outcome, ok, refused, _>>=_, if_then_else_}
-use Rattle.spec.specs.Bytes.{Bytes, byte, byteIn, within, ascii}
+use lib.ListN.{length}
+use borrow.Author.Tests.{eqb-true, ne-eqb, leb-true, leb-false, ltb-true, ltb-false}
+use Rattle.spec.specs.Outcome.{ok, _>>=_, if_then_else_}
+use Rattle.spec.specs.Bytes.{Bytes, byte, within, ascii}
 use Rattle.spec.specs.Strings.{hexValue, hexIn, secondLimit, unicodeEscape, shortEscape, escape, tail, multibyte, character}
 use Rattle.spec.specs.Write.{utf8, hexDigit, writeCharacter}
 use Rattle.spec.proofs.TextLaws.{both-true}
 use Rattle.claims.specs.Proper.{isScalarValue}
-use Rattle.claims.proofs.Rest.{Rest, byte-at, first-byte, rest-next, rest-more, within-true, within-low, within-high, byteIn-ok}
+use Rattle.claims.proofs.Rest.{Rest, byte-at, first-byte, rest-next, within-true, within-low, within-high, byteIn-ok}
 
 module _ {s : Bytes} {at : ℕ} where
   -- a backslash and a letter

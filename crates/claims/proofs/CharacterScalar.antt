@@ -1,14 +1,13 @@
 -- What a string is read as are Unicode scalar values.
-use mathlib.Core.Path.{_≡_, refl, ap, sym, _∙_}
-use mathlib.Core.List.{[], _∷_}
-use mathlib.Core.Bool.{Bool, true, false, _&&_, _||_}
+use mathlib.Core.Path.{_≡_, refl, sym}
+use mathlib.Core.Bool.{Bool, true, false}
 use Prim.Native.Nat.{ℕ, zero, suc, _+_, _-_, _*_, _≤_, _<_}
 use native.Mathlib.Omega.{arith}
 use native.Mathlib.Decide.{decLt}
 use lib.Dec.{eqb, leb}
 use lib.ListN.{length}
-use borrow.Author.Tests.{eqb-true, eqb-false, leb-true, leb-false, le-leb, lt-leb}
-use Rattle.spec.specs.Outcome.{Outcome, ok, refused, _>>=_, if_then_else_}
+use borrow.Author.Tests.{leb-true, leb-false, le-leb, lt-leb}
+use Rattle.spec.specs.Outcome.{Outcome, ok, if_then_else_}
 use Rattle.spec.specs.Bytes.{Bytes, Text, byte, byteIn, within}
 use Rattle.spec.specs.Strings.{hexValue, hexIn, lowSurrogate, afterHigh, secondLimit, unicodeEscape, shortEscape, escape, tail, multibyte, character, characters, string}
 use Rattle.spec.proofs.OutcomeLaws.{refused≢ok, both-ok, first-ok}
@@ -128,7 +127,7 @@ unicode-scalar s at c next e =
     let bf = hexIn-bounds s (at + 3) 0x0 0xF f ef in
     let small = second-small a in
     if-ok (within 0xD800 0xDBFF (a * 0x1000 + b * 0x100 + d * 0x10 + f)) e4
-    (λ t i. let w = within-bounds 0xD800 0xDBFF (a * 0x1000 + b * 0x100 + d * 0x10 + f) t in after-scalar s _ (at + 4) c next (w .0) (w .1) i)
+    (λ t i. let first = within-bounds 0xD800 0xDBFF (a * 0x1000 + b * 0x100 + d * 0x10 + f) t in after-scalar s _ (at + 4) c next (first .0) (first .1) i)
     (λ t i. rw (← first-ok i) (four-scalar a b d f (ba .1) (bb .1) (omega arith) (bd .1) (bf .1) t))
 
 escape-scalar : (s : Bytes) (at c next : ℕ) → escape s at ≡ ok (c, next) → isScalarValue c ≡ true
@@ -140,33 +139,33 @@ escape-scalar s at c next h =
 
 -- UTF-8: what the bytes after the first come to
 
-record Tail-one (low high bits c : ℕ) : Type 0 where
+record LastByte (low high bits c : ℕ) : Type 0 where
   d : ℕ
   d-low : low ≤ d
   d-high : d ≤ high
   is : c ≡ bits * 64 + (d - 0x80)
 
-tail-one : (s : Bytes) (at low high bits c next : ℕ) → tail 1 s at low high bits ≡ ok (c, next) → Tail-one low high bits c
+tail-one : (s : Bytes) (at low high bits c next : ℕ) → tail 1 s at low high bits ≡ ok (c, next) → LastByte low high bits c
 unfolding tail
 tail-one s at low high bits c next h =
     let (d, e, i) = both-ok (byteIn s at low high) _ _ h in
     let b = byteIn-bounds s at low high d e in
     record { d = d; d-low = b .0; d-high = b .1; is = sym (first-ok i) }
 
-record Tail-more (more : ℕ → ℕ → Type 0) (low high bits c : ℕ) : Type 0 where
+record ByteThen (more : ℕ → ℕ → Type 0) (low high bits c : ℕ) : Type 0 where
   d : ℕ
   d-low : low ≤ d
   d-high : d ≤ high
   others : more (bits * 64 + (d - 0x80)) c
 
-tail-two : (s : Bytes) (at low high bits c next : ℕ) → tail 2 s at low high bits ≡ ok (c, next) → Tail-more (Tail-one 0x80 0xBF) low high bits c
+tail-two : (s : Bytes) (at low high bits c next : ℕ) → tail 2 s at low high bits ≡ ok (c, next) → ByteThen (LastByte 0x80 0xBF) low high bits c
 unfolding tail
 tail-two s at low high bits c next h =
     let (d, e, i) = both-ok (byteIn s at low high) _ _ h in
     let b = byteIn-bounds s at low high d e in
     record { d = d; d-low = b .0; d-high = b .1; others = tail-one s (at + 1) 0x80 0xBF _ c next i }
 
-tail-three : (s : Bytes) (at low high bits c next : ℕ) → tail 3 s at low high bits ≡ ok (c, next) → Tail-more (Tail-more (Tail-one 0x80 0xBF) 0x80 0xBF) low high bits c
+tail-three : (s : Bytes) (at low high bits c next : ℕ) → tail 3 s at low high bits ≡ ok (c, next) → ByteThen (ByteThen (LastByte 0x80 0xBF) 0x80 0xBF) low high bits c
 unfolding tail
 tail-three s at low high bits c next h =
     let (d, e, i) = both-ok (byteIn s at low high) _ _ h in
@@ -176,14 +175,14 @@ tail-three s at low high bits c next h =
 multibyte-scalar : (s : Bytes) (at b c next : ℕ) → multibyte s at b ≡ ok (c, next) → isScalarValue c ≡ true
 unfolding multibyte
 multibyte-scalar s at b c next h =
-    if-ok (within 0xC2 0xDF b) h (λ t i. let w = within-bounds 0xC2 0xDF b t in let x = tail-one s (at + 1) 0x80 0xBF (b - 0xC0) c next i in scalar-low c (omega arith)) λ _ h.
-    if-ok (within 0xE0 0xE0 b) h (λ t i. let w = within-bounds 0xE0 0xE0 b t in let x = tail-two s (at + 1) 0xA0 0xBF (b - 0xE0) c next i in scalar-low c (omega arith)) λ _ h.
-    if-ok (within 0xE1 0xEC b) h (λ t i. let w = within-bounds 0xE1 0xEC b t in let x = tail-two s (at + 1) 0x80 0xBF (b - 0xE0) c next i in scalar-low c (omega arith)) λ _ h.
-    if-ok (within 0xED 0xED b) h (λ t i. let w = within-bounds 0xED 0xED b t in let x = tail-two s (at + 1) 0x80 0x9F (b - 0xE0) c next i in scalar-low c (omega arith)) λ _ h.
-    if-ok (within 0xEE 0xEF b) h (λ t i. let w = within-bounds 0xEE 0xEF b t in let x = tail-two s (at + 1) 0x80 0xBF (b - 0xE0) c next i in scalar-high c (omega arith) (omega arith)) λ _ h.
-    if-ok (within 0xF0 0xF0 b) h (λ t i. let w = within-bounds 0xF0 0xF0 b t in let x = tail-three s (at + 1) 0x90 0xBF (b - 0xF0) c next i in scalar-high c (omega arith) (omega arith)) λ _ h.
-    if-ok (within 0xF1 0xF3 b) h (λ t i. let w = within-bounds 0xF1 0xF3 b t in let x = tail-three s (at + 1) 0x80 0xBF (b - 0xF0) c next i in scalar-high c (omega arith) (omega arith)) λ _ h.
-    if-ok (within 0xF4 0xF4 b) h (λ t i. let w = within-bounds 0xF4 0xF4 b t in let x = tail-three s (at + 1) 0x80 0x8F (b - 0xF0) c next i in scalar-high c (omega arith) (omega arith)) λ _ h.
+    if-ok (within 0xC2 0xDF b) h (λ t i. let first = within-bounds 0xC2 0xDF b t in let rest = tail-one s (at + 1) 0x80 0xBF (b - 0xC0) c next i in scalar-low c (omega arith)) λ _ h.
+    if-ok (within 0xE0 0xE0 b) h (λ t i. let first = within-bounds 0xE0 0xE0 b t in let rest = tail-two s (at + 1) 0xA0 0xBF (b - 0xE0) c next i in scalar-low c (omega arith)) λ _ h.
+    if-ok (within 0xE1 0xEC b) h (λ t i. let first = within-bounds 0xE1 0xEC b t in let rest = tail-two s (at + 1) 0x80 0xBF (b - 0xE0) c next i in scalar-low c (omega arith)) λ _ h.
+    if-ok (within 0xED 0xED b) h (λ t i. let first = within-bounds 0xED 0xED b t in let rest = tail-two s (at + 1) 0x80 0x9F (b - 0xE0) c next i in scalar-low c (omega arith)) λ _ h.
+    if-ok (within 0xEE 0xEF b) h (λ t i. let first = within-bounds 0xEE 0xEF b t in let rest = tail-two s (at + 1) 0x80 0xBF (b - 0xE0) c next i in scalar-high c (omega arith) (omega arith)) λ _ h.
+    if-ok (within 0xF0 0xF0 b) h (λ t i. let first = within-bounds 0xF0 0xF0 b t in let rest = tail-three s (at + 1) 0x90 0xBF (b - 0xF0) c next i in scalar-high c (omega arith) (omega arith)) λ _ h.
+    if-ok (within 0xF1 0xF3 b) h (λ t i. let first = within-bounds 0xF1 0xF3 b t in let rest = tail-three s (at + 1) 0x80 0xBF (b - 0xF0) c next i in scalar-high c (omega arith) (omega arith)) λ _ h.
+    if-ok (within 0xF4 0xF4 b) h (λ t i. let first = within-bounds 0xF4 0xF4 b t in let rest = tail-three s (at + 1) 0x80 0x8F (b - 0xF0) c next i in scalar-high c (omega arith) (omega arith)) λ _ h.
     absurd (refused≢ok h)
 
 pub character-scalar : (s : Bytes) (at c next : ℕ) → character s at ≡ ok (c, next) → isScalarValue c ≡ true
@@ -191,7 +190,7 @@ unfolding character
 character-scalar s at c next h =
     if-ok (eqb (byte s at) 92) h (λ t i. escape-scalar s (at + 1) c next i) λ t i.
     if-ok (within 0x20 0x7F (byte s at)) i
-    (λ u j. let w = within-bounds 0x20 0x7F (byte s at) u in rw (← first-ok j) (scalar-low (byte s at) (omega arith)))
+    (λ u j. let first = within-bounds 0x20 0x7F (byte s at) u in rw (← first-ok j) (scalar-low (byte s at) (omega arith)))
     (λ u j. multibyte-scalar s at (byte s at) c next j)
 
 characters-scalar : (fuel : ℕ) (s : Bytes) (at : ℕ) (cs : Text) (next : ℕ) → characters fuel s at ≡ ok (cs, next) → allScalarValues cs ≡ true

@@ -1,25 +1,24 @@
 -- The rules of RFC 6902's equality, one by one, against the tests of `equal`.
 use mathlib.Core.Path.{_≡_, refl, ap, sym, subst, _∙_}
 use mathlib.Core.Bool.{Bool, true, false, true≢false}
-use Prim.Native.Nat.{ℕ, suc}
+use Prim.Native.Nat.{ℕ}
 use native.Mathlib.Omega.{arith}
 use lib.Dec.{eqb}
 use lib.ListN.{length}
 use Rattle.spec.specs.Outcome.{ok, if_then_else_}
-use Rattle.spec.specs.Bytes.{Bytes, Text}
+use Rattle.spec.specs.Bytes.{Text}
 use Rattle.spec.specs.Numbers.{number}
 use Rattle.spec.specs.Worth.{worth}
-use Rattle.spec.specs.Forest.{none, tree, count}
+use Rattle.spec.specs.Forest.{count}
 use Rattle.spec.specs.Value.{Label, Entry, Members, tag, isNumber, isObject, content, has}
 use Rattle.spec.specs.Equality.{sameWorth}
 use Rattle.claims.specs.Proper as Proper
 use Rattle.claims.specs.Proper.{Allows, ProperItems}
-use Rattle.claims.specs.Numbers.{Exact, Writes, SameNumber}
 use Rattle.claims.specs.Equality as Statement
 use Rattle.claims.specs.Equality.{EqualLabels, strings, numbers, falses, trues, nulls, arrays, objects, Has, here, there, EqualItems, no-elements, elements, no-members, members, NoRepeats}
 use Rattle.claims.proofs.LabelLaws.{SameLabels, isObject-same, same-refl, sameWorth-true, sameWorth-refl}
 use Rattle.claims.proofs.NumbersTheorem as Numbers
-use Rattle.claims.proofs.Found.{Found, first, later, found-name, found-absent, absent-parts}
+use Rattle.claims.proofs.Found.{Found, first, later, found-name, found-absent}
 use Rattle.claims.proofs.Matching.{Matches, no-more, next, by-name, none-left}
 
 pub proper-repeats : {object : Bool} {f : Members} → ProperItems object f → NoRepeats object f

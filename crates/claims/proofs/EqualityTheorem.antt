@@ -1,7 +1,7 @@
 -- `equal` is the RFC's equality, and on values without repeated names an equivalence that does not see the order of members.
-use mathlib.Core.Path.{_≡_, refl, sym, _∙_}
+use mathlib.Core.Path.{_≡_}
 use mathlib.Core.Logic.{_↔_}
-use mathlib.Core.Bool.{Bool, true, _&&_}
+use mathlib.Core.Bool.{true}
 use lib.Dec.{eqb}
 use borrow.Author.Tests.{eqb-true, eq-eqb}
 use Rattle.spec.specs.Forest.{count}
@@ -57,6 +57,7 @@ pub equality : EqualityStatement
 equality =
     record {
       by-the-rules = by-the-rules;
+      distinct = λ v p. proper-repeats (p .items);
       reflexive = λ v d. alike-equal v v d (record { labels = same-refl _; kids = alike-refl _ _ });
       symmetric = λ v w d d' h.
           let a = equal-alike v w d h in

@@ -1,7 +1,7 @@
 -- Members by their names: which member a name finds, before and after another is put in.
-use mathlib.Core.Path.{_≡_, refl, ap, sym, _∙_}
+use mathlib.Core.Path.{_≡_, refl, ap, sym}
 use mathlib.Core.Bool.{Bool, true, false, true≢false}
-use Prim.Native.Nat.{ℕ, suc, _<_}
+use Prim.Native.Nat.{ℕ, suc}
 use native.Mathlib.Omega.{arith}
 use lib.Dec.{ltb, leb·suc-suc}
 use borrow.Author.Tests.{lt-ltb}
@@ -11,7 +11,7 @@ use Rattle.spec.specs.Forest.{Forest, none, tree, count}
 use Rattle.spec.specs.Value.{Entry, Members, isObject, has, find, sameText}
 use Rattle.spec.specs.Equality.{partner}
 use Rattle.spec.proofs.TextLaws.{sameText-true, sameText-refl, sameText-false}
-use Rattle.claims.specs.Equality.{NoRepeats, empty, member}
+use Rattle.claims.specs.Equality.{NoRepeats, member}
 use Rattle.claims.proofs.Alike.{Inserted, here, there}
 
 pub sameText-apart : (s t : Text) → (s ≡ t → ⊥) → sameText s t ≡ false

@@ -1,22 +1,20 @@
 -- `matches` one step at a time, and that on values without repeated names it is the relation `Alike`.
 use mathlib.Core.Path.{_≡_, refl, ap, sym, _∙_}
 use mathlib.Core.Bool.{Bool, true, false, _&&_, true≢false}
-use Prim.Native.Nat.{ℕ, suc}
+use Prim.Native.Nat.{suc}
 use native.Mathlib.Omega.{arith}
 use lib.Dec.{eqb}
 use borrow.Author.Tests.{eqb-true, eq-eqb}
-use Rattle.spec.specs.Outcome.{if_then_else_}
 use Rattle.spec.specs.Bytes.{Text}
-use Rattle.spec.specs.Forest.{Forest, none, tree, count}
-use Rattle.spec.specs.Value as Value
-use Rattle.spec.specs.Value.{Label, Entry, Members, isObject, has, find, sameText}
-use Rattle.spec.specs.Equality.{sameLabel, partner, matches, equal}
+use Rattle.spec.specs.Forest.{none, tree, count}
+use Rattle.spec.specs.Value.{Label, Entry, Members, isObject, has}
+use Rattle.spec.specs.Equality.{sameLabel, partner, matches}
 use Rattle.spec.proofs.TextLaws.{both-true}
 use Rattle.claims.specs.Equality as Statement
 use Rattle.claims.specs.Equality.{NoRepeats}
-use Rattle.claims.proofs.LabelLaws.{SameLabels, sameLabel-true, true-sameLabel, same-refl, same-sym, same-trans, isObject-same}
-use Rattle.claims.proofs.Alike.{Inserted, Alike, nothing, element, member, alike-refl, alike-sym, alike-trans, permuted-alike}
-use Rattle.claims.proofs.Found.{Found, absent-cons, absent-parts, partner-found, found, found-name, found-out, found-in, inserted-found, inserted-repeats, absent-inserted, repeats-inserted, take-out, count-inserted}
+use Rattle.claims.proofs.LabelLaws.{SameLabels, sameLabel-true, true-sameLabel, isObject-same}
+use Rattle.claims.proofs.Alike.{Inserted, Alike, nothing, element, member}
+use Rattle.claims.proofs.Found.{Found, absent-parts, partner-found, found, found-name, found-out, found-in, inserted-found, inserted-repeats, absent-inserted, repeats-inserted, take-out, count-inserted}
 
 -- `matches`, one step at a time
 pub data Matches : Bool → Members → Members → Type 0 where

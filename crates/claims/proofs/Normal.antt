@@ -1,15 +1,15 @@
 -- Digits without zeros at either end and a power of ten: each number has one such form, so two numbers are equal where their forms are.
 use mathlib.Core.Path.{_≡_, refl, ap, ap₂, sym, _∙_}
 use mathlib.Core.Logic.{_↔_, Iff·rfl, Iff·trans}
-use mathlib.Core.Bool.{Bool, true, false, _&&_, true≢false}
-use mathlib.Core.List.{List, [], _∷_, _++_, reverse, reverse-cons, reverse-append, reverse-reverse, append-assoc}
+use mathlib.Core.Bool.{Bool, true, false, true≢false}
+use mathlib.Core.List.{[], _∷_, _++_, reverse, reverse-cons, reverse-append, reverse-reverse}
 use Prim.Native.Nat.{ℕ, zero, suc, _+_, _-_, _*_, _^_, _%_, _<_, _≤_}
 use native.Mathlib.Nat.{pow-succ', zero-mul, mul-pos}
 use native.Mathlib.Omega.{arith}
 use lib.Dec.{eqb, leb}
-use lib.ListN.{length, replicate, length-append, length-replicate, replicate-append-replicate}
-use lib.IntN.{ℤ, pos, negsuc, _+ℤ_, _-ℤ_, +ℤ-assoc}
-use borrow.Author.Tests.{eqb-true, eqb-false, eq-eqb, ne-eqb, leb-true, le-leb}
+use lib.ListN.{length, replicate, length-append, length-replicate}
+use lib.IntN.{ℤ, pos, _+ℤ_, _-ℤ_, +ℤ-assoc}
+use borrow.Author.Tests.{eqb-true, eqb-false, leb-true, le-leb}
 use Rattle.spec.specs.Outcome.{if_then_else_}
 use Rattle.spec.specs.Bytes.{Bytes, within}
 use Rattle.spec.specs.Numbers.{isDigit}
@@ -17,7 +17,7 @@ use Rattle.spec.specs.Worth.{decimal, dropZeros, trimmed, power}
 use Rattle.spec.specs.Pointer.{allDigits, isIndex}
 use Rattle.spec.proofs.TextLaws.{both-true, index-injective}
 use Rattle.claims.specs.Numbers.{positional, above}
-use Rattle.claims.proofs.Scaling.{above-base, base-injective, Over, over, scale, unscaled, ten-positive, scale-twice, over-one-base}
+use Rattle.claims.proofs.Scaling.{base-injective, over, unscaled, ten-positive, scale-twice, over-one-base}
 
 -- Digits
 

@@ -1,25 +1,24 @@
 -- A text that is one number is read as that number wherever it stands, if what follows it continues no number.
-use mathlib.Core.Path.{_≡_, refl, ap, ap₂, sym, _∙_}
-use mathlib.Core.List.{List, [], _∷_, _++_}
-use mathlib.Core.Bool.{Bool, true, false, _&&_, _||_, true≢false}
+use mathlib.Core.Path.{_≡_, refl, ap, sym, _∙_}
+use mathlib.Core.List.{[], _∷_, _++_}
+use mathlib.Core.Bool.{Bool, true, false, _||_, true≢false}
 use Prim.Native.Nat.{ℕ, zero, suc, _+_, _-_, _*_, _≤_, _<_}
 use native.Mathlib.Nat.{add-zero}
 use native.Mathlib.Omega.{arith}
 use native.Mathlib.Decide.{decLt}
 use lib.Dec.{eqb, leb, ltb}
-use lib.ListN.{length, getD, List·getD-append, length-append, length-drop}
-use borrow.Author.Tests.{ltb-true, ltb-false, lt-ltb, le-ltb, eqb-true, ne-eqb}
+use lib.ListN.{length, List·getD-append, length-append, length-drop}
+use borrow.Author.Tests.{ltb-true, ltb-false, lt-ltb, le-ltb, ne-eqb}
 use Rattle.spec.specs.Outcome.{Outcome, ok, refused, _>>=_, if_then_else_}
 use Rattle.spec.specs.Limits.{maxExponent}
 use Rattle.spec.specs.Bytes.{Bytes, byte, byteIn, within}
 use Rattle.spec.specs.Numbers.{isDigit, isE, counted, digits, someDigits, int, frac, sign, exponentDigits, signedDigits, exp, minus, number}
-use Rattle.spec.proofs.OutcomeLaws.{refused≢ok, both-ok, either-ok}
+use Rattle.spec.proofs.OutcomeLaws.{refused≢ok, both-ok}
 use Rattle.spec.proofs.Tracking.{Ends, past-end}
-use Rattle.claims.proofs.Normal.{digit-bounds}
 use Rattle.claims.specs.Numbers as Statement
 use Rattle.claims.specs.Numbers.{Exact, Writes, writes, nonzero}
 use Rattle.claims.proofs.NumberRead.{counted-next, number-valued}
-use Rattle.claims.proofs.Rest.{Rest, byte-at, rest-more, first-byte, rest-length}
+use Rattle.claims.proofs.Rest.{Rest, byte-at}
 
 -- a text t that stands in s from the place `at` on, and what follows continues no number
 pub record Stands (s t : Bytes) (at : ℕ) : Type 0 where

@@ -1,17 +1,17 @@
 -- What the readers of a number have read, production by production.
-use mathlib.Core.Path.{_≡_, refl, ap, ap₂, sym, subst, _∙_}
-use mathlib.Core.Bool.{Bool, true, false, _&&_, _||_, true≢false}
-use mathlib.Core.List.{List, [], _∷_, _++_, append-nil, append-assoc}
-use Prim.Native.Nat.{ℕ, zero, suc, _+_, _-_, _*_, _<_, _≤_}
+use mathlib.Core.Path.{_≡_, refl, ap, sym, subst, _∙_}
+use mathlib.Core.Bool.{Bool, true, false, _||_, true≢false}
+use mathlib.Core.List.{[], _∷_, _++_, append-nil, append-assoc}
+use Prim.Native.Nat.{ℕ, zero, suc, _+_, _-_, _*_, _<_}
 use native.Mathlib.Omega.{arith}
 use native.Mathlib.Numerals.{add-one}
 use native.Mathlib.Decide.{decLt}
 use lib.Dec.{eqb, leb, ltb}
 use lib.ListN.{length, drop, length-append}
 use lib.Seq.{drop-cons, drop-length}
-use lib.IntN.{ℤ, pos, negℤ}
-use borrow.Author.Tests.{eqb-true, eqb-false, eq-eqb, ne-eqb}
-use Rattle.spec.specs.Outcome.{Outcome, ok, refused, _>>=_, if_then_else_}
+use lib.IntN.{ℤ, pos}
+use borrow.Author.Tests.{eqb-true, eqb-false}
+use Rattle.spec.specs.Outcome.{ok, refused, _>>=_, if_then_else_}
 use Rattle.spec.specs.Bytes.{Bytes, byte, byteIn, within}
 use Rattle.spec.specs.Numbers.{isDigit, isE, counted, digits, someDigits, int, frac, sign, exponentDigits, signedDigits, exp, minus, number}
 use Rattle.spec.specs.Limits.{maxExponent}
@@ -19,7 +19,7 @@ use Rattle.spec.specs.Pointer.{allDigits}
 use Rattle.spec.proofs.OutcomeLaws.{refused≢ok, both-ok, either-ok}
 use Rattle.spec.proofs.Tracking.{past-end}
 use Rattle.claims.specs.Numbers as Statement
-use Rattle.claims.specs.Numbers.{positional, Exact, Digits, Minus, Int, nonzero, Frac, point, Exp, plain, plus, Writes, writes}
+use Rattle.claims.specs.Numbers.{Exact, Digits, Minus, Int, nonzero, Frac, point, Exp, plain, plus, Writes, writes}
 use Rattle.claims.proofs.Normal.{digit-bounds, digits-cons}
 
 -- a piece of a text from one place to another, of which something holds

@@ -1,14 +1,11 @@
 -- Two number texts have the same worth exactly where they have the same exact value.
-use mathlib.Core.Path.{_≡_, refl, ap, ap₂, sym, _∙_}
+use mathlib.Core.Path.{_≡_, ap, sym, _∙_}
 use mathlib.Core.Logic.{_↔_}
-use mathlib.Core.Bool.{Bool, true, false, _&&_}
-use Prim.Native.Nat.{ℕ, _-_, _*_, _^_}
-use lib.ListN.{length}
-use lib.IntN.{ℤ, pos, _-ℤ_}
+use mathlib.Core.Bool.{true}
 use Rattle.spec.specs.Bytes.{Bytes}
-use Rattle.spec.specs.Worth.{Worth, worth, mantissa, fractionDigits, exponent, dropZeros, trimmed, power, isNegative}
+use Rattle.spec.specs.Worth.{worth, mantissa, fractionDigits, exponent, power}
 use Rattle.spec.specs.Equality.{sameWorth}
-use Rattle.claims.specs.Numbers.{Exact, Writes, above, SameNumber, NumbersStatement}
+use Rattle.claims.specs.Numbers.{Exact, Writes, SameNumber, NumbersStatement}
 use Rattle.claims.proofs.LabelLaws.{sameWorth-true, sameWorth-refl, worth-path}
 use Rattle.claims.proofs.Normal.{Normal, normal, equal-value}
 use Rattle.claims.proofs.NumberParts.{Found, worth-finds}
@@ -39,4 +36,9 @@ by-value s t x y v w =
     )
 
 pub numbers : NumbersStatement
-numbers = record { valued = number-valued; by-value = by-value }
+numbers =
+    record {
+      valued = number-valued;
+      one-value = λ t x y v w. by-value t t x y v w .0 (sameWorth-refl (worth t));
+      by-value = by-value;
+    }

@@ -1,6 +1,6 @@
 -- RFC 6902's own claims on its operations.
-use mathlib.Core.Path.{_≡_, refl, ap, ap₂, sym, subst, _∙_}
-use mathlib.Core.Bool.{Bool, true, false, _&&_, true≢false}
+use mathlib.Core.Path.{_≡_, refl, ap, sym, _∙_}
+use mathlib.Core.Bool.{Bool, true, false}
 use mathlib.Core.List.{List, [], _∷_, _++_}
 use Prim.Native.Nat.{ℕ, zero, suc, _+_, _<_}
 use native.Mathlib.Omega.{arith}
@@ -10,23 +10,22 @@ use borrow.Author.Tests.{le-leb}
 use Rattle.spec.specs.Outcome.{Outcome, ok, refused, _>>=_, if_then_else_}
 use Rattle.spec.specs.Bytes.{Bytes, Text}
 use Rattle.spec.specs.Limits.{maxBytes}
-use Rattle.spec.specs.Forest.{none, tree, Tree, count, before, from, replaceAt, nth, single, _⧺_}
+use Rattle.spec.specs.Forest.{none, tree, Tree, count, before, from, replaceAt, nth, _⧺_}
 use Rattle.spec.specs.Value as Value
-use Rattle.spec.specs.Value.{Label, Entry, Members, isArray, isObject, named, leaf, valueOf}
+use Rattle.spec.specs.Value.{Entry, Members, isArray, named, valueOf}
 use Rattle.spec.specs.Equality.{equal}
 use Rattle.spec.specs.Read.{read}
 use Rattle.spec.specs.Write.{write}
 use Rattle.spec.specs.Pointer.{Tokens, childAt, child, walk}
-use Rattle.spec.specs.Operation.{Kind, Operation, put, perform, limited, atParent, addAt, removeAtPath, replaceAtPath, moveTo, copyTo, testAt, insertChild, removeChild, replaceChild}
-use Rattle.spec.specs.Patch.{Run, finished, stopped, run, atOp, onFinish, shape}
+use Rattle.spec.specs.Operation.{Operation, put, perform, limited, atParent, addAt, removeAtPath, replaceAtPath, moveTo, copyTo, testAt}
+use Rattle.spec.specs.Patch.{Run, finished, stopped, run, atOp, onFinish}
 use Rattle.spec.specs.Answer.{Answer, Lent, answer, success, refusal, workSuffices, fitting, answerOf, patched, onPatch, onDocument}
-use Rattle.spec.specs.Region.{Accepted, WellFormed}
-use Rattle.spec.proofs.OutcomeLaws.{refused≢ok, both-ok, either-ok}
+use Rattle.spec.proofs.OutcomeLaws.{refused≢ok, both-ok}
 use Rattle.spec.proofs.ChildLaws.{child-there}
 use Rattle.spec.proofs.PlaceLaws.{walk-on}
 use Rattle.claims.specs.Proper.{Proper, ProperItems, element, member}
 use Rattle.claims.specs.Equality.{Reordered, Permuted, same}
-use Rattle.claims.specs.Operations.{Same, both, neither, adding, removing, replacing, moving, copying, testing, OperationsStatement}
+use Rattle.claims.specs.Operations.{Same, both, neither, adding, removing, replacing, testing, OperationsStatement}
 use Rattle.claims.proofs.RemoveAddLaws.{permuted-refl}
 use Rattle.claims.proofs.ReplaceLaws.{AtParent, end, step, at-parent, child-reordered, element-same}
 

@@ -1,15 +1,14 @@
 -- A pointer's tokens and its text determine each other.
-use mathlib.Core.Path.{_≡_, refl, ap, ap₂, sym, _∙_}
-use mathlib.Core.Bool.{Bool, true, false, true≢false}
+use mathlib.Core.Path.{_≡_, refl, ap, sym, _∙_}
+use mathlib.Core.Bool.{Bool, true, false}
 use mathlib.Core.List.{List, [], _∷_, _++_, append-nil, append-assoc}
 use Prim.Native.Nat.{ℕ}
-use native.Mathlib.Omega.{arith}
 use lib.Dec.{eqb}
-use borrow.Author.Tests.{eqb-true, eqb-false, eq-eqb, ne-eqb}
-use Rattle.spec.specs.Outcome.{Outcome, ok, refused, _>>=_, if_then_else_}
+use borrow.Author.Tests.{eqb-true}
+use Rattle.spec.specs.Outcome.{ok, refused, _>>=_, if_then_else_}
 use Rattle.spec.specs.Bytes.{Text, ascii}
 use Rattle.spec.specs.Pointer.{Tokens, prepend, segments, tilde, unescape, unescapeAll, tokens}
-use Rattle.spec.proofs.OutcomeLaws.{refused≢ok, both-ok, either-ok}
+use Rattle.spec.proofs.OutcomeLaws.{refused≢ok, both-ok}
 use Rattle.claims.specs.Pointers.{escapeCharacter, escapeToken, pointerOf, PointersStatement}
 
 -- a character by its escape

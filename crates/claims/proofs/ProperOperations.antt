@@ -1,18 +1,18 @@
 -- Every operation leaves a proper document proper.
-use mathlib.Core.Path.{_≡_, refl, ap, ap₂, sym, subst, _∙_}
+use mathlib.Core.Path.{_≡_, refl, ap₂, subst, _∙_}
 use mathlib.Core.Bool.{Bool, true, false, true≢false}
-use mathlib.Core.List.{List, [], _∷_}
+use mathlib.Core.List.{[], _∷_}
 use Prim.Native.Nat.{ℕ, zero, suc, _<_}
 use native.Mathlib.Omega.{arith}
-use lib.Dec.{ltb, leb, eqb}
-use borrow.Author.Tests.{eqb-true, ltb-true}
-use Rattle.spec.specs.Outcome.{Outcome, ok, refused, _>>=_, if_then_else_}
+use lib.Dec.{ltb}
+use borrow.Author.Tests.{ltb-true}
+use Rattle.spec.specs.Outcome.{Outcome, ok, if_then_else_}
 use Rattle.spec.specs.Bytes.{Text}
-use Rattle.spec.specs.Forest.{none, tree, Tree, single, count, before, from, insertAt, removeAt, replaceAt, nth, _⧺_}
+use Rattle.spec.specs.Forest.{none, tree, Tree, count, before, from, insertAt, removeAt, replaceAt, nth, _⧺_}
 use Rattle.spec.specs.Value as Value
-use Rattle.spec.specs.Value.{Label, Entry, Members, tag, isArray, isObject, named, leaf, valueOf, has, find}
+use Rattle.spec.specs.Value.{Label, Entry, Members, tag, isArray, isObject, named, valueOf, has, find}
 use Rattle.spec.specs.Equality.{equal}
-use Rattle.spec.specs.Pointer.{Tokens, childAt, child, walk, isDash, elementBelow}
+use Rattle.spec.specs.Pointer.{Tokens, childAt, child, walk}
 use Rattle.spec.specs.Operation.{Kind, Operation, withKids, put, atParent, insertElement, insertMember, insertChild, removeChild, replaceChild, addAt, removeAtPath, replaceAtPath, moveTo, copyTo, testAt, perform}
 use Rattle.spec.proofs.OutcomeLaws.{refused≢ok, both-ok}
 use Rattle.spec.proofs.ForestLaws.{count-replaceAt, find-replaceAt}
@@ -21,7 +21,6 @@ use Rattle.claims.specs.Proper as Proper
 use Rattle.claims.specs.Proper.{Proper, Allows, allScalarValues, ProperItems, element, member}
 use Rattle.claims.proofs.Found.{absent-parts, absent-cons}
 use Rattle.claims.proofs.CharacterScalar.{if-ok}
-use Rattle.claims.proofs.ValueBack.{Item}
 use Rattle.claims.proofs.ReadProper.{proper-snoc}
 use Rattle.claims.proofs.RemoveAddLaws.{insert-last}
 use Rattle.claims.proofs.OperationsTheorem.{proper-child}

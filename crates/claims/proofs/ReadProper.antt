@@ -1,15 +1,15 @@
 -- What is read is proper, and within the limit on nodes.
 use mathlib.Core.Path.{_≡_, refl, ap, sym, subst, _∙_}
-use mathlib.Core.List.{List, [], _∷_, _++_}
+use mathlib.Core.List.{[], _++_}
 use mathlib.Core.Bool.{Bool, true, false, _||_, true≢false}
 use Prim.Native.Nat.{ℕ, zero, suc, _+_, _-_, _≤_, _<_}
 use native.Mathlib.Omega.{arith}
 use native.Mathlib.Decide.{decLt}
 use lib.Dec.{eqb, ltb}
-use lib.ListN.{length, take, drop, getD, length-append, length-drop, List·getD-append}
+use lib.ListN.{length, take, drop, getD, length-drop, List·getD-append}
 use lib.Seq.{getD-drop, drop-drop, drop-append-le, take-append-le, take-append-seam}
 use borrow.Author.Tests.{ltb-true}
-use Rattle.spec.specs.Outcome.{Outcome, ok, refused, _>>=_, if_then_else_}
+use Rattle.spec.specs.Outcome.{Outcome, ok, _>>=_}
 use Rattle.spec.specs.Limits.{maxDepth, maxNodes}
 use Rattle.spec.specs.Bytes.{Bytes, Text, byte, byteIn}
 use Rattle.spec.specs.Strings.{string}
@@ -18,14 +18,13 @@ use Rattle.spec.specs.Forest.{none, tree, single, size, _⧺_}
 use Rattle.spec.specs.Value as Value
 use Rattle.spec.specs.Value.{Label, Entry, Members, leaf, named, isObject, tag, has, nodes}
 use Rattle.spec.specs.Read.{blanks, spelled, roomFor, literalValue, numberValue, stringValue, scalar, fresh, nameFor, containerLabel, closingBracket, items, contents, container, value, read}
-use Rattle.spec.proofs.OutcomeLaws.{refused≢ok, both-ok, either-ok, first-ok, second-ok}
+use Rattle.spec.proofs.OutcomeLaws.{refused≢ok, both-ok, either-ok, first-ok}
 use Rattle.spec.proofs.Tracking.{Cut, nothing-ends, past-end}
 use Rattle.spec.proofs.ReadersTrack.{number-tracks}
 use Rattle.claims.specs.Proper as Proper
 use Rattle.claims.specs.Proper.{Proper, Allows, allScalarValues, ProperItems, element, member}
 use Rattle.claims.proofs.Found.{absent-parts, absent-cons}
-use Rattle.claims.proofs.NumberRead.{Spans, number-spans}
-use Rattle.claims.proofs.NumberBack.{written-some}
+use Rattle.claims.proofs.NumberRead.{number-spans}
 use Rattle.claims.proofs.CharacterScalar.{string-scalar, if-ok}
 use Rattle.claims.proofs.ValueBack.{Item, size-append}
 

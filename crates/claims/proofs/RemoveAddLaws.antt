@@ -1,14 +1,11 @@
 -- A tree taken out of a forest, and another put in: in the same place, or at the end.
-use mathlib.Core.Path.{_≡_, refl, ap, sym, _∙_}
-use mathlib.Core.Bool.{Bool, true, false}
+use mathlib.Core.Path.{_≡_, refl, ap}
+use mathlib.Core.Bool.{Bool, true}
 use Prim.Native.Nat.{ℕ, zero, suc, _<_}
 use native.Mathlib.Omega.{arith}
-use Rattle.spec.specs.Bytes.{Text}
-use Rattle.spec.specs.Forest.{Forest, none, tree, Tree, single, count, before, from, insertAt, removeAt, replaceAt, nth, _⧺_}
-use Rattle.spec.specs.Value as Value
-use Rattle.spec.specs.Value.{Entry, Members, isObject, named, has, find, sameText}
+use Rattle.spec.specs.Forest.{Forest, none, tree, Tree, single, count, before, from, insertAt, removeAt, replaceAt, _⧺_}
+use Rattle.spec.specs.Value.{Entry, Members}
 use Rattle.claims.specs.Equality.{Permuted, empty, same, swap, more}
-use Rattle.claims.proofs.Found.{absent-parts, absent-cons}
 
 module _ {A : Type 0} where
   pub count-removeAt : (k : ℕ) (f : Forest A) → k < count f → suc (count (removeAt k f)) ≡ count f

@@ -1,19 +1,17 @@
 -- Replacing a child of a container, against removing it and adding another at the same token.
-use mathlib.Core.Path.{_≡_, refl, ap, ap₂, sym, subst, _∙_}
+use mathlib.Core.Path.{_≡_, refl, sym}
 use mathlib.Core.Bool.{Bool, true, false, true≢false}
-use mathlib.Core.List.{List, [], _∷_, _++_}
+use mathlib.Core.List.{[], _∷_}
 use Prim.Native.Nat.{ℕ, zero, suc, _<_}
 use native.Mathlib.Omega.{arith}
-use lib.Dec.{ltb}
-use borrow.Author.Tests.{ltb-true, lt-ltb}
+use borrow.Author.Tests.{ltb-true}
 use Rattle.spec.specs.Outcome.{Outcome, ok, refused, _>>=_, if_then_else_}
 use Rattle.spec.specs.Bytes.{Text}
-use Rattle.spec.specs.Worth.{decimal}
-use Rattle.spec.specs.Forest.{Forest, none, tree, Tree, single, count, before, from, insertAt, removeAt, replaceAt, nth, _⧺_}
+use Rattle.spec.specs.Forest.{none, tree, Tree, count, before, from, removeAt, nth, _⧺_}
 use Rattle.spec.specs.Value as Value
 use Rattle.spec.specs.Value.{Label, Entry, Members, tag, isArray, isObject, named, leaf, valueOf, has, find, sameText}
-use Rattle.spec.specs.Pointer.{Tokens, childAt, child, walk, elementBelow, memberNamed, isDash, isIndex}
-use Rattle.spec.specs.Operation.{withKids, put, atParent, insertElement, insertMember, insertChild, removeChild, replaceChild}
+use Rattle.spec.specs.Pointer.{Tokens, childAt, child, elementBelow, memberNamed, isDash}
+use Rattle.spec.specs.Operation.{put, atParent, insertElement, insertMember, insertChild, removeChild, replaceChild}
 use Rattle.spec.proofs.OutcomeLaws.{refused≢ok}
 use Rattle.spec.proofs.TextLaws.{sameText-true, sameText-false}
 use Rattle.spec.proofs.ForestLaws.{name-find}
@@ -21,7 +19,7 @@ use Rattle.spec.proofs.ChildLaws.{child-there, childAt-put, child-put, put-put}
 use Rattle.claims.specs.Proper.{Proper, ProperItems, element, member}
 use Rattle.claims.specs.Equality.{Reordered}
 use Rattle.claims.specs.Operations.{Same, both, neither}
-use Rattle.claims.proofs.Found.{has-cons, absent-cons}
+use Rattle.claims.proofs.Found.{absent-cons}
 use Rattle.claims.proofs.RemoveAddLaws.{count-removeAt, insert-removed, insert-last, permuted-refl, replaced-last}
 
 -- no other member has the name of one that was removed

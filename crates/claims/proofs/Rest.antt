@@ -1,15 +1,15 @@
 -- A text from a place on, byte by byte.
 use mathlib.Core.Path.{_≡_, refl, ap, sym, _∙_}
-use mathlib.Core.List.{List, [], _∷_, _++_}
+use mathlib.Core.List.{[], _∷_, _++_}
 use mathlib.Core.Bool.{Bool, true, false, _&&_}
-use Prim.Native.Nat.{ℕ, zero, suc, _+_, _≤_, _<_}
+use Prim.Native.Nat.{ℕ, _+_, _≤_, _<_}
 use native.Mathlib.Nat.{add-zero}
 use native.Mathlib.Omega.{arith}
 use lib.Dec.{leb}
-use lib.ListN.{length, drop, getD, length-append, length-drop}
-use lib.Seq.{getD-drop, drop-drop, drop-append-seam, drop-nil}
+use lib.ListN.{length, drop, getD, length-drop}
+use lib.Seq.{getD-drop, drop-drop, drop-append-seam}
 use borrow.Author.Tests.{le-leb, lt-leb}
-use Rattle.spec.specs.Outcome.{Outcome, ok, refused, if_then_else_}
+use Rattle.spec.specs.Outcome.{ok}
 use Rattle.spec.specs.Bytes.{Bytes, byte, byteIn, within}
 
 -- the text s from the place `at` on is r
@@ -23,9 +23,6 @@ module _ {s : Bytes} {at : ℕ} where
 
   pub first-byte : {c : ℕ} {r : Bytes} → Rest s at (c ∷ r) → byte s at ≡ c
   first-byte h = ap (byte s) (sym (add-zero at)) ∙ byte-at h 0
-
-  pub at-end : Rest s at [] → byte s at ≡ 0
-  at-end h = ap (byte s) (sym (add-zero at)) ∙ byte-at h 0
 
   pub rest-more : (t : Bytes) {r : Bytes} → Rest s at (t ++ r) → Rest s (at + length t) r
   rest-more t {r} h = record { is = sym (drop-drop (length t) at s) ∙ ap (drop (length t)) (h .is) ∙ drop-append-seam t r }

@@ -1,27 +1,25 @@
 -- A scalar that is written is read back.
-use mathlib.Core.Path.{_≡_, refl, ap, ap₂, sym, _∙_}
-use mathlib.Core.List.{List, [], _∷_, _++_, append-nil, append-assoc}
-use mathlib.Core.Bool.{Bool, true, false, _&&_, _||_, true≢false}
+use mathlib.Core.Path.{_≡_, refl, ap, sym, _∙_}
+use mathlib.Core.List.{[], _∷_, _++_}
+use mathlib.Core.Bool.{Bool, true, false, _||_}
 use Prim.Native.Nat.{ℕ, zero, suc, _+_, _-_, _≤_, _<_}
 use native.Mathlib.Nat.{add-zero, add-sub-cancel-left}
 use native.Mathlib.Omega.{arith}
-use lib.Dec.{eqb, ltb}
+use lib.Dec.{eqb}
 use lib.ListN.{length, take, drop, List·getD-append}
 use lib.Seq.{take-append-seam}
 use borrow.Author.Tests.{lt-ltb, ne-eqb, eqb-true}
-use Rattle.spec.specs.Outcome.{Outcome, ok, refused, _>>=_, if_then_else_}
-use Rattle.spec.specs.Bytes.{Bytes, Text, ascii, byte, byteIn, within}
+use Rattle.spec.specs.Outcome.{ok, _>>=_}
+use Rattle.spec.specs.Bytes.{Bytes, Text, ascii, byte, within}
 use Rattle.spec.specs.Numbers.{isDigit, number}
-use Rattle.spec.specs.Forest.{none}
-use Rattle.spec.specs.Value as Value
-use Rattle.spec.specs.Value.{Label, Members, leaf, isObject, isContainer, tag}
+use Rattle.spec.specs.Value.{Label, Members, leaf}
 use Rattle.spec.specs.Read.{isBlank, blanksFrom, blanks, spelled, roomFor, literalValue, numberValue, stringValue, scalar, value}
-use Rattle.spec.specs.Write.{writeString, opening, closing, writeItems, write}
+use Rattle.spec.specs.Write.{writeString, opening}
 use Rattle.spec.proofs.Tracking.{Ends}
 use Rattle.claims.specs.Proper as Proper
 use Rattle.claims.specs.Proper.{Allows, allScalarValues}
 use Rattle.claims.proofs.Normal.{digit-bounds}
-use Rattle.claims.proofs.Rest.{Rest, byte-at, first-byte, rest-next, rest-more, byteIn-ok}
+use Rattle.claims.proofs.Rest.{Rest, byte-at, first-byte, rest-next, byteIn-ok}
 use Rattle.claims.proofs.StringBack.{string-back}
 use Rattle.claims.proofs.NumberBack.{number-first, number-some, number-back}
 

@@ -2,12 +2,12 @@
 use mathlib.Core.Path.{_≡_, refl, ap, ap₂, sym, _∙_}
 use mathlib.Core.Logic.{_↔_, Iff·rfl, Iff·symm, Iff·trans}
 use mathlib.Core.Bool.{Bool, true, false, cond}
-use Prim.Native.Nat.{ℕ, zero, suc, _+_, _-_, _*_, _^_, _%_, _<_, _≤_}
+use Prim.Native.Nat.{ℕ, zero, suc, _+_, _-_, _*_, _^_, _%_, _≤_}
 use native.Mathlib.Nat.{pow-succ', sub-zero, zero-sub, suc-sub-suc, one-le-pow, zero-add, suc-add, mul-assoc}
 use native.Mathlib.Omega.{arith}
 use lib.Dec.{ltb}
-use lib.IntN.{ℤ, pos, negsuc, negℤ, subℕ, _+ℤ_, _-ℤ_, +ℤ-assoc, +ℤ-comm, +ℤ-idl, +ℤ-idr, +ℤ-invr, +ℤ-invl, negℤ-+ℤ, negℤ-negℤ, -ℤ-+ℤ-cancel, +ℤ-negℤ-cancel}
-use borrow.Author.Tests.{ltb-true, ltb-false}
+use lib.IntN.{ℤ, pos, negsuc, negℤ, _+ℤ_, _-ℤ_, +ℤ-assoc, +ℤ-comm, +ℤ-idl, +ℤ-idr, +ℤ-invr, negℤ-+ℤ, -ℤ-+ℤ-cancel}
+use borrow.Author.Tests.{ltb-true}
 use Rattle.claims.specs.Numbers.{above}
 
 -- Integers
@@ -56,7 +56,9 @@ over e f = go (e -ℤ f) refl
 
     go : (d : ℤ) → e -ℤ f ≡ d → Over e f
     go (pos n) q = record { base = f; first = n; second = 0; first-is = sum ∙ ap (λ z. f +ℤ z) q; second-is = sym (+ℤ-idr f) }
-    go (negsuc n) q = record { base = e; first = 0; second = suc n; first-is = sym (+ℤ-idr e); second-is = sym (ap (λ z. z +ℤ pos (suc n)) (sum ∙ ap (λ z. f +ℤ z) q) ∙ -ℤ-+ℤ-cancel f (pos (suc n))) }
+    go (negsuc n) q =
+        let back = ap (λ z. z +ℤ pos (suc n)) (sum ∙ ap (λ z. f +ℤ z) q) ∙ -ℤ-+ℤ-cancel f (pos (suc n)) in
+        record { base = e; first = 0; second = suc n; first-is = sym (+ℤ-idr e); second-is = sym back }
 
 -- Powers of ten
 

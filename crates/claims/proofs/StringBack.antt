@@ -1,19 +1,18 @@
 -- A string that is written is read back.
-use mathlib.Core.Path.{_≡_, refl, ap, ap₂, sym, _∙_}
-use mathlib.Core.List.{List, [], _∷_, _++_, append-assoc}
-use mathlib.Core.Bool.{Bool, true, false, _&&_}
+use mathlib.Core.Path.{_≡_}
+use mathlib.Core.List.{[], _∷_, _++_, append-assoc}
+use mathlib.Core.Bool.{true}
 use Prim.Native.Nat.{ℕ, zero, suc, _+_, _≤_, _<_}
 use native.Mathlib.Omega.{arith}
-use lib.Dec.{eqb}
 use lib.ListN.{length, length-append}
-use Rattle.spec.specs.Outcome.{Outcome, ok, refused, _>>=_, if_then_else_}
-use Rattle.spec.specs.Bytes.{Bytes, Text, byte, byteIn}
-use Rattle.spec.specs.Strings.{character, characters, string}
+use Rattle.spec.specs.Outcome.{ok, _>>=_}
+use Rattle.spec.specs.Bytes.{Bytes, Text}
+use Rattle.spec.specs.Strings.{characters, string}
 use Rattle.spec.specs.Write.{writeCharacter, writeCharacters, writeString}
 use Rattle.spec.proofs.TextLaws.{both-true}
 use Rattle.claims.specs.Proper.{isScalarValue, allScalarValues}
 use Rattle.claims.proofs.Rest.{Rest, first-byte, rest-next, rest-more, rest-length, byteIn-ok}
-use Rattle.claims.proofs.CharacterBack.{Back, character-back, character-length}
+use Rattle.claims.proofs.CharacterBack.{character-back, character-length}
 
 characters-back : {s : Bytes} {at : ℕ} (fuel : ℕ) (cs : Text) (r : Bytes) → length cs < fuel → allScalarValues cs ≡ true →
     Rest s at (writeCharacters cs ++ (34 ∷ r)) → characters fuel s at ≡ ok (cs, at + (length (writeCharacters cs) + 1))

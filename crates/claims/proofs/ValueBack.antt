@@ -1,28 +1,27 @@
 -- A value that is written is read back.
-use mathlib.Core.Path.{_≡_, refl, ap, ap₂, sym, subst, _∙_}
-use mathlib.Core.List.{List, [], _∷_, _++_, append-nil, append-assoc}
-use mathlib.Core.Bool.{Bool, true, false, _&&_, _||_, true≢false}
-use Prim.Native.Nat.{ℕ, zero, suc, _+_, _-_, _≤_, _<_, max}
+use mathlib.Core.Path.{_≡_, refl, ap, sym, _∙_}
+use mathlib.Core.List.{[], _∷_, _++_, append-nil, append-assoc}
+use mathlib.Core.Bool.{Bool, true, false, true≢false}
+use Prim.Native.Nat.{ℕ, zero, suc, _+_, _≤_, _<_}
 use native.Mathlib.Nat.{add-zero}
 use native.Mathlib.Omega.{arith}
 use lib.Dec.{eqb}
 use lib.ListN.{length, length-append}
 use borrow.Author.Tests.{eq-eqb}
-use Rattle.spec.specs.Outcome.{Outcome, ok, refused, _>>=_, if_then_else_}
-use Rattle.spec.specs.Limits.{maxDepth, maxNodes}
+use Rattle.spec.specs.Outcome.{Outcome, ok, _>>=_, if_then_else_}
 use Rattle.spec.specs.Bytes.{Bytes, Text, ascii, byte, byteIn, within}
 use Rattle.spec.specs.Strings.{string}
 use Rattle.spec.specs.Numbers.{isDigit, isE, number}
 use Rattle.spec.specs.Forest.{none, tree, single, count, size, _⧺_}
 use Rattle.spec.specs.Value as Value
-use Rattle.spec.specs.Value.{Label, Entry, Members, leaf, named, isObject, isContainer, tag, has, find, levels, depth, depths}
-use Rattle.spec.specs.Read.{isBlank, blanks, roomFor, fresh, nameFor, containerLabel, closingBracket, items, contents, container, value, read}
+use Rattle.spec.specs.Value.{Label, Entry, Members, leaf, named, isObject, isContainer, tag, has, find, levels, depths}
+use Rattle.spec.specs.Read.{isBlank, blanks, fresh, nameFor, containerLabel, closingBracket, items, contents, container, value}
 use Rattle.spec.specs.Write.{writeString, opening, closing, writeName, comma, writeItems, write}
-use Rattle.spec.proofs.Tracking.{Ends, nothing-ends}
+use Rattle.spec.proofs.Tracking.{Ends}
 use Rattle.claims.specs.Proper as Proper
 use Rattle.claims.specs.Proper.{Allows, allScalarValues, ProperItems, element, member}
-use Rattle.claims.proofs.Found.{absent-parts, absent-cons, has-cons}
-use Rattle.claims.proofs.Rest.{Rest, byte-at, first-byte, at-end, rest-next, rest-more, rest-length, byteIn-ok}
+use Rattle.claims.proofs.Found.{absent-parts, absent-cons}
+use Rattle.claims.proofs.Rest.{Rest, byte-at, first-byte, rest-next, rest-more, rest-length, byteIn-ok}
 use Rattle.claims.proofs.StringBack.{string-back}
 use Rattle.claims.proofs.NumberBack.{number-some}
 use Rattle.claims.proofs.ScalarBack.{blanks-none, room, Begins, string-begins, opening-begins, null-back, true-back, false-back, text-back, numeral-back}
@@ -47,16 +46,6 @@ opening-some (Proper.number {t} n) = number-some t n
 opening-some (Proper.string c) = omega arith
 opening-some Proper.array = omega arith
 opening-some Proper.object = omega arith
-
-write-some : (v : Value.Value) → Allows (v .label) (v .kids) → 1 ≤ length (write v)
-unfolding write
-write-some v a =
-    omega (
-      arith,
-      opening-some a,
-      length-append (opening (v .label)) (writeItems (isObject (v .label)) true (v .kids)),
-      length-append (opening (v .label) ++ writeItems (isObject (v .label)) true (v .kids)) (closing (v .label)),
-    )
 
 -- there are at least as many bytes as items
 items-length : {object : Bool} {f : Members} (first : Bool) → ProperItems object f → count f ≤ length (writeItems object first f)
@@ -111,10 +100,10 @@ name-back {s} {at} true name so-far r e m b h =
 
 -- An item after others, in a container without repeated names
 
-append-assoc-⧺ : (f g h : Members) → (f ⧺ g) ⧺ h ≡ f ⧺ (g ⧺ h)
+⧺-assoc : (f g h : Members) → (f ⧺ g) ⧺ h ≡ f ⧺ (g ⧺ h)
 unfolding _⧺_
-append-assoc-⧺ none g h = refl
-append-assoc-⧺ (tree e kids rest) g h = ap (tree e kids) (append-assoc-⧺ rest g h)
+⧺-assoc none g h = refl
+⧺-assoc (tree e kids rest) g h = ap (tree e kids) (⧺-assoc rest g h)
 
 pub size-append : (f g : Members) → size (f ⧺ g) ≡ size f + size g
 unfolding _⧺_ size
@@ -264,7 +253,8 @@ module _ {s : Bytes} {at : ℕ} (left nodes : ℕ) (r : Bytes) where
 
 -- One item
 
-items-step : (fuel : ℕ) (value : ℕ → ℕ → Outcome (Value.Value × ℕ)) (object : Bool) (s : Bytes) (nodes : ℕ) (so-far : Members) (at : ℕ) (name : Text) (v : Value.Value) (place next : ℕ) →
+items-step : (fuel : ℕ) (value : ℕ → ℕ → Outcome (Value.Value × ℕ)) (object : Bool) (s : Bytes) (nodes : ℕ) (so-far : Members) (at : ℕ)
+    (name : Text) (v : Value.Value) (place next : ℕ) →
     nameFor object s so-far at ≡ ok (name, place) → value place (nodes + size so-far) ≡ ok (v, next) → isBlank (byte s next) ≡ false →
     items (suc fuel) value object s nodes so-far at ≡
     (if eqb (byte s next) (closingBracket object) then ok (so-far ⧺ single (named name v), next + 1) else
@@ -322,7 +312,10 @@ last-back s e kids back object left (suc fuel) nodes so-far at r fits =
     let shallow = fits .shallow in
     let few = fits .few in
     let text = rw (item-text object e kids none (closingBracket object ∷ r)) at (fits .text) in
-    let one = one-read s object left nodes so-far e kids at (closingBracket object ∷ r) (item so-far e kids none (fits .proper)) back (omega arith) (omega arith) (closing-ends object) (closing-no-blank object) text in
+    let i = item so-far e kids none (fits .proper) in
+    let one =
+    one-read s object left nodes so-far e kids at (closingBracket object ∷ r) i back (omega arith) (omega arith) (closing-ends object)
+    (closing-no-blank object) text in
     let end : after at object e kids + 1 ≡ at + (length (writeItems object true (tree e kids none)) + 1) = omega (arith, after-length at object e kids none) in
     one .step fuel ∙ rw (first-byte (one .rest), eq-eqb (closingBracket object) (closingBracket object) refl, end)
 
@@ -350,7 +343,7 @@ module _ (s : Bytes) (object : Bool) (left fuel nodes : ℕ) (so-far : Members) 
     (one : OneRead s object left nodes so-far e kids at (44 ∷ (writeItems object true (tree d below rest) ++ (closingBracket object ∷ r)))) where
   proper-others : ProperItems object ((so-far ⧺ tree e kids none) ⧺ tree d below rest)
   unfolding _⧺_
-  proper-others = rw (append-assoc-⧺ so-far (tree e kids none) (tree d below rest)) (fits .proper)
+  proper-others = rw (⧺-assoc so-far (tree e kids none) (tree d below rest)) (fits .proper)
 
   fits-others : Fits s object left fuel nodes (so-far ⧺ tree e kids none) (tree d below rest) (after at object e kids + 1) r
   unfolding count depths size
@@ -383,7 +376,7 @@ module _ (s : Bytes) (object : Bool) (left fuel nodes : ℕ) (so-far : Members) 
         byteIn-ok s next 44 44 44 (first-byte here) (omega arith) (omega arith),
         blanks-none s (next + 1) (begins .no-blank),
         others object left fuel nodes (so-far ⧺ tree e kids none) (next + 1) r fits-others,
-        append-assoc-⧺ so-far (tree e kids none) (tree d below rest),
+        ⧺-assoc so-far (tree e kids none) (tree d below rest),
         end,
       )
 
@@ -396,7 +389,8 @@ more-back s e kids d below rest back others object left (suc fuel) nodes so-far 
     let few = fits .few in
     let text = rw (more-text object e kids d below rest (closingBracket object ∷ r)) at (fits .text) in
     let i = item so-far e kids (tree d below rest) (fits .proper) in
-    let one = one-read s object left nodes so-far e kids at (44 ∷ (writeItems object true (tree d below rest) ++ (closingBracket object ∷ r))) i back (omega arith) (omega arith) comma-ends refl text in
+    let more : Bytes = 44 ∷ (writeItems object true (tree d below rest) ++ (closingBracket object ∷ r)) in
+    let one = one-read s object left nodes so-far e kids at more i back (omega arith) (omega arith) comma-ends refl text in
     read-others s object left fuel nodes so-far e kids d below rest at r fits one others
 
 pub items-back : (s : Bytes) (f : Members) → ItemsBack s f

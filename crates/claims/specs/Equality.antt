@@ -75,6 +75,7 @@ pub record Reordered (v w : Value.Value) : Type 0 where
 
 pub record EqualityStatement : Type 0 where
   pub by-the-rules : (v w : Value.Value) → Proper v → Proper w → (equal v w ≡ true) ↔ Equal v w
+  pub distinct : (v : Value.Value) → Proper v → Distinct v
   pub reflexive : (v : Value.Value) → Distinct v → equal v v ≡ true
   pub symmetric : (v w : Value.Value) → Distinct v → Distinct w → equal v w ≡ true → equal w v ≡ true
   pub transitive : (u v w : Value.Value) → Distinct u → Distinct v → Distinct w → equal u v ≡ true → equal v w ≡ true → equal u w ≡ true

@@ -73,5 +73,7 @@ pub record SameNumber (x y : Exact) : Type 0 where
 pub record NumbersStatement : Type 0 where
   -- a text that is one number from its first byte to its last has an exact value
   pub valued : (t : Bytes) → number t 0 ≡ ok (length t) → (x : Exact) × Writes t x
+  -- and only one, however the text is cut
+  pub one-value : (t : Bytes) (x y : Exact) → Writes t x → Writes t y → SameNumber x y
   -- "Numbers by exact value. [..] A zero keeps its sign, so -0 and 0 differ."
   pub by-value : (s t : Bytes) (x y : Exact) → Writes s x → Writes t y → sameWorth (worth s) (worth t) ≡ true ↔ SameNumber x y

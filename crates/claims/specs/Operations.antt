@@ -44,7 +44,7 @@ pub data Same (R : Value.Value → Value.Value → Type 0) : Outcome Value.Value
 pub record OperationsStatement : Type 0 where
   -- 4.3: "This operation is functionally identical to a "remove" operation for a value, followed immediately by an "add" operation at the
   -- same location with the replacement value." Here a replaced member keeps its position, and an added one goes last. (The root is not
-  -- removed, and replacing it is adding it.)
+  -- removed, and replacing it is adding it. Every document of a run is proper: `RoundTrip`.)
   pub replace : (t : Text) (ts : Tokens) (x v : Value.Value) → Proper v →
       Same Reordered (perform (replacing (t ∷ ts) x) v) (perform (removing (t ∷ ts)) v >>= perform (adding (t ∷ ts) x))
   -- an element's position is the one it is added at, so there nothing differs
