@@ -1,7 +1,7 @@
 -- A character that is written is read back.
 use mathlib.Core.Path.{_≡_, refl, _∙_}
 use mathlib.Core.List.{[], _∷_, _++_}
-use mathlib.Core.Bool.{Bool, true, false, _&&_, _||_}
+use mathlib.Core.Bool.{Bool, true, false}
 use Prim.Native.Nat.{ℕ, _+_, _-_, _*_, _/_, _%_, _≤_, _<_}
 use native.Mathlib.Omega.{arith}
 use native.Mathlib.Decide.{decLt}
@@ -12,8 +12,7 @@ use Rattle.spec.specs.Outcome.{ok, _>>=_, if_then_else_}
 use Rattle.spec.specs.Bytes.{Bytes, byte, within, ascii}
 use Rattle.spec.specs.Strings.{hexValue, hexIn, secondLimit, unicodeEscape, shortEscape, escape, tail, multibyte, character}
 use Rattle.spec.specs.Write.{utf8, hexDigit, writeCharacter}
-use Rattle.spec.proofs.TextLaws.{both-true}
-use Rattle.claims.specs.Proper.{isScalarValue}
+use Rattle.claims.specs.Proper.{ScalarValue, below-surrogates, above-surrogates}
 use Rattle.claims.proofs.Rest.{Rest, byte-at, first-byte, rest-next, within-true, within-low, within-high, byteIn-ok}
 
 module _ {s : Bytes} {at : ℕ} where
@@ -112,22 +111,13 @@ module _ {s : Bytes} {at : ℕ} where
       )
 
 -- what a scalar value is not
-either-true : {C : Type 0} (a b : Bool) → (a || b) ≡ true → (a ≡ true → C) → (b ≡ true → C) → C
-either-true true b h f g = f refl
-either-true false b h f g = g h
+before-surrogates : {c : ℕ} → ScalarValue c → c < 0xE000 → c ≤ 0xD7FF
+before-surrogates (below-surrogates l) p = l
+before-surrogates (above-surrogates l h) p = absurd (omega arith)
 
-scalar-bounds : (c : ℕ) → isScalarValue c ≡ true → (c < 0xE000 → c ≤ 0xD7FF) × (c ≤ 0x10_FFFF)
-unfolding isScalarValue within
-scalar-bounds c h =
-    either-true (leb c 0xD7FF) (leb 0xE000 c && leb c 0x10_FFFF) h
-    (λ t. let low = leb-true c 0xD7FF t in (λ _. low, omega arith))
-    (λ t.
-    let q = both-true (leb 0xE000 c) (leb c 0x10_FFFF) t in
-    let low = leb-true 0xE000 c (q .0) in
-    (λ p. absurd (omega arith), leb-true c 0x10_FFFF (q .1)))
-
-before-surrogates : (c : ℕ) → isScalarValue c ≡ true → c < 0xE000 → c ≤ 0xD7FF
-before-surrogates c h = scalar-bounds c h .0
+scalar-bound : {c : ℕ} → ScalarValue c → c ≤ 0x10_FFFF
+scalar-bound (below-surrogates l) = omega arith
+scalar-bound (above-surrogates l h) = h
 
 -- the six-bit parts of a code point
 parts-three : (c : ℕ) → (c / 4096 * 64 + c / 64 % 64) * 64 + c % 64 ≡ c
@@ -148,7 +138,7 @@ module _ {s : Bytes} {at : ℕ} where
       above-ascii b (omega arith) r ∙ row ∙
       rw (tail-two low high (b - 0xE0) (0x80 + c / 64 % 64) (0x80 + c % 64) l h (omega arith) (omega arith) (rest-next r), value, place)
 
-  three-bytes : (c : ℕ) {r : Bytes} → 0x800 ≤ c → c < 0x1_0000 → isScalarValue c ≡ true →
+  three-bytes : (c : ℕ) {r : Bytes} → 0x800 ≤ c → c < 0x1_0000 → ScalarValue c →
       Rest s at ((0xE0 + c / 4096) ∷ (0x80 + c / 64 % 64) ∷ (0x80 + c % 64) ∷ r) → character s at ≡ ok (c, at + 3)
   unfolding multibyte within
   three-bytes c l h scalar r = go (decLt c 0x1000) (decLt c 0xD000) (decLt c 0xE000)
@@ -162,7 +152,7 @@ module _ {s : Bytes} {at : ℕ} where
           (omega arith) (omega arith) r
       go (no m) (no n) (yes p) =
           let first : c / 4096 ≡ 13 = omega arith in
-          let low = before-surrogates c scalar p in
+          let low = before-surrogates scalar p in
           three-bytes-row c 0x80 0x9F (rw first) (omega arith) (omega arith) r
       go (no m) (no n) (no o) =
           let b = 0xE0 + c / 4096 in
@@ -254,7 +244,7 @@ pub record Back (s : Bytes) (at c : ℕ) (w : Bytes) : Type 0 where
   pub reads : character s at ≡ ok (c, at + length w)
   pub no-quote : eqb (byte s at) 34 ≡ false
 
-form-back : {s : Bytes} {at c : ℕ} {w : Bytes} (r : Bytes) → isScalarValue c ≡ true → Form c w → Rest s at (w ++ r) → Back s at c w
+form-back : {s : Bytes} {at c : ℕ} {w : Bytes} (r : Bytes) → ScalarValue c → Form c w → Rest s at (w ++ r) → Back s at c w
 form-back r scalar (letter e u v z) h = record { reads = short e _ u v z h; no-quote = rw (first-byte h) }
 form-back r scalar (digits l) h = record { reads = control _ l h; no-quote = rw (first-byte h) }
 form-back r scalar (one l m q e) h = record { reads = plain _ l m e h; no-quote = rw (first-byte h) q }
@@ -263,9 +253,9 @@ form-back {c = c} r scalar (two l m) h =
 form-back {c = c} r scalar (three l m) h =
     record { reads = three-bytes c l m scalar h; no-quote = rw (first-byte h) (ne-eqb (0xE0 + c / 4096) 34 (omega arith)) }
 form-back {c = c} r scalar (four l) h =
-    record { reads = four-bytes c l (scalar-bounds c scalar .1) h; no-quote = rw (first-byte h) (ne-eqb (0xF0 + c / 262144) 34 (omega arith)) }
+    record { reads = four-bytes c l (scalar-bound scalar) h; no-quote = rw (first-byte h) (ne-eqb (0xF0 + c / 262144) 34 (omega arith)) }
 
-pub character-back : {s : Bytes} {at : ℕ} (c : ℕ) (r : Bytes) → isScalarValue c ≡ true → Rest s at (writeCharacter c ++ r) → Back s at c (writeCharacter c)
+pub character-back : {s : Bytes} {at : ℕ} (c : ℕ) (r : Bytes) → ScalarValue c → Rest s at (writeCharacter c ++ r) → Back s at c (writeCharacter c)
 character-back c r scalar h = form-back r scalar (form c) h
 
 -- a character is written in at least one byte

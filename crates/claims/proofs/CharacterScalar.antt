@@ -1,32 +1,23 @@
 -- What a string is read as are Unicode scalar values.
-use mathlib.Core.Path.{_≡_, refl, sym}
+use mathlib.Core.Path.{_≡_, refl, sym, subst}
 use mathlib.Core.Bool.{Bool, true, false}
 use Prim.Native.Nat.{ℕ, zero, suc, _+_, _-_, _*_, _≤_, _<_}
 use native.Mathlib.Omega.{arith}
 use native.Mathlib.Decide.{decLt}
 use lib.Dec.{eqb, leb}
 use lib.ListN.{length}
-use borrow.Author.Tests.{leb-true, leb-false, le-leb, lt-leb}
+use borrow.Author.Tests.{leb-true, leb-false, le-leb}
 use Rattle.spec.specs.Outcome.{Outcome, ok, if_then_else_}
 use Rattle.spec.specs.Bytes.{Bytes, Text, byte, byteIn, within}
 use Rattle.spec.specs.Strings.{hexValue, hexIn, lowSurrogate, afterHigh, secondLimit, unicodeEscape, shortEscape, escape, tail, multibyte, character, characters, string}
 use Rattle.spec.proofs.OutcomeLaws.{refused≢ok, both-ok, first-ok}
 use Rattle.spec.proofs.TextLaws.{both-true}
-use Rattle.claims.specs.Proper.{isScalarValue, allScalarValues}
-use Rattle.claims.proofs.Rest.{within-true}
+use Rattle.claims.specs.Proper.{ScalarValue, below-surrogates, above-surrogates, ScalarValues, nothing, another}
 
 -- a result by a test, with what the test said
 pub if-ok : {A C : Type 0} (test : Bool) {x y : Outcome A} {a : A} → (if test then x else y) ≡ ok a → (test ≡ true → x ≡ ok a → C) → (test ≡ false → y ≡ ok a → C) → C
 if-ok true h f g = f refl h
 if-ok false h f g = g refl h
-
-scalar-low : (c : ℕ) → c ≤ 0xD7FF → isScalarValue c ≡ true
-unfolding isScalarValue
-scalar-low c h = rw (le-leb c 0xD7FF h)
-
-scalar-high : (c : ℕ) → 0xE000 ≤ c → c ≤ 0x10_FFFF → isScalarValue c ≡ true
-unfolding isScalarValue
-scalar-high c l h = rw (lt-leb c 0xD7FF (omega arith)) (within-true {low = 0xE000} {high = 0x10_FFFF} l h)
 
 within-bounds : (low high n : ℕ) → within low high n ≡ true → (low ≤ n) × (n ≤ high)
 unfolding within
@@ -68,7 +59,7 @@ short-small b = go (eqb b 34) (eqb b 92) (eqb b 47) (eqb b 98) (eqb b 102) (eqb 
     go false false false false false false false true = omega arith
     go false false false false false false false false = omega arith
 
-low-scalar : (s : Bytes) (high at c next : ℕ) → 0xD800 ≤ high → high ≤ 0xDBFF → lowSurrogate s high at ≡ ok (c, next) → isScalarValue c ≡ true
+low-scalar : (s : Bytes) (high at c next : ℕ) → 0xD800 ≤ high → high ≤ 0xDBFF → lowSurrogate s high at ≡ ok (c, next) → ScalarValue c
 unfolding lowSurrogate
 low-scalar s high at c next l h e =
     let (a, ea, e1) = both-ok (hexIn s at 0xD 0xD) _ _ e in
@@ -79,9 +70,9 @@ low-scalar s high at c next l h e =
     let bd = hexIn-bounds s (at + 2) 0x0 0xF d ed in
     let bf = hexIn-bounds s (at + 3) 0x0 0xF f ef in
     let is = first-ok e4 in
-    scalar-high c (omega arith) (omega arith)
+    above-surrogates (omega arith) (omega arith)
 
-after-scalar : (s : Bytes) (high at c next : ℕ) → 0xD800 ≤ high → high ≤ 0xDBFF → afterHigh s high at ≡ ok (c, next) → isScalarValue c ≡ true
+after-scalar : (s : Bytes) (high at c next : ℕ) → 0xD800 ≤ high → high ≤ 0xDBFF → afterHigh s high at ≡ ok (c, next) → ScalarValue c
 unfolding afterHigh
 after-scalar s high at c next l h e =
     let (a, ea, e1) = both-ok (byteIn s at 92 92) _ _ e in
@@ -90,21 +81,21 @@ after-scalar s high at c next l h e =
 
 -- four digits: the second is at most B after a D
 four-scalar : (a b c d : ℕ) → a ≤ 15 → b ≤ secondLimit a → b ≤ 15 → c ≤ 15 → d ≤ 15 → within 0xD800 0xDBFF (a * 0x1000 + b * 0x100 + c * 0x10 + d) ≡ false →
-    isScalarValue (a * 0x1000 + b * 0x100 + c * 0x10 + d) ≡ true
+    ScalarValue (a * 0x1000 + b * 0x100 + c * 0x10 + d)
 unfolding secondLimit
 four-scalar a b c d la lb lb' lc ld w = go (decLt u 0xD800) (decLt u 0xE000)
   where
     u : ℕ
     u = a * 0x1000 + b * 0x100 + c * 0x10 + d
 
-    go : Dec (u < 0xD800) → Dec (u < 0xE000) → isScalarValue u ≡ true
-    go (yes l) e = scalar-low u (omega arith)
+    go : Dec (u < 0xD800) → Dec (u < 0xE000) → ScalarValue u
+    go (yes l) e = below-surrogates (omega arith)
     go (no l) (yes h) =
         let above = outside 0xD800 0xDBFF u w (omega arith) in
         let first : a ≡ 13 = omega arith in
         let second : b ≤ 11 = rw first at lb in
         absurd (omega arith)
-    go (no l) (no h) = scalar-high u (omega arith) (omega arith)
+    go (no l) (no h) = above-surrogates (omega arith) (omega arith)
 
 second-small : (a : ℕ) → secondLimit a ≤ 15
 unfolding secondLimit
@@ -114,7 +105,7 @@ second-small a = go (eqb a 0xD)
     go true = omega arith
     go false = omega arith
 
-unicode-scalar : (s : Bytes) (at c next : ℕ) → unicodeEscape s at ≡ ok (c, next) → isScalarValue c ≡ true
+unicode-scalar : (s : Bytes) (at c next : ℕ) → unicodeEscape s at ≡ ok (c, next) → ScalarValue c
 unfolding unicodeEscape
 unicode-scalar s at c next e =
     let (a, ea, e1) = both-ok (hexIn s at 0x0 0xF) _ _ e in
@@ -130,12 +121,12 @@ unicode-scalar s at c next e =
     (λ t i. let first = within-bounds 0xD800 0xDBFF (a * 0x1000 + b * 0x100 + d * 0x10 + f) t in after-scalar s _ (at + 4) c next (first .0) (first .1) i)
     (λ t i. rw (← first-ok i) (four-scalar a b d f (ba .1) (bb .1) (omega arith) (bd .1) (bf .1) t))
 
-escape-scalar : (s : Bytes) (at c next : ℕ) → escape s at ≡ ok (c, next) → isScalarValue c ≡ true
+escape-scalar : (s : Bytes) (at c next : ℕ) → escape s at ≡ ok (c, next) → ScalarValue c
 unfolding escape
 escape-scalar s at c next h =
     if-ok (eqb (byte s at) 117) h (λ t i. unicode-scalar s (at + 1) c next i) λ t i.
     if-ok (eqb (shortEscape (byte s at)) 0) i (λ _ j. absurd (refused≢ok j)) λ _ j.
-    rw (← first-ok j) (scalar-low (shortEscape (byte s at)) (omega (arith, short-small (byte s at))))
+    rw (← first-ok j) (below-surrogates (omega (arith, short-small (byte s at))))
 
 -- UTF-8: what the bytes after the first come to
 
@@ -172,37 +163,37 @@ tail-three s at low high bits c next h =
     let b = byteIn-bounds s at low high d e in
     record { d = d; d-low = b .0; d-high = b .1; others = tail-two s (at + 1) 0x80 0xBF _ c next i }
 
-multibyte-scalar : (s : Bytes) (at b c next : ℕ) → multibyte s at b ≡ ok (c, next) → isScalarValue c ≡ true
+multibyte-scalar : (s : Bytes) (at b c next : ℕ) → multibyte s at b ≡ ok (c, next) → ScalarValue c
 unfolding multibyte
 multibyte-scalar s at b c next h =
-    if-ok (within 0xC2 0xDF b) h (λ t i. let first = within-bounds 0xC2 0xDF b t in let rest = tail-one s (at + 1) 0x80 0xBF (b - 0xC0) c next i in scalar-low c (omega arith)) λ _ h.
-    if-ok (within 0xE0 0xE0 b) h (λ t i. let first = within-bounds 0xE0 0xE0 b t in let rest = tail-two s (at + 1) 0xA0 0xBF (b - 0xE0) c next i in scalar-low c (omega arith)) λ _ h.
-    if-ok (within 0xE1 0xEC b) h (λ t i. let first = within-bounds 0xE1 0xEC b t in let rest = tail-two s (at + 1) 0x80 0xBF (b - 0xE0) c next i in scalar-low c (omega arith)) λ _ h.
-    if-ok (within 0xED 0xED b) h (λ t i. let first = within-bounds 0xED 0xED b t in let rest = tail-two s (at + 1) 0x80 0x9F (b - 0xE0) c next i in scalar-low c (omega arith)) λ _ h.
-    if-ok (within 0xEE 0xEF b) h (λ t i. let first = within-bounds 0xEE 0xEF b t in let rest = tail-two s (at + 1) 0x80 0xBF (b - 0xE0) c next i in scalar-high c (omega arith) (omega arith)) λ _ h.
-    if-ok (within 0xF0 0xF0 b) h (λ t i. let first = within-bounds 0xF0 0xF0 b t in let rest = tail-three s (at + 1) 0x90 0xBF (b - 0xF0) c next i in scalar-high c (omega arith) (omega arith)) λ _ h.
-    if-ok (within 0xF1 0xF3 b) h (λ t i. let first = within-bounds 0xF1 0xF3 b t in let rest = tail-three s (at + 1) 0x80 0xBF (b - 0xF0) c next i in scalar-high c (omega arith) (omega arith)) λ _ h.
-    if-ok (within 0xF4 0xF4 b) h (λ t i. let first = within-bounds 0xF4 0xF4 b t in let rest = tail-three s (at + 1) 0x80 0x8F (b - 0xF0) c next i in scalar-high c (omega arith) (omega arith)) λ _ h.
+    if-ok (within 0xC2 0xDF b) h (λ t i. let first = within-bounds 0xC2 0xDF b t in let rest = tail-one s (at + 1) 0x80 0xBF (b - 0xC0) c next i in below-surrogates (omega arith)) λ _ h.
+    if-ok (within 0xE0 0xE0 b) h (λ t i. let first = within-bounds 0xE0 0xE0 b t in let rest = tail-two s (at + 1) 0xA0 0xBF (b - 0xE0) c next i in below-surrogates (omega arith)) λ _ h.
+    if-ok (within 0xE1 0xEC b) h (λ t i. let first = within-bounds 0xE1 0xEC b t in let rest = tail-two s (at + 1) 0x80 0xBF (b - 0xE0) c next i in below-surrogates (omega arith)) λ _ h.
+    if-ok (within 0xED 0xED b) h (λ t i. let first = within-bounds 0xED 0xED b t in let rest = tail-two s (at + 1) 0x80 0x9F (b - 0xE0) c next i in below-surrogates (omega arith)) λ _ h.
+    if-ok (within 0xEE 0xEF b) h (λ t i. let first = within-bounds 0xEE 0xEF b t in let rest = tail-two s (at + 1) 0x80 0xBF (b - 0xE0) c next i in above-surrogates (omega arith) (omega arith)) λ _ h.
+    if-ok (within 0xF0 0xF0 b) h (λ t i. let first = within-bounds 0xF0 0xF0 b t in let rest = tail-three s (at + 1) 0x90 0xBF (b - 0xF0) c next i in above-surrogates (omega arith) (omega arith)) λ _ h.
+    if-ok (within 0xF1 0xF3 b) h (λ t i. let first = within-bounds 0xF1 0xF3 b t in let rest = tail-three s (at + 1) 0x80 0xBF (b - 0xF0) c next i in above-surrogates (omega arith) (omega arith)) λ _ h.
+    if-ok (within 0xF4 0xF4 b) h (λ t i. let first = within-bounds 0xF4 0xF4 b t in let rest = tail-three s (at + 1) 0x80 0x8F (b - 0xF0) c next i in above-surrogates (omega arith) (omega arith)) λ _ h.
     absurd (refused≢ok h)
 
-pub character-scalar : (s : Bytes) (at c next : ℕ) → character s at ≡ ok (c, next) → isScalarValue c ≡ true
+pub character-scalar : (s : Bytes) (at c next : ℕ) → character s at ≡ ok (c, next) → ScalarValue c
 unfolding character
 character-scalar s at c next h =
     if-ok (eqb (byte s at) 92) h (λ t i. escape-scalar s (at + 1) c next i) λ t i.
     if-ok (within 0x20 0x7F (byte s at)) i
-    (λ u j. let first = within-bounds 0x20 0x7F (byte s at) u in rw (← first-ok j) (scalar-low (byte s at) (omega arith)))
+    (λ u j. let first = within-bounds 0x20 0x7F (byte s at) u in rw (← first-ok j) (below-surrogates (omega arith)))
     (λ u j. multibyte-scalar s at (byte s at) c next j)
 
-characters-scalar : (fuel : ℕ) (s : Bytes) (at : ℕ) (cs : Text) (next : ℕ) → characters fuel s at ≡ ok (cs, next) → allScalarValues cs ≡ true
-unfolding characters allScalarValues
-characters-scalar zero s at cs next h = absurd (refused≢ok h)
-characters-scalar (suc fuel) s at cs next h =
-    if-ok (eqb (byte s at) 34) h (λ t i. rw (← first-ok i)) λ t i.
+characters-scalar : (fuel : ℕ) (s : Bytes) (at : ℕ) (cs : Text) (next : ℕ) → characters fuel s at ≡ ok (cs, next) → ScalarValues cs
+unfolding characters
+characters-scalar zero s at cs end h = absurd (refused≢ok h)
+characters-scalar (suc fuel) s at cs end h =
+    if-ok (eqb (byte s at) 34) h (λ t i. subst ScalarValues (first-ok i) nothing) λ t i.
     let (c-next, e, j) = both-ok (character s at) _ _ i in
     let (cs-next, f, k) = both-ok (characters fuel s (c-next .1)) _ _ j in
-    rw (← first-ok k, character-scalar s at (c-next .0) (c-next .1) e, characters-scalar fuel s (c-next .1) (cs-next .0) (cs-next .1) f)
+    subst ScalarValues (first-ok k) (another (character-scalar s at (c-next .0) (c-next .1) e) (characters-scalar fuel s (c-next .1) (cs-next .0) (cs-next .1) f))
 
-pub string-scalar : (s : Bytes) (at : ℕ) (cs : Text) (next : ℕ) → string s at ≡ ok (cs, next) → allScalarValues cs ≡ true
+pub string-scalar : (s : Bytes) (at : ℕ) (cs : Text) (next : ℕ) → string s at ≡ ok (cs, next) → ScalarValues cs
 unfolding string
 string-scalar s at cs next h =
     let (b, e, i) = both-ok (byteIn s at 34 34) _ _ h in

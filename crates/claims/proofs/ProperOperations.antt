@@ -18,7 +18,7 @@ use Rattle.spec.proofs.OutcomeLaws.{refused≢ok, both-ok}
 use Rattle.spec.proofs.ForestLaws.{count-replaceAt, find-replaceAt}
 use Rattle.spec.proofs.ChildLaws.{child-there}
 use Rattle.claims.specs.Proper as Proper
-use Rattle.claims.specs.Proper.{Proper, Allows, allScalarValues, ProperItems, element, member}
+use Rattle.claims.specs.Proper.{Proper, Allows, ScalarValues, ProperItems, element, member}
 use Rattle.claims.proofs.Found.{absent-parts, absent-cons}
 use Rattle.claims.proofs.CharacterScalar.{if-ok}
 use Rattle.claims.proofs.ReadProper.{proper-snoc}
@@ -86,7 +86,7 @@ proper-removeAt (suc k) (member {e} {kids} {rest} n m a i q) = member n (absent-
 
 -- a change that keeps what is proper, at tokens of characters
 abbrev Keeps : (Text → Value.Value → Outcome Value.Value) → Type 0
-Keeps change = (t : Text) (v w : Value.Value) → allScalarValues t ≡ true → Proper v → change t v ≡ ok w → Proper w
+Keeps change = (t : Text) (v w : Value.Value) → ScalarValues t → Proper v → change t v ≡ ok w → Proper w
 
 remove-keeps : Keeps removeChild
 unfolding removeChild
@@ -136,7 +136,7 @@ element-keeps x q t v w p l h =
     let items : ProperItems false (v .kids) = rw l at (p .items) in
     subst Proper same (container-again v Label.array false (insertAt k (named [] x) (v .kids)) l refl (λ g. Proper.array) (proper-insertAt k (v .kids) x q items))
 
-member-keeps : (x : Value.Value) → Proper x → (t : Text) (v : Value.Value) → allScalarValues t ≡ true → Proper v → v .label ≡ Label.object → Proper (insertMember x t v)
+member-keeps : (x : Value.Value) → Proper x → (t : Text) (v : Value.Value) → ScalarValues t → Proper v → v .label ≡ Label.object → Proper (insertMember x t v)
 unfolding insertMember isObject tag
 member-keeps x q t v s p l = go (has t (v .kids)) refl
   where
@@ -163,9 +163,9 @@ add-keeps x q t v w s p h =
 -- tokens of characters
 pub data AllCharacters : Tokens → Type 0 where
   no-tokens : AllCharacters []
-  token : {t : Text} {ts : Tokens} → allScalarValues t ≡ true → AllCharacters ts → AllCharacters (t ∷ ts)
+  token : {t : Text} {ts : Tokens} → ScalarValues t → AllCharacters ts → AllCharacters (t ∷ ts)
 
-parent-keeps : (change : Text → Value.Value → Outcome Value.Value) → Keeps change → (t : Text) (ts : Tokens) (v w : Value.Value) → allScalarValues t ≡ true → AllCharacters ts →
+parent-keeps : (change : Text → Value.Value → Outcome Value.Value) → Keeps change → (t : Text) (ts : Tokens) (v w : Value.Value) → ScalarValues t → AllCharacters ts →
     Proper v → atParent change t ts v ≡ ok w → Proper w
 unfolding atParent
 parent-keeps change keeps t [] v w s a p h = keeps t v w s p h

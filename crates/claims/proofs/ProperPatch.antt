@@ -16,9 +16,8 @@ use Rattle.spec.specs.Pointer.{Tokens, tokens, child}
 use Rattle.spec.specs.Operation.{Kind, Operation, perform, notTooDeep, notTooLarge, limited}
 use Rattle.spec.specs.Patch.{member, stringOf, stringMember, kindNamed, usesValue, usesFrom, isMove, Members-of-operation, valueFor, fromFor, membersFor, operationMembers, properPrefix, withPointers, operation, Run, finished, stopped, atOp, onFinish, operations, shape, run}
 use Rattle.spec.proofs.OutcomeLaws.{refused≢ok, both-ok}
-use Rattle.spec.proofs.TextLaws.{both-true}
 use Rattle.claims.specs.Proper as Proper
-use Rattle.claims.specs.Proper.{Proper, Readable, Allows, isScalarValue, allScalarValues, ProperItems}
+use Rattle.claims.specs.Proper.{Proper, Readable, Allows, ScalarValue, ScalarValues, ProperItems}
 use Rattle.claims.specs.Pointers.{escapeCharacter, escapeToken, pointerOf}
 use Rattle.claims.proofs.CharacterScalar.{if-ok}
 use Rattle.claims.proofs.OperationsTheorem.{proper-nth}
@@ -27,35 +26,33 @@ use Rattle.claims.proofs.ProperOperations.{AllCharacters, no-tokens, to
 
 -- Tokens of a text of characters are of characters.
 
-characters-append : (s t : Text) → allScalarValues (s ++ t) ≡ true → (allScalarValues s ≡ true) × (allScalarValues t ≡ true)
-unfolding allScalarValues
-characters-append [] t h = (refl, h)
-characters-append (c ∷ s) t h =
-    let q = both-true (isScalarValue c) (allScalarValues (s ++ t)) h in
-    let r = characters-append s t (q .1) in
-    (rw (q .0) (r .0), r .1)
+characters-append : (s t : Text) → ScalarValues (s ++ t) → ScalarValues s × ScalarValues t
+characters-append [] t h = (Proper.nothing, h)
+characters-append (c ∷ s) t (Proper.another q h) = let r = characters-append s t h in (Proper.another q (r .0), r .1)
 
-escaped-character : {c : ℕ} {w : Text} → Escaped c w → allScalarValues w ≡ true → isScalarValue c ≡ true
-unfolding allScalarValues isScalarValue
-escaped-character tilde-escaped h = refl
-escaped-character slash-escaped h = refl
-escaped-character (plain {c} q r) h = both-true (isScalarValue c) true h .0
+escaped-character : {c : ℕ} {w : Text} → Escaped c w → ScalarValues w → ScalarValue c
+escaped-character tilde-escaped h = Proper.below-surrogates (omega arith)
+escaped-character slash-escaped h = Proper.below-surrogates (omega arith)
+escaped-character (plain q r) (Proper.another s h) = s
 
-token-characters : (t : Text) → allScalarValues (escapeToken t) ≡ true → allScalarValues t ≡ true
-unfolding escapeToken allScalarValues
-token-characters [] h = refl
+token-characters : (t : Text) → ScalarValues (escapeToken t) → ScalarValues t
+unfolding escapeToken
+token-characters [] h = Proper.nothing
 token-characters (c ∷ t) h =
     let q = characters-append (escapeCharacter c) (escapeToken t) h in
-    rw (escaped-character (escaped c) (q .0)) (token-characters t (q .1))
+    Proper.another (escaped-character (escaped c) (q .0)) (token-characters t (q .1))
 
-pointer-characters : (ts : Tokens) → allScalarValues (pointerOf ts) ≡ true → AllCharacters ts
-unfolding pointerOf allScalarValues
+without-first : {c : ℕ} {t : Text} → ScalarValues (c ∷ t) → ScalarValues t
+without-first (Proper.another s h) = h
+
+pointer-characters : (ts : Tokens) → ScalarValues (pointerOf ts) → AllCharacters ts
+unfolding pointerOf
 pointer-characters [] h = no-tokens
 pointer-characters (t ∷ ts) h =
-    let q = characters-append (escapeToken t) (pointerOf ts) (both-true (isScalarValue 47) _ h .1) in
+    let q = characters-append (escapeToken t) (pointerOf ts) (without-first h) in
     token (token-characters t (q .0)) (pointer-characters ts (q .1))
 
-tokens-characters : (p : Text) (ts : Tokens) → allScalarValues p ≡ true → tokens p ≡ ok ts → AllCharacters ts
+tokens-characters : (p : Text) (ts : Tokens) → ScalarValues p → tokens p ≡ ok ts → AllCharacters ts
 tokens-characters p ts s h = pointer-characters ts (rw (pointers .written-so p ts h) s)
 
 -- The members of an operation
@@ -69,7 +66,7 @@ member-proper name v w p h =
     subst Proper same (proper-nth _ _ (find name (v .kids)) (v .kids) (p .items) (ltb-true (find name (v .kids)) (count (v .kids)) t)))
     (λ _ i. absurd (refused≢ok i))
 
-string-characters : {l : Label} {kids : Members} (cs : Text) → Allows l kids → stringOf l ≡ ok cs → allScalarValues cs ≡ true
+string-characters : {l : Label} {kids : Members} (cs : Text) → Allows l kids → stringOf l ≡ ok cs → ScalarValues cs
 unfolding stringOf isString tag content
 string-characters cs Proper.null-literal h = absurd (refused≢ok h)
 string-characters cs Proper.true-literal h = absurd (refused≢ok h)
@@ -79,7 +76,7 @@ string-characters cs (Proper.string {cs = ds} c) h = let same : ds ≡ cs = cc i
 string-characters cs Proper.array h = absurd (refused≢ok h)
 string-characters cs Proper.object h = absurd (refused≢ok h)
 
-string-member : (name : Text) (v : Value.Value) (cs : Text) → Proper v → stringMember name v ≡ ok cs → allScalarValues cs ≡ true
+string-member : (name : Text) (v : Value.Value) (cs : Text) → Proper v → stringMember name v ≡ ok cs → ScalarValues cs
 unfolding stringMember
 string-member name v cs p h =
     let (m, e, i) = both-ok (member name v) _ cs h in
@@ -91,14 +88,14 @@ value-member kind v x p h =
     if-ok (usesValue kind) h (λ _ i. member-proper (ascii "value") v x p i)
     (λ _ i. let same : leaf Label.null-literal ≡ x = cc in subst Proper same (record { allows = Proper.null-literal; items = Proper.empty }))
 
-from-member : (kind : Kind) (v : Value.Value) (cs : Text) → Proper v → fromFor kind v ≡ ok cs → allScalarValues cs ≡ true
-unfolding fromFor allScalarValues
+from-member : (kind : Kind) (v : Value.Value) (cs : Text) → Proper v → fromFor kind v ≡ ok cs → ScalarValues cs
+unfolding fromFor
 from-member kind v cs p h =
-    if-ok (usesFrom kind) h (λ _ i. string-member (ascii "from") v cs p i) (λ _ i. let same : [] ≡ cs = cc in rw (← same))
+    if-ok (usesFrom kind) h (λ _ i. string-member (ascii "from") v cs p i) (λ _ i. let same : [] ≡ cs = cc in subst ScalarValues same Proper.nothing)
 
 record ProperMembers (m : Members-of-operation) : Type 0 where
-  path-characters : allScalarValues (m .path) ≡ true
-  from-characters : allScalarValues (m .from) ≡ true
+  path-characters : ScalarValues (m .path)
+  from-characters : ScalarValues (m .from)
   value-proper : Proper (m .value)
 
 members-proper : (kind : Kind) (v : Value.Value) (m : Members-of-operation) → Proper v → membersFor kind v ≡ ok m → ProperMembers m

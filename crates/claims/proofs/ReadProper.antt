@@ -22,7 +22,7 @@ use Rattle.spec.proofs.OutcomeLaws.{refused≢ok, both-ok, either-ok, first-ok}
 use Rattle.spec.proofs.Tracking.{Cut, nothing-ends, past-end}
 use Rattle.spec.proofs.ReadersTrack.{number-tracks}
 use Rattle.claims.specs.Proper as Proper
-use Rattle.claims.specs.Proper.{Proper, Allows, allScalarValues, ProperItems, element, member}
+use Rattle.claims.specs.Proper.{Proper, Allows, ScalarValues, ProperItems, element, member}
 use Rattle.claims.proofs.Found.{absent-parts, absent-cons}
 use Rattle.claims.proofs.NumberRead.{number-spans}
 use Rattle.claims.proofs.CharacterScalar.{string-scalar, if-ok}
@@ -134,7 +134,7 @@ fresh-there name so-far quote q h = if-ok (has name so-far) h (λ _ i. absurd (r
 
 record Name (object : Bool) (so-far : Members) (name : Text) : Type 0 where
   unnamed : object ≡ false → name ≡ []
-  fresh-name : object ≡ true → (allScalarValues name ≡ true) × (has name so-far ≡ false)
+  fresh-name : object ≡ true → ScalarValues name × (has name so-far ≡ false)
 
 name-read : (object : Bool) (s : Bytes) (so-far : Members) (at : ℕ) (name : Text) (place : ℕ) → nameFor object s so-far at ≡ ok (name, place) → Name object so-far name
 unfolding nameFor
@@ -145,7 +145,7 @@ name-read true s so-far at name place h =
     let (b, g, k) = both-ok (byteIn s (blanks s (n .1)) 58 58) _ _ j in
     record {
       unnamed = λ r. absurd (true≢false r);
-      fresh-name = λ _. subst (λ m. (allScalarValues m ≡ true) × (has m so-far ≡ false)) (first-ok k) (string-scalar s at (n .0) (n .1) e, fresh-there (n .0) so-far (n .1 - 1) q f);
+      fresh-name = λ _. subst (λ m. ScalarValues m × (has m so-far ≡ false)) (first-ok k) (string-scalar s at (n .0) (n .1) e, fresh-there (n .0) so-far (n .1 - 1) q f);
     }
 
 container-proper : (object : Bool) (kids : Members) → ProperItems object kids → Proper (record { label = containerLabel object; kids = kids })

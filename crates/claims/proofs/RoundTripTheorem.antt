@@ -23,7 +23,7 @@ use Rattle.spec.specs.Answer.{Answer, Lent, answer, success, refusal, workSuffi
 use Rattle.spec.specs.Region.{WellFormed}
 use Rattle.spec.proofs.Tracking.{nothing-ends, past-end}
 use Rattle.spec.proofs.ReadLaws.{read-depth}
-use Rattle.claims.specs.Proper.{isScalarValue, Readable}
+use Rattle.claims.specs.Proper.{ScalarValue, Readable}
 use Rattle.claims.specs.RoundTrip.{Patched, RoundTripStatement}
 use Rattle.claims.proofs.Rest.{Rest}
 use Rattle.claims.proofs.CharacterBack.{character-back}
@@ -32,7 +32,7 @@ use Rattle.claims.proofs.ValueBack.{value-begins, value-back, items-bac
 use Rattle.claims.proofs.ReadProper.{read-proper}
 use Rattle.claims.proofs.ProperPatch.{shape-proper, run-readable, patch-stops, patch-finishes}
 
-character-anywhere : (c : ℕ) (before after : Bytes) → isScalarValue c ≡ true →
+character-anywhere : (c : ℕ) (before after : Bytes) → ScalarValue c →
     character (before ++ (writeCharacter c ++ after)) (length before) ≡ ok (c, length before + length (writeCharacter c))
 character-anywhere c before after h = character-back c after h (record { is = drop-append-seam before (writeCharacter c ++ after) }) .reads
 

@@ -17,7 +17,7 @@ use Rattle.spec.specs.Read.{isBlank, blanksFrom, blanks, spelled, roomFor, lite
 use Rattle.spec.specs.Write.{writeString, opening}
 use Rattle.spec.proofs.Tracking.{Ends}
 use Rattle.claims.specs.Proper as Proper
-use Rattle.claims.specs.Proper.{Allows, allScalarValues}
+use Rattle.claims.specs.Proper.{Allows, ScalarValues}
 use Rattle.claims.proofs.Normal.{digit-bounds}
 use Rattle.claims.proofs.Rest.{Rest, byte-at, first-byte, rest-next, byteIn-ok}
 use Rattle.claims.proofs.StringBack.{string-back}
@@ -95,7 +95,7 @@ module _ {s : Bytes} {at : ℕ} (left nodes : ℕ) (fits : nodes < 2048) (r : By
       scalar-value left s at nodes (rw (first-byte h)) (rw (first-byte h)) ∙
       rw (first-byte h, room nodes at fits) (literal-back Label.false-literal 102 (ascii "alse") r h)
 
-  pub text-back : (cs : Text) → allScalarValues cs ≡ true → Rest s at (writeString cs ++ r) → value left s at nodes ≡ ok (leaf (Label.string cs), at + length (writeString cs))
+  pub text-back : (cs : Text) → ScalarValues cs → Rest s at (writeString cs ++ r) → value left s at nodes ≡ ok (leaf (Label.string cs), at + length (writeString cs))
   unfolding scalar stringValue writeString _>>=_
   text-back cs scalars h =
       scalar-value left s at nodes (rw (first-byte h)) (rw (first-byte h)) ∙

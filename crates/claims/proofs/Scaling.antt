@@ -8,12 +8,9 @@ use native.Mathlib.Omega.{arith}
 use lib.Dec.{ltb}
 use lib.IntN.{ℤ, pos, negsuc, negℤ, _+ℤ_, _-ℤ_, +ℤ-assoc, +ℤ-comm, +ℤ-idl, +ℤ-idr, +ℤ-invr, negℤ-+ℤ, -ℤ-+ℤ-cancel}
 use borrow.Author.Tests.{ltb-true}
-use Rattle.claims.specs.Numbers.{above}
+use Rattle.claims.specs.Numbers.{natural, above}
 
 -- Integers
-
-natural : ℤ → ℕ
-natural z = elim z [ pos n ↦ n | negsuc n ↦ 0 ]
 
 natural-sub : (a b : ℕ) → natural (pos a -ℤ pos b) ≡ a - b
 unfolding natural
@@ -31,7 +28,7 @@ cancel-base g m n =
     ap (λ z. m +ℤ z) (sym (+ℤ-assoc g (negℤ g) (negℤ n)) ∙ ap (λ z. z +ℤ negℤ n) (+ℤ-invr g) ∙ +ℤ-idl (negℤ n))
 
 pub above-base : (g : ℤ) (a b : ℕ) → above (g +ℤ pos a) (g +ℤ pos b) ≡ a - b
-unfolding above natural
+unfolding above
 above-base g a b = ap natural (cancel-base g (pos a) (pos b)) ∙ natural-sub a b
 
 pub base-injective : (g : ℤ) (a b : ℕ) → g +ℤ pos a ≡ g +ℤ pos b → a ≡ b

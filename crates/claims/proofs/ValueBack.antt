@@ -19,7 +19,7 @@ use Rattle.spec.specs.Read.{isBlank, blanks, fresh, nameFor, containerLabel, cl
 use Rattle.spec.specs.Write.{writeString, opening, closing, writeName, comma, writeItems, write}
 use Rattle.spec.proofs.Tracking.{Ends}
 use Rattle.claims.specs.Proper as Proper
-use Rattle.claims.specs.Proper.{Allows, allScalarValues, ProperItems, element, member}
+use Rattle.claims.specs.Proper.{Allows, ScalarValues, ProperItems, element, member}
 use Rattle.claims.proofs.Found.{absent-parts, absent-cons}
 use Rattle.claims.proofs.Rest.{Rest, byte-at, first-byte, rest-next, rest-more, rest-length, byteIn-ok}
 use Rattle.claims.proofs.StringBack.{string-back}
@@ -79,7 +79,7 @@ items-begin r (member {e} {kids} {rest} n h' a k p) c h = string-begins (rw (ite
 -- A name
 
 name-back : {s : Bytes} {at : ℕ} (object : Bool) (name : Text) (so-far : Members) (r : Bytes) → (object ≡ false → name ≡ []) →
-    (object ≡ true → (allScalarValues name ≡ true) × (has name so-far ≡ false)) → isBlank (byte s (at + length (writeName object name))) ≡ false →
+    (object ≡ true → ScalarValues name × (has name so-far ≡ false)) → isBlank (byte s (at + length (writeName object name))) ≡ false →
     Rest s at (writeName object name ++ r) → nameFor object s so-far at ≡ ok (name, at + length (writeName object name))
 unfolding nameFor writeName fresh ascii isBlank _>>=_
 name-back {at = at} false name so-far r e m b h = rw (e refl) (ap (λ n. ok ([], n)) (sym (add-zero at)))
@@ -118,7 +118,7 @@ absent-after n (tree d below g) e kids rest h q = absent-after n g e kids rest (
 
 pub record Item (object : Bool) (so-far : Members) (e : Entry) (kids : Members) : Type 0 where
   pub unnamed : object ≡ false → e .name ≡ []
-  pub fresh-name : object ≡ true → (allScalarValues (e .name) ≡ true) × (has (e .name) so-far ≡ false)
+  pub fresh-name : object ≡ true → ScalarValues (e .name) × (has (e .name) so-far ≡ false)
   pub allows : Allows (e .label) kids
   pub inside : ProperItems (isObject (e .label)) kids
 

@@ -61,9 +61,14 @@ pub data Writes : Bytes → Exact → Type 0 where
       Writes (m ++ (i ++ (f ++ x)))
       (record { negative = negative; significand = positional (i ++ fraction); power = exponent -ℤ pos (length fraction) })
 
+-- an integer, and 0 where it is negative
+unfoldable pub natural : ℤ → ℕ
+natural (pos n) = n
+natural (negsuc n) = 0
+
 -- how far a power lies above another, and 0 where it lies below
 unfoldable pub above : ℤ → ℤ → ℕ
-above e f = elim (e -ℤ f) [ pos n ↦ n | negsuc n ↦ 0 ]
+above e f = natural (e -ℤ f)
 
 -- Numerically equal, and of the same sign: both significands are scaled to the smaller of the two powers.
 pub record SameNumber (x y : Exact) : Type 0 where

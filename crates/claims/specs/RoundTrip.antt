@@ -2,7 +2,6 @@
 use mathlib.Core.Path.{_≡_}
 use Prim.Native.Nat.{ℕ, _+_}
 use mathlib.Core.List.{List, _++_}
-use mathlib.Core.Bool.{true}
 use lib.ListN.{length}
 use Rattle.spec.specs.Outcome.{ok}
 use Rattle.spec.specs.Bytes.{Bytes}
@@ -14,7 +13,7 @@ use Rattle.spec.specs.Operation.{Operation, limited}
 use Rattle.spec.specs.Patch.{finished, run}
 use Rattle.spec.specs.Answer.{Lent, answer, success}
 use Rattle.spec.specs.Region.{Accepted, WellFormed}
-use Rattle.claims.specs.Proper.{isScalarValue, Readable}
+use Rattle.claims.specs.Proper.{ScalarValue, Readable}
 
 -- a text that is the document patched: the operations run from the one to the other, and the text is read as what they end with
 pub record Patched (document patch text : Bytes) : Type 0 where
@@ -29,7 +28,7 @@ pub record Patched (document patch text : Bytes) : Type 0 where
 
 pub record RoundTripStatement : Type 0 where
   -- a character that is written anywhere in a text is read there, and no byte more
-  pub character-back : (c : ℕ) (before after : Bytes) → isScalarValue c ≡ true →
+  pub character-back : (c : ℕ) (before after : Bytes) → ScalarValue c →
       character (before ++ (writeCharacter c ++ after)) (length before) ≡ ok (c, length before + length (writeCharacter c))
   -- a value that is written is read back, numbers by their source text and members in their order
   pub read-back : (v : Value.Value) → Readable v → read (write v) ≡ ok v
