@@ -1,0 +1,84 @@
+-- What comparing two numbers by their worth means: document 01, "Numbers by exact value", and RFC 6902, section 4.6, "numbers: are
+-- considered equal if their values are numerically equal". The exact value of a number's text is read off RFC 8259's grammar, with no
+-- digit dropped and nothing rounded.
+use mathlib.Core.Path.{_≡_}
+use mathlib.Core.Logic.{_↔_}
+use Prim.Native.Nat.{ℕ, _+_, _-_, _*_, _^_, _≤_}
+use Prim.Native.Char.{code}
+use mathlib.Core.List.{[], _∷_, _++_}
+use mathlib.Core.Bool.{Bool, true, false}
+use lib.ListN.{length}
+use lib.IntN.{ℤ, pos, negsuc, negℤ, _-ℤ_}
+use Rattle.spec.specs.Outcome.{ok}
+use Rattle.spec.specs.Bytes.{Bytes}
+use Rattle.spec.specs.Numbers.{isDigit, isE, number}
+use Rattle.spec.specs.Worth.{worth}
+use Rattle.spec.specs.Pointer.{allDigits}
+use Rattle.spec.specs.Equality.{sameWorth}
+
+-- an integer times a power of ten, with its sign, which a zero has too
+pub record Exact : Type 0 where
+  pub negative : Bool
+  pub significand : ℕ
+  pub power : ℤ
+
+-- the integer that digits write: each digit times the power of ten of its position
+unfoldable pub positional : Bytes → ℕ
+positional [] = 0
+positional (d ∷ ds) = (d - code "0") * 10 ^ length ds + positional ds
+
+-- 1*DIGIT
+pub record Digits (ds : Bytes) : Type 0 where
+  pub some : 1 ≤ length ds
+  pub all : allDigits ds ≡ true
+
+-- [ minus ], and whether it is there
+pub data Minus : Bytes → Bool → Type 0 where
+  none : Minus [] false
+  minus : Minus (code "-" ∷ []) true
+
+-- int = zero / ( digit1-9 *DIGIT )
+pub data Int : Bytes → Type 0 where
+  zero : Int (code "0" ∷ [])
+  nonzero : (d : ℕ) (ds : Bytes) → isDigit d ≡ true → (d ≡ code "0" → ⊥) → allDigits ds ≡ true → Int (d ∷ ds)
+
+-- [ frac ], frac = decimal-point 1*DIGIT, and its digits
+pub data Frac : Bytes → Bytes → Type 0 where
+  none : Frac [] []
+  point : (ds : Bytes) → Digits ds → Frac (code "." ∷ ds) ds
+
+-- [ exp ], exp = e [ minus / plus ] 1*DIGIT, and the power of ten that it says
+pub data Exp : Bytes → ℤ → Type 0 where
+  none : Exp [] (pos 0)
+  plain : (e : ℕ) (ds : Bytes) → isE e ≡ true → Digits ds → Exp (e ∷ ds) (pos (positional ds))
+  plus : (e : ℕ) (ds : Bytes) → isE e ≡ true → Digits ds → Exp (e ∷ code "+" ∷ ds) (pos (positional ds))
+  minus : (e : ℕ) (ds : Bytes) → isE e ≡ true → Digits ds → Exp (e ∷ code "-" ∷ ds) (negℤ (pos (positional ds)))
+
+-- number = [ minus ] int [ frac ] [ exp ], and its exact value: the integer of all the digits on either side of the point, times ten to the
+-- exponent less the number of digits after the point.
+pub data Writes : Bytes → Exact → Type 0 where
+  writes : (m i f x : Bytes) (negative : Bool) (fraction : Bytes) (exponent : ℤ) → Minus m negative → Int i → Frac f fraction → Exp x exponent →
+      Writes (m ++ (i ++ (f ++ x)))
+      (record { negative = negative; significand = positional (i ++ fraction); power = exponent -ℤ pos (length fraction) })
+
+-- an integer, and 0 where it is negative
+unfoldable pub natural : ℤ → ℕ
+natural (pos n) = n
+natural (negsuc n) = 0
+
+-- how far a power lies above another, and 0 where it lies below
+unfoldable pub above : ℤ → ℤ → ℕ
+above e f = natural (e -ℤ f)
+
+-- Numerically equal, and of the same sign: both significands are scaled to the smaller of the two powers.
+pub record SameNumber (x y : Exact) : Type 0 where
+  pub sign : x .negative ≡ y .negative
+  pub value : x .significand * 10 ^ above (x .power) (y .power) ≡ y .significand * 10 ^ above (y .power) (x .power)
+
+pub record NumbersStatement : Type 0 where
+  -- a text that is one number from its first byte to its last has an exact value
+  pub valued : (t : Bytes) → number t 0 ≡ ok (length t) → (x : Exact) × Writes t x
+  -- and only one, however the text is cut
+  pub one-value : (t : Bytes) (x y : Exact) → Writes t x → Writes t y → SameNumber x y
+  -- "Numbers by exact value. [..] A zero keeps its sign, so -0 and 0 differ."
+  pub by-value : (s t : Bytes) (x y : Exact) → Writes s x → Writes t y → sameWorth (worth s) (worth t) ≡ true ↔ SameNumber x y
