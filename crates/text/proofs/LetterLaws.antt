@@ -53,7 +53,7 @@ pub record Begins (s : Bytes) (at : ℕ) (left : ℕ → Text) (letter : ℕ × 
   pub past : (at < letter .1) × (letter .1 ≤ length s)
 
 -- a token's text from a place on
-abbrev tokenFrom : Bytes → ℕ → Text
+abbrev pub tokenFrom : Bytes → ℕ → Text
 tokenFrom s at = unescapeToken (decodeFrom s at)
 
 module _ (s : Bytes) (at c next : ℕ) (e : characterIn s at ≡ ok (c, next)) where
@@ -84,7 +84,7 @@ module _ (s : Bytes) (at c next : ℕ) (e : characterIn s at ≡ ok (c, next)) w
       let alone : decodeFrom s at ≡ code "~" ∷ [] = decode-more s at c next e ∙ ap₂ _∷_ (eqb-true c (code "~") t) last in
       record { text = ap unescapeToken alone ∙ token-last (decodeFrom s next) last; past = in-past s at e }
 
-  step-begins : Begins s at (tokenFrom s) (tokenStep s c next)
+  pub step-begins : Begins s at (tokenFrom s) (tokenStep s c next)
   unfolding tokenStep
   step-begins = go (eqb c (code "~")) refl
     where
@@ -114,7 +114,7 @@ module _ (s : Bytes) (at : ℕ) where
       go (refused n p) e h = ap unescapeToken (decode-ends s at e)
 
 -- what holds of the text and of the letter in each form holds in the form that is given
-by-form : (form : ℕ) (s : Bytes) (at : ℕ) (P : (ℕ → Text) → Outcome (ℕ × ℕ) → Type 0) → P (decodeFrom s) (characterIn s at) → P (tokenFrom s) (tokenLetter s at) →
+pub by-form : (form : ℕ) (s : Bytes) (at : ℕ) (P : (ℕ → Text) → Outcome (ℕ × ℕ) → Type 0) → P (decodeFrom s) (characterIn s at) → P (tokenFrom s) (tokenLetter s at) →
     P (λ at. []) (refused not-json at) → P (textFrom form s) (letterAt form s at)
 unfolding textFrom letterAt
 by-form form s at P string token other = go (eqb form 1) (eqb form 2) (eqb form 3)
