@@ -5,4 +5,7 @@ pub mod CompareLaws
 pub mod Utf8Laws
 pub mod PlainLaws
 pub mod LengthLaws
+pub mod HashLaws
+pub mod EscapeLaws
+pub mod StoreLaws
 pub mod Auto
