@@ -18,6 +18,11 @@ unfoldable pub noSlash : Text → Bool
 noSlash [] = true
 noSlash (c ∷ cs) = not (eqb c (code "/")) && noSlash cs
 
+pub noSlash-append : (cs ds : Text) → noSlash cs ≡ true → noSlash ds ≡ true → noSlash (cs ++ ds) ≡ true
+unfolding noSlash
+noSlash-append [] ds h i = i
+noSlash-append (c ∷ cs) ds h i = let (p, q) = both-true (not (eqb c (code "/"))) (noSlash cs) h in rw (p, noSlash-append cs ds q i)
+
 -- the first character of a segment
 segment-more : (c : ℕ) (cs t u : Text) (ts : List Text) → noSlash (c ∷ cs) ≡ true → (noSlash cs ≡ true → segments u ≡ t ∷ ts) → segments (c ∷ u) ≡ (c ∷ t) ∷ ts
 unfolding segments prepend noSlash

@@ -14,6 +14,7 @@ afterTilde (ok (d, after)) next =
     if eqb d (code "1") then (code "/", after) else (code "~", next)
 afterTilde (refused number place) next = (code "~", next)
 
+-- a token's character, given the string's at its place
 unfoldable pub tokenStep : Bytes → ℕ → ℕ → ℕ × ℕ
 tokenStep s c next = if eqb c (code "~") then afterTilde (characterIn s next) next else (c, next)
 
@@ -22,6 +23,7 @@ tokenLetter s at = do
   (c, next) ← characterIn s at
   ok (tokenStep s c next)
 
+-- the character at a place of a part, by the part's form
 unfoldable pub letterAt : ℕ → Bytes → ℕ → Outcome (ℕ × ℕ)
 letterAt form s at =
     if eqb form 1 then characterIn s at else

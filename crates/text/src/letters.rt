@@ -59,8 +59,8 @@ fn any_letter(form: u64, s: &[u8], at: usize) -> Character
     }
 }
 
-// The character at a place of a part in a form, with the cursor behind it; refused where the text ends. Most characters are one byte, and
-// are seen here: through the layers below a comparison took ten times as long.
+// The character at a place of a part in a form, with the cursor behind it; refused where the text ends. Most characters are one byte that
+// stands for itself, and these are seen here, in one layer.
 pub fn letter(form: u64, s: &[u8], at: usize) -> Character
     ensures { λ r. ⌜ characterOutcome r ≡ letterAt form (now (s .entry)) at ⌝ }
 {
