@@ -10,17 +10,18 @@ use lib.Dec.{eqb}
 use borrow.Author.Tests.{eqb-true, eqb-false, ne-eqb}
 use Rattle.spec.specs.Outcome.{Outcome, ok, refused, _>>=_, if_then_else_}
 use Rattle.spec.specs.Refusal.{not-json}
-use Rattle.spec.specs.Bytes.{Bytes, Text, byte}
+use Rattle.spec.specs.Bytes.{Bytes, Text, byte, within}
 use Rattle.spec.proofs.OutcomeLaws.{refused≢ok, both-ok}
 use Rattle.lexer.specs.declared.cursor.Cursor.{Cursor}
 use Rattle.lexer.specs.declared.characters.Character.{Character}
 use Rattle.lexer.specs.declared.characters.Character.the-variants as Character
 use Rattle.lexer.specs.Names.{standsForItself}
 use Rattle.lexer.specs.Answers.{characterOutcome}
+use Rattle.lexer.proofs.Tests.{within-bounds}
 use Rattle.lexer.proofs.AnswerLaws.{scalar-ok, character-refused}
 use Rattle.lexer.proofs.StringLoop.{self-no-quote, self-character}
 use Rattle.text.specs.Decode.{characterIn, decodeFrom, unescapeToken, textFrom}
-use Rattle.text.specs.Letters.{afterTilde, tokenStep, tokenLetter, letterAt}
+use Rattle.text.specs.Letters.{afterTilde, tokenStep, tokenLetter, letterAt, plainAt}
 use Rattle.text.proofs.DecodeLaws.{in-past, decode-more, decode-ends}
 
 -- ---- a token's letter
@@ -156,6 +157,17 @@ module _ (s : Bytes) (at : ℕ) (self : standsForItself (byte s at) ≡ true) (n
       go false false true p q r = self-token
       go false false false p q r = absurd (omega (arith, eqb-false form 1 p, eqb-false form 2 q, eqb-false form 3 r))
 
+plain-letter : (form : ℕ) (s : Bytes) (at : ℕ) → (plainAt form s at ≡ 0 → ⊥) → letterAt form s at ≡ ok (plainAt form s at, at + 1)
+unfolding plainAt
+plain-letter form s at = go (standsForItself (byte s at)) (eqb (byte s at) (code "~")) (within 1 3 form) refl refl refl
+  where
+    go : (self tilde known : Bool) → standsForItself (byte s at) ≡ self → eqb (byte s at) (code "~") ≡ tilde → within 1 3 form ≡ known →
+        let r = if self then (if tilde then 0 else if known then byte s at else 0) else 0 in (r ≡ 0 → ⊥) → letterAt form s at ≡ ok (r, at + 1)
+    go true false true e f g n = let w = within-bounds 1 3 form g in self-letter s at e (eqb-false (byte s at) (code "~") f) form (w .0) (w .1)
+    go true true known e f g n = absurd (n refl)
+    go true false false e f g n = absurd (n refl)
+    go false tilde known e f g n = absurd (n refl)
+
 -- ---- what the code answered
 
 module _ (form : ℕ) (s : Bytes) (at : ℕ) {r : Character} (e : characterOutcome r ≡ letterAt form s at) where
@@ -168,3 +180,13 @@ module _ (form : ℕ) (s : Bytes) (at : ℕ) {r : Character} (e : characterOutco
 
   pub refused-text : (place : ℕ) → r ≡ Character.Refused place → textFrom form s at ≡ []
   refused-text place t = letter-ends form s at not-json place (character-refused place e t)
+
+module _ (form : ℕ) (s : Bytes) (at : ℕ) {r : ℕ} (e : r ≡ plainAt form s at) (n : r ≡ 0 → ⊥) where
+  pub plain-ok : letterAt form s at ≡ ok (r, at + 1)
+  plain-ok = plain-letter form s at (λ z. n (e ∙ z)) ∙ ap (λ b. ok (b, at + 1)) (sym e)
+
+  pub plain-text : textFrom form s at ≡ r ∷ textFrom form s (at + 1)
+  plain-text = letter-begins form s at (r, at + 1) plain-ok .text
+
+  pub plain-inside : at < length s
+  plain-inside = omega (arith, letter-begins form s at (r, at + 1) plain-ok .past)

@@ -4,7 +4,8 @@ use Prim.Native.Char.{code}
 use lib.Dec.{eqb}
 use Rattle.spec.specs.Outcome.{Outcome, ok, refused, _>>=_, if_then_else_}
 use Rattle.spec.specs.Refusal.{not-json}
-use Rattle.spec.specs.Bytes.{Bytes}
+use Rattle.spec.specs.Bytes.{Bytes, byte, within}
+use Rattle.lexer.specs.Names.{standsForItself}
 use Rattle.text.specs.Decode.{characterIn}
 
 -- after a `~`, given the character behind it and the place between the two
@@ -29,3 +30,9 @@ letterAt form s at =
     if eqb form 1 then characterIn s at else
     if eqb form 2 then characterIn s at else
     if eqb form 3 then tokenLetter s at else refused not-json at
+
+-- the byte at a place, where it is the letter there by itself, in every form; else 0
+unfoldable pub plainAt : ℕ → Bytes → ℕ → ℕ
+plainAt form s at =
+    let b = byte s at in
+    if standsForItself b then (if eqb b (code "~") then 0 else if within 1 3 form then b else 0) else 0

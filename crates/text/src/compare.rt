@@ -3,7 +3,9 @@ ghost use mathlib.Core.Path.{_≡_};
 ghost use mathlib.Core.List.{[]};
 ghost use Rattle.spec.specs.Value.{sameText};
 ghost use Rattle.text.specs.Decode.{textFrom, textOf};
+use crate::letters::any_letter;
 use crate::letters::letter;
+use crate::letters::plain;
 use lexer::Character;
 
 // Whether two parts have the same bytes.
@@ -40,10 +42,18 @@ fn same_letters(form: u64, a: &[u8], other: u64, b: &[u8]) -> bool
     let mut i = 0;
     let mut j = 0;
     loop {
-        let Character::Scalar(c, next) = letter(form, a, i) else {
+        let p = plain(form, a, i);
+        if p != 0 {
+            if plain(other, b, j) == p {
+                i += 1;
+                j += 1;
+                continue;
+            }
+        }
+        let Character::Scalar(c, next) = any_letter(form, a, i) else {
             return ended(other, b, j);
         };
-        let Character::Scalar(d, after) = letter(other, b, j) else {
+        let Character::Scalar(d, after) = any_letter(other, b, j) else {
             return false;
         };
         if c != d {

@@ -2,7 +2,8 @@
 ghost use mathlib.Core.Path.{_≡_};
 ghost use Rattle.lexer.specs.Hash.{hash};
 ghost use Rattle.text.specs.Decode.{textOf};
-use crate::letters::letter;
+use crate::letters::any_letter;
+use crate::letters::plain;
 use lexer::Character;
 use lexer::mix;
 
@@ -13,7 +14,13 @@ pub fn hash_text(form: u64, s: &[u8]) -> u32
     let mut h: u32 = 0;
     let mut at = 0;
     loop {
-        let Character::Scalar(c, next) = letter(form, s, at) else {
+        let b = plain(form, s, at);
+        if b != 0 {
+            h = mix(h, b as u32);
+            at += 1;
+            continue;
+        }
+        let Character::Scalar(c, next) = any_letter(form, s, at) else {
             return h;
         };
         h = mix(h, c);
