@@ -47,8 +47,8 @@ fn token_letter(s: &[u8], at: usize) -> Character
     Character::Scalar(c, next)
 }
 
-// The byte at a place where it is the letter there by itself, as most bytes of most texts are; else 0. Asked first, it keeps a loop over the
-// letters quick: a call of `letter` takes ten times as long.
+// The byte at a place where it is the letter there by itself, as most bytes of most texts are; else 0. Asked first, it keeps a loop over
+// letters quick.
 pub fn plain(form: u64, s: &[u8], at: usize) -> u8
     ensures { λ r. ⌜ r ≡ plainAt form (now (s .entry)) at ⌝ }
 {
