@@ -1,0 +1,89 @@
+// One character of what a part says.
+ghost use mathlib.Core.Path.{_≡_};
+ghost use Rattle.spec.specs.Outcome.{ok};
+ghost use Rattle.lexer.specs.Answers.{characterOutcome};
+ghost use Rattle.text.specs.Decode.{characterIn};
+ghost use Rattle.text.specs.Letters.{afterTilde, tokenLetter, letterAt, plainAt};
+use lexer::Character;
+use lexer::Cursor;
+use lexer::peek;
+use lexer::stands_for_itself;
+
+// The character of a string at a place of its part; refused where the string ends.
+fn string_letter(s: &[u8], at: usize) -> Character
+    ensures { λ r. ⌜ characterOutcome r ≡ characterIn (now (s .entry)) at ⌝ }
+{
+    if peek(s, at) == b'"' {
+        return Character::Refused(at);
+    }
+    (Cursor { at }).character(s)
+}
+
+// The character that a `~` begins, given the cursor behind it.
+fn after_tilde(s: &[u8], next: Cursor) -> Character
+    ensures { λ r. ⌜ characterOutcome r ≡ ok (afterTilde (characterIn (now (s .entry)) (next .at)) (next .at)) ⌝ }
+{
+    let Character::Scalar(c, after) = string_letter(s, next.at) else {
+        return Character::Scalar(0x7E, next);
+    };
+    match c {
+        0x30 => Character::Scalar(0x7E, after),
+        0x31 => Character::Scalar(0x2F, after),
+        _ => Character::Scalar(0x7E, next),
+    }
+}
+
+// The character of a pointer's token at a place of its part, `~0` and `~1` each read as one.
+fn token_letter(s: &[u8], at: usize) -> Character
+    ensures { λ r. ⌜ characterOutcome r ≡ tokenLetter (now (s .entry)) at ⌝ }
+{
+    let r = string_letter(s, at);
+    let Character::Scalar(c, next) = r else {
+        return r;
+    };
+    if c == 0x7E {
+        return after_tilde(s, next);
+    }
+    Character::Scalar(c, next)
+}
+
+// The byte at a place where it is the letter there by itself, as most bytes of most texts are; else 0. Asked first, it keeps a loop over
+// letters quick.
+pub fn plain(form: u64, s: &[u8], at: usize) -> u8
+    ensures { λ r. ⌜ r ≡ plainAt form (now (s .entry)) at ⌝ }
+{
+    let b = peek(s, at);
+    if !stands_for_itself(b) {
+        return 0;
+    }
+    if b == b'~' {
+        return 0;
+    }
+    match form {
+        1..=3 => b,
+        _ => 0,
+    }
+}
+
+// The character at a place of a part in a form, with the cursor behind it; refused where the text ends.
+pub fn any_letter(form: u64, s: &[u8], at: usize) -> Character
+    ensures { λ r. ⌜ characterOutcome r ≡ letterAt form (now (s .entry)) at ⌝ }
+{
+    match form {
+        1 => string_letter(s, at),
+        2 => string_letter(s, at),
+        3 => token_letter(s, at),
+        _ => Character::Refused(at),
+    }
+}
+
+// The same, with the test for a byte that is a letter by itself first.
+pub fn letter(form: u64, s: &[u8], at: usize) -> Character
+    ensures { λ r. ⌜ characterOutcome r ≡ letterAt form (now (s .entry)) at ⌝ }
+{
+    let b = plain(form, s, at);
+    if b != 0 {
+        return Character::Scalar(b as u32, Cursor { at: at + 1 });
+    }
+    any_letter(form, s, at)
+}
