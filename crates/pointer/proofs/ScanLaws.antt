@@ -52,11 +52,11 @@ reads-bytes {s} {at} {to} {cs} r = go (decLt (length s) at)
 
 -- ---- one character of a token
 
-segments-slash : (c : ℕ) (t : Text) → c ≡ code "/" → segments (c ∷ t) ≡ [] ∷ segments t
+pub segments-slash : (c : ℕ) (t : Text) → c ≡ code "/" → segments (c ∷ t) ≡ [] ∷ segments t
 unfolding segments
 segments-slash c t e = rw (eq-eqb c (code "/") e)
 
-segments-more : (c : ℕ) (t : Text) → (c ≡ code "/" → ⊥) → segments (c ∷ t) ≡ prepend c (segments t)
+pub segments-more : (c : ℕ) (t : Text) → (c ≡ code "/" → ⊥) → segments (c ∷ t) ≡ prepend c (segments t)
 unfolding segments
 segments-more c t e = rw (ne-eqb c (code "/") e)
 

@@ -7,4 +7,5 @@ pub mod tokens; // from token to token, and whether a text is a pointer
 pub use answers::First;
 pub use answers::Token;
 pub use tokens::first;
+pub use tokens::is_pointer;
 pub use tokens::token;

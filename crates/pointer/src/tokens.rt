@@ -1,8 +1,9 @@
 // A pointer from token to token.
 ghost use mathlib.Core.Path.{_≡_};
-ghost use Rattle.text.specs.Decode.{characterIn};
+ghost use Rattle.spec.specs.Pointer.{tokens};
+ghost use Rattle.text.specs.Decode.{characterIn, decode};
 ghost use Rattle.lexer.specs.Answers.{characterOutcome};
-ghost use Rattle.pointer.specs.Tokens.{FirstOf, TokenAt};
+ghost use Rattle.pointer.specs.Tokens.{accepted, tokensFrom, FirstOf, TokenAt};
 use crate::answers::First;
 use crate::answers::Token;
 use lexer::Character;
@@ -44,5 +45,43 @@ pub fn token(part: &[u8], start: usize) -> Token
             };
         }
         at = next.at;
+    }
+}
+
+// Whether the tokens from a place on are well formed: each `~` stands before a `0` or a `1`.
+fn well_formed(part: &[u8], start: usize) -> bool
+    ensures { λ r. ⌜ r ≡ accepted (tokensFrom (now (part .entry)) start) ⌝ }
+{
+    let mut at = start;
+    loop {
+        let Character::Scalar(c, next) = character_in(part, at) else {
+            return true;
+        };
+        if c != 0x7E {
+            at = next.at;
+            continue;
+        }
+        let Character::Scalar(d, after) = character_in(part, next.at) else {
+            return false;
+        };
+        if d == 0x30 {
+            at = after.at;
+            continue;
+        }
+        if d != 0x31 {
+            return false;
+        }
+        at = after.at;
+    }
+}
+
+// Whether a part says a pointer.
+pub fn is_pointer(part: &[u8]) -> bool
+    ensures { λ r. ⌜ r ≡ accepted (tokens (decode (now (part .entry)))) ⌝ }
+{
+    match first(part) {
+        First::Root => true,
+        First::At(at) => well_formed(part, at),
+        First::Malformed => false,
     }
 }
