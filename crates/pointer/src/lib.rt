@@ -3,9 +3,12 @@
 
 pub mod answers; // what the functions below answer
 pub mod tokens; // from token to token, and whether a text is a pointer
+pub mod indices; // a token as an index of an array
 
 pub use answers::First;
+pub use answers::Index;
 pub use answers::Token;
+pub use indices::index;
 pub use tokens::first;
 pub use tokens::is_pointer;
 pub use tokens::token;
