@@ -44,7 +44,7 @@ pub record Unfolds (t : Text) (others : Outcome Tokens) (ts : Tokens) : Type 0 w
   pub is : ts ≡ t ∷ rest
   pub from : others ≡ ok rest
 
-unescaped : (t : Text) (us : List Text) (ts : Tokens) → unescapeAll (t ∷ us) ≡ ok ts → Unfolds (unescapeToken t) (unescapeAll us) ts
+pub unescaped : (t : Text) (us : List Text) (ts : Tokens) → unescapeAll (t ∷ us) ≡ ok ts → Unfolds (unescapeToken t) (unescapeAll us) ts
 unfolding unescapeAll
 unescaped t us ts h =
     let (v, e, i) = both-ok (unescape false t) _ ts h in
@@ -57,8 +57,12 @@ token-text : (part : Bytes) → textOf 3 part ≡ unescapeToken (decode part)
 unfolding textOf textFrom decode
 token-text part = refl
 
-first-token : (s : Bytes) (at : ℕ) (t : Token) (ts : Tokens) → TokenAt s at t → tokensFrom s at ≡ ok ts →
-    Unfolds (textOf 3 (tokenBytes s at t)) (unescapeAll (segmentsAfter s t)) ts
+-- the tokens behind one that was answered
+abbrev pub tokensBehind : Bytes → Token → Outcome Tokens
+tokensBehind s t = unescapeAll (segmentsAfter s t)
+
+pub first-token : (s : Bytes) (at : ℕ) (t : Token) (ts : Tokens) → TokenAt s at t → tokensFrom s at ≡ ok ts →
+    Unfolds (textOf 3 (tokenBytes s at t)) (tokensBehind s t) ts
 unfolding tokensFrom
 first-token s at t ts right h =
     rw (token-text (tokenBytes s at t)) (unescaped (decode (tokenBytes s at t)) (segmentsAfter s t) ts (ap unescapeAll (sym (right .splits)) ∙ h))

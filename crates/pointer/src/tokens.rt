@@ -1,9 +1,11 @@
 // A pointer from token to token.
 ghost use mathlib.Core.Path.{_≡_};
+ghost use Prim.Native.Nat.{_-_};
+ghost use lib.ListN.{take, drop};
 ghost use Rattle.spec.specs.Pointer.{tokens};
 ghost use Rattle.text.specs.Decode.{characterIn, decode};
 ghost use Rattle.lexer.specs.Answers.{characterOutcome};
-ghost use Rattle.pointer.specs.Tokens.{accepted, tokensFrom, FirstOf, TokenAt};
+ghost use Rattle.pointer.specs.Tokens.{accepted, tokensFrom, FirstOf, TokenAt, tokenBytes};
 use crate::answers::First;
 use crate::answers::Token;
 use lexer::Character;
@@ -45,6 +47,32 @@ pub fn token(part: &[u8], start: usize) -> Token
             };
         }
         at = next.at;
+    }
+}
+
+// The bytes of a part from one place to another, as far as it has them.
+fn between(part: &[u8], from: usize, to: usize) -> &[u8]
+    ensures { λ r. ⌜ now r ≡ take (to - from) (drop from (now (part .entry))) ⌝ }
+{
+    if to <= from {
+        return &part[..0];
+    }
+    if part.len() <= from {
+        return &part[..0];
+    }
+    if part.len() < to {
+        return &part[from..];
+    }
+    &part[from..to]
+}
+
+// The part of a token that begins at a place.
+pub fn token_part(part: &[u8], at: usize, t: Token) -> &[u8]
+    ensures { λ r. ⌜ now r ≡ tokenBytes (now (part .entry)) at t ⌝ }
+{
+    match t {
+        Token::Last { end } => between(part, at, end),
+        Token::Next { end, next: _ } => between(part, at, end),
     }
 }
 
