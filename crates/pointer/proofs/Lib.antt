@@ -2,5 +2,5 @@ pub mod ScanLaws
 pub mod WalkLaws
 pub mod EscapeLaws
 pub mod IndexLaws
-pub mod SliceLaws
+pub mod PartLaws
 pub mod PrefixLaws

@@ -17,7 +17,7 @@ use Rattle.pointer.specs.declared.answers.Token.{Token}
 use Rattle.pointer.specs.declared.answers.Token.the-variants as Token
 use Rattle.pointer.specs.Tokens.{tokensFrom, tokensAfter, tokenBytes, segmentsAfter, FirstOf, TokenAt}
 use Rattle.pointer.specs.Prefix.{isNext, isAt, PrefixOf}
-use Rattle.pointer.proofs.WalkLaws.{Unfolds, unescaped, first-root, first-at, first-malformed, tokensBehind, first-token}
+use Rattle.pointer.proofs.WalkLaws.{Unfolds, unescaped, first-root, first-at, first-malformed, tokensBehind, first-token, behind-last, behind-next}
 
 -- ---- lists of tokens
 
@@ -88,27 +88,26 @@ module _ (a : Bytes) (i : ℕ) (s : Token) (b : Bytes) (j : ℕ) (t : Token) (he
 -- ---- the tokens behind
 
 pub last-behind : (a : Bytes) (s : Token) (b : Bytes) (t : Token) (end : ℕ) → s ≡ Token.Last end → PrefixOf (tokensBehind a s) (tokensBehind b t) (isNext t)
-unfolding segmentsAfter unescapeAll
 last-behind a s b t end e =
     record {
       right = λ ts us h g.
-          let none : [] ≡ ts = (let k = rw e at h in cc) in
+          let same : ok [] ≡ ok ts = sym (behind-last a s end e) ∙ h in
+          let none : [] ≡ ts = cc in
           behind-some b t us g ∙ ap (λ ts. properPrefix ts us) none;
     }
 
 pub none-behind : (a : Bytes) (s : Token) (b : Bytes) (t : Token) (end : ℕ) → t ≡ Token.Last end → PrefixOf (tokensBehind a s) (tokensBehind b t) false
-unfolding segmentsAfter unescapeAll
 none-behind a s b t end e =
     record {
       right = λ ts us h g.
-          let none : us ≡ [] = (let k = rw e at g in cc) in
+          let same : ok [] ≡ ok us = sym (behind-last b t end e) ∙ g in
+          let none : us ≡ [] = cc in
           sym (ap (properPrefix ts) none ∙ nothing-shorter ts);
     }
 
 pub both-behind : (a : Bytes) (s : Token) (b : Bytes) (t : Token) (m i n j : ℕ) (r : Bool) → s ≡ Token.Next m i → t ≡ Token.Next n j →
     PrefixOf (tokensFrom a i) (tokensFrom b j) r → PrefixOf (tokensBehind a s) (tokensBehind b t) r
-unfolding tokensFrom segmentsAfter
-both-behind a s b t m i n j r e f p = rw (e, f) p
+both-behind a s b t m i n j r e f p = rw (behind-next a s m i e, behind-next b t n j f) p
 
 -- ---- where the tokens begin
 

@@ -1,9 +1,8 @@
 // A pointer from token to token.
 ghost use mathlib.Core.Path.{_≡_};
-ghost use Prim.Native.Nat.{_-_};
-ghost use lib.ListN.{take, drop};
 ghost use Rattle.spec.specs.Pointer.{tokens};
 ghost use Rattle.text.specs.Decode.{characterIn, decode};
+ghost use Rattle.lexer.specs.Names.{part};
 ghost use Rattle.lexer.specs.Answers.{characterOutcome};
 ghost use Rattle.pointer.specs.Tokens.{accepted, tokensFrom, FirstOf, TokenAt, tokenBytes};
 use crate::answers::First;
@@ -50,20 +49,20 @@ pub fn token(part: &[u8], start: usize) -> Token
     }
 }
 
-// The bytes of a part from one place to another, as far as it has them.
-fn between(part: &[u8], from: usize, to: usize) -> &[u8]
-    ensures { λ r. ⌜ now r ≡ take (to - from) (drop from (now (part .entry))) ⌝ }
+// The bytes of a text from one place to another, as far as it has them.
+fn between(s: &[u8], from: usize, to: usize) -> &[u8]
+    ensures { λ r. ⌜ now r ≡ part (now (s .entry)) from to ⌝ }
 {
     if to <= from {
-        return &part[..0];
+        return &s[..0];
     }
-    if part.len() <= from {
-        return &part[..0];
+    if s.len() <= from {
+        return &s[..0];
     }
-    if part.len() < to {
-        return &part[from..];
+    if s.len() < to {
+        return &s[from..];
     }
-    &part[from..to]
+    &s[from..to]
 }
 
 // The part of a token that begins at a place.

@@ -1,21 +1,23 @@
 use mathlib.Core.Path.{refl}
+use Rattle.lexer.specs.Names.{part}
 use Rattle.lexer.proofs.Auto.{auto}
-use Rattle.pointer.proofs.SliceLaws.{slice-backwards, slice-outside, slice-beyond}
+use Rattle.pointer.proofs.PartLaws.{part-backwards, part-outside, part-beyond}
 use Rattle.pointer.proofs.tokens.between.Statement.{statement}
 use Rattle.pointer.proofs.tokens.between.Tie as tie
 
 pub between-spec : {M : Type 1} → statement M
+unfolding part
 between-spec =
     tie.close
     (tie.spec
     -- slice-aggregate-result
     (λ c. search auto)
     -- returns
-    (λ c. slice-backwards _ _ _ (c .before .if1 .taken))
+    (λ c. part-backwards _ _ _ (c .before .if1 .taken))
     -- slice-aggregate-result-2
     (λ c. search auto)
     -- returns-2
-    (λ c. slice-outside _ _ _ (c .before .if2 .taken))
+    (λ c. part-outside _ _ _ (c .before .if2 .taken))
     -- sub-result
     (λ c. search auto)
     -- part-result-start
@@ -23,7 +25,7 @@ between-spec =
     -- part-result-end
     (λ c. search auto)
     -- returns-3
-    (λ c. slice-beyond _ _ _ (c .before .if3 .taken))
+    (λ c. part-beyond _ _ _ (c .before .if3 .taken))
     -- sub-result-2
     (λ c. search auto)
     -- part-result-start-2

@@ -5,7 +5,7 @@ use Rattle.lexer.proofs.Auto.{auto}
 use Rattle.lexer.proofs.AnswerLaws.{scalar-ok, character-refused}
 use Rattle.pointer.specs.declared.answers.Token.{Token}
 use Rattle.pointer.specs.Tokens.{TokenAt}
-use Rattle.pointer.proofs.ScanLaws.{character-shortens, Scanned, scanned-end, scanned-slash, scanned-more, scanned-token}
+use Rattle.pointer.proofs.ScanLaws.{character-less, Scanned, scanned-end, scanned-slash, scanned-more, scanned-token}
 use Rattle.pointer.proofs.tokens.token.Statement.{statement}
 use Rattle.pointer.proofs.tokens.token.Tie as tie
 
@@ -34,6 +34,6 @@ token-spec =
     -- returns-2
     (λ c. c .before .before .before .before .before .loop .inv _ (scanned-slash _ _ _ _ (scalar-ok _ _ (c .before .before .before .before .character-in .ensures) (c .before .before .c .given .1)) (c .if1 .taken)))
     -- loop-less
-    (λ c. character-shortens _ _ (scalar-ok _ _ (c .before .before .before .before .character-in .ensures) (c .before .before .c .given .1)))
+    (λ c. character-less _ _ (scalar-ok _ _ (c .before .before .before .before .character-in .ensures) (c .before .before .c .given .1)))
     -- loop-again
     (λ c. λ t r. c .before .before .before .before .before .loop .inv _ (scanned-more _ _ _ _ t (scalar-ok _ _ (c .before .before .before .before .character-in .ensures) (c .before .before .c .given .1)) (c .if1 .left) r)))
