@@ -1,13 +1,13 @@
 -- A token as an index: what its first character tells, what each further digit does, and which element it names.
 use mathlib.Core.Path.{_≡_, refl, sym, ap, _∙_}
-use mathlib.Core.Bool.{Bool, true, false, _&&_}
+use mathlib.Core.Bool.{Bool, true, false}
 use mathlib.Core.List.{[], _∷_}
 use Prim.Native.Nat.{ℕ, suc, _+_, _-_, _*_, _<_, _≤_}
 use Prim.Native.Char.{code}
 use native.Mathlib.Omega.{arith}
 use lib.Dec.{ltb}
-use borrow.Author.Tests.{ne-eqb, lt-ltb, le-ltb, ltb-true, ltb-false}
-use Rattle.spec.specs.Outcome.{Outcome, ok, refused, if_then_else_}
+use borrow.Author.Tests.{ne-eqb, le-ltb, ltb-true, ltb-false}
+use Rattle.spec.specs.Outcome.{ok, refused, if_then_else_}
 use Rattle.spec.specs.Refusal.{location-missing, no-index}
 use Rattle.spec.specs.Bytes.{Text, ascii, within}
 use Rattle.spec.specs.Numbers.{isDigit}

@@ -1,11 +1,11 @@
 -- Proper prefixes, token by token.
 use mathlib.Core.Path.{_≡_, refl, sym, ap, ap₂, _∙_}
-use mathlib.Core.Bool.{Bool, true, false, not, _&&_}
+use mathlib.Core.Bool.{Bool, true, false, _&&_}
 use mathlib.Core.List.{List, [], _∷_}
 use Prim.Native.Nat.{ℕ}
 use Prim.Native.Char.{code}
 use lib.Dec.{eqb}
-use Rattle.spec.specs.Outcome.{Outcome, ok, refused, if_then_else_}
+use Rattle.spec.specs.Outcome.{Outcome, ok, if_then_else_}
 use Rattle.spec.specs.Bytes.{Bytes, Text}
 use Rattle.spec.specs.Value.{sameText}
 use Rattle.spec.specs.Pointer.{Tokens, tokens, prepend, segments, unescapeAll}
@@ -15,7 +15,7 @@ use Rattle.pointer.specs.declared.answers.First.{First}
 use Rattle.pointer.specs.declared.answers.First.the-variants as First
 use Rattle.pointer.specs.declared.answers.Token.{Token}
 use Rattle.pointer.specs.declared.answers.Token.the-variants as Token
-use Rattle.pointer.specs.Tokens.{tokensFrom, tokensAfter, tokenBytes, segmentsAfter, FirstOf, TokenAt}
+use Rattle.pointer.specs.Tokens.{tokensFrom, tokenBytes, segmentsAfter, FirstOf, TokenAt}
 use Rattle.pointer.specs.Prefix.{isNext, isAt, PrefixOf}
 use Rattle.pointer.proofs.WalkLaws.{Unfolds, unescaped, first-root, first-at, first-malformed, tokensBehind, first-token, behind-last, behind-next}
 
@@ -128,13 +128,3 @@ module _ (a : Bytes) (f : First) (b : Bytes) (g : First) (here : FirstOf a f) (t
 
   pub prefix-at : (i j : ℕ) (r : Bool) → f ≡ First.At i → g ≡ First.At j → PrefixOf (tokensFrom a i) (tokensFrom b j) r → PrefixOf (tokens (decode a)) (tokens (decode b)) r
   prefix-at i j r d e p = record { right = λ ts us h k. p .right ts us (first-at a f here i ts d h) (first-at b g there j us e k) }
-
--- ---- a test that is negated
-
-pub not-true : (b : Bool) → not b ≡ true → b ≡ false
-not-true true e = sym e
-not-true false e = refl
-
-pub not-false : (b : Bool) → not b ≡ false → b ≡ true
-not-false true e = refl
-not-false false e = sym e

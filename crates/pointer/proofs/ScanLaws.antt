@@ -1,23 +1,37 @@
 -- What a scan from character to character finds of the token that begins at a place.
 use mathlib.Core.Path.{_≡_, refl, sym, ap, _∙_}
+use mathlib.Core.Bool.{Bool, true, false, not}
 use mathlib.Core.List.{[], _∷_}
-use Prim.Native.Nat.{ℕ, _-_, _<_, _≤_}
+use Prim.Native.Nat.{ℕ, _+_, _-_, _<_, _≤_}
 use Prim.Native.Char.{code}
 use native.Mathlib.Omega.{arith}
 use native.Mathlib.Nat.{sub-self}
 use native.Mathlib.Decide.{decLt}
 use lib.ListN.{length}
+use lib.Dec.{eqb}
 use borrow.Author.Tests.{eq-eqb, ne-eqb}
 use Rattle.spec.specs.Outcome.{ok, refused}
-use Rattle.spec.specs.Bytes.{Bytes, Text}
+use Rattle.spec.specs.Bytes.{Bytes, Text, byte, within}
+use Rattle.spec.specs.Strings.{character}
 use Rattle.spec.specs.Pointer.{prepend, segments, tokens}
 use Rattle.lexer.specs.Names.{part}
+use Rattle.lexer.proofs.Tests.{and-both, within-bounds, between-within}
 use Rattle.text.specs.Decode.{characterIn, decode, decodeFrom, decodeLoop}
 use Rattle.text.proofs.DecodeLaws.{in-past, decode-more, decode-ends, Reads, nothing, one-more, reads-past, reads-part}
 use Rattle.pointer.specs.declared.answers.First.the-variants as First
 use Rattle.pointer.specs.declared.answers.Token.{Token}
 use Rattle.pointer.specs.declared.answers.Token.the-variants as Token
-use Rattle.pointer.specs.Tokens.{tokensFrom, tokensAfter, Inside, FirstOf, endOf, tokenBytes, segmentsAfter, InOrder, TokenAt}
+use Rattle.pointer.specs.Tokens.{tokensFrom, tokensAfter, Inside, FirstOf, endOf, tokenBytes, segmentsAfter, InOrder, TokenAt, continues}
+
+-- ---- a test that is negated
+
+pub not-true : (b : Bool) → not b ≡ true → b ≡ false
+not-true true e = sym e
+not-true false e = refl
+
+pub not-false : (b : Bool) → not b ≡ false → b ≡ true
+not-false true e = refl
+not-false false e = sym e
 
 -- ---- what was read of a part
 
@@ -52,6 +66,25 @@ segments-slash c t e = rw (eq-eqb c (code "/") e)
 pub segments-more : (c : ℕ) (t : Text) → (c ≡ code "/" → ⊥) → segments (c ∷ t) ≡ prepend c (segments t)
 unfolding segments
 segments-more c t e = rw (ne-eqb c (code "/") e)
+
+-- a byte that continues a token is a character, and no slash
+pub record Continues (s : Bytes) (at : ℕ) : Type 0 where
+  pub reads : characterIn s at ≡ ok (byte s at, at + 1)
+  pub no-slash : byte s at ≡ code "/" → ⊥
+  pub inside : at < length s
+
+pub byte-continues : (s : Bytes) (at : ℕ) → continues (byte s at) ≡ true → Continues s at
+unfolding continues characterIn character
+byte-continues s at h =
+    let b = byte s at in
+    let both = and-both (within 0x30 0x7F b) (not (eqb b (code "\\"))) h in
+    let bounds = within-bounds 0x30 0x7F b (both .0) in
+    let read : characterIn s at ≡ ok (b, at + 1) = rw (ne-eqb b (code "\"") (λ e. omega arith), not-true (eqb b (code "\\")) (both .1), between-within 0x20 0x7F b (omega arith) (bounds .1)) in
+    record { reads = read; no-slash = λ e. omega arith; inside = omega (arith, in-past s at read) }
+
+-- the same of the byte that the code looked at, and of its answer
+pub continued : (s : Bytes) (at : ℕ) {b : ℕ} {r : Bool} → b ≡ byte s at → r ≡ continues b → r ≡ true → Continues s at
+continued s at p e t = byte-continues s at (ap continues (sym p) ∙ sym e ∙ t)
 
 -- ---- the scan
 

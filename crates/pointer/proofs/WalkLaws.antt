@@ -3,14 +3,13 @@ use mathlib.Core.Path.{_≡_, refl, sym, ap, _∙_}
 use mathlib.Core.Bool.{false}
 use mathlib.Core.List.{List, [], _∷_}
 use Prim.Native.Nat.{ℕ, _-_, _<_, _≤_}
-use native.Mathlib.Omega.{arith}
 use lib.ListN.{length, take, drop}
-use Rattle.spec.specs.Outcome.{Outcome, ok, refused, _>>=_}
+use Rattle.spec.specs.Outcome.{Outcome, ok}
 use Rattle.spec.specs.Bytes.{Bytes, Text}
-use Rattle.spec.specs.Pointer.{Tokens, tokens, segments, unescape, unescapeAll}
+use Rattle.spec.specs.Pointer.{Tokens, tokens, unescape, unescapeAll}
 use Rattle.spec.proofs.OutcomeLaws.{refused≢ok, both-ok}
 use Rattle.lexer.specs.Names.{part}
-use Rattle.text.specs.Decode.{decode, decodeFrom, unescapeToken, textFrom, textOf}
+use Rattle.text.specs.Decode.{decode, unescapeToken, textFrom, textOf}
 use Rattle.text.proofs.TokenLaws.{unescape-token}
 use Rattle.pointer.specs.declared.answers.First.{First}
 use Rattle.pointer.specs.declared.answers.First.the-variants as First

@@ -1,7 +1,6 @@
 -- `digits`: the digits that are left, after the value so far, say what all of them say.
 use Prim.Native.Nat.{_-_, _≤_}
 use mathlib.Core.Path.{_≡_, refl, sym, ap, _∙_}
-use native.Mathlib.Omega.{arith}
 use lib.ListN.{length}
 use Rattle.lexer.proofs.Auto.{auto}
 use Rattle.text.specs.Decode.{textFrom}
@@ -40,11 +39,11 @@ digits-spec =
     -- returns-2
     (λ c.
     let read = scalar-text _ _ _ (c .before .before .before .before .letter .ensures) _ _ (c .before .before .c .given .1) in
-    sym (ap (digitsAfter _) (read) ∙ digits-below _ _ _ (c .if1 .taken)) ∙ c .before .before .before .before .before .loop .inv .1)
+    sym (ap (digitsAfter _) read ∙ digits-below _ _ _ (c .if1 .taken)) ∙ c .before .before .before .before .before .loop .inv .1)
     -- returns-3
     (λ c.
     let read = scalar-text _ _ _ (c .before .before .before .before .before .letter .ensures) _ _ (c .before .before .before .c .given .1) in
-    sym (ap (digitsAfter _) (read) ∙ digits-above _ _ _ (c .if2 .taken)) ∙ c .before .before .before .before .before .before .loop .inv .1)
+    sym (ap (digitsAfter _) read ∙ digits-above _ _ _ (c .if2 .taken)) ∙ c .before .before .before .before .before .before .loop .inv .1)
     -- with-digit-requires
     (λ c κs. search auto)
     -- loop-less
@@ -52,4 +51,4 @@ digits-spec =
     -- loop-again
     (λ c.
     let read = scalar-text _ _ _ (c .before .before .before .before .before .before .letter .ensures) _ _ (c .before .before .before .before .c .given .1) in
-    (rw (c .with-digit .ensures) (capped-limit _), digits-next _ (read) (c .before .before .if1 .left) (c .before .if2 .left) (c .with-digit .ensures) (c .before .before .before .before .before .before .before .loop .inv .1))))
+    (rw (c .with-digit .ensures) (capped-limit _), digits-next _ read (c .before .before .if1 .left) (c .before .if2 .left) (c .with-digit .ensures) (c .before .before .before .before .before .before .before .loop .inv .1))))

@@ -1,4 +1,3 @@
-use mathlib.Core.Path.{sym, ap}
 use Rattle.lexer.proofs.Auto.{auto}
 use Rattle.text.proofs.LetterLaws.{scalar-text, refused-text}
 use Rattle.pointer.specs.Index.{ifLast}

@@ -6,8 +6,9 @@ use lib.ListN.{length}
 use Rattle.lexer.proofs.Auto.{auto}
 use Rattle.pointer.specs.Tokens.{tokensFrom}
 use Rattle.pointer.specs.Prefix.{PrefixOf}
+use Rattle.pointer.proofs.ScanLaws.{not-true, not-false}
 use Rattle.pointer.proofs.WalkLaws.{next-order}
-use Rattle.pointer.proofs.PrefixLaws.{not-true, not-false, prefix-differs, prefix-behind, last-behind, none-behind, both-behind}
+use Rattle.pointer.proofs.PrefixLaws.{prefix-differs, prefix-behind, last-behind, none-behind, both-behind}
 use Rattle.pointer.proofs.prefixes.prefix_from.Statement.{statement}
 use Rattle.pointer.proofs.prefixes.prefix_from.Tie as tie
 
