@@ -8,8 +8,8 @@ pub enum First {
     Malformed,
 }
 
-// A token by the place where it ends. The last one runs to the end of the part; behind any other stands a slash, and the next token begins
-// after it.
+// A token by the place where it ends. The last one runs to the end of the part, or to the first byte that is no character's; behind any
+// other stands a slash, and the next token begins after it.
 pub enum Token {
     Last { end: usize },
     Next { end: usize, next: usize },
