@@ -9,7 +9,7 @@ use lib.ListN.{length, length-append}
 use lib.Dec.{eqb, leb, ltb}
 use borrow.Author.Tests.{leb-true}
 use Rattle.spec.specs.Outcome.{Outcome, ok, refused, _>>=_, if_then_else_}
-use Rattle.spec.specs.Bytes.{Bytes, ascii, byte, within}
+use Rattle.spec.specs.Bytes.{Bytes, Text, ascii, byte, within}
 use Rattle.spec.specs.Strings.{secondLimit, shortEscape, escape, lowSurrogate, afterHigh, unicodeEscape, character}
 use Rattle.spec.specs.Write.{utf8, writeCharacter, writeCharacters}
 use Rattle.spec.proofs.OutcomeLaws.{refused≢ok, both-ok}
@@ -196,3 +196,13 @@ written-short form s = go (eqb form 1)
     go : (plain : Bool) → length (if plain then s else writeCharacters (textOf form s)) ≤ length s
     go true = omega arith
     go false = text-short form s
+
+-- ---- the length of a text, character by character
+
+pub length-ends : {t : Text} → t ≡ [] → length (writeCharacters t) ≡ 0
+unfolding writeCharacters
+length-ends e = rw e
+
+pub length-more : {t u : Text} {c : ℕ} → t ≡ c ∷ u → length (writeCharacters t) ≡ length (writeCharacter c) + length (writeCharacters u)
+unfolding writeCharacters
+length-more {u = u} {c = c} e = rw e (length-append (writeCharacter c) (writeCharacters u))

@@ -5,4 +5,10 @@ pub mod CompareLaws
 pub mod Utf8Laws
 pub mod PlainLaws
 pub mod LengthLaws
+pub mod HashLaws
+pub mod EscapeLaws
+pub mod StoreLaws
+pub mod SegmentLaws
+pub mod PartLaws
+pub mod Examples
 pub mod Auto
