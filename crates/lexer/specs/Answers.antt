@@ -1,0 +1,23 @@
+-- What each answer of the code stands for: the outcome of the definition that it is held to.
+use Prim.Native.Nat.{ℕ}
+use Rattle.spec.specs.Outcome.{Outcome, ok, refused}
+use Rattle.spec.specs.Refusal.{not-json}
+use Rattle.lexer.specs.declared.cursor.Bounded.{Bounded}
+use Rattle.lexer.specs.declared.cursor.Bounded.the-variants as Bounded
+use Rattle.lexer.specs.declared.cursor.Scan.{Scan}
+use Rattle.lexer.specs.declared.cursor.Scan.the-variants as Scan
+use Rattle.lexer.specs.declared.characters.Character.{Character}
+use Rattle.lexer.specs.declared.characters.Character.the-variants as Character
+
+-- of a number that was asked for at a place
+unfoldable pub boundedOutcome : ℕ → Bounded → Outcome ℕ
+boundedOutcome at (Bounded.Within n) = ok n
+boundedOutcome at Bounded.Outside = refused not-json at
+
+unfoldable pub characterOutcome : Character → Outcome (ℕ × ℕ)
+characterOutcome (Character.Scalar c next) = ok (c, next .at)
+characterOutcome (Character.Refused place) = refused not-json place
+
+unfoldable pub scanOutcome : Scan → Outcome ℕ
+scanOutcome (Scan.To next) = ok (next .at)
+scanOutcome (Scan.Refused number place) = refused number place
