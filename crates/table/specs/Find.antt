@@ -1,0 +1,27 @@
+-- What a search for a member by its name answers.
+use Prim.Native.Nat.{ℕ, _+_, _<_}
+use mathlib.Core.Path.{_≡_}
+use mathlib.Core.List.{List}
+use Rattle.spec.specs.Bytes.{Bytes}
+use Rattle.spec.specs.Forest.{Forest, count, size, before}
+use Rattle.spec.specs.Value.{find}
+use Rattle.tape.specs.Cell.{Cell, Held}
+use Rattle.table.specs.Meaning.{nameText, members, Hashed, Keyed}
+use Rattle.table.specs.declared.find.Member.{Member}
+use Rattle.table.specs.declared.find.Member.the-variants.{At, Missing}
+
+-- of a forest that the columns hold from a row on: the row of the first tree that has the name, or none
+pub data Found (document patch : Bytes) (start : ℕ) (f : Forest Cell) (name : ℕ) : Member → Type 0 where
+  found : (k row : ℕ) → find (nameText document patch name) (members document patch f) ≡ k → k < count f → row ≡ start + size (before k f) →
+      Found document patch start f name (At row)
+  missing : find (nameText document patch name) (members document patch f) ≡ count f → Found document patch start f name Missing
+
+-- a search's question, as the columns answer it: the trees in the rows from one to another, and a name
+pub record Asked (document patch : Bytes) (values names : List ℕ) (start end : ℕ) (f : Forest Cell) (name : ℕ) : Type 0 where
+  pub held : Held values names start f
+  pub ends : start + size f ≡ end
+  pub keyed : Keyed document patch f
+  pub hashed : Hashed document patch name
+
+abbrev pub FindIs : Bytes → Bytes → List ℕ → List ℕ → ℕ → ℕ → ℕ → Member → Type 0
+FindIs document patch values names start end name r = (f : Forest Cell) → Asked document patch values names start end f name → Found document patch start f name r
