@@ -90,6 +90,10 @@ byte-taken s at low high n h e =
       here = inside (within low high) (below-within low high 0 h) s at (p .0);
     }
 
+pub byte-is : (s : Bytes) (at low high n : ℕ) → byteIn s at low high ≡ ok n → byte s at ≡ n
+unfolding byteIn
+byte-is s at low high n e = passed (within low high (byte s at)) (byte s at) n not-json at e .1
+
 hex-zero : hexValue 0 ≡ 16
 unfolding hexValue within
 hex-zero = refl

@@ -1,7 +1,10 @@
 pub mod Tests
 pub mod Fuel
+pub mod Always
 pub mod ByteLaws
+pub mod AnswerLaws
 pub mod EscapeLaws
 pub mod StringLaws
-pub mod AnswerLaws
+pub mod StringLoop
+pub mod NameLaws
 pub mod Auto

@@ -94,3 +94,7 @@ below-within low high n h = rw (lt-leb low n h)
 pub above-within : (low high n : ℕ) → high < n → within low high n ≡ false
 unfolding within
 above-within low high n h = rw (lt-leb n high h) (and-false (leb low n))
+
+pub and-both : (a b : Bool) → (a && b) ≡ true → (a ≡ true) × (b ≡ true)
+and-both true b e = (refl, e)
+and-both false b e = absurd (true≢false (sym e))

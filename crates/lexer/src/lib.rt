@@ -3,6 +3,7 @@
 
 pub mod cursor; // a place in a text, what reading there answers, and the byte there
 pub mod characters; // one character of a string
+pub mod strings; // strings, and names
 mod escapes; // a character written as an escape
 mod utf8; // a character of two to four bytes
 
@@ -10,3 +11,4 @@ pub use characters::Character;
 pub use cursor::Cursor;
 pub use cursor::Scan;
 pub use cursor::peek;
+pub use strings::Name;
