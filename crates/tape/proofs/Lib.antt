@@ -1,0 +1,8 @@
+-- Laws that the proofs cite, here and in the crates above.
+pub mod Packing
+pub mod Columns
+pub mod Forests
+pub mod Tape
+pub mod Cells
+pub mod Rows
+pub mod Depth
