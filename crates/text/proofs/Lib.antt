@@ -1,2 +1,4 @@
 pub mod DecodeLaws
 pub mod TokenLaws
+pub mod LetterLaws
+pub mod Auto
