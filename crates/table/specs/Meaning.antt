@@ -9,7 +9,7 @@ use Rattle.spec.specs.Bytes.{Bytes, Text}
 use Rattle.spec.specs.Forest.{Forest, none, tree, Tree}
 use Rattle.spec.specs.Value as Value
 use Rattle.spec.specs.Value.{Label, Entry, Members}
-use Rattle.lexer.specs.Names.{hash}
+use Rattle.lexer.specs.Hash.{hash}
 use Rattle.text.specs.Decode.{textOf}
 use Rattle.tape.specs.Packing.{formOf, sourceOf, startOf, lengthOf, spellingOf, hashOf}
 use Rattle.tape.specs.Cell.{Cell}
