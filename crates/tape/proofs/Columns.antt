@@ -135,6 +135,38 @@ module _ {W : Type 0} where
         drop-append-le (p + removed) mid back h,
       ) (simp append-assoc)
 
+-- ---- what a move and a fill leave alone, and what they make
+module _ {W : Type 0} (xs : List W) (to start n : ℕ) (target : to + n ≤ length xs) (there : start + n ≤ length xs) where
+  long-enough : n ≤ length (drop start xs)
+  long-enough = rw length-drop (omega arith)
+
+  pub take-moved : (row : ℕ) → row ≤ to → take row (moved xs to start n) ≡ take row xs
+  unfolding copied replaced
+  take-moved row h =
+      rw (
+        moved-in xs to start n target there,
+        append-assoc (take to xs) (take n (drop start xs)) (drop (to + n) xs),
+        take-append-le row (take to xs) (take n (drop start xs) ++ drop (to + n) xs) (rw (length-take-le to xs (omega arith)) h),
+        take-take row to xs h,
+      )
+
+  pub drop-moved : (row : ℕ) → to + n ≤ row → drop row (moved xs to start n) ≡ drop row xs
+  unfolding copied replaced
+  drop-moved row h =
+      let e : to + n + (row - (to + n)) ≡ row = omega arith in
+      rw (moved-in xs to start n target there, ← e, ← drop-drop, drop-paste xs to (drop start xs) n (omega arith) long-enough, drop-drop)
+
+  pub words-moved : drop to (moved xs to start n) ≡ take n (drop start xs) ++ drop (to + n) xs
+  unfolding copied replaced
+  words-moved =
+      rw (moved-in xs to start n target there, append-assoc (take to xs) (take n (drop start xs)) (drop (to + n) xs))
+      (drop-at (take to xs) (take n (drop start xs) ++ drop (to + n) xs) to (length-take-le to xs (omega arith)))
+
+-- a column's first words filled
+pub filled-first : {W : Type 0} (x : W) (xs : List W) (n : ℕ) → n ≤ length xs → filled x xs 0 n ≡ replicate n x ++ drop n xs
+unfolding replaced
+filled-first x xs n h = let e : 0 + n ≡ n = omega arith in rw (filled-in xs x 0 n (omega arith), e)
+
 -- ---- a splice
 pub drop-take : {W : Type 0} (m n : ℕ) (xs : List W) → drop m (take n xs) ≡ take (n - m) (drop m xs)
 drop-take zero n xs = let e : n - 0 ≡ n = omega arith in rw e

@@ -120,3 +120,24 @@ module _ {A : Type 0} where
   unfolding count size
   count-pos none h = h
   count-pos (tree a kids rest) h = omega arith
+
+  -- ---- the three changes; t is any tree
+  pub size-insertAt : (k : ℕ) (new : Tree A) (f : Forest A) → size (insertAt k new f) ≡ size f + suc (size (new .kids))
+  unfolding insertAt
+  size-insertAt k new f =
+      omega (arith, size-⧺ (before k f) (single new ⧺ from k f), size-⧺ (single new) (from k f), size-single new, size-cut k f)
+
+  module _ (t : Tree A) (k : ℕ) (f : Forest A) (there : k < count f) where
+    -- what stands before, at and behind the k-th tree
+    pub size-kth : size f ≡ size (before k f) + suc (size (nth t k f .kids)) + size (from (suc k) f)
+    size-kth =
+        omega (arith, size-cut k f, ap size (from-nth t k f there), size-⧺ (single (nth t k f)) (from (suc k) f), size-single (nth t k f))
+
+    pub size-removeAt : size (removeAt k f) + suc (size (nth t k f .kids)) ≡ size f
+    unfolding removeAt
+    size-removeAt = omega (arith, size-⧺ (before k f) (from (suc k) f), size-kth)
+
+    pub size-replaceAt : (new : Tree A) → size (replaceAt k new f) + suc (size (nth t k f .kids)) ≡ size f + suc (size (new .kids))
+    unfolding replaceAt
+    size-replaceAt new =
+        omega (arith, size-⧺ (before k f) (single new ⧺ from (suc k) f), size-⧺ (single new) (from (suc k) f), size-single new, size-kth)

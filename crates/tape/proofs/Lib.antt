@@ -6,3 +6,7 @@ pub mod Tape
 pub mod Cells
 pub mod Rows
 pub mod Depth
+pub mod Changes
+pub mod Storing
+pub mod Held
+pub mod Map

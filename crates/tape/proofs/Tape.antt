@@ -1,14 +1,16 @@
 -- Laws of a forest's words, and of a column that holds them.
-use Prim.Native.Nat.{ℕ, zero, suc, _+_, _-_, _≤_, _<_}
+use Prim.Native.Nat.{ℕ, zero, suc, _+_, _-_, _≤_, _<_, max}
 use native.Mathlib.Numerals.{add-one}
 use native.Mathlib.Omega.{arith}
 use mathlib.Core.Path.{_≡_, refl, sym, ap, _∙_, subst}
 use mathlib.Core.List.{List, [], _∷_, _++_, append-assoc, append-nil}
-use lib.ListN.{length, take, drop, getD, length-append, length-drop}
-use lib.Seq.{drop-drop, drop-at}
+use lib.ListN.{length, take, drop, getD, set, length-append, length-drop}
+use lib.Seq.{drop-drop, drop-at, take-at, drop-set-lt}
 use Rattle.spec.specs.Forest.{Forest, none, tree, Tree, single, count, size, before, from, nth, _⧺_}
+use Rattle.tape.specs.Columns.{usedAfter, spliced}
 use Rattle.tape.specs.Tape.{tape, words, Holds}
 use Rattle.tape.specs.Rows.{childRow}
+use Rattle.tape.proofs.Columns.{drop-spliced}
 use Rattle.tape.proofs.Forests.{before-from, from-nth, size-none, first-tree}
 
 -- ---- a forest's words
@@ -85,6 +87,22 @@ module _ {A W : Type 0} {w : A → Forest A → W} {xs : List W} {at : ℕ} {a :
       → Holds w xs (childRow at k kids) (tree (nth t k kids .root) (nth t k kids .kids) (from (suc k) kids)) (tape w rest ++ after)
   unfolding childRow _⧺_
   holds-child t k l = rw (from-nth t k kids l) at (holds-from k holds-kids)
+
+-- one tree's words, as they are copied
+pub holds-words : {A W : Type 0} {w : A → Forest A → W} {xs : List W} {at : ℕ} {a : A} {kids rest : Forest A} {after : List W} (n : ℕ) → n ≡ suc (size kids)
+    → Holds w xs at (tree a kids rest) after → take n (drop at xs) ≡ w a kids ∷ tape w kids
+unfolding tape
+holds-words {w = w} {a = a} {kids} {rest} {after} n e h =
+    rw (e, h .is, append-assoc (tape w kids) (tape w rest) after, take-at (tape w kids) (tape w rest ++ after) (size kids) (length-tape w kids))
+
+-- ---- a column that holds a forest, and is changed elsewhere
+module _ {A W : Type 0} {w : A → Forest A → W} {xs : List W} {at : ℕ} {f : Forest A} {after : List W} (h : Holds w xs at f after) where
+  pub holds-set : (row : ℕ) (y : W) → row < at → Holds w (set xs row y) at f after
+  holds-set row y l = record { is = drop-set-lt at xs row y l ∙ h .is }
+
+  pub holds-spliced : (used row removed source n : ℕ) → row + removed ≤ used → max used (usedAfter used removed n) ≤ source → source + n ≤ length xs → usedAfter used removed n ≤ at
+      → Holds w (spliced xs used row removed source n) at f after
+  holds-spliced used row removed source n in-use room there l = record { is = drop-spliced xs used row removed source n in-use room there at l ∙ h .is }
 
 -- ---- a loop over a node's children, `while row < end`
 -- The trees that are left stand from a row on, up to the row `end`.
