@@ -2,7 +2,7 @@
 use mathlib.Core.Path.{_≡_, refl, sym, ap, ap₂, subst, _∙_}
 use mathlib.Core.Bool.{Bool, true, false, _&&_, true≢false}
 use mathlib.Core.List.{[], _∷_}
-use Prim.Native.Nat.{ℕ, _+_, _≤_, _<_}
+use Prim.Native.Nat.{ℕ, _+_, _-_, _≤_, _<_}
 use Prim.Native.Char.{code}
 use native.Mathlib.Omega.{arith}
 use lib.ListN.{length}
@@ -13,6 +13,11 @@ use Rattle.spec.specs.Refusal.{not-json}
 use Rattle.spec.specs.Bytes.{Bytes, Text, byte, within}
 use Rattle.spec.specs.Strings.{character}
 use Rattle.spec.proofs.OutcomeLaws.{refused≢ok, both-ok}
+use Rattle.lexer.specs.declared.cursor.Cursor.{Cursor}
+use Rattle.lexer.specs.declared.characters.Character.{Character}
+use Rattle.lexer.specs.declared.characters.Character.the-variants as Character
+use Rattle.lexer.specs.Answers.{characterOutcome}
+use Rattle.lexer.proofs.AnswerLaws.{scalar-ok, character-refused}
 use Rattle.text.specs.Decode.{characterIn, decodeFrom, unescapeToken, textFrom}
 use Rattle.text.specs.Letters.{afterTilde, tokenStep, tokenLetter, letterAt, isPlain}
 use Rattle.text.proofs.DecodeLaws.{character-inside, character-grows, decode-more, decode-ends}
@@ -176,3 +181,18 @@ module _ (s : Bytes) (at : ℕ) (plain : isPlain (byte s at) ≡ true) where
       go false true three p q r = plain-string
       go false false true p q r = plain-token
       go false false false p q r = absurd (omega (arith, eqb-false form 1 p, eqb-false form 2 q, eqb-false form 3 r))
+
+-- ---- what the code answered
+
+module _ (form : ℕ) (s : Bytes) (at : ℕ) {r : Character} (e : characterOutcome r ≡ letterAt form s at) where
+  pub scalar-text : (c : ℕ) (next : Cursor) → r ≡ Character.Scalar c next → textFrom form s at ≡ c ∷ textFrom form s (next .at)
+  scalar-text c next t = letter-begins form s at (c, next .at) (scalar-ok c next e t) .text
+
+  -- the letter takes a byte of those that are left
+  pub scalar-less : (c : ℕ) (next : Cursor) → r ≡ Character.Scalar c next → length s - next .at < length s - at
+  scalar-less c next t =
+      let h = scalar-ok c next e t in
+      omega (arith, letter-begins form s at (c, next .at) h .grows, letter-inside form s at (c, next .at) h)
+
+  pub refused-text : (place : ℕ) → r ≡ Character.Refused place → textFrom form s at ≡ []
+  refused-text place t = letter-ends form s at not-json place (character-refused place e t)

@@ -3,5 +3,8 @@
 // 3 a pointer's token in a string; any other form says the empty text. Every public function is total, and its contract is an equation.
 
 pub mod letters; // one character of what a part says
+pub mod compare; // whether two texts are the same
 
+pub use compare::same_ascii;
+pub use compare::same_text;
 pub use letters::letter;
