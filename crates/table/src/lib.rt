@@ -1,3 +1,3 @@
 // What the words of the node table mean: the part of a text that a spelling names, names compared, and a member found by its name.
-pub mod spellings;
 pub mod find;
+pub mod spellings;

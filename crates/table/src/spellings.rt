@@ -6,6 +6,7 @@ use tape::words::form;
 use tape::words::length;
 use tape::words::source;
 use tape::words::start;
+use text::same_text;
 
 // The text that a source names.
 fn text_of<'a>(document: &'a [u8], patch: &'a [u8], source: u64) -> &'a [u8]
@@ -33,4 +34,13 @@ pub fn part<'a>(document: &'a [u8], patch: &'a [u8], spelling: u64) -> &'a [u8]
     }
     let end = first + count;
     &s[first..end]
+}
+
+// Whether two spellings say the same text.
+pub fn same_spelling<'a>(document: &'a [u8], patch: &'a [u8], a: u64, b: u64) -> bool
+    ensures { λ r. ⌜ r ≡ sameText (spelled (now (document .entry)) (now (patch .entry)) a) (spelled (now (document .entry)) (now (patch .entry)) b) ⌝ }
+{
+    let s = part(document, patch, a);
+    let t = part(document, patch, b);
+    same_text(form(a), s, form(b), t)
 }
