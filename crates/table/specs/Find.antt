@@ -4,7 +4,7 @@ use mathlib.Core.Path.{_≡_}
 use mathlib.Core.Bool.{Bool}
 use mathlib.Core.List.{List}
 use lib.ListN.{length}
-use Rattle.spec.specs.Bytes.{Bytes}
+use Rattle.spec.specs.Bytes.{Bytes, Text}
 use Rattle.spec.specs.Forest.{Forest, count, size, before}
 use Rattle.spec.specs.Value.{sameText, find}
 use Rattle.tape.specs.Cell.{Cell, Held}
@@ -17,20 +17,22 @@ abbrev pub SameNameIs : Bytes → Bytes → ℕ → ℕ → Bool → Type 0
 SameNameIs document patch a b r = Hashed document patch a → Hashed document patch b → r ≡ sameText (nameText document patch a) (nameText document patch b)
 
 -- of a forest that the columns hold from a row on: the row of the first tree that has the name, or none
-pub data Found (document patch : Bytes) (start : ℕ) (f : Forest Cell) (name : ℕ) : Member → Type 0 where
-  found : (k row : ℕ) → find (nameText document patch name) (members document patch f) ≡ k → k < count f → row ≡ start + size (before k f) →
-      Found document patch start f name (At row)
-  missing : find (nameText document patch name) (members document patch f) ≡ count f → Found document patch start f name Missing
+pub data Found (document patch : Bytes) (start : ℕ) (f : Forest Cell) (name : Text) : Member → Type 0 where
+  found : (k row : ℕ) → find name (members document patch f) ≡ k → k < count f → row ≡ start + size (before k f) → Found document patch start f name (At row)
+  missing : find name (members document patch f) ≡ count f → Found document patch start f name Missing
 
--- a search's question, as the columns answer it: the trees in the rows from one to another, and a name
-pub record Asked (document patch : Bytes) (values names : List ℕ) (start end : ℕ) (f : Forest Cell) (name : ℕ) : Type 0 where
+-- a search's question, as the columns answer it: the trees in the rows from one to another
+pub record Asked (document patch : Bytes) (values names : List ℕ) (start end : ℕ) (f : Forest Cell) : Type 0 where
   pub held : Held values names start f
   pub ends : start + size f ≡ end
   pub keyed : Keyed document patch f
-  pub hashed : Hashed document patch name
 
 abbrev pub FindIs : Bytes → Bytes → List ℕ → List ℕ → ℕ → ℕ → ℕ → Member → Type 0
-FindIs document patch values names start end name r = (f : Forest Cell) → Asked document patch values names start end f name → Found document patch start f name r
+FindIs document patch values names start end name r =
+    (f : Forest Cell) → Asked document patch values names start end f → Hashed document patch name → Found document patch start f (nameText document patch name) r
+
+abbrev pub FindAsciiIs : Bytes → Bytes → List ℕ → List ℕ → ℕ → ℕ → Text → Member → Type 0
+FindAsciiIs document patch values names start end name r = (f : Forest Cell) → Asked document patch values names start end f → Found document patch start f name r
 
 -- whatever the columns hold, the row is in the column and among those that were asked for
 abbrev pub Between : ℕ → ℕ → List ℕ → Member → Type 0

@@ -6,6 +6,7 @@ use tape::words::form;
 use tape::words::length;
 use tape::words::source;
 use tape::words::start;
+use text::same_ascii;
 use text::same_text;
 
 // The text that a source names.
@@ -43,4 +44,12 @@ pub fn same_spelling<'a>(document: &'a [u8], patch: &'a [u8], a: u64, b: u64) ->
     let s = part(document, patch, a);
     let t = part(document, patch, b);
     same_text(form(a), s, form(b), t)
+}
+
+// Whether a spelling says the text that is given by its bytes, each of which is a character.
+pub fn spells<'a>(document: &'a [u8], patch: &'a [u8], spelling: u64, text: &[u8]) -> bool
+    ensures { λ r. ⌜ r ≡ sameText (spelled (now (document .entry)) (now (patch .entry)) spelling) (now (text .entry)) ⌝ }
+{
+    let s = part(document, patch, spelling);
+    same_ascii(form(spelling), s, text)
 }
