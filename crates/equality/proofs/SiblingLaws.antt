@@ -17,7 +17,6 @@ use Rattle.tape.proofs.Cells.{formed-fit}
 use Rattle.tape.proofs.Rows.{kind-here, payload-here, inside-here}
 use Rattle.tape.proofs.Held.{Remaining, remaining-all, remaining-next, remaining-none, remaining-first, held-node, held-from, name-here}
 use Rattle.tape.proofs.Map.{map-from, count-map}
-use Rattle.table.specs.All.{all-none, all-tree}
 use Rattle.table.specs.Meaning.{nameText, entryOf, members, Hashed, Keyed}
 use Rattle.table.specs.Numbers.{NumberFits, Limited}
 use Rattle.table.specs.Find.{Asked, Found, found, missing}
@@ -39,7 +38,7 @@ module _ {D P : Bytes} {vs ns : List ℕ} {at : ℕ} {c : Cell} {kids : Forest C
   value-labelled =
       record {
         kind = omega (arith, kind-here value-node, formed-fit (x .held .formed) .kind);
-        fits = rw (kind-here value-node, payload-here value-node) (all-first (x .limited));
+        fits = rw (kind-here value-node, payload-here value-node) (x .fits);
       }
 
 -- ---- trees in the rows from one to another
@@ -51,7 +50,7 @@ pub record Siblings (D P : Bytes) (vs ns : List ℕ) (row end : ℕ) (f : Forest
 module _ {D P : Bytes} {vs ns : List ℕ} where
   -- the children of a value
   pub siblings-all : {at : ℕ} {c : Cell} {kids : Forest Cell} (end : ℕ) → end ≡ endOf vs at → ValueAt D P vs ns at c kids → Siblings D P vs ns (at + 1) end kids
-  siblings-all end e x = record { left = remaining-all end e (x .held); keyed = x .keyed; limited = all-kids (x .limited) }
+  siblings-all end e x = record { left = remaining-all end e (x .held); keyed = x .keyed; limited = x .limited }
 
   pub siblings-none : {row end : ℕ} {f : Forest Cell} → Siblings D P vs ns row end f → end ≤ row → f ≡ none
   siblings-none s h = remaining-none (s .left) h
@@ -72,7 +71,7 @@ module _ {D P : Bytes} {vs ns : List ℕ} where
   module _ {row end : ℕ} {c : Cell} {kids rest : Forest Cell} (s : Siblings D P vs ns row end (tree c kids rest)) where
     -- the first one is a value, and its name has its hash
     pub siblings-value : ValueAt D P vs ns row c kids
-    siblings-value = record { rest = rest; held = s .left .held; keyed = keyed-kids (s .keyed); limited = all-tree (all-first (s .limited)) (all-kids (s .limited)) all-none }
+    siblings-value = record { rest = rest; held = s .left .held; keyed = keyed-kids (s .keyed); fits = all-first (s .limited); limited = all-kids (s .limited) }
 
     pub siblings-name : getD ns row 0 ≡ c .name
     siblings-name = name-here (s .left .held)

@@ -5,14 +5,14 @@ use mathlib.Core.Bool.{Bool, true, false}
 use mathlib.Core.List.{List}
 use lib.ListN.{getD}
 use Rattle.spec.specs.Bytes.{Bytes}
-use Rattle.spec.specs.Forest.{Forest, none, tree}
+use Rattle.spec.specs.Forest.{Forest, tree}
 use Rattle.spec.specs.Value.{Label, depth}
 use Rattle.spec.specs.Equality.{sameLabel, equal}
 use Rattle.tape.specs.Layout.{objectKind}
 use Rattle.tape.specs.Packing.{kindOf, payloadOf}
 use Rattle.tape.specs.Cell.{Cell, Held}
 use Rattle.table.specs.Meaning.{labelOf, meant, Keyed}
-use Rattle.table.specs.Numbers.{NumberFits, Limited}
+use Rattle.table.specs.Numbers.{NumberFits, CellFits, Limited}
 use Rattle.table.specs.Find.{FindIs}
 use Rattle.table.specs.declared.find.Member.{Member}
 use Rattle.table.specs.declared.find.Member.the-variants.{At}
@@ -41,7 +41,8 @@ pub record ValueAt (document patch : Bytes) (values names : List ℕ) (row : ℕ
   pub rest : Forest Cell
   pub held : Held values names row (tree c kids rest)
   pub keyed : Keyed document patch kids
-  pub limited : Limited document patch (tree c kids none)
+  pub fits : CellFits document patch c
+  pub limited : Limited document patch kids
 
 -- of whatever values the columns hold in two rows, the first of which nests at most so many containers
 abbrev pub EqualIs : Bytes → Bytes → List ℕ → List ℕ → ℕ → ℕ → ℕ → Bool → Type 0

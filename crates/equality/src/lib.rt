@@ -23,13 +23,13 @@ pub fn same_label<'a>(document: &'a [u8], patch: &'a [u8], a: u64, b: u64) -> bo
     if k != kind(b) {
         return false;
     }
+    if k == STRING {
+        return same_spelling(document, patch, payload(a), payload(b));
+    }
     if k == NUMBER {
         let s = part(document, patch, payload(a));
         let t = part(document, patch, payload(b));
         return same_number(s, t);
-    }
-    if k == STRING {
-        return same_spelling(document, patch, payload(a), payload(b));
     }
     true
 }

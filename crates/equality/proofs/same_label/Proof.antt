@@ -16,31 +16,31 @@ same-label-spec =
     (λ c. labels-differ _ _ (c .before .before .kind .ensures) (c .before .kind2 .ensures) (c .if1 .taken))
     -- payload-requires
     (λ c κs. search needs)
+    -- payload-requires-2
+    (λ c κs. search needs)
+    -- same-spelling-requires
+    (λ c κs. search needs)
+    -- returns-2
+    (λ c.
+    let l = c .before .before in
+    let k = l .before .before in
+    labels-string _ _ (k .before .before .kind .ensures) (k .before .kind2 .ensures) (k .if1 .left) _ _ (l .payload .ensures) (c .before .payload2 .ensures) (l .before .if2 .taken) _ (c .same-spelling .ensures))
+    -- payload-requires-3
+    (λ c κs. search needs)
     -- part-requires
     (λ c κs. search needs)
-    -- payload-requires-2
+    -- payload-requires-4
     (λ c κs. search needs)
     -- part-requires-2
     (λ c κs. search needs)
     -- same-number-requires
     (λ c κs. search needs)
-    -- returns-2
-    (λ c.
-    let l = c .before .before .before .before in
-    let k = l .before .before in
-    labels-number _ _ (k .before .before .kind .ensures) (k .before .kind2 .ensures) (k .if1 .left) _ _ (l .payload .ensures) (c .before .before .payload2 .ensures) (l .before .if2 .taken) _ _ (c .before .before .before .part .ensures) (c .before .part2 .ensures) _ (c .same-number .ensures))
-    -- payload-requires-3
-    (λ c κs. search needs)
-    -- payload-requires-4
-    (λ c κs. search needs)
-    -- same-spelling-requires
-    (λ c κs. search needs)
     -- returns-3
     (λ c.
-    let l = c .before .before in
+    let l = c .before .before .before .before in
     let k = l .before .before .before in
-    labels-string _ _ (k .before .before .kind .ensures) (k .before .kind2 .ensures) (k .if1 .left) _ _ (l .payload3 .ensures) (c .before .payload4 .ensures) (l .before .if3 .taken) _ (c .same-spelling .ensures))
+    labels-number _ _ (k .before .before .kind .ensures) (k .before .kind2 .ensures) (k .if1 .left) _ _ (l .payload3 .ensures) (c .before .before .payload4 .ensures) (l .before .if3 .taken) _ _ (c .before .before .before .part .ensures) (c .before .part2 .ensures) _ (c .same-number .ensures))
     -- returns-4
     (λ c.
     let k = c .before .before in
-    labels-other _ _ (k .before .before .kind .ensures) (k .before .kind2 .ensures) (k .if1 .left) (c .before .if2 .left) (c .if3 .left)))
+    labels-other _ _ (k .before .before .kind .ensures) (k .before .kind2 .ensures) (k .if1 .left) (c .if3 .left) (c .before .if2 .left)))
