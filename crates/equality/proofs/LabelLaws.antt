@@ -16,7 +16,7 @@ use Rattle.tape.specs.Layout.{numberKind, stringKind, objectKind}
 use Rattle.tape.specs.Packing.{kindOf, payloadOf}
 use Rattle.table.specs.Meaning.{partOf, spelled, labelOf}
 use Rattle.table.proofs.MeaningLaws.{tag-label}
-use Rattle.equality.specs.Compare.{Labelled, SameLabelIs}
+use Rattle.equality.specs.Compare.{SameLabelIs}
 
 -- two labels that are the same have one tag
 pub sameLabel-tag : (l m : Label) → sameLabel l m ≡ true → tag l ≡ tag m
@@ -28,11 +28,13 @@ module _ (D P : Bytes) where
   unfolding sameLabel
   differ k l m n hk hl d = rw (tag-label D P k m hk, tag-label D P l n hl, ne-eqb k l d)
 
-  numbers : (k l m n : ℕ) → k ≡ numberKind → l ≡ numberKind → sameLabel (labelOf D P k m) (labelOf D P l n) ≡ sameWorth (worth (partOf D P m)) (worth (partOf D P n))
+  numbers : (k l m n : ℕ) → k ≡ numberKind → l ≡ numberKind
+      → sameLabel (labelOf D P k m) (labelOf D P l n) ≡ sameWorth (worth (partOf D P m)) (worth (partOf D P n))
   unfolding sameLabel labelOf tag isNumber content
   numbers k l m n e f = rw (e, f)
 
-  strings : (k l m n : ℕ) → k ≡ stringKind → l ≡ stringKind → sameLabel (labelOf D P k m) (labelOf D P l n) ≡ sameText (spelled D P m) (spelled D P n)
+  strings : (k l m n : ℕ) → k ≡ stringKind → l ≡ stringKind
+      → sameLabel (labelOf D P k m) (labelOf D P l n) ≡ sameText (spelled D P m) (spelled D P n)
   unfolding sameLabel labelOf tag isNumber content
   strings k l m n e f = rw (e, f)
 
@@ -56,11 +58,13 @@ module _ {D P : Bytes} {a b : ℕ} (k l : ℕ) (kind-a : k ≡ kindOf a) (kind-b
     pub labels-other : (k ≡ numberKind → ⊥) → (k ≡ stringKind → ⊥) → SameLabelIs D P a b true
     labels-other n s x y =
         let e : kindOf b ≡ kindOf a = sym kind-b ∙ sym same ∙ kind-a in
-        sym (ap (λ j. sameLabel (labelOf D P (kindOf a) (payloadOf a)) (labelOf D P j (payloadOf b))) e ∙ others D P _ _ _ (x .kind) (λ z. n (kind-a ∙ z)) (λ z. s (kind-a ∙ z)))
+        let alike = others D P (kindOf a) (payloadOf a) (payloadOf b) (x .kind) (λ z. n (kind-a ∙ z)) (λ z. s (kind-a ∙ z)) in
+        sym (ap (λ j. sameLabel (labelOf D P (kindOf a) (payloadOf a)) (labelOf D P j (payloadOf b))) e ∙ alike)
 
     -- the payloads
     module _ (m n : ℕ) (payload-a : m ≡ payloadOf a) (payload-b : n ≡ payloadOf b) where
-      pub labels-number : k ≡ numberKind → (s t : Bytes) → s ≡ partOf D P m → t ≡ partOf D P n → (r : Bool) → r ≡ sameNumber s t → SameLabelIs D P a b r
+      pub labels-number : k ≡ numberKind → (s t : Bytes) → s ≡ partOf D P m → t ≡ partOf D P n → (r : Bool) → r ≡ sameNumber s t
+          → SameLabelIs D P a b r
       labels-number number s t part-a part-b r h x y =
           let ka : kindOf a ≡ numberKind = sym kind-a ∙ number in
           let kb : kindOf b ≡ numberKind = sym kind-b ∙ sym same ∙ number in

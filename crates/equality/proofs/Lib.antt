@@ -1,4 +1,6 @@
+-- Laws that the proofs cite.
 pub mod LabelLaws
 pub mod MatchLaws
 pub mod SiblingLaws
-pub mod CompareLaws
+pub mod PendingLaws
+pub mod EqualLaws

@@ -1,9 +1,8 @@
 -- Laws of the definitions' comparison: two containers of one kind, tree by tree.
-use Prim.Native.Nat.{ℕ, zero, suc}
-use mathlib.Core.Path.{_≡_, refl, sym, ap, _∙_}
+use Prim.Native.Nat.{suc}
+use mathlib.Core.Path.{_≡_, refl}
 use mathlib.Core.Bool.{Bool, true, false, _&&_, and-assoc, and-false}
 use lib.Dec.{eqb, eqb·zero-suc, eqb·suc-zero, eqb·suc-suc}
-use borrow.Author.Tests.{eq-eqb}
 use Rattle.spec.specs.Outcome.{if_then_else_}
 use Rattle.spec.specs.Bytes.{Text}
 use Rattle.spec.specs.Forest.{none, tree, count, from}
@@ -21,7 +20,8 @@ unfolding partner find from
 partner-find n none = refl
 partner-find n (tree e kids rest) = go (sameText (e .name) n) (partner-find n rest)
   where
-    go : (t : Bool) → partner true n rest ≡ from (find n rest) rest → (if t then tree e kids rest else partner true n rest) ≡ from (if t then 0 else suc (find n rest)) (tree e kids rest)
+    go : (t : Bool) → partner true n rest ≡ from (find n rest) rest
+        → (if t then tree e kids rest else partner true n rest) ≡ from (if t then 0 else suc (find n rest)) (tree e kids rest)
     go true ih = refl
     go false ih = ih
 
@@ -30,8 +30,7 @@ module _ (e : Entry) (kids f : Members) where
   matches-pair : (o : Bool) (g : Members) (p : Entry) (below after : Members) → partner o (e .name) g ≡ tree p below after
       → matches o (tree e kids f) g ≡ equal (valueOf e kids) (valueOf p below) && matches o f (if o then g else after)
   unfolding matches equal
-  matches-pair o g p below after h =
-      rw (h, matches) (simp and-assoc)
+  matches-pair o g p below after h = rw (h, matches) (simp and-assoc)
 
   matches-alone : (o : Bool) (g : Members) → partner o (e .name) g ≡ none → matches o (tree e kids f) g ≡ false
   unfolding matches
@@ -42,13 +41,13 @@ module _ (e : Entry) (kids f : Members) where
 unfoldable pub agree : Bool → Members → Members → Members → Bool
 agree object all f g = eqb (count f) (count g) && matches object f (if object then all else g)
 
+if-same : (o : Bool) (f : Members) → (if o then f else f) ≡ f
+if-same true f = refl
+if-same false f = refl
+
 pub equal-agree : (v w : Value.Value) → sameLabel (v .label) (w .label) ≡ true → equal v w ≡ agree (isObject (v .label)) (w .kids) (v .kids) (w .kids)
 unfolding equal agree
-equal-agree v w h = rw h (go (isObject (v .label)))
-  where
-    go : (o : Bool) → eqb (count (v .kids)) (count (w .kids)) && matches o (v .kids) (w .kids) ≡ eqb (count (v .kids)) (count (w .kids)) && matches o (v .kids) (if o then w .kids else w .kids)
-    go true = refl
-    go false = refl
+equal-agree v w h = rw (h, if-same (isObject (v .label)) (w .kids))
 
 module _ (o : Bool) (all : Members) where
   -- one of the two has ended
@@ -73,13 +72,15 @@ module _ (all : Members) (e : Entry) (kids f : Members) (d : Entry) (others g : 
   -- an element against the next one, a member against the one of its name
   pub agree-element : agree false all (tree e kids f) (tree d others g) ≡ equal (valueOf e kids) (valueOf d others) && agree false all f g
   unfolding agree count partner
-  agree-element = rw (eqb·suc-suc (count f) (count g), matches-pair e kids f false (tree d others g) d others g refl)
+  agree-element =
+      rw (eqb·suc-suc (count f) (count g), matches-pair e kids f false (tree d others g) d others g refl)
       (and-left-comm (eqb (count f) (count g)) (equal (valueOf e kids) (valueOf d others)) (matches false f g))
 
   pub agree-member : (p : Entry) (below after : Members) → partner true (e .name) all ≡ tree p below after
       → agree true all (tree e kids f) (tree d others g) ≡ equal (valueOf e kids) (valueOf p below) && agree true all f g
   unfolding agree count
-  agree-member p below after h = rw (eqb·suc-suc (count f) (count g), matches-pair e kids f true all p below after h)
+  agree-member p below after h =
+      rw (eqb·suc-suc (count f) (count g), matches-pair e kids f true all p below after h)
       (and-left-comm (eqb (count f) (count g)) (equal (valueOf e kids) (valueOf p below)) (matches true f all))
 
   pub agree-alone : partner true (e .name) all ≡ none → agree true all (tree e kids f) (tree d others g) ≡ false

@@ -1,24 +1,22 @@
 -- Trees that the columns hold in the rows from one to another, ready to be compared.
 use Prim.Native.Nat.{ℕ, suc, _+_, _≤_, _<_}
 use native.Mathlib.Omega.{arith}
-use mathlib.Core.Path.{_≡_, refl, sym, ap, _∙_, subst}
+use mathlib.Core.Path.{_≡_, sym, ap, _∙_, subst}
 use mathlib.Core.Bool.{true}
 use mathlib.Core.List.{List}
 use lib.ListN.{length, getD}
 use Rattle.spec.specs.Bytes.{Bytes, Text}
-use Rattle.spec.specs.Forest.{Forest, none, tree, Tree, count, size, before, from, nth, _⧺_}
+use Rattle.spec.specs.Forest.{Forest, none, tree, Tree, size, before, from, nth, _⧺_}
 use Rattle.spec.specs.Equality.{partner}
-use Rattle.tape.specs.Packing.{kindOf, payloadOf}
-use Rattle.tape.specs.Cell.{Cell, Node}
+use Rattle.tape.specs.Cell.{Cell, Fit, Node}
 use Rattle.tape.specs.Rows.{endOf}
-use Rattle.tape.specs.Map.{mapForest}
 use Rattle.tape.proofs.Forests.{size-cut, from-nth, from-all}
 use Rattle.tape.proofs.Cells.{formed-fit}
 use Rattle.tape.proofs.Rows.{kind-here, payload-here, inside-here}
 use Rattle.tape.proofs.Held.{Remaining, remaining-all, remaining-next, remaining-none, remaining-first, held-node, held-from, name-here}
 use Rattle.tape.proofs.Map.{map-from, count-map}
-use Rattle.table.specs.Meaning.{nameText, entryOf, members, Hashed, Keyed}
-use Rattle.table.specs.Numbers.{NumberFits, Limited}
+use Rattle.table.specs.Meaning.{entryOf, members, Hashed, Keyed}
+use Rattle.table.specs.Numbers.{Limited}
 use Rattle.table.specs.Find.{Asked, Found, found, missing}
 use Rattle.table.specs.declared.find.Member.the-variants.{At, Missing}
 use Rattle.table.proofs.AllLaws.{all-first, all-kids, all-rest, all-from}
@@ -34,10 +32,13 @@ module _ {D P : Bytes} {vs ns : List ℕ} {at : ℕ} {c : Cell} {kids : Forest C
   pub value-inside : at < length vs
   value-inside = inside-here value-node
 
+  pub value-fit : Fit c kids
+  value-fit = formed-fit (x .held .formed)
+
   pub value-labelled : Labelled D P (getD vs at 0)
   value-labelled =
       record {
-        kind = omega (arith, kind-here value-node, formed-fit (x .held .formed) .kind);
+        kind = omega (arith, kind-here value-node, value-fit .kind);
         fits = rw (kind-here value-node, payload-here value-node) (x .fits);
       }
 
@@ -49,7 +50,8 @@ pub record Siblings (D P : Bytes) (vs ns : List ℕ) (row end : ℕ) (f : Forest
 
 module _ {D P : Bytes} {vs ns : List ℕ} where
   -- the children of a value
-  pub siblings-all : {at : ℕ} {c : Cell} {kids : Forest Cell} (end : ℕ) → end ≡ endOf vs at → ValueAt D P vs ns at c kids → Siblings D P vs ns (at + 1) end kids
+  pub siblings-all : {at : ℕ} {c : Cell} {kids : Forest Cell} (end : ℕ) → end ≡ endOf vs at → ValueAt D P vs ns at c kids
+      → Siblings D P vs ns (at + 1) end kids
   siblings-all end e x = record { left = remaining-all end e (x .held); keyed = x .keyed; limited = x .limited }
 
   pub siblings-none : {row end : ℕ} {f : Forest Cell} → Siblings D P vs ns row end f → end ≤ row → f ≡ none
@@ -57,7 +59,8 @@ module _ {D P : Bytes} {vs ns : List ℕ} where
 
   pub siblings-first : {C : Type 0} {row end : ℕ} {f : Forest Cell} → Siblings D P vs ns row end f → row < end
       → ((c : Cell) (kids rest : Forest Cell) → f ≡ tree c kids rest → Siblings D P vs ns row end (tree c kids rest) → C) → C
-  siblings-first {row = row} {end} s h then-it = remaining-first (s .left) h (λ c kids rest e l. then-it c kids rest e (subst (Siblings D P vs ns row end) e s))
+  siblings-first {row = row} {end} s h then-it =
+      remaining-first (s .left) h (λ c kids rest e l. then-it c kids rest e (subst (Siblings D P vs ns row end) e s))
 
   -- those from the k-th on
   pub siblings-from : {row end : ℕ} {f : Forest Cell} (k : ℕ) → Siblings D P vs ns row end f → Siblings D P vs ns (row + size (before k f)) end (from k f)
@@ -71,7 +74,8 @@ module _ {D P : Bytes} {vs ns : List ℕ} where
   module _ {row end : ℕ} {c : Cell} {kids rest : Forest Cell} (s : Siblings D P vs ns row end (tree c kids rest)) where
     -- the first one is a value, and its name has its hash
     pub siblings-value : ValueAt D P vs ns row c kids
-    siblings-value = record { rest = rest; held = s .left .held; keyed = keyed-kids (s .keyed); fits = all-first (s .limited); limited = all-kids (s .limited) }
+    siblings-value =
+        record { rest = rest; held = s .left .held; keyed = keyed-kids (s .keyed); fits = all-first (s .limited); limited = all-kids (s .limited) }
 
     pub siblings-name : getD ns row 0 ≡ c .name
     siblings-name = name-here (s .left .held)
@@ -88,7 +92,8 @@ module _ {D P : Bytes} {vs ns : List ℕ} where
     siblings-asked = record { held = s .left .held; ends = s .left .ends; keyed = s .keyed }
 
     pub member-found : {C : Type 0} {name : Text} {row : ℕ} → Found D P start f name (At row)
-        → ((c : Cell) (kids after : Forest Cell) → partner true name (members D P f) ≡ members D P (tree c kids after) → ValueAt D P vs ns row c kids → C) → C
+        → ((c : Cell) (kids after : Forest Cell) → partner true name (members D P f) ≡ members D P (tree c kids after) → ValueAt D P vs ns row c kids → C)
+        → C
     unfolding _⧺_
     member-found {name = name} (found k row e few place) then-it =
         let t : Tree Cell = record { root = record { kind = 0; payload = 0; name = 0 }; kids = none } in

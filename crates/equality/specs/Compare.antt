@@ -28,7 +28,8 @@ wordLabel document patch word = labelOf document patch (kindOf word) (payloadOf 
 
 abbrev pub SameLabelIs : Bytes → Bytes → ℕ → ℕ → Bool → Type 0
 SameLabelIs document patch a b r =
-    Labelled document patch a → Labelled document patch b → r ≡ sameLabel (wordLabel document patch a) (wordLabel document patch b)
+    Labelled document patch a → Labelled document patch b
+    → r ≡ sameLabel (wordLabel document patch a) (wordLabel document patch b)
 
 -- ---- the child that is compared with the one in a row
 pub record PartnerIs (document patch : Bytes) (values names : List ℕ) (object : Bool) (start end row next : ℕ) (r : Member) : Type 0 where
@@ -47,5 +48,6 @@ pub record ValueAt (document patch : Bytes) (values names : List ℕ) (row : ℕ
 -- of whatever values the columns hold in two rows, the first of which nests at most so many containers
 abbrev pub EqualIs : Bytes → Bytes → List ℕ → List ℕ → ℕ → ℕ → ℕ → Bool → Type 0
 EqualIs document patch values names at other levels r =
-    (c : Cell) (kids : Forest Cell) (e : Cell) (below : Forest Cell) → ValueAt document patch values names at c kids → ValueAt document patch values names other e below →
-    depth (meant document patch c kids) ≤ levels → r ≡ equal (meant document patch c kids) (meant document patch e below)
+    (c : Cell) (kids : Forest Cell) (e : Cell) (below : Forest Cell)
+    → ValueAt document patch values names at c kids → ValueAt document patch values names other e below
+    → depth (meant document patch c kids) ≤ levels → r ≡ equal (meant document patch c kids) (meant document patch e below)

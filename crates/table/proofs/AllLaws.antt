@@ -1,7 +1,7 @@
 -- Laws of what holds of every node of a forest: it holds of the forest's parts, and of what is put together from such.
 use Prim.Native.Nat.{ℕ, zero, suc, _<_}
 use native.Mathlib.Omega.{arith}
-use Rattle.spec.specs.Forest.{Forest, none, tree, Tree, single, count, before, from, nth, insertAt, removeAt, replaceAt, _⧺_}
+use Rattle.spec.specs.Forest.{Forest, tree, Tree, single, count, before, from, nth, insertAt, removeAt, replaceAt, _⧺_}
 use Rattle.table.specs.All.{All, all-none, all-tree}
 
 module _ {A : Type 0} {Q : A → Type 0} where

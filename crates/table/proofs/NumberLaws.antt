@@ -12,7 +12,8 @@ use Rattle.table.specs.Meaning.{partOf}
 use Rattle.table.specs.Numbers.{NumberFits}
 
 module _ {D P : Bytes} {kind payload : ℕ} where
-  pub number-fits : (s : Bytes) (start end : ℕ) → number s start ≡ ok end → partOf D P payload ≡ take (end - start) (drop start s) → NumberFits D P kind payload
+  pub number-fits : (s : Bytes) (start end : ℕ) → number s start ≡ ok end → partOf D P payload ≡ take (end - start) (drop start s)
+      → NumberFits D P kind payload
   number-fits s start end e p = record { is = λ k. ap withinLimits p ∙ number-within-limits s start end e }
 
   pub other-fits : (kind ≡ numberKind → ⊥) → NumberFits D P kind payload

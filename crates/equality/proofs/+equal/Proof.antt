@@ -5,7 +5,8 @@ use borrow.Author.Needs.{needs}
 use borrow.Author.Tests.{not-true, not-false}
 use borrow.Fn.Kinds.{In}
 use borrow.Fn.PlainCycle.{Measures, is, falls, and}
-use Rattle.equality.proofs.CompareLaws.{Comparing, comparing-all, comparing-next, equal-outside, equal-outside-other, equal-labels, equal-scalar, equal-flat, equal-end, equal-more, equal-alone, equal-differs}
+use Rattle.equality.proofs.EqualLaws.{equal-outside, equal-outside-other, equal-labels, equal-scalar, equal-flat}
+use Rattle.equality.proofs.EqualLaws.{Comparing, comparing-all, comparing-next, equal-end, equal-more, equal-alone, equal-differs}
 use Rattle.equality.proofs.equal.Reads as equal
 use Rattle.equality.proofs.equal.Kinds as equal-kinds
 use Rattle.equality.proofs.+equal.Lts-equal as equal-lts
@@ -80,7 +81,8 @@ pub +equal-spec : {M : Type 1} → statement M
     -- loop-holds
     (λ c.
     let k = c .before .before .before .before in
-    comparing-all _ _ (k .before .before .same-label .ensures) (not-false _ (k .before .if3 .left)) _ (k .kind .ensures) (c .before .before .before .if4 .left) _ _ (c .before .end-of .ensures) (c .end-of2 .ensures))
+    comparing-all _ _ (k .before .before .same-label .ensures) (not-false _ (k .before .if3 .left)) _ (k .kind .ensures) (c .before .before .before .if4 .left)
+    _ _ (c .before .end-of .ensures) (c .end-of2 .ensures))
     -- returns-6
     (λ c. equal-more _ _ _ _ _ _ (c .before .before .loop .inv) (omega arith) (c .if6 .taken))
     -- partner-requires, enum-known-pair, enum-told
@@ -90,7 +92,8 @@ pub +equal-spec : {M : Type 1} → statement M
     -- returns-7
     (λ c.
     let l = c .before .before .before .before .before in
-    equal-alone _ _ _ _ _ _ (l .loop .inv) (omega arith) (omega arith) (l .before .end-of2 .ensures) _ (c .before .before .partner .ensures) (c .enum-told .given .1))
+    equal-alone _ _ _ _ _ _ (l .loop .inv) (omega arith) (omega arith) (l .before .end-of2 .ensures)
+    _ (c .before .before .partner .ensures) (c .enum-told .given .1))
     -- sub-equal, equal-requires
     (λ c. search needs)
     (λ c κs. search needs)
@@ -98,7 +101,8 @@ pub +equal-spec : {M : Type 1} → statement M
     (λ c.
     let p = c .before .before .before in
     let l = p .before .before .before .before .before in
-    equal-differs _ _ _ _ _ _ (l .loop .inv) (omega arith) (omega arith) (l .before .end-of2 .ensures) _ (p .before .before .partner .ensures) _ (p .pair .given .1) _ (c .before .equal .ensures) (not-true _ (c .if7 .taken)))
+    equal-differs _ _ _ _ _ _ (l .loop .inv) (omega arith) (omega arith) (l .before .end-of2 .ensures)
+    _ (p .before .before .partner .ensures) _ (p .pair .given .1) _ (c .before .equal .ensures) (not-true _ (c .if7 .taken)))
     -- end-of-requires-3, end-of-requires-4, loop-less
     (λ c κs. search needs)
     (λ c κs. search needs)
@@ -107,6 +111,8 @@ pub +equal-spec : {M : Type 1} → statement M
     (λ c.
     let p = c .before .before .before .before .before in
     let l = p .before .before .before .before .before in
-    comparing-next _ _ _ _ _ _ (l .loop .inv) (omega arith) (omega arith) (l .before .end-of2 .ensures) _ (p .before .before .partner .ensures) _ (p .pair .given .1) _ (c .before .before .before .equal .ensures) (not-false _ (c .before .before .if7 .left)) _ _ (c .before .end-of3 .ensures) (c .end-of4 .ensures))
+    comparing-next _ _ _ _ _ _ (l .loop .inv) (omega arith) (omega arith) (l .before .end-of2 .ensures)
+    _ (p .before .before .partner .ensures) _ (p .pair .given .1) _ (c .before .before .before .equal .ensures) (not-false _ (c .before .before .if7 .left))
+    _ _ (c .before .end-of3 .ensures) (c .end-of4 .ensures))
     -- returns-9
     (λ c. equal-end _ _ _ _ _ _ (c .before .loop .inv) (omega arith))

@@ -1,5 +1,5 @@
 -- `partner` meets its contract, by the one test.
-use mathlib.Core.Path.{_≡_, refl, sym, _∙_}
+use mathlib.Core.Path.{refl, sym, _∙_}
 use mathlib.Core.Bool.{true≢false}
 use borrow.Author.Needs.{needs}
 use Rattle.equality.proofs.partner.Statement.{statement}
@@ -14,6 +14,10 @@ partner-spec =
     -- find-requires
     (λ c κs. search needs)
     -- returns
-    (λ c. record { named = λ _. rw (c .before .load .ensures) at (c .find .ensures .0); element = λ e. absurd (true≢false (sym (c .before .before .if1 .taken) ∙ e)) })
+    (λ c.
+    record {
+      named = λ _. rw (c .before .load .ensures) at (c .find .ensures .0);
+      element = λ e. absurd (true≢false (sym (c .before .before .if1 .taken) ∙ e));
+    })
     -- returns-2
     (λ c. record { named = λ e. absurd (true≢false (sym e ∙ c .if1 .left)); element = λ _. refl }))

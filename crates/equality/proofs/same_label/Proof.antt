@@ -24,7 +24,8 @@ same-label-spec =
     (λ c.
     let l = c .before .before in
     let k = l .before .before in
-    labels-string _ _ (k .before .before .kind .ensures) (k .before .kind2 .ensures) (k .if1 .left) _ _ (l .payload .ensures) (c .before .payload2 .ensures) (l .before .if2 .taken) _ (c .same-spelling .ensures))
+    labels-string _ _ (k .before .before .kind .ensures) (k .before .kind2 .ensures) (k .if1 .left)
+    _ _ (l .payload .ensures) (c .before .payload2 .ensures) (l .before .if2 .taken) _ (c .same-spelling .ensures))
     -- payload-requires-3
     (λ c κs. search needs)
     -- part-requires
@@ -39,7 +40,9 @@ same-label-spec =
     (λ c.
     let l = c .before .before .before .before in
     let k = l .before .before .before in
-    labels-number _ _ (k .before .before .kind .ensures) (k .before .kind2 .ensures) (k .if1 .left) _ _ (l .payload3 .ensures) (c .before .before .payload4 .ensures) (l .before .if3 .taken) _ _ (c .before .before .before .part .ensures) (c .before .part2 .ensures) _ (c .same-number .ensures))
+    labels-number _ _ (k .before .before .kind .ensures) (k .before .kind2 .ensures) (k .if1 .left)
+    _ _ (l .payload3 .ensures) (c .before .before .payload4 .ensures) (l .before .if3 .taken)
+    _ _ (c .before .before .before .part .ensures) (c .before .part2 .ensures) _ (c .same-number .ensures))
     -- returns-4
     (λ c.
     let k = c .before .before in
