@@ -1,0 +1,6 @@
+-- Laws that the proofs cite.
+pub mod LabelLaws
+pub mod MatchLaws
+pub mod SiblingLaws
+pub mod PendingLaws
+pub mod EqualLaws
