@@ -1,0 +1,4 @@
+pub mod ScanLaws
+pub mod WalkLaws
+pub mod EscapeLaws
+pub mod IndexLaws
