@@ -2,7 +2,7 @@
 use Prim.Native.Nat.{ℕ, zero, suc, _%_, _<_}
 use native.Mathlib.Omega.{arith}
 use mathlib.Core.Path.{_≡_, refl, ap, _∙_}
-use Rattle.spec.specs.Forest.{Forest, none, tree, Tree, single, count, size, before, from, nth, insertAt, removeAt, replaceAt, _⧺_}
+use Rattle.spec.specs.Forest.{Forest, tree, Tree, single, count, size, before, from, nth, insertAt, removeAt, replaceAt, _⧺_}
 use Rattle.tape.specs.Layout.{kinds, spans, spellings}
 use Rattle.tape.specs.Packing.{packed, kindOf, spanOf, payloadOf, withSpan}
 use Rattle.tape.specs.Cell.{Cell, word, nameWord, Fit, Formed, formed-none, formed-tree}

@@ -1,14 +1,14 @@
 -- Laws of both columns that hold a forest from a row on.
 use Prim.Native.Nat.{ℕ, suc, _+_, _<_}
-use mathlib.Core.Path.{_≡_, _∙_, sym, subst}
+use mathlib.Core.Path.{_≡_, subst}
 use mathlib.Core.List.{List, _++_}
 use lib.ListN.{length, drop, getD}
 use Rattle.spec.specs.Forest.{Forest, tree, Tree, count, size, before, from, nth, _⧺_}
-use Rattle.tape.specs.Tape.{tape, Holds, Laid}
+use Rattle.tape.specs.Tape.{tape, Laid}
 use Rattle.tape.specs.Cell.{Cell, word, nameWord, Formed, Node, Held}
 use Rattle.tape.specs.Rows.{childRow}
 use Rattle.tape.proofs.Forests.{from-nth}
-use Rattle.tape.proofs.Tape.{Front, holds-front, holds-kids, holds-next, holds-from, holds-child}
+use Rattle.tape.proofs.Tape.{Front, holds-front, holds-kids, holds-next, holds-from}
 use Rattle.tape.proofs.Cells.{formed-kids, formed-rest, formed-from}
 use Rattle.tape.proofs.Changes.{laid-holds}
 

@@ -1,6 +1,7 @@
 -- Laws that the proofs cite, here and in the crates above.
 pub mod Packing
 pub mod Columns
+pub mod Loops
 pub mod Forests
 pub mod Tape
 pub mod Cells
@@ -10,3 +11,4 @@ pub mod Changes
 pub mod Storing
 pub mod Held
 pub mod Map
+pub mod Examples

@@ -1,25 +1,23 @@
 -- Laws of nodes by their rows: what a node's word tells in its row, and where its children stand.
-use Prim.Native.Nat.{ℕ, zero, suc, _+_, _≤_, _<_, min}
+use Prim.Native.Nat.{ℕ, suc, _+_, _≤_, _<_}
 use native.Mathlib.Nat.{add-zero}
 use native.Mathlib.Numerals.{add-one}
 use native.Mathlib.Omega.{arith}
 use mathlib.Core.Path.{_≡_, refl, sym, ap, _∙_, subst}
 use mathlib.Core.List.{List, _++_}
 use mathlib.Core.Bool.{Bool, true, false}
-use lib.Dec.{leb, ltb}
+use lib.Dec.{leb}
 use lib.ListN.{length, getD}
 use borrow.Author.Tests.{lt-ltb, le-ltb, leb-true, leb-false}
-use Rattle.spec.specs.Outcome.{if_then_else_}
-use Rattle.spec.specs.Forest.{Forest, none, tree, Tree, count, size, before, from, nth, _⧺_}
+use Rattle.spec.specs.Forest.{Forest, none, Tree, count, size, before, from, nth, _⧺_}
 use Rattle.tape.specs.Packing.{kindOf, spanOf, payloadOf}
-use Rattle.tape.specs.Tape.{tape, Holds}
-use Rattle.tape.specs.Cell.{Cell, word, nameWord, Formed, Node, Held}
+use Rattle.tape.specs.Tape.{tape}
+use Rattle.tape.specs.Cell.{Cell, word, Formed, Node}
 use Rattle.tape.specs.Rows.{endOf, childRow, childOf, ForNode, ChildIs, ArityIs}
-use Rattle.tape.specs.declared.nodes.Located.{Located}
 use Rattle.tape.specs.declared.nodes.Located.the-variants.{At, Fewer}
-use Rattle.tape.proofs.Forests.{size-cut, count-from, before-all, from-all, from-nth, size-before-suc, count-le-size}
-use Rattle.tape.proofs.Tape.{Front, holds-front, holds-kids, holds-next, holds-size, holds-child}
-use Rattle.tape.proofs.Cells.{kind-word, span-word, payload-word, formed-fit, formed-kids, formed-rest, formed-from}
+use Rattle.tape.proofs.Forests.{size-cut, count-from, before-all, from-nth, size-before-suc, count-le-size}
+use Rattle.tape.proofs.Tape.{holds-front, holds-kids, holds-size, holds-child}
+use Rattle.tape.proofs.Cells.{kind-word, span-word, payload-word, formed-fit, formed-kids, formed-from}
 
 -- ---- a node in a row of the column of values
 module _ {xs : List ℕ} {at : ℕ} {c : Cell} {kids : Forest Cell} (node : Node xs at c kids) where

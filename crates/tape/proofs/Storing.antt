@@ -1,11 +1,11 @@
 -- A forest's words stored from a row on, tree after tree: what a reader does, which stores a node's own word when its children are stored.
-use Prim.Native.Nat.{ℕ, zero, suc, _+_, _-_, _≤_, _<_}
-use native.Mathlib.Nat.{add-zero, add-assoc}
+use Prim.Native.Nat.{ℕ, suc, _+_, _-_, _≤_, _<_}
+use native.Mathlib.Nat.{add-zero}
 use native.Mathlib.Numerals.{add-one}
 use native.Mathlib.Omega.{arith}
-use mathlib.Core.Path.{_≡_, refl, sym, ap, _∙_}
+use mathlib.Core.Path.{_≡_, sym, ap, _∙_}
 use mathlib.Core.List.{List, [], _∷_, _++_, append-assoc, append-nil}
-use lib.ListN.{length, take, drop, getD, set, length-append, length-take, length-drop, take-append-drop}
+use lib.ListN.{length, take, drop, getD, set, length-append, take-append-drop}
 use lib.Seq.{take-at, drop-at, take-suc, set-at, drop-drop, take-take, take-append-le, length-take-le}
 use Rattle.spec.specs.Forest.{Forest, none, tree, size, _⧺_}
 use Rattle.tape.specs.Columns.{replaced}

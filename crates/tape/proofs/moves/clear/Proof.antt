@@ -5,7 +5,8 @@ use mathlib.Core.Path.{_≡_, refl, sym, ap, _∙_}
 use lib.ListN.{length, set, replicate, length-set}
 use borrow.Author.Needs.{needs}
 use Rattle.tape.specs.Columns.{replaced}
-use Rattle.tape.proofs.Columns.{filled-none, filled-more, filled-in, filled-out}
+use Rattle.tape.proofs.Columns.{filled-in, filled-out}
+use Rattle.tape.proofs.Loops.{filled-none, filled-more}
 use Rattle.tape.proofs.moves.clear.Statement.{statement}
 use Rattle.tape.proofs.moves.clear.Tie as tie
 

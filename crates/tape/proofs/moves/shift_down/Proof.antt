@@ -5,7 +5,7 @@ use mathlib.Core.Path.{_≡_, refl, sym, ap, _∙_}
 use lib.ListN.{length, set, getD, length-set}
 use borrow.Author.Needs.{needs}
 use Rattle.tape.specs.Columns.{copied}
-use Rattle.tape.proofs.Columns.{copied-none, down-more}
+use Rattle.tape.proofs.Loops.{copied-none, down-more}
 use Rattle.tape.proofs.moves.shift_down.Statement.{statement}
 use Rattle.tape.proofs.moves.shift_down.Tie as tie
 

@@ -3,7 +3,8 @@ use native.Mathlib.Omega.{arith}
 use mathlib.Core.Path.{_≡_, sym, ap, _∙_}
 use borrow.Author.Needs.{needs}
 use Rattle.tape.specs.Columns.{copied}
-use Rattle.tape.proofs.Columns.{moved-in, moved-no-target, moved-no-source, copied-same}
+use Rattle.tape.proofs.Columns.{moved-in, moved-no-target, moved-no-source}
+use Rattle.tape.proofs.Loops.{copied-same}
 use Rattle.tape.proofs.moves.slide.Statement.{statement}
 use Rattle.tape.proofs.moves.slide.Tie as tie
 

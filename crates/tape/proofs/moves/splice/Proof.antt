@@ -3,7 +3,8 @@ use native.Mathlib.Omega.{arith}
 use mathlib.Core.Path.{sym, ap, _∙_}
 use borrow.Author.Needs.{needs}
 use Rattle.tape.specs.Columns.{moved}
-use Rattle.tape.proofs.Columns.{two-moves, spliced-not-used, spliced-no-room, spliced-no-source}
+use Rattle.tape.proofs.Columns.{spliced-not-used, spliced-no-room, spliced-no-source}
+use Rattle.tape.proofs.Loops.{two-moves}
 use Rattle.tape.proofs.moves.splice.Statement.{statement}
 use Rattle.tape.proofs.moves.splice.Tie as tie
 
@@ -41,4 +42,4 @@ splice-spec =
     (λ c.
     let a = c .before .before .before .before .before .before .before .before .before .before .before .before .before .before .before .args in
     c .before .before .slide2 .ensures ∙ ap (λ m. moved m (a .at) (a .source) (a .count)) (c .before .before .before .before .before .before .slide .ensures)
-    ∙ two-moves (a .column .now) (a .used) (a .at) (a .removed) (a .source) (a .count) (omega arith) (omega arith) (omega arith)))
+    ∙ two-moves (a .column .now) (a .used) (a .at) (a .removed) (a .source) (a .count) (omega arith) (record { before = omega arith; after = omega arith; there = omega arith })))

@@ -1,8 +1,5 @@
 -- `tape::nodes::set_span` meets its contract. Assumes nothing.
-use mathlib.Core.Path.{ap, _∙_}
-use native.Mathlib.Omega.{arith}
 use borrow.Author.Needs.{needs}
-use Rattle.tape.specs.Packing.{withSpan}
 use Rattle.tape.proofs.nodes.set_span.Statement.{statement}
 use Rattle.tape.proofs.nodes.set_span.Tie as tie
 
