@@ -1,12 +1,12 @@
 -- What an answer of the code says of the definition that it is held to, and of the text.
-use Prim.Native.Nat.{ℕ, suc, _≤_, _<_}
+use Prim.Native.Nat.{ℕ, _≤_, _<_}
 use mathlib.Core.Path.{_≡_, refl, sym, _∙_, ap}
 use mathlib.Core.Bool.{Bool, true, false}
 use native.Mathlib.Omega.{arith}
 use lib.ListN.{length}
 use Rattle.spec.specs.Outcome.{Outcome, ok, refused, _>>=_, if_then_else_}
 use Rattle.spec.specs.Refusal.{not-json}
-use Rattle.spec.specs.Bytes.{Bytes, byte, within, byteIn}
+use Rattle.spec.specs.Bytes.{Bytes, Text, byte, within, byteIn}
 use Rattle.spec.specs.Strings.{hexValue, hexIn}
 use Rattle.lexer.specs.declared.cursor.Cursor.{Cursor}
 use Rattle.lexer.specs.declared.cursor.Bounded.{Bounded}
@@ -15,9 +15,9 @@ use Rattle.lexer.specs.declared.cursor.Scan.{Scan}
 use Rattle.lexer.specs.declared.cursor.Scan.the-variants as Scan
 use Rattle.lexer.specs.declared.characters.Character.{Character}
 use Rattle.lexer.specs.declared.characters.Character.the-variants as Character
-use Rattle.lexer.specs.Answers.{boundedOutcome, characterOutcome, scanOutcome}
-use Rattle.lexer.proofs.ByteLaws.{inside}
+use Rattle.lexer.specs.Answers.{boundedOutcome, characterOutcome, scanOutcome, endOf}
 use Rattle.lexer.proofs.Tests.{within-bounds, below-within, above-within}
+use Rattle.lexer.proofs.ByteLaws.{inside}
 
 -- each answer, said of the definition
 pub within-ok : (at : ℕ) {n : ℕ} {r : Bounded} {d : Outcome ℕ} → boundedOutcome at r ≡ d → r ≡ Bounded.Within n → d ≡ ok n
@@ -28,11 +28,13 @@ pub outside-refused : (at : ℕ) {r : Bounded} {d : Outcome ℕ} → boundedOutc
 unfolding boundedOutcome
 outside-refused at e t = sym e ∙ ap (boundedOutcome at) t
 
-pub scalar-ok : (c : ℕ) (next : Cursor) {r : Character} {d : Outcome (ℕ × ℕ)} → characterOutcome r ≡ d → r ≡ Character.Scalar c next → d ≡ ok (c, next .at)
+pub scalar-ok : (c : ℕ) (next : Cursor) {r : Character} {d : Outcome (ℕ × ℕ)} → characterOutcome r ≡ d → r ≡ Character.Scalar c next →
+    d ≡ ok (c, next .at)
 unfolding characterOutcome
 scalar-ok c next e t = sym e ∙ ap characterOutcome t
 
-pub character-refused : (place : ℕ) {r : Character} {d : Outcome (ℕ × ℕ)} → characterOutcome r ≡ d → r ≡ Character.Refused place → d ≡ refused not-json place
+pub character-refused : (place : ℕ) {r : Character} {d : Outcome (ℕ × ℕ)} → characterOutcome r ≡ d → r ≡ Character.Refused place →
+    d ≡ refused not-json place
 unfolding characterOutcome
 character-refused place e t = sym e ∙ ap characterOutcome t
 
@@ -43,6 +45,21 @@ to-ok next e t = sym e ∙ ap scanOutcome t
 pub scan-refused : (number place : ℕ) {r : Scan} {d : Outcome ℕ} → scanOutcome r ≡ d → r ≡ Scan.Refused number place → d ≡ refused number place
 unfolding scanOutcome
 scan-refused number place e t = sym e ∙ ap scanOutcome t
+
+-- where a text ends, said of the reader that gave it
+pub record Ended (o : Outcome (Text × ℕ)) (next : ℕ) : Type 0 where
+  pub text : Text
+  pub reads : o ≡ ok (text, next)
+
+pub end-ok : (o : Outcome (Text × ℕ)) (next : ℕ) → endOf o ≡ ok next → Ended o next
+unfolding endOf _>>=_
+end-ok (ok (cs, n)) next e = let same : n ≡ next = cc in record { text = cs; reads = rw same }
+end-ok (refused number place) next e = let z : _≡_ {A = ℕ} 0 1 = cc in absurd (omega arith)
+
+pub end-refused : (o : Outcome (Text × ℕ)) (number place : ℕ) → endOf o ≡ refused number place → o ≡ refused number place
+unfolding endOf _>>=_
+end-refused (ok t) number place e = let z : _≡_ {A = ℕ} 0 1 = cc in absurd (omega arith)
+end-refused (refused m p) number place e = cc
 
 -- a step of a definition, at a number within its bounds, and at one outside
 pub step-within : {A : Type 0} (v : Outcome A) (d : Outcome ℕ) (next : ℕ → Outcome A) (at n : ℕ) (r : Bounded) →
@@ -114,8 +131,10 @@ hex-taken s at low high n h e =
     }
 
 -- the same of what the code answered
-pub byte-known : (s : Bytes) (at low high n : ℕ) {r : Bounded} → 1 ≤ low → boundedOutcome at r ≡ byteIn s at low high → r ≡ Bounded.Within n → Taken s at low high n
+pub byte-known : (s : Bytes) (at low high n : ℕ) {r : Bounded} → 1 ≤ low → boundedOutcome at r ≡ byteIn s at low high → r ≡ Bounded.Within n →
+    Taken s at low high n
 byte-known s at low high n h e t = byte-taken s at low high n h (within-ok at e t)
 
-pub hex-known : (s : Bytes) (at low high n : ℕ) {r : Bounded} → high ≤ 15 → boundedOutcome at r ≡ hexIn s at low high → r ≡ Bounded.Within n → Taken s at low high n
+pub hex-known : (s : Bytes) (at low high n : ℕ) {r : Bounded} → high ≤ 15 → boundedOutcome at r ≡ hexIn s at low high → r ≡ Bounded.Within n →
+    Taken s at low high n
 hex-known s at low high n h e t = hex-taken s at low high n h (within-ok at e t)

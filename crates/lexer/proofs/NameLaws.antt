@@ -1,31 +1,44 @@
 -- What is kept of a name: the laws of its hash and of the bytes that it is written with.
 use Prim.Native.Nat.{ℕ, zero, suc, _+_, _-_, _≤_, _<_}
 use Prim.Native.Char.{code}
-use mathlib.Core.List.{List, [], _∷_, _++_}
+use mathlib.Core.List.{[], _∷_, _++_}
 use mathlib.Core.Path.{_≡_, refl, sym, _∙_, ap}
 use mathlib.Core.Bool.{Bool, true, false, not, _&&_, and-true}
-use native.Mathlib.Omega.{arith}
-use native.Mathlib.Numerals.{add-one}
-use native.Mathlib.Nat.{mod-lt}
 use native.Mathlib.Decide.{decLt}
+use native.Mathlib.Numerals.{add-one}
+use native.Mathlib.Omega.{arith}
 use borrow.Author.Tests.{ne-eqb}
-use lib.ListN.{length, take, drop}
-use lib.Seq.{take-add, drop-drop, drop-cons}
+use lib.ListN.{length, drop}
 use lib.Dec.{eqb}
+use lib.Seq.{take-add, drop-drop, drop-cons}
 use Rattle.spec.specs.Outcome.{Outcome, ok, refused, _>>=_}
+use Rattle.spec.specs.Refusal.{not-json}
 use Rattle.spec.specs.Bytes.{Bytes, Text, byte, within}
-use Rattle.spec.specs.Strings.{tail, multibyte, character, characters}
+use Rattle.spec.specs.Strings.{tail, multibyte, character, characters, string}
+use Rattle.lexer.specs.declared.cursor.Cursor.{Cursor}
+use Rattle.lexer.specs.declared.strings.Name.{Name}
+use Rattle.lexer.specs.declared.strings.Name.the-variants as Name
+use Rattle.lexer.specs.Answers.{nameOutcome}
 use Rattle.lexer.specs.Hash.{mix, hashFrom, hash}
 use Rattle.lexer.specs.Names.{standsForItself, noBackslash, part, kept, keptOf}
 use Rattle.lexer.proofs.Always.{Always, refuses, gives, result, either, next, weaken}
+use Rattle.lexer.proofs.Fuel.{Runs, starts}
 use Rattle.lexer.proofs.AnswerLaws.{byte-taken, byte-is}
 use Rattle.lexer.proofs.StringLaws.{character-ok-past, escape-past}
 use Rattle.lexer.proofs.StringLoop.{cons, self-no-quote, self-no-backslash, self-character, turn-character, turn-quote, turn-refused}
-use Rattle.lexer.proofs.Fuel.{Runs, starts}
 
-pub mix-bound : (h c : ℕ) → mix h c < 0x1000_0000
+mix-bound : (h c : ℕ) → mix h c < 0x1000_0000
 unfolding mix
 mix-bound h c = omega arith
+
+hash-from-bound : (h : ℕ) (cs : Text) → h < 0x1000_0000 → hashFrom h cs < 0x1000_0000
+unfolding hashFrom
+hash-from-bound h [] l = l
+hash-from-bound h (c ∷ cs) l = hash-from-bound (mix h c) cs (mix-bound h c)
+
+pub hash-bound : (cs : Text) → hash cs < 0x1000_0000
+unfolding hash
+hash-bound cs = hash-from-bound 0 cs (omega arith)
 
 module _ (s : Bytes) where
   pub part-empty : (at : ℕ) → part s at at ≡ []
@@ -50,13 +63,15 @@ unfolding noBackslash
 no-backslash-append [] ys = refl
 no-backslash-append (x ∷ xs) ys = go (not (eqb x (code "\\"))) (no-backslash-append xs ys)
   where
-    go : (b : Bool) → noBackslash (xs ++ ys) ≡ (noBackslash xs && noBackslash ys) → (b && noBackslash (xs ++ ys)) ≡ ((b && noBackslash xs) && noBackslash ys)
+    go : (b : Bool) → noBackslash (xs ++ ys) ≡ (noBackslash xs && noBackslash ys) →
+        (b && noBackslash (xs ++ ys)) ≡ ((b && noBackslash xs) && noBackslash ys)
     go true e = e
     go false e = refl
 
 -- a character has a backslash among its bytes where it begins with one
 module _ (s : Bytes) where
-  tail-plain : (more at low high bits : ℕ) → 0x80 ≤ low → Always (λ v. (at ≤ v .1) × (noBackslash (part s at (v .1)) ≡ true)) (tail more s at low high bits)
+  tail-plain : (more at low high bits : ℕ) → 0x80 ≤ low →
+      Always (λ v. (at ≤ v .1) × (noBackslash (part s at (v .1)) ≡ true)) (tail more s at low high bits)
   unfolding tail noBackslash
   tail-plain zero at low high bits l = gives (bits, at) (omega arith, rw (part-empty s at))
   tail-plain (suc more) at low high bits l =
@@ -137,11 +152,19 @@ module _ {s : Bytes} {start at h : ℕ} {plain : Bool} {v : Outcome (ℕ × ℕ 
       record {
         bound = rw m (mix-bound h (u .0));
         from = omega (arith, k .from);
-        so-far = rw (p, k .so-far, part-append s start at (u .1) (k .from) (omega arith), no-backslash-append (part s start at) (part s at (u .1)), character-plain s at u e);
+        so-far =
+            rw (
+              p,
+              k .so-far,
+              part-append s start at (u .1) (k .from) (omega arith),
+              no-backslash-append (part s start at) (part s at (u .1)),
+              character-plain s at u e,
+            );
         left = rw m (turn-character (keptFrom h s start) s at (keptFrom (mix h (u .0)) s start) u (kept-cons h s start (u .0)) n e (k .left));
       }
 
-  pub keeping-self : {h' : ℕ} → standsForItself (byte s at) ≡ true → h' ≡ mix h (byte s at) → Keeping s start at h plain v → Keeping s start (at + 1) h' plain v
+  pub keeping-self : {h' : ℕ} → standsForItself (byte s at) ≡ true → h' ≡ mix h (byte s at) → Keeping s start at h plain v →
+      Keeping s start (at + 1) h' plain v
   keeping-self t m k =
       keeping-more (byte s at, at + 1) (self-no-quote s at t) (self-character s at t) m
       (rw (ne-eqb (byte s at) (code "\\") (self-no-backslash s at t)) (sym (and-true plain))) k
@@ -156,3 +179,31 @@ module _ {s : Bytes} {start at h : ℕ} {plain : Bool} {v : Outcome (ℕ × ℕ 
       Keeping s start at h plain v → refused number place ≡ v
   unfolding keptFrom _>>=_
   keeping-refused number place n e k = turn-refused (keptFrom h s start) s at number place n e (k .left)
+
+-- what a name that was read says of its string
+pub record NameRead (s : Bytes) (at next h : ℕ) (plain : Bool) : Type 0 where
+  pub text : Text
+  pub reads : string s at ≡ ok (text, next)
+  pub hashed : h ≡ hash text
+  pub written : plain ≡ noBackslash (part s (at + 1) (next - 1))
+
+pub name-read : (s : Bytes) (at : ℕ) {next : Cursor} {h : ℕ} {plain : Bool} {r : Name} → nameOutcome r ≡ keptOf s (at + 1) (string s at) →
+    r ≡ Name.Read next h plain → NameRead s at (next .at) h plain
+unfolding nameOutcome keptOf kept _>>=_
+name-read s at {next} {h} {plain} e t = go (string s at) refl (sym (ap nameOutcome t) ∙ e)
+  where
+    go : (o : Outcome (Text × ℕ)) → string s at ≡ o → ok (next .at, h, plain) ≡ keptOf s (at + 1) o → NameRead s at (next .at) h plain
+    go (ok (cs, n)) q k =
+        let p : _≡_ {A = ℕ × ℕ × Bool} (next .at, h, plain) (n, hash cs, noBackslash (part s (at + 1) (n - 1))) = cc in
+        let same : next .at ≡ n = ap (λ x. x .0) p in
+        record { text = cs; reads = rw same q; hashed = ap (λ x. x .1) p; written = rw same (ap (λ x. x .2) p) }
+    go (refused number place) q k = let z : _≡_ {A = ℕ} 0 1 = cc in absurd (omega arith)
+
+pub name-refused : (s : Bytes) (at : ℕ) {place : ℕ} {r : Name} → nameOutcome r ≡ keptOf s (at + 1) (string s at) →
+    r ≡ Name.Refused place → string s at ≡ refused not-json place
+unfolding nameOutcome keptOf _>>=_
+name-refused s at {place} e t = go (string s at) (sym (ap nameOutcome t) ∙ e)
+  where
+    go : (o : Outcome (Text × ℕ)) → refused not-json place ≡ keptOf s (at + 1) o → o ≡ refused not-json place
+    go (ok u) k = let z : _≡_ {A = ℕ} 0 1 = cc in absurd (omega arith)
+    go (refused number there) k = cc

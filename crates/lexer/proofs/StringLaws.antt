@@ -3,21 +3,20 @@ use Prim.Native.Nat.{ℕ, zero, suc, _+_, _-_, _*_, _≤_, _<_}
 use Prim.Native.Char.{code}
 use mathlib.Core.List.{[], _∷_}
 use mathlib.Core.Path.{_≡_, refl}
-use mathlib.Core.Bool.{Bool, true, false, not}
-use native.Mathlib.Omega.{arith}
+use mathlib.Core.Bool.{false}
 use native.Mathlib.Decide.{decLt}
+use native.Mathlib.Omega.{arith}
 use borrow.Author.Tests.{ne-eqb, eqb-true}
 use lib.ListN.{length}
 use lib.Dec.{eqb}
-use Rattle.spec.specs.Outcome.{Outcome, ok, refused, _>>=_, if_then_else_}
+use Rattle.spec.specs.Outcome.{Outcome, ok, refused}
 use Rattle.spec.specs.Refusal.{not-json}
-use Rattle.spec.specs.Bytes.{Bytes, Text, byte, within, byteIn}
-use Rattle.spec.specs.Strings.{hexIn, lowSurrogate, afterHigh, unicodeEscape, shortEscape, escape, tail, multibyte, character, characters, string}
-use Rattle.lexer.proofs.Tests.{within-bounds}
+use Rattle.spec.specs.Bytes.{Bytes, Text, byte, within}
+use Rattle.spec.specs.Strings.{lowSurrogate, afterHigh, unicodeEscape, shortEscape, escape, tail, multibyte, character, characters, string}
+use Rattle.lexer.proofs.Always.{Always, refuses, gives, result, either, next, weaken}
 use Rattle.lexer.proofs.ByteLaws.{byte-past, inside}
 use Rattle.lexer.proofs.AnswerLaws.{byte-taken, hex-taken}
 use Rattle.lexer.proofs.EscapeLaws.{short-escape-inside}
-use Rattle.lexer.proofs.Always.{Always, refuses, gives, result, either, next, weaken}
 
 pub character-multibyte : (s : Bytes) (at : ℕ) → (byte s at ≡ code "\\" → ⊥) → within 0x20 0x7F (byte s at) ≡ false →
     character s at ≡ multibyte s at (byte s at)

@@ -2,22 +2,20 @@
 use Prim.Native.Nat.{ℕ, zero, suc, _+_, _≤_, _<_}
 use Prim.Native.Char.{code}
 use mathlib.Core.List.{[], _∷_}
-use mathlib.Core.Path.{_≡_, refl, sym, _∙_, ap}
+use mathlib.Core.Path.{_≡_, refl, _∙_, ap}
 use mathlib.Core.Bool.{true, false}
 use native.Mathlib.Omega.{arith}
 use borrow.Author.Tests.{eq-eqb, ne-eqb, eqb-false, not-true}
 use lib.ListN.{length}
 use lib.Dec.{eqb}
 use Rattle.spec.specs.Outcome.{Outcome, ok, refused, _>>=_}
-use Rattle.spec.specs.Refusal.{not-json}
 use Rattle.spec.specs.Bytes.{Bytes, Text, byte, within}
 use Rattle.spec.specs.Strings.{character, characters}
 use Rattle.lexer.specs.Answers.{endOf}
-use Rattle.lexer.specs.Hash.{mix, hashFrom}
-use Rattle.lexer.specs.Names.{standsForItself, noBackslash, part}
+use Rattle.lexer.specs.Names.{standsForItself}
 use Rattle.lexer.proofs.Tests.{and-both}
-use Rattle.lexer.proofs.ByteLaws.{inside, here}
 use Rattle.lexer.proofs.Fuel.{Runs, goes-on, ends}
+use Rattle.lexer.proofs.ByteLaws.{inside, here}
 use Rattle.lexer.proofs.StringLaws.{Past, character-past-end, character-ok-past}
 
 -- a character before those of an outcome

@@ -2,8 +2,8 @@
 use Prim.Native.Nat.{ℕ}
 use mathlib.Core.Bool.{Bool}
 use Rattle.spec.specs.Outcome.{Outcome, ok, refused, _>>=_}
-use Rattle.spec.specs.Bytes.{Text}
 use Rattle.spec.specs.Refusal.{not-json}
+use Rattle.spec.specs.Bytes.{Text}
 use Rattle.lexer.specs.declared.cursor.Bounded.{Bounded}
 use Rattle.lexer.specs.declared.cursor.Bounded.the-variants as Bounded
 use Rattle.lexer.specs.declared.cursor.Scan.{Scan}

@@ -1,10 +1,10 @@
 -- What is kept of a name as it is read, so that two names can be told apart without reading them again.
 use Prim.Native.Nat.{ℕ, _-_}
 use Prim.Native.Char.{code}
-use mathlib.Core.List.{List, [], _∷_}
+use mathlib.Core.List.{[], _∷_}
 use mathlib.Core.Bool.{Bool, true, not, _&&_}
-use lib.Dec.{eqb}
 use lib.ListN.{take, drop}
+use lib.Dec.{eqb}
 use Rattle.spec.specs.Outcome.{Outcome, ok, _>>=_}
 use Rattle.spec.specs.Bytes.{Bytes, Text, within}
 use Rattle.lexer.specs.Hash.{hash}

@@ -3,6 +3,11 @@ ghost use mathlib.Core.Path.{_≡_};
 ghost use Rattle.spec.specs.Bytes.{byte, byteIn};
 ghost use Rattle.lexer.specs.Answers.{boundedOutcome};
 
+// The numbers of the refusals that readers of this crate give.
+pub const NOT_JSON: u8 = 3;
+
+pub const NUMBER_OVER_LIMIT: u8 = 7;
+
 // A place in a text; it may be any number, and past the end of the text stands 0.
 pub struct Cursor {
     pub at: usize,

@@ -6,6 +6,8 @@ ghost use Rattle.spec.specs.Numbers.{isDigit, isE, counted, digits, someDigits,
 ghost use Rattle.lexer.specs.Answers.{scanOutcome};
 use crate::cursor::Bounded;
 use crate::cursor::Cursor;
+use crate::cursor::NOT_JSON;
+use crate::cursor::NUMBER_OVER_LIMIT;
 use crate::cursor::Scan;
 use crate::cursor::byte_in;
 use crate::cursor::peek;
@@ -41,7 +43,7 @@ fn counted(start: usize, at: usize) -> Scan
     if at < start + MAX_NUMBER {
         return Scan::To(Cursor { at: at + 1 });
     }
-    Scan::Refused(7, at)
+    Scan::Refused(NUMBER_OVER_LIMIT, at)
 }
 
 // *DIGIT
@@ -65,7 +67,7 @@ fn some_digits(s: &[u8], start: usize, at: usize) -> Scan
     ensures { λ r. ⌜ scanOutcome r ≡ someDigits (now (s .entry)) start at ⌝ }
 {
     let Bounded::Within(_) = byte_in(s, at, b'0', b'9') else {
-        return Scan::Refused(3, at);
+        return Scan::Refused(NOT_JSON, at);
     };
     digits(s, start, at)
 }
@@ -122,7 +124,7 @@ fn exponent_digits(s: &[u8], start: usize, first: usize) -> Scan
         }
         size = size * 10 + (b - b'0') as u32;
         if MAX_EXPONENT < size {
-            return Scan::Refused(7, at);
+            return Scan::Refused(NUMBER_OVER_LIMIT, at);
         }
         match counted(start, at) {
             Scan::To(next) => at = next.at,
@@ -142,7 +144,7 @@ fn signed_digits(s: &[u8], start: usize, at: usize) -> Scan
     };
     let first = next.at;
     let Bounded::Within(_) = byte_in(s, first, b'0', b'9') else {
-        return Scan::Refused(3, first);
+        return Scan::Refused(NOT_JSON, first);
     };
     exponent_digits(s, start, first)
 }
@@ -180,7 +182,7 @@ impl Cursor {
     {
         let start = self.at;
         if s.len() <= start {
-            return Scan::Refused(3, start);
+            return Scan::Refused(NOT_JSON, start);
         }
         let whole = int(s, start, minus(s, start));
         let Scan::To(point) = whole else {

@@ -11,6 +11,7 @@ ghost use Rattle.lexer.specs.Answers.{scanOutcome, endOf, nameOutcome};
 use crate::characters::Character;
 use crate::cursor::Bounded;
 use crate::cursor::Cursor;
+use crate::cursor::NOT_JSON;
 use crate::cursor::Scan;
 use crate::cursor::byte_in;
 use crate::cursor::peek;
@@ -66,7 +67,7 @@ fn characters(s: &[u8], start: usize) -> Scan
         }
         match (Cursor { at }).character(s) {
             Character::Scalar(_, next) => at = next.at,
-            Character::Refused(place) => return Scan::Refused(3, place),
+            Character::Refused(place) => return Scan::Refused(NOT_JSON, place),
         }
     }
 }
@@ -120,7 +121,7 @@ impl Cursor {
     {
         let at = self.at;
         let Bounded::Within(_) = byte_in(s, at, b'"', b'"') else {
-            return Scan::Refused(3, at);
+            return Scan::Refused(NOT_JSON, at);
         };
         characters(s, at + 1)
     }

@@ -1,3 +1,2 @@
 pub mod Decode
 pub mod Letters
-pub mod Written

@@ -1,7 +1,7 @@
-use Rattle.lexer.proofs.Auto.{auto}
 use mathlib.Core.Path.{sym}
 use Rattle.spec.specs.Bytes.{byte}
 use Rattle.lexer.proofs.ByteLaws.{byte-past}
+use Rattle.lexer.proofs.Auto.{auto}
 use Rattle.lexer.proofs.cursor.peek.Statement.{statement}
 use Rattle.lexer.proofs.cursor.peek.Tie as tie
 

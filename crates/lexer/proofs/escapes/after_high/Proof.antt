@@ -1,8 +1,8 @@
-use Rattle.lexer.proofs.Auto.{auto}
 use native.Mathlib.Omega.{arith}
 use Rattle.spec.specs.Strings.{afterHigh}
 use Rattle.lexer.specs.Answers.{characterOutcome}
 use Rattle.lexer.proofs.AnswerLaws.{byte-known}
+use Rattle.lexer.proofs.Auto.{auto}
 use Rattle.lexer.proofs.escapes.after_high.Statement.{statement}
 use Rattle.lexer.proofs.escapes.after_high.Tie as tie
 

@@ -1,12 +1,12 @@
-use Rattle.lexer.proofs.Auto.{auto}
 use mathlib.Core.Path.{sym}
 use native.Mathlib.Omega.{arith}
+use borrow.Author.Tests.{ne-eqb}
 use Rattle.spec.specs.Bytes.{within}
 use Rattle.spec.specs.Strings.{escape}
 use Rattle.lexer.specs.Answers.{characterOutcome}
-use borrow.Author.Tests.{ne-eqb}
 use Rattle.lexer.proofs.ByteLaws.{here}
 use Rattle.lexer.proofs.EscapeLaws.{short-escape-inside}
+use Rattle.lexer.proofs.Auto.{auto}
 use Rattle.lexer.proofs.escapes.escape.Statement.{statement}
 use Rattle.lexer.proofs.escapes.escape.Tie as tie
 
@@ -23,6 +23,7 @@ escape-spec =
     (λ c. rw (← c .before .before .before .peek .ensures, ← c .before .short-escape .ensures) (search auto))
     (λ c. search auto)
     (λ c.
-    let e = rw (c .before .short-escape .ensures, c .before .before .before .peek .ensures) at (ne-eqb (c .before .short-escape .result) 0 (c .if2 .left)) in
+    let made = c .before in
+    let e = rw (made .short-escape .ensures, made .before .before .peek .ensures) at (ne-eqb (made .short-escape .result) 0 (c .if2 .left)) in
     omega (arith, short-escape-inside _ _ e))
     (λ c. rw (← c .before .before .before .peek .ensures, ← c .before .short-escape .ensures) (search auto)))

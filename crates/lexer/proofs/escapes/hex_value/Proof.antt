@@ -1,6 +1,6 @@
-use Rattle.lexer.proofs.Auto.{auto}
 use Rattle.spec.specs.Bytes.{within}
 use Rattle.spec.specs.Strings.{hexValue}
+use Rattle.lexer.proofs.Auto.{auto}
 use Rattle.lexer.proofs.escapes.hex_value.Statement.{statement}
 use Rattle.lexer.proofs.escapes.hex_value.Tie as tie
 

@@ -1,9 +1,9 @@
-use Rattle.lexer.proofs.Auto.{auto}
 use native.Mathlib.Omega.{arith}
 use Rattle.spec.specs.Outcome.{_>>=_}
 use Rattle.spec.specs.Strings.{lowSurrogate}
 use Rattle.lexer.specs.Answers.{characterOutcome}
 use Rattle.lexer.proofs.AnswerLaws.{within-ok, outside-refused, hex-known}
+use Rattle.lexer.proofs.Auto.{auto}
 use Rattle.lexer.proofs.escapes.low_surrogate.Statement.{statement}
 use Rattle.lexer.proofs.escapes.low_surrogate.Tie as tie
 

@@ -1,5 +1,5 @@
-use Rattle.lexer.proofs.Auto.{auto}
 use Rattle.spec.specs.Strings.{shortEscape}
+use Rattle.lexer.proofs.Auto.{auto}
 use Rattle.lexer.proofs.escapes.short_escape.Statement.{statement}
 use Rattle.lexer.proofs.escapes.short_escape.Tie as tie
 

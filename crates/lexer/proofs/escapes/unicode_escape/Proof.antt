@@ -1,12 +1,12 @@
-use Rattle.lexer.proofs.Auto.{auto}
-use mathlib.Core.Path.{_≡_}
 use Prim.Native.Nat.{_+_}
+use mathlib.Core.Path.{_≡_}
 use native.Mathlib.Omega.{arith}
 use Rattle.spec.specs.Outcome.{ok, _>>=_}
 use Rattle.spec.specs.Bytes.{within}
 use Rattle.spec.specs.Strings.{hexIn, secondLimit, unicodeEscape}
 use Rattle.lexer.specs.Answers.{characterOutcome}
 use Rattle.lexer.proofs.AnswerLaws.{within-ok, outside-refused, hex-taken}
+use Rattle.lexer.proofs.Auto.{auto}
 use Rattle.lexer.proofs.escapes.unicode_escape.Statement.{statement}
 use Rattle.lexer.proofs.escapes.unicode_escape.Tie as tie
 
@@ -21,12 +21,17 @@ b-is : (c : tie.After-b) →
 b-is c = rw (← c .before .before .before .second-limit .ensures) (within-ok _ (c .before .before .hex-in2 .ensures) (c .b .given .1))
 
 c-is : (c : tie.After-c) →
-    let p = c .before .before .before .before .before .before .before .before .before .before .before .before .before .args in
+    let b = c .before .before .before .before in
+    let a = b .before .before .before .before .before in
+    let p = a .before .before .before .before .args in
     hexIn (p .s .now) (p .at + 2) 0 15 ≡ ok (c .c .given .0 .0)
 c-is c = within-ok _ (c .before .before .hex-in3 .ensures) (c .c .given .1)
 
 d-is : (c : tie.After-d) →
-    let p = c .before .before .before .before .before .before .before .before .before .before .before .before .before .before .before .before .before .args in
+    let v = c .before .before .before .before in
+    let b = v .before .before .before .before in
+    let a = b .before .before .before .before .before in
+    let p = a .before .before .before .before .args in
     hexIn (p .s .now) (p .at + 3) 0 15 ≡ ok (c .d .given .0 .0)
 d-is c = within-ok _ (c .before .before .hex-in4 .ensures) (c .d .given .1)
 
@@ -47,7 +52,11 @@ unicode-escape-spec =
     (λ c. search auto)
     (λ c.
     let a = c .before .before .before .before .before in
-    rw (a-is a, ← c .before .before .before .second-limit .ensures, outside-refused _ (c .before .before .hex-in2 .ensures) (c .enum-told2 .given .1)))
+    rw (
+      a-is a,
+      ← c .before .before .before .second-limit .ensures,
+      outside-refused _ (c .before .before .hex-in2 .ensures) (c .enum-told2 .given .1),
+    ))
     (λ c. search auto)
     (λ c κs. search auto)
     (λ c. search auto)

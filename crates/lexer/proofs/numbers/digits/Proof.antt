@@ -1,4 +1,4 @@
-use Rattle.lexer.proofs.Auto.{auto}
+-- The digits that are left end at the same place.
 use Prim.Native.Nat.{_-_, _<_}
 use mathlib.Core.Path.{_≡_}
 use mathlib.Core.Bool.{true}
@@ -11,6 +11,7 @@ use Rattle.lexer.proofs.Fuel.{Runs, starts, goes-on, ends}
 use Rattle.lexer.proofs.ByteLaws.{inside}
 use Rattle.lexer.proofs.AnswerLaws.{to-ok, scan-refused}
 use Rattle.lexer.proofs.NumberLoop.{not-digit, counted-next, digits-more, digits-stopped, digits-end, digits-none}
+use Rattle.lexer.proofs.Auto.{auto}
 use Rattle.lexer.proofs.numbers.digits.Statement.{statement}
 use Rattle.lexer.proofs.numbers.digits.Tie as tie
 
@@ -20,11 +21,11 @@ Inv-loop s start first at₀ at = Runs (λ fuel. digits fuel s start) s at (digi
 abbrev μ-loop : tie.MeasureT-loop
 μ-loop s start first at₀ at = length s - at
 
--- the test of the loop is the definition's, and its place lies within the text
-digit : (c : tie.Then1 Inv-loop μ-loop) → isDigit (byte (c .before .before .before .before .before .args .s .now) (c .before .before .before .loop .at)) ≡ true
+-- a digit stands at the place, which lies within the text
+digit : (c : tie.Then1 Inv-loop μ-loop) → let h = c .before .before .before in isDigit (byte (h .before .before .args .s .now) (h .loop .at)) ≡ true
 digit c = cc
 
-within : (c : tie.Then1 Inv-loop μ-loop) → c .before .before .before .loop .at < length (c .before .before .before .before .before .args .s .now)
+within : (c : tie.Then1 Inv-loop μ-loop) → let h = c .before .before .before in h .loop .at < length (h .before .before .args .s .now)
 within c = inside isDigit not-digit _ _ (digit c)
 
 pub digits-spec : {M : Type 1} → statement M

@@ -1,6 +1,6 @@
-use Rattle.lexer.proofs.Auto.{auto}
 use Rattle.spec.specs.Numbers.{frac}
 use Rattle.lexer.specs.Answers.{scanOutcome}
+use Rattle.lexer.proofs.Auto.{auto}
 use Rattle.lexer.proofs.numbers.frac.Statement.{statement}
 use Rattle.lexer.proofs.numbers.frac.Tie as tie
 

@@ -1,7 +1,5 @@
-use Rattle.spec.specs.Bytes.{within}
 use borrow.Author.Tests.{eq-eqb, ne-eqb}
 use Rattle.lexer.specs.Names.{standsForItself}
-use Rattle.lexer.proofs.Auto.{auto}
 use Rattle.lexer.proofs.Tests.{below-within, above-within, between-within}
 use Rattle.lexer.proofs.strings.stands_for_itself.Statement.{statement}
 use Rattle.lexer.proofs.strings.stands_for_itself.Tie as tie

@@ -1,7 +1,6 @@
 use mathlib.Core.Path.{sym}
 use mathlib.Core.Bool.{and-false, and-true}
 use borrow.Author.Tests.{eq-eqb, ne-eqb}
-use Rattle.lexer.proofs.Auto.{auto}
 use Rattle.lexer.proofs.strings.still_plain.Statement.{statement}
 use Rattle.lexer.proofs.strings.still_plain.Tie as tie
 

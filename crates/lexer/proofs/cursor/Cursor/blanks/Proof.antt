@@ -1,3 +1,4 @@
+-- The blanks that are left run to the same place.
 use Prim.Native.Nat.{_-_, _<_}
 use mathlib.Core.Path.{_≡_}
 use mathlib.Core.Bool.{true}
@@ -17,11 +18,11 @@ Inv-loop s at₀ at = Runs (λ fuel. blanksFrom fuel s) s at (blanks s at₀)
 abbrev μ-loop : tie.MeasureT-loop
 μ-loop s at₀ at = length s - at
 
--- the test of the loop is the definition's
-blank : (c : tie.Then1 Inv-loop μ-loop) → isBlank (byte (c .before .before .before .before .before .args .s .now) (c .before .before .before .loop .at)) ≡ true
+-- a blank stands at the place, which lies within the text
+blank : (c : tie.Then1 Inv-loop μ-loop) → let h = c .before .before .before in isBlank (byte (h .before .before .args .s .now) (h .loop .at)) ≡ true
 blank c = cc
 
-within : (c : tie.Then1 Inv-loop μ-loop) → c .before .before .before .loop .at < length (c .before .before .before .before .before .args .s .now)
+within : (c : tie.Then1 Inv-loop μ-loop) → let h = c .before .before .before in h .loop .at < length (h .before .before .args .s .now)
 within c = inside isBlank not-blank _ _ (blank c)
 
 pub blanks-spec : {M : Type 1} → statement M

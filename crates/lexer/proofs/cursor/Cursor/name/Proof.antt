@@ -3,8 +3,8 @@ use Rattle.spec.specs.Outcome.{_>>=_}
 use Rattle.spec.specs.Strings.{string}
 use Rattle.lexer.specs.Answers.{nameOutcome}
 use Rattle.lexer.specs.Names.{keptOf}
-use Rattle.lexer.proofs.Auto.{auto}
 use Rattle.lexer.proofs.AnswerLaws.{within-ok, outside-refused, byte-known}
+use Rattle.lexer.proofs.Auto.{auto}
 use Rattle.lexer.proofs.cursor.Cursor.name.Statement.{statement}
 use Rattle.lexer.proofs.cursor.Cursor.name.Tie as tie
 

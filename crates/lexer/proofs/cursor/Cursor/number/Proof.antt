@@ -1,8 +1,8 @@
 use mathlib.Core.Path.{sym}
 use Rattle.spec.specs.Numbers.{number}
 use Rattle.lexer.specs.Answers.{scanOutcome}
-use Rattle.lexer.proofs.Auto.{auto}
 use Rattle.lexer.proofs.NumberLaws.{number-past-end}
+use Rattle.lexer.proofs.Auto.{auto}
 use Rattle.lexer.proofs.cursor.Cursor.number.Statement.{statement}
 use Rattle.lexer.proofs.cursor.Cursor.number.Tie as tie
 

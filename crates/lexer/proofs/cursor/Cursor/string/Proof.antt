@@ -2,8 +2,8 @@ use native.Mathlib.Omega.{arith}
 use Rattle.spec.specs.Outcome.{_>>=_}
 use Rattle.spec.specs.Strings.{string}
 use Rattle.lexer.specs.Answers.{endOf, scanOutcome}
-use Rattle.lexer.proofs.Auto.{auto}
 use Rattle.lexer.proofs.AnswerLaws.{within-ok, outside-refused, byte-known}
+use Rattle.lexer.proofs.Auto.{auto}
 use Rattle.lexer.proofs.cursor.Cursor.string.Statement.{statement}
 use Rattle.lexer.proofs.cursor.Cursor.string.Tie as tie
 
