@@ -1,0 +1,5 @@
+pub mod DecodeLaws
+pub mod TokenLaws
+pub mod LetterLaws
+pub mod CompareLaws
+pub mod Auto
