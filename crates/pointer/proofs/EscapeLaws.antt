@@ -6,13 +6,12 @@ use Prim.Native.Nat.{ℕ}
 use Prim.Native.Char.{code}
 use native.Mathlib.Omega.{arith}
 use native.Mathlib.Decide.{ℕ-discrete}
-use lib.Dec.{eqb}
 use borrow.Author.Tests.{eq-eqb, ne-eqb}
-use Rattle.spec.specs.Outcome.{Outcome, ok, refused, _>>=_, if_then_else_}
+use Rattle.spec.specs.Outcome.{Outcome, ok, refused, _>>=_}
 use Rattle.spec.specs.Refusal.{malformed-pointer}
 use Rattle.spec.specs.Bytes.{Bytes, Text}
-use Rattle.spec.specs.Pointer.{Tokens, tokens, prepend, segments, tilde, unescape, unescapeAll}
-use Rattle.text.specs.Decode.{characterIn, decode, decodeFrom}
+use Rattle.spec.specs.Pointer.{prepend, segments, tilde, unescape, unescapeAll}
+use Rattle.text.specs.Decode.{characterIn, decodeFrom}
 use Rattle.text.proofs.DecodeLaws.{decode-more, decode-ends}
 use Rattle.pointer.specs.Tokens.{tokensFrom, accepted}
 use Rattle.pointer.proofs.ScanLaws.{segments-slash, segments-more}

@@ -1,35 +1,25 @@
 -- A token as an index: what its first character tells, what each further digit does, and which element it names.
 use mathlib.Core.Path.{_≡_, refl, sym, ap, _∙_}
-use mathlib.Core.Bool.{Bool, true, false, _&&_}
+use mathlib.Core.Bool.{Bool, true, false}
 use mathlib.Core.List.{[], _∷_}
 use Prim.Native.Nat.{ℕ, suc, _+_, _-_, _*_, _<_, _≤_}
 use Prim.Native.Char.{code}
 use native.Mathlib.Omega.{arith}
-use lib.ListN.{length}
 use lib.Dec.{ltb}
-use borrow.Author.Tests.{ne-eqb, lt-ltb, le-ltb, ltb-true, ltb-false}
-use Rattle.spec.specs.Outcome.{Outcome, ok, refused, if_then_else_}
+use borrow.Author.Tests.{ne-eqb, le-ltb, ltb-true, ltb-false}
+use Rattle.spec.specs.Outcome.{ok, refused, if_then_else_}
 use Rattle.spec.specs.Refusal.{location-missing, no-index}
-use Rattle.spec.specs.Bytes.{Bytes, Text, ascii, within}
+use Rattle.spec.specs.Bytes.{Text, ascii, within}
 use Rattle.spec.specs.Numbers.{isDigit}
 use Rattle.spec.specs.Worth.{decimal}
 use Rattle.spec.specs.Value.{sameText}
 use Rattle.spec.specs.Pointer.{isIndex, isDash, allDigits, elementBelow}
 use Rattle.lexer.proofs.Tests.{between-within, below-within, above-within}
-use Rattle.text.specs.Letters.{letterAt}
-use Rattle.text.proofs.LetterLaws.{letter-begins, letter-inside}
 use Rattle.pointer.specs.declared.answers.Index.{Index}
 use Rattle.pointer.specs.declared.answers.Index.the-variants as Index
 use Rattle.pointer.specs.Index.{indexLimit, indexAt, indexOf, elementAt, insertionAt, digitsAfter, capped, ifLast}
 
 -- ---- digits
-
--- a letter leaves less of the part
-pub letter-shortens : (form : ℕ) (s : Bytes) (at : ℕ) (letter : ℕ × ℕ) → letterAt form s at ≡ ok letter → length s - letter .1 < length s - at
-letter-shortens form s at letter e =
-    let inside = letter-inside form s at letter e in
-    let grows = letter-begins form s at letter e .grows in
-    omega arith
 
 decimal-grows : (n : ℕ) (t : Text) → n ≤ decimal n t
 unfolding decimal

@@ -1,7 +1,8 @@
 -- What a scan from character to character finds of the token that begins at a place.
 use mathlib.Core.Path.{_≡_, refl, sym, ap, _∙_}
+use mathlib.Core.Bool.{Bool, true, false, not}
 use mathlib.Core.List.{[], _∷_}
-use Prim.Native.Nat.{ℕ, zero, _-_, _<_, _≤_}
+use Prim.Native.Nat.{ℕ, _+_, _-_, _<_, _≤_}
 use Prim.Native.Char.{code}
 use native.Mathlib.Omega.{arith}
 use native.Mathlib.Nat.{sub-self}
@@ -10,45 +11,51 @@ use lib.ListN.{length}
 use lib.Dec.{eqb}
 use borrow.Author.Tests.{eq-eqb, ne-eqb}
 use Rattle.spec.specs.Outcome.{ok, refused}
-use Rattle.spec.specs.Bytes.{Bytes, Text, byte}
+use Rattle.spec.specs.Bytes.{Bytes, Text, byte, within}
+use Rattle.spec.specs.Strings.{character}
 use Rattle.spec.specs.Pointer.{prepend, segments, tokens}
-use Rattle.spec.proofs.OutcomeLaws.{refused≢ok, either-ok}
-use Rattle.lexer.proofs.StringLaws.{character-ok-past}
+use Rattle.lexer.specs.Names.{part}
+use Rattle.lexer.proofs.Tests.{and-both, within-bounds, between-within}
 use Rattle.text.specs.Decode.{characterIn, decode, decodeFrom, decodeLoop}
-use Rattle.text.proofs.DecodeLaws.{character-inside, character-grows, slice, decode-more, decode-ends, Reads, nothing, one-more, reads-grow, reads-slice}
+use Rattle.text.proofs.DecodeLaws.{in-past, decode-more, decode-ends, Reads, nothing, one-more, reads-past, reads-part}
 use Rattle.pointer.specs.declared.answers.First.the-variants as First
 use Rattle.pointer.specs.declared.answers.Token.{Token}
 use Rattle.pointer.specs.declared.answers.Token.the-variants as Token
-use Rattle.pointer.specs.Tokens.{tokensFrom, tokensAfter, Inside, FirstOf, endOf, tokenBytes, segmentsAfter, InOrder, TokenAt}
+use Rattle.pointer.specs.Tokens.{tokensFrom, tokensAfter, Inside, FirstOf, endOf, tokenBytes, segmentsAfter, InOrder, TokenAt, continues}
 
--- ---- what was read of a part stays within it
+-- ---- a test that is negated
 
-character-within : (s : Bytes) (at : ℕ) {c next : ℕ} → characterIn s at ≡ ok (c, next) → next ≤ length s
-unfolding characterIn
-character-within s at {c} {next} e =
-    either-ok (eqb (byte s at) (code "\"")) e (λ e. absurd (refused≢ok e)) λ e. character-ok-past s at (c, next) e .1
+pub not-true : (b : Bool) → not b ≡ true → b ≡ false
+not-true true e = sym e
+not-true false e = refl
 
-reads-within : {s : Bytes} {at to : ℕ} {cs : Text} → at ≤ length s → Reads s at cs to → to ≤ length s
-reads-within l nothing = l
-reads-within {s} {at} l (one-more e r) = reads-within (character-within s at e) r
+pub not-false : (b : Bool) → not b ≡ false → b ≡ true
+not-false true e = refl
+not-false false e = sym e
+
+-- ---- what was read of a part
 
 -- a character leaves less of the part
-pub character-shortens : (s : Bytes) (at : ℕ) {c next : ℕ} → characterIn s at ≡ ok (c, next) → length s - next < length s - at
-character-shortens s at e = omega (arith, character-inside s at e, character-grows s at e)
+pub character-less : (s : Bytes) (at : ℕ) {c next : ℕ} → characterIn s at ≡ ok (c, next) → length s - next < length s - at
+character-less s at e = omega (arith, in-past s at e)
+
+reads-order : {s : Bytes} {at to : ℕ} {cs : Text} → Reads s at cs to → at ≤ to
+reads-order nothing = omega arith
+reads-order {s} {at} (one-more e r) = omega (arith, in-past s at e, reads-order r)
 
 -- past the end of the part nothing is read
-reads-past : {s : Bytes} {at to : ℕ} {cs : Text} → length s < at → Reads s at cs to → decode (slice s at to) ≡ cs
-unfolding decode decodeFrom decodeLoop
-reads-past {at = at} l nothing = rw (sub-self at)
-reads-past {s} {at} l (one-more e r) = absurd (omega (arith, character-inside s at e))
+reads-outside : {s : Bytes} {at to : ℕ} {cs : Text} → length s < at → Reads s at cs to → decode (part s at to) ≡ cs
+unfolding part decode decodeFrom decodeLoop
+reads-outside {at = at} l nothing = rw (sub-self at)
+reads-outside {s} {at} l (one-more e r) = absurd (omega (arith, in-past s at e))
 
 -- the bytes that were read say what was read
-reads-bytes : {s : Bytes} {at to : ℕ} {cs : Text} → Reads s at cs to → decode (slice s at to) ≡ cs
+reads-bytes : {s : Bytes} {at to : ℕ} {cs : Text} → Reads s at cs to → decode (part s at to) ≡ cs
 reads-bytes {s} {at} {to} {cs} r = go (decLt (length s) at)
   where
-    go : Dec (length s < at) → decode (slice s at to) ≡ cs
-    go (yes l) = reads-past l r
-    go (no l) = reads-slice (reads-within (omega arith) r) r
+    go : Dec (length s < at) → decode (part s at to) ≡ cs
+    go (yes l) = reads-outside l r
+    go (no l) = reads-part (omega arith) r
 
 -- ---- one character of a token
 
@@ -59,6 +66,25 @@ segments-slash c t e = rw (eq-eqb c (code "/") e)
 pub segments-more : (c : ℕ) (t : Text) → (c ≡ code "/" → ⊥) → segments (c ∷ t) ≡ prepend c (segments t)
 unfolding segments
 segments-more c t e = rw (ne-eqb c (code "/") e)
+
+-- a byte that continues a token is a character, and no slash
+pub record Continues (s : Bytes) (at : ℕ) : Type 0 where
+  pub reads : characterIn s at ≡ ok (byte s at, at + 1)
+  pub no-slash : byte s at ≡ code "/" → ⊥
+  pub inside : at < length s
+
+pub byte-continues : (s : Bytes) (at : ℕ) → continues (byte s at) ≡ true → Continues s at
+unfolding continues characterIn character
+byte-continues s at h =
+    let b = byte s at in
+    let both = and-both (within 0x30 0x7F b) (not (eqb b (code "\\"))) h in
+    let bounds = within-bounds 0x30 0x7F b (both .0) in
+    let read : characterIn s at ≡ ok (b, at + 1) = rw (ne-eqb b (code "\"") (λ e. omega arith), not-true (eqb b (code "\\")) (both .1), between-within 0x20 0x7F b (omega arith) (bounds .1)) in
+    record { reads = read; no-slash = λ e. omega arith; inside = omega (arith, in-past s at read) }
+
+-- the same of the byte that the code looked at, and of its answer
+pub continued : (s : Bytes) (at : ℕ) {b : ℕ} {r : Bool} → b ≡ byte s at → r ≡ continues b → r ≡ true → Continues s at
+continued s at p e t = byte-continues s at (ap continues (sym p) ∙ sym e ∙ t)
 
 -- ---- the scan
 
@@ -83,7 +109,7 @@ scanned-slash s at c next e h =
       read = [];
       reads = nothing;
       splits = ap segments (decode-more s at c next e) ∙ segments-slash c _ h;
-      behind = (character-grows s at e, character-within s at e);
+      behind = in-past s at e;
     }
 
 pub scanned-more : (s : Bytes) (at c next : ℕ) (t : Token) → characterIn s at ≡ ok (c, next) → (c ≡ code "/" → ⊥) → Scanned s next t → Scanned s at t
@@ -98,8 +124,8 @@ scanned-more s at c next t e h r =
 
 in-order : (s : Bytes) (at : ℕ) (t : Token) → Scanned s at t → InOrder s at t
 unfolding endOf InOrder
-in-order s at (Token.Last end) r = (reads-grow (r .reads), λ l. reads-within l (r .reads))
-in-order s at (Token.Next end next) r = (reads-grow (r .reads), r .behind .0, r .behind .1)
+in-order s at (Token.Last end) r = (reads-order (r .reads), λ l. reads-past l (r .reads) .1)
+in-order s at (Token.Next end next) r = (reads-order (r .reads), r .behind .0, r .behind .1)
 
 pub scanned-token : (s : Bytes) (at : ℕ) (t : Token) → Scanned s at t → TokenAt s at t
 unfolding tokenBytes
@@ -114,7 +140,7 @@ module _ (s : Bytes) where
 
   pub first-slash : (c next : ℕ) → characterIn s 0 ≡ ok (c, next) → c ≡ code "/" → FirstOf s (First.At next)
   unfolding decode tokens tokensAfter tokensFrom Inside
-  first-slash c next e h = record { gives = ap tokens (decode-more s 0 c next e) ∙ rw (eq-eqb c (code "/") h); inside = character-within s 0 e }
+  first-slash c next e h = record { gives = ap tokens (decode-more s 0 c next e) ∙ rw (eq-eqb c (code "/") h); inside = in-past s 0 e .1 }
 
   pub first-other : (c next : ℕ) → characterIn s 0 ≡ ok (c, next) → (c ≡ code "/" → ⊥) → FirstOf s First.Malformed
   unfolding decode tokens tokensAfter Inside

@@ -3,13 +3,13 @@ use mathlib.Core.Path.{_≡_, refl, sym, ap, _∙_}
 use mathlib.Core.Bool.{false}
 use mathlib.Core.List.{List, [], _∷_}
 use Prim.Native.Nat.{ℕ, _-_, _<_, _≤_}
-use native.Mathlib.Omega.{arith}
 use lib.ListN.{length, take, drop}
-use Rattle.spec.specs.Outcome.{Outcome, ok, refused, _>>=_}
+use Rattle.spec.specs.Outcome.{Outcome, ok}
 use Rattle.spec.specs.Bytes.{Bytes, Text}
-use Rattle.spec.specs.Pointer.{Tokens, tokens, segments, unescape, unescapeAll}
+use Rattle.spec.specs.Pointer.{Tokens, tokens, unescape, unescapeAll}
 use Rattle.spec.proofs.OutcomeLaws.{refused≢ok, both-ok}
-use Rattle.text.specs.Decode.{decode, decodeFrom, unescapeToken, textFrom, textOf}
+use Rattle.lexer.specs.Names.{part}
+use Rattle.text.specs.Decode.{decode, unescapeToken, textFrom, textOf}
 use Rattle.text.proofs.TokenLaws.{unescape-token}
 use Rattle.pointer.specs.declared.answers.First.{First}
 use Rattle.pointer.specs.declared.answers.First.the-variants as First
@@ -44,7 +44,7 @@ pub record Unfolds (t : Text) (others : Outcome Tokens) (ts : Tokens) : Type 0 w
   pub is : ts ≡ t ∷ rest
   pub from : others ≡ ok rest
 
-unescaped : (t : Text) (us : List Text) (ts : Tokens) → unescapeAll (t ∷ us) ≡ ok ts → Unfolds (unescapeToken t) (unescapeAll us) ts
+pub unescaped : (t : Text) (us : List Text) (ts : Tokens) → unescapeAll (t ∷ us) ≡ ok ts → Unfolds (unescapeToken t) (unescapeAll us) ts
 unfolding unescapeAll
 unescaped t us ts h =
     let (v, e, i) = both-ok (unescape false t) _ ts h in
@@ -57,24 +57,37 @@ token-text : (part : Bytes) → textOf 3 part ≡ unescapeToken (decode part)
 unfolding textOf textFrom decode
 token-text part = refl
 
-first-token : (s : Bytes) (at : ℕ) (t : Token) (ts : Tokens) → TokenAt s at t → tokensFrom s at ≡ ok ts →
-    Unfolds (textOf 3 (tokenBytes s at t)) (unescapeAll (segmentsAfter s t)) ts
+-- the tokens behind one that was answered
+abbrev pub tokensBehind : Bytes → Token → Outcome Tokens
+tokensBehind s t = unescapeAll (segmentsAfter s t)
+
+pub first-token : (s : Bytes) (at : ℕ) (t : Token) (ts : Tokens) → TokenAt s at t → tokensFrom s at ≡ ok ts →
+    Unfolds (textOf 3 (tokenBytes s at t)) (tokensBehind s t) ts
 unfolding tokensFrom
 first-token s at t ts right h =
     rw (token-text (tokenBytes s at t)) (unescaped (decode (tokenBytes s at t)) (segmentsAfter s t) ts (ap unescapeAll (sym (right .splits)) ∙ h))
 
+pub behind-last : (s : Bytes) (t : Token) (end : ℕ) → t ≡ Token.Last end → tokensBehind s t ≡ ok []
+unfolding segmentsAfter unescapeAll
+behind-last s t end e = rw e
+
+pub behind-next : (s : Bytes) (t : Token) (end next : ℕ) → t ≡ Token.Next end next → tokensBehind s t ≡ tokensFrom s next
+unfolding segmentsAfter tokensFrom
+behind-next s t end next e = rw e
+
 module _ (s : Bytes) (at : ℕ) (t : Token) (right : TokenAt s at t) where
-  pub last-token : (end : ℕ) (ts : Tokens) → t ≡ Token.Last end → tokensFrom s at ≡ ok ts → ts ≡ textOf 3 (take (end - at) (drop at s)) ∷ []
-  unfolding tokenBytes endOf segmentsAfter unescapeAll
+  pub last-token : (end : ℕ) (ts : Tokens) → t ≡ Token.Last end → tokensFrom s at ≡ ok ts → ts ≡ textOf 3 (tokenBytes s at t) ∷ []
   last-token end ts e h =
-      let f = rw e at (first-token s at t ts right h) in
+      let f = first-token s at t ts right h in
+      let same : ok [] ≡ ok (f .rest) = sym (behind-last s t end e) ∙ f .from in
       let none : [] ≡ f .rest = cc in
-      f .is ∙ ap (_∷_ (textOf 3 (take (end - at) (drop at s)))) (sym none)
+      f .is ∙ ap (_∷_ (textOf 3 (tokenBytes s at t))) (sym none)
 
   pub next-token : (end next : ℕ) (ts : Tokens) → t ≡ Token.Next end next → tokensFrom s at ≡ ok ts →
-      Unfolds (textOf 3 (take (end - at) (drop at s))) (tokensFrom s next) ts
-  unfolding tokenBytes endOf segmentsAfter tokensFrom
-  next-token end next ts e h = rw e at (first-token s at t ts right h)
+      Unfolds (textOf 3 (tokenBytes s at t)) (tokensFrom s next) ts
+  next-token end next ts e h =
+      let f = first-token s at t ts right h in
+      record { rest = f .rest; is = f .is; from = sym (behind-next s t end next e) ∙ f .from }
 
   pub last-order : (end : ℕ) → t ≡ Token.Last end → (at ≤ end) × (at ≤ length s → end ≤ length s)
   unfolding InOrder
@@ -83,3 +96,12 @@ module _ (s : Bytes) (at : ℕ) (t : Token) (right : TokenAt s at t) where
   pub next-order : (end next : ℕ) → t ≡ Token.Next end next → (at ≤ end) × (end < next) × (next ≤ length s)
   unfolding InOrder
   next-order end next e = rw e at (right .in-order)
+
+-- the bytes of a token, as a slice from its place to its end
+pub last-bytes : (s : Bytes) (at : ℕ) (t : Token) (end : ℕ) → t ≡ Token.Last end → tokenBytes s at t ≡ take (end - at) (drop at s)
+unfolding tokenBytes endOf part
+last-bytes s at t end e = rw e
+
+pub next-bytes : (s : Bytes) (at : ℕ) (t : Token) (end next : ℕ) → t ≡ Token.Next end next → tokenBytes s at t ≡ take (end - at) (drop at s)
+unfolding tokenBytes endOf part
+next-bytes s at t end next e = rw e

@@ -1,13 +1,16 @@
 -- A pointer's tokens by their places in the part that the pointer stands in.
-use Prim.Native.Nat.{ℕ, _-_, _<_, _≤_}
+use Prim.Native.Nat.{ℕ, _<_, _≤_}
 use mathlib.Core.Path.{_≡_}
-use mathlib.Core.Bool.{Bool, true, false}
+use Prim.Native.Char.{code}
+use mathlib.Core.Bool.{Bool, true, false, not, _&&_}
 use mathlib.Core.List.{List, [], _∷_}
-use lib.ListN.{length, take, drop}
+use lib.ListN.{length}
+use lib.Dec.{eqb}
 use Rattle.spec.specs.Outcome.{Outcome, ok, refused}
 use Rattle.spec.specs.Refusal.{malformed-pointer}
-use Rattle.spec.specs.Bytes.{Bytes, Text}
+use Rattle.spec.specs.Bytes.{Bytes, Text, within}
 use Rattle.spec.specs.Pointer.{Tokens, tokens, segments, unescapeAll}
+use Rattle.lexer.specs.Names.{part}
 use Rattle.text.specs.Decode.{decode, decodeFrom}
 use Rattle.pointer.specs.declared.answers.First.{First}
 use Rattle.pointer.specs.declared.answers.First.the-variants as First
@@ -45,7 +48,7 @@ endOf (Token.Next end next) = end
 
 -- the bytes of a token that begins at a place
 unfoldable pub tokenBytes : Bytes → ℕ → Token → Bytes
-tokenBytes s at t = take (endOf t - at) (drop at s)
+tokenBytes s at t = part s at (endOf t)
 
 -- the segments behind a token
 unfoldable pub segmentsAfter : Bytes → Token → List Text
@@ -61,3 +64,7 @@ InOrder s at (Token.Next end next) = (at ≤ end) × (end < next) × (next ≤ l
 pub record TokenAt (s : Bytes) (at : ℕ) (t : Token) : Type 0 where
   pub splits : segments (decodeFrom s at) ≡ decode (tokenBytes s at t) ∷ segmentsAfter s t
   pub in-order : InOrder s at t
+
+-- a byte that is a whole character, and no slash: of ASCII, from `0` on, and no backslash
+unfoldable pub continues : ℕ → Bool
+continues b = within 0x30 0x7F b && not (eqb b (code "\\"))

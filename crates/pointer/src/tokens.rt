@@ -2,11 +2,13 @@
 ghost use mathlib.Core.Path.{_≡_};
 ghost use Rattle.spec.specs.Pointer.{tokens};
 ghost use Rattle.text.specs.Decode.{characterIn, decode};
+ghost use Rattle.lexer.specs.Names.{part};
 ghost use Rattle.lexer.specs.Answers.{characterOutcome};
-ghost use Rattle.pointer.specs.Tokens.{accepted, tokensFrom, FirstOf, TokenAt};
+ghost use Rattle.pointer.specs.Tokens.{accepted, tokensFrom, continues, FirstOf, TokenAt, tokenBytes};
 use crate::answers::First;
 use crate::answers::Token;
 use lexer::Character;
+use lexer::peek;
 use text::letter;
 
 // The character of a part at a place: the pointer's own, before `~0` and `~1` are told from others.
@@ -29,12 +31,30 @@ pub fn first(part: &[u8]) -> First
     First::Malformed
 }
 
+// Whether a byte is a whole character, and no slash, as most bytes of most tokens are. Asked first, it keeps the loop below quick.
+fn continues(b: u8) -> bool
+    ensures { λ r. ⌜ r ≡ continues b ⌝ }
+{
+    if b < 0x30 {
+        return false;
+    }
+    if 0x7F < b {
+        return false;
+    }
+    b != b'\\'
+}
+
 // The token that begins at a place. It ends at the next slash, however that is written: `\u002f` is one too.
 pub fn token(part: &[u8], start: usize) -> Token
     ensures { λ r. ⌜ TokenAt (now (part .entry)) start r ⌝ }
 {
     let mut at = start;
     loop {
+        let b = peek(part, at);
+        if continues(b) {
+            at += 1;
+            continue;
+        }
         let Character::Scalar(c, next) = character_in(part, at) else {
             return Token::Last { end: at };
         };
@@ -45,6 +65,32 @@ pub fn token(part: &[u8], start: usize) -> Token
             };
         }
         at = next.at;
+    }
+}
+
+// The bytes of a text from one place to another, as far as it has them.
+fn between(s: &[u8], from: usize, to: usize) -> &[u8]
+    ensures { λ r. ⌜ now r ≡ part (now (s .entry)) from to ⌝ }
+{
+    if to <= from {
+        return &s[..0];
+    }
+    if s.len() <= from {
+        return &s[..0];
+    }
+    if s.len() < to {
+        return &s[from..];
+    }
+    &s[from..to]
+}
+
+// The part of a token that begins at a place.
+pub fn token_part(part: &[u8], at: usize, t: Token) -> &[u8]
+    ensures { λ r. ⌜ now r ≡ tokenBytes (now (part .entry)) at t ⌝ }
+{
+    match t {
+        Token::Last { end } => between(part, at, end),
+        Token::Next { end, next: _ } => between(part, at, end),
     }
 }
 

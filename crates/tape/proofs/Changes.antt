@@ -21,7 +21,8 @@ use Rattle.tape.proofs.Tape.{length-tape, tape-⧺, tape-single, tape-c
 -- ---- the words of a changed forest
 module _ {A W : Type 0} (w : A → Forest A → W) where
   -- some trees exchanged for others
-  pub tape-exchange : (left old new right f : Forest A) → f ≡ left ⧺ old ⧺ right → tape w (left ⧺ new ⧺ right) ≡ replaced (tape w f) (size left) (size old) (tape w new)
+  pub tape-exchange : (left old new right f : Forest A) → f ≡ left ⧺ old ⧺ right
+      → tape w (left ⧺ new ⧺ right) ≡ replaced (tape w f) (size left) (size old) (tape w new)
   unfolding replaced
   tape-exchange left old new right f e =
       let three : (g : Forest A) → tape w (left ⧺ g ⧺ right) ≡ tape w left ++ (tape w g ++ tape w right) = λ g. rw (tape-⧺ w left (g ⧺ right), tape-⧺ w g right) in
@@ -43,7 +44,8 @@ module _ {A W : Type 0} (w : A → Forest A → W) where
     unfolding removeAt _⧺_ tape
     tape-removeAt = tape-exchange (before k f) (single (nth t k f)) none (from (suc k) f) f cut-kth ∙ rw (size-single (nth t k f))
 
-    pub tape-replaceAt : (new : Tree A) → tape w (replaceAt k new f) ≡ replaced (tape w f) (size (before k f)) (suc (size (nth t k f .kids))) (words w new)
+    pub tape-replaceAt : (new : Tree A)
+        → tape w (replaceAt k new f) ≡ replaced (tape w f) (size (before k f)) (suc (size (nth t k f .kids))) (words w new)
     unfolding replaceAt
     tape-replaceAt new = tape-exchange (before k f) (single (nth t k f)) (single new) (from (suc k) f) f cut-kth ∙ rw (size-single (nth t k f), tape-single w new)
 
@@ -61,7 +63,8 @@ module _ {A W : Type 0} {w : A → Forest A → W} {xs : List W} {used : ℕ} {f
       }
 
   -- down to the children of the first tree, and to the trees from the k-th on
-  pub laid-kids : {a : A} {kids rest : Forest A} {back : List W} → Laid w xs used front (tree a kids rest) back → Laid w xs used (front ++ (w a kids ∷ [])) kids (tape w rest ++ back)
+  pub laid-kids : {a : A} {kids rest : Forest A} {back : List W} → Laid w xs used front (tree a kids rest) back
+      → Laid w xs used (front ++ (w a kids ∷ [])) kids (tape w rest ++ back)
   unfolding tape
   laid-kids {a} {kids} {rest} {back} l = record { is = l .is ∙ simp append-assoc }
 
@@ -69,7 +72,8 @@ module _ {A W : Type 0} {w : A → Forest A → W} {xs : List W} {used : ℕ} {f
   laid-from {f} {back} k l = record { is = l .is ∙ rw (tape-cut w k f) (simp append-assoc) }
 
   -- and up again
-  pub laid-tree : (a : A) {kids rest : Forest A} {back : List W} (x : W) → Laid w xs used (front ++ (x ∷ [])) kids (tape w rest ++ back) → x ≡ w a kids → Laid w xs used front (tree a kids rest) back
+  pub laid-tree : (a : A) {kids rest : Forest A} {back : List W} (x : W) → Laid w xs used (front ++ (x ∷ [])) kids (tape w rest ++ back)
+      → x ≡ w a kids → Laid w xs used front (tree a kids rest) back
   unfolding tape
   laid-tree a {kids} {rest} {back} x l e = record { is = l .is ∙ rw e (simp append-assoc) }
 
@@ -77,7 +81,8 @@ module _ {A W : Type 0} {w : A → Forest A → W} {xs : List W} {used : ℕ} {f
   laid-join f {g} {back} l = record { is = l .is ∙ rw (tape-⧺ w f g) (simp append-assoc) }
 
   -- up again with the node's own word stored anew
-  pub laid-store : (a : A) {kids rest : Forest A} {back : List W} (row : ℕ) (x y : W) → row ≡ length front → y ≡ w a kids → Laid w xs used (front ++ (x ∷ [])) kids (tape w rest ++ back)
+  pub laid-store : (a : A) {kids rest : Forest A} {back : List W} (row : ℕ) (x y : W) → row ≡ length front → y ≡ w a kids
+      → Laid w xs used (front ++ (x ∷ [])) kids (tape w rest ++ back)
       → Laid w (set xs row y) used front (tree a kids rest) back
   unfolding tape
   laid-store a {kids} {rest} {back} row x y e new l =
@@ -91,7 +96,8 @@ module _ {A W : Type 0} {w : A → Forest A → W} {xs : List W} {used : ℕ} {f
       }
 
   -- words of a forest replaced
-  pub laid-splice : {f : Forest A} {back : List W} (g : Forest A) (row place removed source n : ℕ) → Laid w xs used front f back → row ≡ length front + place
+  pub laid-splice : {f : Forest A} {back : List W} (g : Forest A) (row place removed source n : ℕ) → Laid w xs used front f back
+      → row ≡ length front + place
       → place + removed ≤ size f → Room xs used removed source n → tape w g ≡ replaced (tape w f) place removed (take n (drop source xs))
       → Laid w (spliced xs used row removed source n) (usedAfter used removed n) front g back
   laid-splice {f} {back} g row place removed source n l e h room new =
@@ -104,7 +110,8 @@ module _ {A W : Type 0} {w : A → Forest A → W} {xs : List W} {used : ℕ} {f
       }
 
   -- a move to rows behind the words in use
-  pub laid-moved : {f : Forest A} {back : List W} (to start n : ℕ) → Laid w xs used front f back → used ≤ to → to + n ≤ length xs → start + n ≤ length xs
+  pub laid-moved : {f : Forest A} {back : List W} (to start n : ℕ) → Laid w xs used front f back → used ≤ to → to + n ≤ length xs
+      → start + n ≤ length xs
       → Laid w (moved xs to start n) used front f back
   laid-moved to start n l h target there = record { is = take-moved xs to start n target there used h ∙ l .is }
 
@@ -115,13 +122,15 @@ module _ {A W : Type 0} {w : A → Forest A → W} {xs : List W} {used : ℕ} {f
   unfolding _⧺_
   laid-child {kids = kids} t k h l = rw (from-nth t k kids h) at (laid-from k (laid-kids l))
 
-  pub laid-put : {back : List W} (b : Tree A) (k : ℕ) (kids : Forest A) → Laid w xs used (front ++ tape w (before k kids)) (tree (b .root) (b .kids) (from (suc k) kids)) back
+  pub laid-put : {back : List W} (b : Tree A) (k : ℕ) (kids : Forest A)
+      → Laid w xs used (front ++ tape w (before k kids)) (tree (b .root) (b .kids) (from (suc k) kids)) back
       → Laid w xs used front (replaceAt k b kids) back
   unfolding replaceAt _⧺_
   laid-put b k kids l = laid-join (before k kids) l
 
 -- the k-th child's row
-pub child-front : {A W : Type 0} (w : A → Forest A → W) (front : List W) (x : W) (k : ℕ) (kids : Forest A) → length ((front ++ (x ∷ [])) ++ tape w (before k kids)) ≡ childRow (length front) k kids
+pub child-front : {A W : Type 0} (w : A → Forest A → W) (front : List W) (x : W) (k : ℕ) (kids : Forest A)
+    → length ((front ++ (x ∷ [])) ++ tape w (before k kids)) ≡ childRow (length front) k kids
 unfolding childRow
 child-front w front x k kids = simp length-append (ap (_+_ (length front + 1)) (length-tape w (before k kids)))
 
@@ -155,21 +164,24 @@ module _ {A W : Type 0} {w : A → Forest A → W} {xs : List W} {used : ℕ} {f
           (tape-removeAt w t k kids kth ∙ rw (none-new, removed-is))
 
 -- the word before a forest
-pub laid-word : {A W : Type 0} {w : A → Forest A → W} {xs : List W} {used : ℕ} {f : Forest A} {back : List W} (front : List W) (x z : W) → Laid w xs used (front ++ (x ∷ [])) f back → getD xs (length front) z ≡ x
+pub laid-word : {A W : Type 0} {w : A → Forest A → W} {xs : List W} {used : ℕ} {f : Forest A} {back : List W} (front : List W) (x z : W)
+    → Laid w xs used (front ++ (x ∷ [])) f back → getD xs (length front) z ≡ x
 laid-word {w = w} {xs} {used} {f} {back} front x z l =
     let split : xs ≡ front ++ (x ∷ (tape w f ++ (back ++ drop used xs))) = sym (take-append-drop used xs) ∙ rw (l .is) (simp append-assoc) in
     ap (λ ys. getD ys (length front) z) split ∙ getD-append-seam front x (tape w f ++ (back ++ drop used xs)) z
 
 -- ---- the two columns: a node whose children are changed gets its new span, and keeps its name
 module _ {xs : List ℕ} {used : ℕ} {front : List ℕ} {c : Cell} {rest : Forest Cell} {back : List ℕ} (kids : Forest Cell) where
-  pub laid-span : {changed : Forest Cell} (row span : ℕ) → Fit c kids → row ≡ length front → span ≡ size changed → span < spans → Laid word xs used (front ++ (word c kids ∷ [])) changed (tape word rest ++ back)
+  pub laid-span : {changed : Forest Cell} (row span : ℕ) → Fit c kids → row ≡ length front → span ≡ size changed → span < spans
+      → Laid word xs used (front ++ (word c kids ∷ [])) changed (tape word rest ++ back)
       → Laid word (set xs row (withSpan (getD xs row 0) (span % spans))) used front (tree c changed rest) back
   laid-span {changed} row span fit e n h l =
       let here : getD xs row 0 ≡ word c kids = rw e (laid-word front (word c kids) 0 l) in
       let new : withSpan (getD xs row 0) (span % spans) ≡ word c changed = rw here (withSpan-word fit changed span n (omega arith)) in
       laid-store c row (word c kids) (withSpan (getD xs row 0) (span % spans)) e new l
 
-  pub laid-name : {changed : Forest Cell} → Laid nameWord xs used (front ++ (nameWord c kids ∷ [])) changed (tape nameWord rest ++ back) → Laid nameWord xs used front (tree c changed rest) back
+  pub laid-name : {changed : Forest Cell} → Laid nameWord xs used (front ++ (nameWord c kids ∷ [])) changed (tape nameWord rest ++ back)
+      → Laid nameWord xs used front (tree c changed rest) back
   laid-name {changed} l = laid-tree c (nameWord c kids) l (nameWord-same c kids changed)
 
   -- the same where one child was changed, as a walk comes up from it

@@ -7,7 +7,7 @@ use mathlib.Core.List.{List, _++_, append-assoc}
 use lib.ListN.{length, take, drop, replicate, length-append, length-take, length-drop}
 use lib.Seq.{drop-paste, length-take-le, take-at, drop-at, take-append-le, drop-append-le, take-append-add, drop-append-add, take-take, drop-drop}
 use borrow.Author.Tests.{le-leb, lt-leb}
-use Rattle.tape.specs.Columns.{replaced, copied, inside, moved, usedAfter, spliced, filled}
+use Rattle.tape.specs.Columns.{replaced, copied, inside, moved, usedAfter, spliceFits, spliced, filled}
 
 -- ---- where the numbers fit the column, and where they do not
 module _ {W : Type 0} (xs : List W) where
@@ -35,7 +35,8 @@ module _ {W : Type 0} (xs : List W) where
 
 -- ---- words replaced inside others
 module _ {W : Type 0} where
-  pub length-replaced : (xs : List W) (at removed : ℕ) (new : List W) → at + removed ≤ length xs → length (replaced xs at removed new) ≡ length xs - removed + length new
+  pub length-replaced : (xs : List W) (at removed : ℕ) (new : List W) → at + removed ≤ length xs
+      → length (replaced xs at removed new) ≡ length xs - removed + length new
   unfolding replaced
   length-replaced xs at removed new h = simp (length-append, length-take, length-drop) (omega arith)
 
@@ -94,20 +95,20 @@ pub record Room {W : Type 0} (xs : List W) (used removed source n : ℕ) : Type 
 
 module _ {W : Type 0} (xs : List W) (used at removed source n : ℕ) where
   pub spliced-not-used : used < at + removed → spliced xs used at removed source n ≡ xs
-  unfolding spliced inside
+  unfolding spliced spliceFits inside
   spliced-not-used h = rw (lt-leb (at + removed) used h, spliced)
 
   pub spliced-no-room : source < max used (usedAfter used removed n) → spliced xs used at removed source n ≡ xs
-  unfolding spliced inside
+  unfolding spliced spliceFits inside
   spliced-no-room h = rw (lt-leb (max used (usedAfter used removed n)) source h, and-false, spliced)
 
   pub spliced-no-source : length xs < source + n → spliced xs used at removed source n ≡ xs
-  unfolding spliced inside
+  unfolding spliced spliceFits inside
   spliced-no-source h = rw (lt-leb (source + n) (length xs) h, and-false, and-false, spliced)
 
   module _ (in-use : at + removed ≤ used) (room : Room xs used removed source n) where
     pub spliced-in : spliced xs used at removed source n ≡ replaced (take used xs) at removed (take n (drop source xs)) ++ drop (usedAfter used removed n) xs
-    unfolding spliced inside
+    unfolding spliced spliceFits inside
     spliced-in =
         rw (
           le-leb (at + removed) used in-use,

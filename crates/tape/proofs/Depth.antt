@@ -65,7 +65,8 @@ pub record Undecided (xs : List ℕ) (row end m : ℕ) (kids : Forest Cell) : Ty
   pub formed : Formed rest
   pub same : leb (deep kids) m ≡ leb (deep rest) m
 
-pub undecided-all : {xs : List ℕ} {at : ℕ} {c : Cell} {kids : Forest Cell} (m : ℕ) → Node xs at c kids → Undecided xs (at + 1) (at + 1 + size kids) m kids
+pub undecided-all : {xs : List ℕ} {at : ℕ} {c : Cell} {kids : Forest Cell} (m : ℕ) → Node xs at c kids
+    → Undecided xs (at + 1) (at + 1 + size kids) m kids
 undecided-all {kids = kids} m node =
     record { rest = kids; after = tape word (node .rest) ++ node .after; left = left-all (node .held); formed = formed-kids (node .formed); same = refl }
 
@@ -76,7 +77,9 @@ module _ {xs : List ℕ} {row end m : ℕ} {kids : Forest Cell} (u : Undecided x
 
   module _ (more : row < end) where
     -- the first that is left
-    first : {C : Type 0} → ((c : Cell) (ks rest : Forest Cell) → leb (deep kids) m ≡ leb (level c (deep ks)) m && leb (deep rest) m → Node xs row c ks → Left word xs row end (tree c ks rest) (u .after) → Formed rest → C) → C
+    first : {C : Type 0}
+        → ((c : Cell) (ks rest : Forest Cell) → leb (deep kids) m ≡ leb (level c (deep ks)) m && leb (deep rest) m → Node xs row c ks → Left word xs row end (tree c ks rest) (u .after) → Formed rest → C)
+        → C
     first then-it =
         left-first (u .left) more λ c ks rest e l.
         let o : Formed (tree c ks rest) = subst Formed e (u .formed) in
@@ -122,5 +125,6 @@ module _ {xs : List ℕ} {at : ℕ} (levels : ℕ) where
 pub judging-all : (xs : List ℕ) (at m : ℕ) → Judging xs at (at + 1) m
 judging-all xs at m c kids node = undecided-all m node
 
-pub judging-next : (xs : List ℕ) (at row m end next : ℕ) → end ≡ endOf xs at → row < end → next ≡ endOf xs row → (r : Bool) → r ≡ true → WithinIs xs row m r → Judging xs at row m → Judging xs at next m
+pub judging-next : (xs : List ℕ) (at row m end next : ℕ) → end ≡ endOf xs at → row < end → next ≡ endOf xs row → (r : Bool) → r ≡ true
+    → WithinIs xs row m r → Judging xs at row m → Judging xs at next m
 judging-next xs at row m end next e h n r d j judging c kids node = undecided-next (judging c kids node) (omega (arith, end-here node)) next n r d j

@@ -9,7 +9,7 @@ use Rattle.tape.specs.Layout.{arrayKind, numberKind, spans, patchRow, ro
 use Rattle.tape.specs.Packing.{packed}
 use Rattle.tape.specs.Tape.{tape}
 use Rattle.tape.specs.Cell.{Cell, word, Fit, Formed, formed-none, formed-tree, Node, level, deep}
-use Rattle.tape.specs.Columns.{spliced, replaced, inside}
+use Rattle.tape.specs.Columns.{spliceFits, spliced, replaced, inside}
 use Rattle.tape.specs.Rows.{endOf, childRow, childOf}
 use Rattle.tape.specs.declared.nodes.Located.the-variants.{At, Fewer}
 
@@ -65,7 +65,7 @@ levels = refl
 
 -- two words of six replaced by one that stands behind them
 pub splice-example : spliced {W = ℕ} (1 ∷ 2 ∷ 3 ∷ 4 ∷ 5 ∷ 6 ∷ 0 ∷ 9 ∷ []) 6 1 2 7 1 ≡ 1 ∷ 9 ∷ 4 ∷ 5 ∷ 6 ∷ 6 ∷ 0 ∷ 9 ∷ []
-unfolding spliced replaced inside
+unfolding spliced spliceFits replaced inside
 splice-example = refl
 
 -- ---- the table's numbers fit the limits: each part has a row for every node

@@ -85,7 +85,8 @@ module _ {A : Type 0} where
   size-before-suc t k f h = ap size (before-nth t k f h) ∙ size-⧺ (before k f) (single (nth t k f)) ∙ ap (_+_ (size (before k f))) (size-single (nth t k f))
 
   -- the k-th tree begins where it is among the trees from the k-th on
-  pub nth-from : (t : Tree A) (k : ℕ) (f : Forest A) (a : A) (kids rest : Forest A) → from k f ≡ tree a kids rest → nth t k f ≡ record { root = a; kids = kids }
+  pub nth-from : (t : Tree A) (k : ℕ) (f : Forest A) (a : A) (kids rest : Forest A) → from k f ≡ tree a kids rest
+      → nth t k f ≡ record { root = a; kids = kids }
   unfolding from nth
   nth-from t zero none a kids rest e = absurd (let z : _≡_ {A = ℕ} 0 1 = cc in omega arith)
   nth-from t zero (tree b ks r) a kids rest e = cc

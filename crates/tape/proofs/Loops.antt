@@ -61,7 +61,8 @@ module _ {W : Type 0} (x : W) (xs : List W) (start : ℕ) where
   unfolding replaced
   filled-none = sym (paste-zero xs start [])
 
-  pub filled-more : (i : ℕ) → start + i < length xs → set (replaced xs start i (replicate i x)) (start + i) x ≡ replaced xs start (i + 1) (replicate (i + 1) x)
+  pub filled-more : (i : ℕ) → start + i < length xs
+      → set (replaced xs start i (replicate i x)) (start + i) x ≡ replaced xs start (i + 1) (replicate (i + 1) x)
   unfolding replaced
   filled-more i h =
       let p : List W = take start xs ++ replicate i x in

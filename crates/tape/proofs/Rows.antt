@@ -3,21 +3,22 @@ use Prim.Native.Nat.{ℕ, suc, _+_, _≤_, _<_}
 use native.Mathlib.Nat.{add-zero}
 use native.Mathlib.Numerals.{add-one}
 use native.Mathlib.Omega.{arith}
-use mathlib.Core.Path.{_≡_, refl, sym, ap, _∙_, subst}
+use mathlib.Core.Path.{_≡_, refl, sym, ap, _∙_}
 use mathlib.Core.List.{List, _++_}
 use mathlib.Core.Bool.{Bool, true, false}
-use lib.Dec.{leb}
+use lib.Dec.{leb, ltb}
 use lib.ListN.{length, getD}
-use borrow.Author.Tests.{lt-ltb, le-ltb, leb-true, leb-false}
-use Rattle.spec.specs.Forest.{Forest, none, Tree, count, size, before, from, nth, _⧺_}
+use borrow.Author.Tests.{lt-ltb, le-ltb, ltb-true, ltb-false, leb-true, leb-false}
+use Rattle.spec.specs.Outcome.{if_then_else_}
+use Rattle.spec.specs.Forest.{Forest, none, Tree, count, size, before, from, nth}
 use Rattle.tape.specs.Packing.{kindOf, spanOf, payloadOf}
 use Rattle.tape.specs.Tape.{tape}
-use Rattle.tape.specs.Cell.{Cell, word, Formed, Node}
+use Rattle.tape.specs.Cell.{Cell, word, Node}
 use Rattle.tape.specs.Rows.{endOf, childRow, childOf, ForNode, ChildIs, ArityIs}
 use Rattle.tape.specs.declared.nodes.Located.the-variants.{At, Fewer}
-use Rattle.tape.proofs.Forests.{size-cut, count-from, before-all, from-nth, size-before-suc, count-le-size}
+use Rattle.tape.proofs.Forests.{size-cut, count-from, before-all, size-before-suc, count-le-size}
 use Rattle.tape.proofs.Tape.{holds-front, holds-kids, holds-size, holds-child}
-use Rattle.tape.proofs.Cells.{kind-word, span-word, payload-word, formed-fit, formed-kids, formed-from}
+use Rattle.tape.proofs.Cells.{kind-word, span-word, payload-word, formed-fit, formed-kids, formed-child}
 
 -- ---- a node in a row of the column of values
 module _ {xs : List ℕ} {at : ℕ} {c : Cell} {kids : Forest Cell} (node : Node xs at c kids) where
@@ -58,17 +59,30 @@ module _ {A : Type 0} (at : ℕ) (kids : Forest A) where
   unfolding childRow
   childRow-inside k h = omega (arith, size-cut k kids, count-from k kids (omega arith), count-le-size (from k kids))
 
--- the k-th child of a node
+-- what an answer of `child` tells
+module _ {A : Type 0} (at k : ℕ) (kids : Forest A) where
+  pub childOf-at : (row : ℕ) → At row ≡ childOf at k kids → (k < count kids) × (row ≡ childRow at k kids)
+  unfolding childOf
+  childOf-at row e = go (ltb k (count kids)) refl e
+    where
+      go : (b : Bool) → ltb k (count kids) ≡ b → At row ≡ (if b then At (childRow at k kids) else Fewer (count kids))
+          → (k < count kids) × (row ≡ childRow at k kids)
+      go true p q = (ltb-true k (count kids) p, (cc))
+      go false p q = absurd (let z : _≡_ {A = ℕ} 0 1 = cc in omega arith)
+
+  pub childOf-fewer : (n : ℕ) → Fewer n ≡ childOf at k kids → (n ≤ k) × (n ≡ count kids)
+  unfolding childOf
+  childOf-fewer n e = go (ltb k (count kids)) refl e
+    where
+      go : (b : Bool) → ltb k (count kids) ≡ b → Fewer n ≡ (if b then At (childRow at k kids) else Fewer (count kids)) → (n ≤ k) × (n ≡ count kids)
+      go true p q = absurd (let z : _≡_ {A = ℕ} 0 1 = cc in omega arith)
+      go false p q = let same : n ≡ count kids = cc in (omega (arith, ltb-false k (count kids) p), same)
+
+-- the k-th child of a node; t is any tree
 pub node-child : {xs : List ℕ} {at : ℕ} {c : Cell} {kids : Forest Cell} (t : Tree Cell) (k : ℕ) → Node xs at c kids → k < count kids
     → Node xs (childRow at k kids) (nth t k kids .root) (nth t k kids .kids)
-unfolding _⧺_
-node-child {xs} {at} {c} {kids} t k node l =
-    record {
-      rest = from (suc k) kids;
-      after = tape word (node .rest) ++ node .after;
-      held = holds-child (node .held) t k l;
-      formed = subst Formed (from-nth t k kids l) (formed-from k (formed-kids (node .formed)));
-    }
+node-child {kids = kids} t k node l =
+    record { rest = from (suc k) kids; after = tape word (node .rest) ++ node .after; held = holds-child (node .held) t k l; formed = formed-child t k l (formed-kids (node .formed)) }
 
 -- ---- a loop that counts a node's children: the first k are passed, and the next one, or the end, is in a row
 pub record Passed {A : Type 0} (at row k : ℕ) (kids : Forest A) : Type 0 where
@@ -94,7 +108,8 @@ module _ {A : Type 0} {at row k : ℕ} {kids : Forest A} (p : Passed at row k ki
       go false e = absurd (omega (arith, p .place, childRow-inside at kids k (leb-false (count kids) k e)))
 
 -- a turn of the loop, to the row that `end_of` answers
-pub passed-next : {xs : List ℕ} {at row k : ℕ} {c : Cell} {kids : Forest Cell} (next : ℕ) → next ≡ endOf xs row → Node xs at c kids → Passed at row k kids → row < at + 1 + size kids → Passed at next (k + 1) kids
+pub passed-next : {xs : List ℕ} {at row k : ℕ} {c : Cell} {kids : Forest Cell} (next : ℕ) → next ≡ endOf xs row → Node xs at c kids
+    → Passed at row k kids → row < at + 1 + size kids → Passed at next (k + 1) kids
 passed-next {xs} {at} {row} {k} {c} {kids} next n node p h =
     let l : k < count kids = passed-more p h in
     let t : Tree Cell = record { root = c; kids = none } in

@@ -45,7 +45,8 @@ module _ {A W : Type 0} {w : A → Forest A → W} {xs : List W} {at : ℕ} wher
           rw (s .is, ← e, ← drop-drop, drop-at (take at xs ++ tape w f) (drop (at + size f) xs) (at + size f) long, drop-drop)
 
 -- other trees behind the forest
-pub stored-join : {A W : Type 0} {w : A → Forest A → W} {xs ys zs : List W} {at next : ℕ} {f g : Forest A} → at ≤ length xs → Stored w xs at f ys → next ≡ at + size f → Stored w ys next g zs → Stored w xs at (f ⧺ g) zs
+pub stored-join : {A W : Type 0} {w : A → Forest A → W} {xs ys zs : List W} {at next : ℕ} {f g : Forest A} → at ≤ length xs → Stored w xs at f ys
+    → next ≡ at + size f → Stored w ys next g zs → Stored w xs at (f ⧺ g) zs
 unfolding replaced
 stored-join {w = w} {xs} {ys} {zs} {at} {next} {f} {g} inside s e r =
     record {
@@ -58,7 +59,8 @@ stored-join {w = w} {xs} {ys} {zs} {at} {next} {f} {g} inside s e r =
     }
 
 -- the children's words before the node's own
-pub stored-tree : {A W : Type 0} {w : A → Forest A → W} {xs ys : List W} {at : ℕ} {kids : Forest A} (a : A) (y : W) → at < length xs → Stored w xs (at + 1) kids ys → y ≡ w a kids
+pub stored-tree : {A W : Type 0} {w : A → Forest A → W} {xs ys : List W} {at : ℕ} {kids : Forest A} (a : A) (y : W) → at < length xs
+    → Stored w xs (at + 1) kids ys → y ≡ w a kids
     → Stored w xs at (tree a kids none) (set ys at y)
 unfolding replaced tape size
 stored-tree {w = w} {xs} {ys} {at} {kids} a y inside s e =

@@ -42,7 +42,8 @@ pub record Front {W : Type 0} (z : W) (xs : List W) (at : ℕ) (x : W) (l : List
   pub here : getD xs at z ≡ x
   pub next : drop (at + 1) xs ≡ l
 
-front : {W : Type 0} (z : W) (xs : List W) (at : ℕ) (x : W) (l : List W) → drop at xs ≡ x ∷ l → (at < length xs) × (getD xs at z ≡ x) × (drop (suc at) xs ≡ l)
+front : {W : Type 0} (z : W) (xs : List W) (at : ℕ) (x : W) (l : List W) → drop at xs ≡ x ∷ l
+    → (at < length xs) × (getD xs at z ≡ x) × (drop (suc at) xs ≡ l)
 front z [] zero x l h = absurd (let e : _≡_ {A = ℕ} 0 1 = cc in omega arith)
 front z [] (suc i) x l h = absurd (let e : _≡_ {A = ℕ} 0 1 = cc in omega arith)
 front z (y ∷ ys) zero x l h = (omega arith, (cc), (cc))
@@ -89,7 +90,8 @@ module _ {A W : Type 0} {w : A → Forest A → W} {xs : List W} {at : ℕ} {a :
   holds-child t k l = rw (from-nth t k kids l) at (holds-from k holds-kids)
 
 -- one tree's words, as they are copied
-pub holds-words : {A W : Type 0} {w : A → Forest A → W} {xs : List W} {at : ℕ} {a : A} {kids rest : Forest A} {after : List W} (n : ℕ) → n ≡ suc (size kids)
+pub holds-words : {A W : Type 0} {w : A → Forest A → W} {xs : List W} {at : ℕ} {a : A} {kids rest : Forest A} {after : List W} (n : ℕ)
+    → n ≡ suc (size kids)
     → Holds w xs at (tree a kids rest) after → take n (drop at xs) ≡ w a kids ∷ tape w kids
 unfolding tape
 holds-words {w = w} {a = a} {kids} {rest} {after} n e h =
@@ -105,8 +107,10 @@ module _ {A W : Type 0} {w : A → Forest A → W} {xs : List W} {at : ℕ} {f :
   holds-spliced used row removed source n in-use room l = record { is = drop-spliced xs used row removed source n in-use room at l ∙ h .is }
 
 -- one tree copied to another row
-pub holds-moved : {A W : Type 0} {w : A → Forest A → W} {xs : List W} {start : ℕ} {a : A} {kids rest : Forest A} {after : List W} (to n : ℕ) → n ≡ suc (size kids)
-    → to + n ≤ length xs → start + n ≤ length xs → Holds w xs start (tree a kids rest) after → Holds w (moved xs to start n) to (tree a kids none) (drop (to + n) xs)
+pub holds-moved : {A W : Type 0} {w : A → Forest A → W} {xs : List W} {start : ℕ} {a : A} {kids rest : Forest A} {after : List W} (to n : ℕ)
+    → n ≡ suc (size kids)
+    → to + n ≤ length xs → start + n ≤ length xs → Holds w xs start (tree a kids rest) after
+    → Holds w (moved xs to start n) to (tree a kids none) (drop (to + n) xs)
 holds-moved {w = w} {xs} {start} {a} {kids} to n e target there h =
     record { is = words-moved xs to start n target there ∙ rw (holds-words n e h, tape-single w (record { root = a; kids = kids })) }
 
@@ -118,11 +122,13 @@ pub record Left {A W : Type 0} (w : A → Forest A → W) (xs : List W) (row end
 
 module _ {A W : Type 0} {w : A → Forest A → W} {xs : List W} where
   -- before the first turn all children are left
-  pub left-all : {at : ℕ} {a : A} {kids rest : Forest A} {after : List W} → Holds w xs at (tree a kids rest) after → Left w xs (at + 1) (at + 1 + size kids) kids (tape w rest ++ after)
+  pub left-all : {at : ℕ} {a : A} {kids rest : Forest A} {after : List W} → Holds w xs at (tree a kids rest) after
+      → Left w xs (at + 1) (at + 1 + size kids) kids (tape w rest ++ after)
   left-all h = record { held = holds-kids h; ends = refl }
 
   -- a turn passes the first of them
-  pub left-next : {row end : ℕ} {a : A} {kids rest : Forest A} {after : List W} → Left w xs row end (tree a kids rest) after → Left w xs (row + 1 + size kids) end rest after
+  pub left-next : {row end : ℕ} {a : A} {kids rest : Forest A} {after : List W} → Left w xs row end (tree a kids rest) after
+      → Left w xs (row + 1 + size kids) end rest after
   unfolding size
   left-next l = record { held = holds-next (l .held); ends = omega (arith, l .ends) }
 

@@ -27,12 +27,18 @@ module _ {W : Type 0} where
   unfoldable pub moved : List W → ℕ → ℕ → ℕ → List W
   moved xs to start n = if inside xs to n && inside xs start n then copied xs to start n else xs
 
-  -- In the first `used` words, `removed` words at a row are replaced by n from the row `source`, which lies behind all that are in use before
-  -- and after.
+  -- whether `removed` words at a row are among the first `used`, and n words at the row `source` lie behind all that are in use before and after
+  unfoldable pub spliceFits : List W → ℕ → ℕ → ℕ → ℕ → ℕ → Bool
+  spliceFits xs used at removed source n =
+      leb (at + removed) used && (leb (max used (usedAfter used removed n)) source && inside xs source n)
+
+  -- those replaced by these
   unfoldable pub spliced : List W → ℕ → ℕ → ℕ → ℕ → ℕ → List W
   spliced xs used at removed source n =
-      if leb (at + removed) used && (leb (max used (usedAfter used removed n)) source && inside xs source n) then replaced (take used xs) at removed (take n (drop source xs)) ++ drop (usedAfter used removed n) xs else xs
+      if spliceFits xs used at removed source n then
+      replaced (take used xs) at removed (take n (drop source xs)) ++ drop (usedAfter used removed n) xs else xs
 
+  -- n words at a row made the same
   unfoldable pub filled : W → List W → ℕ → ℕ → List W
   filled x xs start n = if inside xs start n then replaced xs start n (replicate n x) else xs
 

@@ -1,14 +1,12 @@
 -- `digits`: the digits that are left, after the value so far, say what all of them say.
 use Prim.Native.Nat.{_-_, _≤_}
 use mathlib.Core.Path.{_≡_, refl, sym, ap, _∙_}
-use native.Mathlib.Omega.{arith}
 use lib.ListN.{length}
 use Rattle.lexer.proofs.Auto.{auto}
-use Rattle.lexer.proofs.AnswerLaws.{scalar-ok, character-refused}
 use Rattle.text.specs.Decode.{textFrom}
-use Rattle.text.proofs.LetterLaws.{letter-begins, letter-ends}
+use Rattle.text.proofs.LetterLaws.{scalar-text, scalar-less, refused-text}
 use Rattle.pointer.specs.Index.{digitsAfter}
-use Rattle.pointer.proofs.IndexLaws.{letter-shortens, capped-limit, digits-end, digits-below, digits-above, digits-next}
+use Rattle.pointer.proofs.IndexLaws.{capped-limit, digits-end, digits-below, digits-above, digits-next}
 use Rattle.pointer.proofs.indices.digits.Statement.{statement}
 use Rattle.pointer.proofs.indices.digits.Tie as tie
 
@@ -36,21 +34,21 @@ digits-spec =
     (λ c κs. search auto)
     -- returns
     (λ c.
-    let ended = letter-ends _ _ _ _ _ (character-refused _ (c .before .before .before .letter .ensures) (c .before .enum-told .given .1)) in
+    let ended = refused-text _ _ _ (c .before .before .before .letter .ensures) _ (c .before .enum-told .given .1) in
     c .index-at .ensures ∙ sym (ap (digitsAfter _) ended ∙ digits-end _) ∙ c .before .before .before .before .loop .inv .1)
     -- returns-2
     (λ c.
-    let read = letter-begins _ _ _ _ (scalar-ok _ _ (c .before .before .before .before .letter .ensures) (c .before .before .c .given .1)) in
-    sym (ap (digitsAfter _) (read .text) ∙ digits-below _ _ _ (c .if1 .taken)) ∙ c .before .before .before .before .before .loop .inv .1)
+    let read = scalar-text _ _ _ (c .before .before .before .before .letter .ensures) _ _ (c .before .before .c .given .1) in
+    sym (ap (digitsAfter _) read ∙ digits-below _ _ _ (c .if1 .taken)) ∙ c .before .before .before .before .before .loop .inv .1)
     -- returns-3
     (λ c.
-    let read = letter-begins _ _ _ _ (scalar-ok _ _ (c .before .before .before .before .before .letter .ensures) (c .before .before .before .c .given .1)) in
-    sym (ap (digitsAfter _) (read .text) ∙ digits-above _ _ _ (c .if2 .taken)) ∙ c .before .before .before .before .before .before .loop .inv .1)
+    let read = scalar-text _ _ _ (c .before .before .before .before .before .letter .ensures) _ _ (c .before .before .before .c .given .1) in
+    sym (ap (digitsAfter _) read ∙ digits-above _ _ _ (c .if2 .taken)) ∙ c .before .before .before .before .before .before .loop .inv .1)
     -- with-digit-requires
     (λ c κs. search auto)
     -- loop-less
-    (λ c. letter-shortens _ _ _ _ (scalar-ok _ _ (c .before .before .before .before .before .before .letter .ensures) (c .before .before .before .before .c .given .1)))
+    (λ c. scalar-less _ _ _ (c .before .before .before .before .before .before .letter .ensures) _ _ (c .before .before .before .before .c .given .1))
     -- loop-again
     (λ c.
-    let read = letter-begins _ _ _ _ (scalar-ok _ _ (c .before .before .before .before .before .before .letter .ensures) (c .before .before .before .before .c .given .1)) in
-    (rw (c .with-digit .ensures) (capped-limit _), digits-next _ (read .text) (c .before .before .if1 .left) (c .before .if2 .left) (c .with-digit .ensures) (c .before .before .before .before .before .before .before .loop .inv .1))))
+    let read = scalar-text _ _ _ (c .before .before .before .before .before .before .letter .ensures) _ _ (c .before .before .before .before .c .given .1) in
+    (rw (c .with-digit .ensures) (capped-limit _), digits-next _ read (c .before .before .if1 .left) (c .before .if2 .left) (c .with-digit .ensures) (c .before .before .before .before .before .before .before .loop .inv .1))))

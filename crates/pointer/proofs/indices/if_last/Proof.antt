@@ -1,7 +1,5 @@
-use mathlib.Core.Path.{sym, ap}
 use Rattle.lexer.proofs.Auto.{auto}
-use Rattle.lexer.proofs.AnswerLaws.{scalar-ok, character-refused}
-use Rattle.text.proofs.LetterLaws.{letter-begins, letter-ends}
+use Rattle.text.proofs.LetterLaws.{scalar-text, refused-text}
 use Rattle.pointer.specs.Index.{ifLast}
 use Rattle.pointer.proofs.indices.if_last.Statement.{statement}
 use Rattle.pointer.proofs.indices.if_last.Tie as tie
@@ -18,6 +16,6 @@ if-last-spec =
     -- enum-told-2
     (λ c. search auto)
     -- returns
-    (λ c. rw (letter-begins _ _ _ _ (scalar-ok _ _ (c .before .before .letter .ensures) (c .enum-told2 .given .1)) .text))
+    (λ c. rw (scalar-text _ _ _ (c .before .before .letter .ensures) _ _ (c .enum-told2 .given .1)))
     -- returns-2
-    (λ c. rw (letter-ends _ _ _ _ _ (character-refused _ (c .before .before .letter .ensures) (c .enum-told .given .1)))))
+    (λ c. rw (refused-text _ _ _ (c .before .before .letter .ensures) _ (c .enum-told .given .1))))

@@ -1,4 +1,3 @@
-use mathlib.Core.Path.{sym, ap, _∙_}
 use Rattle.lexer.proofs.Auto.{auto}
 use Rattle.pointer.specs.Tokens.{accepted, tokensAfter}
 use Rattle.pointer.proofs.tokens.is_pointer.Statement.{statement}

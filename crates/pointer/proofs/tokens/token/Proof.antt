@@ -1,11 +1,12 @@
 -- `token`: what is right of the rest of the token is right of all of it.
 use Prim.Native.Nat.{_-_}
+use native.Mathlib.Omega.{arith}
 use lib.ListN.{length}
 use Rattle.lexer.proofs.Auto.{auto}
 use Rattle.lexer.proofs.AnswerLaws.{scalar-ok, character-refused}
 use Rattle.pointer.specs.declared.answers.Token.{Token}
 use Rattle.pointer.specs.Tokens.{TokenAt}
-use Rattle.pointer.proofs.ScanLaws.{character-shortens, Scanned, scanned-end, scanned-slash, scanned-more, scanned-token}
+use Rattle.pointer.proofs.ScanLaws.{character-less, continued, Scanned, scanned-end, scanned-slash, scanned-more, scanned-token}
 use Rattle.pointer.proofs.tokens.token.Statement.{statement}
 use Rattle.pointer.proofs.tokens.token.Tie as tie
 
@@ -23,6 +24,18 @@ token-spec =
     μ-loop
     -- loop-holds
     (λ c. λ t r. scanned-token _ _ t r)
+    -- peek-requires
+    (λ c κs. search auto)
+    -- continues-requires
+    (λ c κs. search auto)
+    -- add-at
+    (λ c. omega (arith, continued _ _ (c .before .before .peek .ensures) (c .before .continues .ensures) (c .if1 .taken)))
+    -- loop-less
+    (λ c. omega (arith, continued _ _ (c .before .before .peek .ensures) (c .before .continues .ensures) (c .if1 .taken)))
+    -- loop-again
+    (λ c. λ t r.
+    let k = continued _ _ (c .before .before .peek .ensures) (c .before .continues .ensures) (c .if1 .taken) in
+    c .before .before .before .loop .inv _ (scanned-more _ _ _ _ t (k .reads) (k .no-slash) r))
     -- character-in-requires
     (λ c κs. search auto)
     -- enum-known-c
@@ -30,10 +43,16 @@ token-spec =
     -- enum-told
     (λ c. search auto)
     -- returns
-    (λ c. c .before .before .before .loop .inv _ (scanned-end _ _ (character-refused _ (c .before .before .character-in .ensures) (c .enum-told .given .1))))
+    (λ c.
+    let ended = character-refused _ (c .before .before .character-in .ensures) (c .enum-told .given .1) in
+    c .before .before .before .before .before .before .loop .inv _ (scanned-end _ _ ended))
     -- returns-2
-    (λ c. c .before .before .before .before .before .loop .inv _ (scanned-slash _ _ _ _ (scalar-ok _ _ (c .before .before .before .before .character-in .ensures) (c .before .before .c .given .1)) (c .if1 .taken)))
-    -- loop-less
-    (λ c. character-shortens _ _ (scalar-ok _ _ (c .before .before .before .before .character-in .ensures) (c .before .before .c .given .1)))
-    -- loop-again
-    (λ c. λ t r. c .before .before .before .before .before .loop .inv _ (scanned-more _ _ _ _ t (scalar-ok _ _ (c .before .before .before .before .character-in .ensures) (c .before .before .c .given .1)) (c .if1 .left) r)))
+    (λ c.
+    let read = scalar-ok _ _ (c .before .before .before .before .character-in .ensures) (c .before .before .c .given .1) in
+    c .before .before .before .before .before .before .before .before .loop .inv _ (scanned-slash _ _ _ _ read (c .if2 .taken)))
+    -- loop-less-2
+    (λ c. character-less _ _ (scalar-ok _ _ (c .before .before .before .before .character-in .ensures) (c .before .before .c .given .1)))
+    -- loop-again-2
+    (λ c. λ t r.
+    let read = scalar-ok _ _ (c .before .before .before .before .character-in .ensures) (c .before .before .c .given .1) in
+    c .before .before .before .before .before .before .before .before .loop .inv _ (scanned-more _ _ _ _ t read (c .if2 .left) r)))

@@ -6,7 +6,7 @@ use lib.ListN.{length}
 use Rattle.lexer.proofs.Auto.{auto}
 use Rattle.lexer.proofs.AnswerLaws.{scalar-ok, character-refused}
 use Rattle.pointer.specs.Tokens.{accepted, tokensFrom}
-use Rattle.pointer.proofs.ScanLaws.{character-shortens}
+use Rattle.pointer.proofs.ScanLaws.{character-less}
 use Rattle.pointer.proofs.EscapeLaws.{zero, one, none-malformed, more-tokens, tilde-last, tilde-escapes, tilde-other}
 use Rattle.pointer.proofs.tokens.well_formed.Statement.{statement}
 use Rattle.pointer.proofs.tokens.well_formed.Tie as tie
@@ -32,11 +32,15 @@ well-formed-spec =
     -- enum-told
     (λ c. search auto)
     -- returns
-    (λ c. sym (none-malformed _ _ (character-refused _ (c .before .before .character-in .ensures) (c .enum-told .given .1))) ∙ c .before .before .before .loop .inv)
+    (λ c.
+    let ended = character-refused _ (c .before .before .character-in .ensures) (c .enum-told .given .1) in
+    sym (none-malformed _ _ ended) ∙ c .before .before .before .loop .inv)
     -- loop-less
-    (λ c. character-shortens _ _ (scalar-ok _ _ (c .before .before .before .before .character-in .ensures) (c .before .before .c .given .1)))
+    (λ c. character-less _ _ (scalar-ok _ _ (c .before .before .before .before .character-in .ensures) (c .before .before .c .given .1)))
     -- loop-again
-    (λ c. sym (more-tokens _ _ _ _ (scalar-ok _ _ (c .before .before .before .before .character-in .ensures) (c .before .before .c .given .1)) (c .if1 .taken)) ∙ c .before .before .before .before .before .loop .inv)
+    (λ c.
+    let read = scalar-ok _ _ (c .before .before .before .before .character-in .ensures) (c .before .before .c .given .1) in
+    sym (more-tokens _ _ _ _ read (c .if1 .taken)) ∙ c .before .before .before .before .before .loop .inv)
     -- character-in-requires-2
     (λ c κs. search auto)
     -- enum-known-d
@@ -44,14 +48,32 @@ well-formed-spec =
     -- enum-told-2
     (λ c. search auto)
     -- returns-2
-    (λ c. sym (tilde-last _ _ _ _ (scalar-ok _ _ (c .before .before .before .before .before .before .before .character-in .ensures) (c .before .before .before .before .before .c .given .1)) (omega arith) (character-refused _ (c .before .before .character-in2 .ensures) (c .enum-told2 .given .1))) ∙ c .before .before .before .before .before .before .before .before .loop .inv)
+    (λ c.
+    let tilde = scalar-ok _ _ (c .before .before .before .before .before .before .before .character-in .ensures) (c .before .before .before .before .before .c .given .1) in
+    let ended = character-refused _ (c .before .before .character-in2 .ensures) (c .enum-told2 .given .1) in
+    sym (tilde-last _ _ _ _ tilde (omega arith) ended) ∙ c .before .before .before .before .before .before .before .before .loop .inv)
     -- loop-less-2
-    (λ c. omega (arith, character-shortens _ _ (scalar-ok _ _ (c .before .before .before .before .before .before .before .before .before .character-in .ensures) (c .before .before .before .before .before .before .before .c .given .1)), character-shortens _ _ (scalar-ok _ _ (c .before .before .before .before .character-in2 .ensures) (c .before .before .d .given .1))))
+    (λ c.
+    let tilde = scalar-ok _ _ (c .before .before .before .before .before .before .before .before .before .character-in .ensures) (c .before .before .before .before .before .before .before .c .given .1) in
+    let digit = scalar-ok _ _ (c .before .before .before .before .character-in2 .ensures) (c .before .before .d .given .1) in
+    omega (arith, character-less _ _ tilde, character-less _ _ digit))
     -- loop-again-2
-    (λ c. sym (tilde-escapes _ _ _ _ (scalar-ok _ _ (c .before .before .before .before .before .before .before .before .before .character-in .ensures) (c .before .before .before .before .before .before .before .c .given .1)) _ _ (scalar-ok _ _ (c .before .before .before .before .character-in2 .ensures) (c .before .before .d .given .1)) (omega arith) (zero (c .if2 .taken))) ∙ c .before .before .before .before .before .before .before .before .before .before .loop .inv)
+    (λ c.
+    let tilde = scalar-ok _ _ (c .before .before .before .before .before .before .before .before .before .character-in .ensures) (c .before .before .before .before .before .before .before .c .given .1) in
+    let digit = scalar-ok _ _ (c .before .before .before .before .character-in2 .ensures) (c .before .before .d .given .1) in
+    sym (tilde-escapes _ _ _ _ tilde _ _ digit (omega arith) (zero (c .if2 .taken))) ∙ c .before .before .before .before .before .before .before .before .before .before .loop .inv)
     -- returns-3
-    (λ c. sym (tilde-other _ _ _ _ (scalar-ok _ _ (c .before .before .before .before .before .before .before .before .before .before .character-in .ensures) (c .before .before .before .before .before .before .before .before .c .given .1)) _ _ (scalar-ok _ _ (c .before .before .before .before .before .character-in2 .ensures) (c .before .before .before .d .given .1)) (omega arith) (c .before .if2 .left) (c .if3 .taken)) ∙ c .before .before .before .before .before .before .before .before .before .before .before .loop .inv)
+    (λ c.
+    let tilde = scalar-ok _ _ (c .before .before .before .before .before .before .before .before .before .before .character-in .ensures) (c .before .before .before .before .before .before .before .before .c .given .1) in
+    let digit = scalar-ok _ _ (c .before .before .before .before .before .character-in2 .ensures) (c .before .before .before .d .given .1) in
+    sym (tilde-other _ _ _ _ tilde _ _ digit (omega arith) (c .before .if2 .left) (c .if3 .taken)) ∙ c .before .before .before .before .before .before .before .before .before .before .before .loop .inv)
     -- loop-less-3
-    (λ c. omega (arith, character-shortens _ _ (scalar-ok _ _ (c .before .before .before .before .before .before .before .before .before .before .character-in .ensures) (c .before .before .before .before .before .before .before .before .c .given .1)), character-shortens _ _ (scalar-ok _ _ (c .before .before .before .before .before .character-in2 .ensures) (c .before .before .before .d .given .1))))
+    (λ c.
+    let tilde = scalar-ok _ _ (c .before .before .before .before .before .before .before .before .before .before .character-in .ensures) (c .before .before .before .before .before .before .before .before .c .given .1) in
+    let digit = scalar-ok _ _ (c .before .before .before .before .before .character-in2 .ensures) (c .before .before .before .d .given .1) in
+    omega (arith, character-less _ _ tilde, character-less _ _ digit))
     -- loop-again-3
-    (λ c. sym (tilde-escapes _ _ _ _ (scalar-ok _ _ (c .before .before .before .before .before .before .before .before .before .before .character-in .ensures) (c .before .before .before .before .before .before .before .before .c .given .1)) _ _ (scalar-ok _ _ (c .before .before .before .before .before .character-in2 .ensures) (c .before .before .before .d .given .1)) (omega arith) (one (omega arith))) ∙ c .before .before .before .before .before .before .before .before .before .before .before .loop .inv))
+    (λ c.
+    let tilde = scalar-ok _ _ (c .before .before .before .before .before .before .before .before .before .before .character-in .ensures) (c .before .before .before .before .before .before .before .before .c .given .1) in
+    let digit = scalar-ok _ _ (c .before .before .before .before .before .character-in2 .ensures) (c .before .before .before .d .given .1) in
+    sym (tilde-escapes _ _ _ _ tilde _ _ digit (omega arith) (one (omega arith))) ∙ c .before .before .before .before .before .before .before .before .before .before .before .loop .inv))
