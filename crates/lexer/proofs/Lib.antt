@@ -3,7 +3,6 @@ pub mod Fuel
 pub mod Always
 pub mod ByteLaws
 pub mod AnswerLaws
-pub mod EscapeLaws
 pub mod StringLaws
 pub mod StringLoop
 pub mod NameLaws

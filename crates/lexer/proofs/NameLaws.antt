@@ -129,7 +129,6 @@ kept-from s start o = refl
 -- In the midst of a name that begins at start: the hash and whether it is plain are those of the characters before a place, and what is
 -- left of it from there on gives v.
 pub record Keeping (s : Bytes) (start at h : ℕ) (plain : Bool) (v : Outcome (ℕ × ℕ × Bool)) : Type 0 where
-  pub bound : h < 0x1000_0000
   pub from : start ≤ at
   pub so-far : plain ≡ noBackslash (part s start at)
   pub left : Runs (λ fuel k. keptFrom h s start (characters fuel s k)) s at v
@@ -138,7 +137,6 @@ pub keeping-starts : (s : Bytes) (start : ℕ) → Keeping s start start 0 true 
 unfolding noBackslash
 keeping-starts s start =
     record {
-      bound = omega arith;
       from = omega arith;
       so-far = rw (part-empty s start);
       left = rw (kept-from s start (characters (length s) s start)) at (starts (λ fuel k. keptFrom 0 s start (characters fuel s k)) s start);
@@ -150,7 +148,6 @@ module _ {s : Bytes} {start at h : ℕ} {plain : Bool} {v : Outcome (ℕ × ℕ 
   keeping-more u n e m p k =
       let l = character-ok-past s at u e in
       record {
-        bound = rw m (mix-bound h (u .0));
         from = omega (arith, k .from);
         so-far =
             rw (

@@ -70,7 +70,8 @@ module _ (s : Bytes) (start : ℕ) where
   frac-from : (at : ℕ) → at ≤ length s → Always (From s at) (frac s start at)
   unfolding frac
   frac-from at h =
-      either (eqb (byte s at) (code ".")) (λ e. later (omega arith) (over (λ b. eqb b (code ".")) refl at e (someDigits s start) some-digits-from)) (λ _.
+      either (eqb (byte s at) (code ".")) (λ e.
+      later (omega arith) (over (λ b. eqb b (code ".")) refl at e (someDigits s start) some-digits-from)) (λ _.
       gives at (omega arith))
 
   sign-from : (at : ℕ) → at ≤ length s → Always (From s at) (sign s start at)
@@ -90,7 +91,8 @@ module _ (s : Bytes) (start : ℕ) where
   exp-from : (at : ℕ) → at ≤ length s → Always (From s at) (exp s start at)
   unfolding exp
   exp-from at h =
-      either (isE (byte s at)) (λ e. later (omega arith) (over isE not-e at e (signedDigits s start) signed-digits-from)) (λ _. gives at (omega arith))
+      either (isE (byte s at)) (λ e. later (omega arith) (over isE not-e at e (signedDigits s start) signed-digits-from)) (λ _.
+      gives at (omega arith))
 
   -- an integer has a digit at least
   digits-past : (fuel at : ℕ) → 1 ≤ fuel → isDigit (byte s at) ≡ true → Always (From s (at + 1)) (digits fuel s start at)

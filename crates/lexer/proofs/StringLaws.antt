@@ -3,10 +3,10 @@ use Prim.Native.Nat.{ℕ, zero, suc, _+_, _-_, _*_, _≤_, _<_}
 use Prim.Native.Char.{code}
 use mathlib.Core.List.{[], _∷_}
 use mathlib.Core.Path.{_≡_, refl}
-use mathlib.Core.Bool.{false}
+use mathlib.Core.Bool.{false, not}
 use native.Mathlib.Decide.{decLt}
 use native.Mathlib.Omega.{arith}
-use borrow.Author.Tests.{ne-eqb, eqb-true}
+use borrow.Author.Tests.{eqb-true}
 use lib.ListN.{length}
 use lib.Dec.{eqb}
 use Rattle.spec.specs.Outcome.{Outcome, ok, refused}
@@ -16,12 +16,11 @@ use Rattle.spec.specs.Strings.{lowSurrogate, afterHigh, unicodeEscape, shortEsc
 use Rattle.lexer.proofs.Always.{Always, refuses, gives, result, either, next, weaken}
 use Rattle.lexer.proofs.ByteLaws.{byte-past, inside}
 use Rattle.lexer.proofs.AnswerLaws.{byte-taken, hex-taken}
-use Rattle.lexer.proofs.EscapeLaws.{short-escape-inside}
 
-pub character-multibyte : (s : Bytes) (at : ℕ) → (byte s at ≡ code "\\" → ⊥) → within 0x20 0x7F (byte s at) ≡ false →
-    character s at ≡ multibyte s at (byte s at)
-unfolding character
-character-multibyte s at n w = rw (ne-eqb (byte s at) (code "\\") n, w)
+-- a byte that makes an escape stands within the text
+pub short-escape-inside : (s : Bytes) (at : ℕ) → eqb (shortEscape (byte s at)) 0 ≡ false → at < length s
+unfolding shortEscape
+short-escape-inside s at e = inside (λ b. not (eqb (shortEscape b) 0)) refl s at (rw e)
 
 -- past the end no character is read
 pub character-past-end : (s : Bytes) (at : ℕ) → length s ≤ at → character s at ≡ refused not-json at
@@ -64,7 +63,9 @@ module _ (s : Bytes) where
   unfolding tail
   tail-past zero at low high bits l h = gives (bits, at + 1) (omega arith)
   tail-past (suc more) at low high bits l h =
-      next _ λ b e. let k = byte-taken s (at + 1) low high b l e in later (omega arith) (tail-past more (at + 1) 0x80 0xBF _ (omega arith) (omega arith))
+      next _ λ b e.
+      let k = byte-taken s (at + 1) low high b l e in
+      later (omega arith) (tail-past more (at + 1) 0x80 0xBF _ (omega arith) (omega arith))
 
   multibyte-past : (at b : ℕ) → at < length s → Always (Past s at) (multibyte s at b)
   unfolding multibyte

@@ -8,7 +8,7 @@ pub const NOT_JSON: u8 = 3;
 
 pub const NUMBER_OVER_LIMIT: u8 = 7;
 
-// A place in a text; it may be any number, and past the end of the text stands 0.
+// A place in a text, which may lie past its end.
 pub struct Cursor {
     pub at: usize,
 }
@@ -19,7 +19,7 @@ pub enum Scan {
     Refused(u8, usize),
 }
 
-// A number that must lie between two bounds, which only who asks knows.
+// A byte or the value of a digit, if it lies between the bounds that were given.
 pub enum Bounded {
     Within(u8),
     Outside,

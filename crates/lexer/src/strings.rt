@@ -1,11 +1,10 @@
 // Strings: RFC 8259, section 7. A name is read as any other string is, and what makes two names quick to compare is kept on the way.
 ghost use mathlib.Core.Path.{_≡_};
-ghost use Prim.Native.Nat.{_+_, _<_};
+ghost use Prim.Native.Nat.{_+_};
 ghost use mathlib.Core.Bool.{_&&_, not};
 ghost use lib.ListN.{length};
 ghost use lib.Dec.{eqb};
 ghost use Rattle.spec.specs.Strings.{characters, string};
-ghost use Rattle.lexer.specs.Hash.{mix};
 ghost use Rattle.lexer.specs.Names.{standsForItself, keptOf};
 ghost use Rattle.lexer.specs.Answers.{scanOutcome, endOf, nameOutcome};
 use crate::characters::Character;
@@ -15,20 +14,21 @@ use crate::cursor::NOT_JSON;
 use crate::cursor::Scan;
 use crate::cursor::byte_in;
 use crate::cursor::peek;
+use crate::hash::mix;
 
 // A name's cursor after it, the hash of its characters, and whether it is plain: written with no escape; or the place of a refusal, whose
 // number is 3.
 pub enum Name {
     Read {
         next: Cursor,
-        hash: u64,
+        hash: u32,
         plain: bool,
     },
     Refused(usize),
 }
 
-// Whether a byte is a whole character of its string, as most bytes of most strings are. Asked first, it keeps the two loops below quick.
-fn stands_for_itself(b: u8) -> bool
+// Whether a byte is a whole character of its string, as most bytes of most strings are: asked first, it keeps a loop over them quick.
+pub fn stands_for_itself(b: u8) -> bool
     ensures { λ r. ⌜ r ≡ standsForItself b ⌝ }
 {
     if b < 0x20 {
@@ -41,14 +41,6 @@ fn stands_for_itself(b: u8) -> bool
         return false;
     }
     b != b'\\'
-}
-
-// The hash of a text and one more character.
-fn mix(hash: u64, c: u32) -> u64
-    requires { ⌜ hash < 0x1000_0000 ⌝ }
-    ensures { λ r. ⌜ r ≡ mix hash c ⌝ }
-{
-    (hash * 165_904_091 + c as u64) % 0x1000_0000
 }
 
 // The characters from a place to the closing quotation mark.
@@ -87,7 +79,7 @@ fn name_characters(s: &[u8], start: usize) -> Name
     ensures { λ r. ⌜ nameOutcome r ≡ keptOf (now (s .entry)) start (characters (length (now (s .entry))) (now (s .entry)) start) ⌝ }
 {
     let mut at = start;
-    let mut hash: u64 = 0;
+    let mut hash: u32 = 0;
     let mut plain = true;
     loop {
         let b = peek(s, at);

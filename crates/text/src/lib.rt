@@ -4,7 +4,13 @@
 
 pub mod letters; // one character of what a part says
 pub mod compare; // whether two texts are the same
+pub mod hash; // the hash of a text
+pub mod lengths; // how long a text is when it is written
+pub mod write; // texts laid down in the output
 
 pub use compare::same_ascii;
 pub use compare::same_text;
+pub use hash::hash_text;
+pub use lengths::written_length;
 pub use letters::letter;
+pub use write::write_text;

@@ -5,7 +5,7 @@ use Rattle.spec.specs.Bytes.{within}
 use Rattle.spec.specs.Strings.{escape}
 use Rattle.lexer.specs.Answers.{characterOutcome}
 use Rattle.lexer.proofs.ByteLaws.{here}
-use Rattle.lexer.proofs.EscapeLaws.{short-escape-inside}
+use Rattle.lexer.proofs.StringLaws.{short-escape-inside}
 use Rattle.lexer.proofs.Auto.{auto}
 use Rattle.lexer.proofs.escapes.escape.Statement.{statement}
 use Rattle.lexer.proofs.escapes.escape.Tie as tie

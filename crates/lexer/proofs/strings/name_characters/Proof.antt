@@ -45,7 +45,7 @@ name-characters-spec =
     (λ c κs. search auto)
     (λ c κs. search auto)
     (λ c. search auto)
-    (λ c κs. c .before .before .before .loop .inv .bound)
+    (λ c κs. search auto)
     (λ c. omega (arith, self-inside _ _ (self (c .before))))
     (λ c. omega (arith, self-inside _ _ (self (c .before))))
     (λ c.
@@ -57,7 +57,7 @@ name-characters-spec =
     keeping-quote (sym (peeked .peek .ensures) ∙ c .if2 .taken) (peeked .before .loop .inv))
     (λ c κs. search auto)
     (λ c. search auto)
-    (λ c κs. c .before .before .before .before .before .before .before .before .loop .inv .bound)
+    (λ c κs. search auto)
     (λ c κs. search auto)
     (λ c.
     let taken = c .before .before .before in

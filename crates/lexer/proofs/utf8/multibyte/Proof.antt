@@ -156,7 +156,11 @@ multibyte-spec =
     (λ c. from-F4 _ _ _ (c .before .before .before .peek .ensures) (omega arith) (omega arith) (c .last-three2 .ensures))
     (λ c. from-C2 _ _ _ (c .before .before .before .before .before .peek .ensures) (omega arith) (omega arith) (c .last .ensures))
     (λ c. from-E1 _ _ _ (c .before .before .before .before .before .before .peek .ensures) (omega arith) (omega arith) (c .last-two3 .ensures))
-    (λ c. from-EE _ _ _ (c .before .before .before .before .before .before .before .peek .ensures) (omega arith) (omega arith) (c .last-two4 .ensures))
-    (λ c. from-F1 _ _ _ (c .before .before .before .before .before .before .before .before .peek .ensures) (omega arith) (omega arith) (c .last-three3 .ensures))
+    (λ c.
+    let peeked = c .before .before .before .before .before .before .before in
+    from-EE _ _ _ (peeked .peek .ensures) (omega arith) (omega arith) (c .last-two4 .ensures))
+    (λ c.
+    let peeked = c .before .before .before .before .before .before .before .before in
+    from-F1 _ _ _ (peeked .peek .ensures) (omega arith) (omega arith) (c .last-three3 .ensures))
     (λ c. below-C2 _ _ _ (c .before .before .before .peek .ensures) (omega arith))
     (λ c. above-F4 _ _ _ (c .before .before .before .before .before .before .before .peek .ensures) (omega arith)))
