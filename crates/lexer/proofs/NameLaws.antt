@@ -27,11 +27,11 @@ use Rattle.lexer.proofs.AnswerLaws.{byte-taken, byte-is}
 use Rattle.lexer.proofs.StringLaws.{character-ok-past, escape-past}
 use Rattle.lexer.proofs.StringLoop.{cons, self-no-quote, self-no-backslash, self-character, turn-character, turn-quote, turn-refused}
 
-mix-bound : (h c : ℕ) → mix h c < 0x1000_0000
+pub mix-bound : (h c : ℕ) → mix h c < 0x1000_0000
 unfolding mix
 mix-bound h c = omega arith
 
-hash-from-bound : (h : ℕ) (cs : Text) → h < 0x1000_0000 → hashFrom h cs < 0x1000_0000
+pub hash-from-bound : (h : ℕ) (cs : Text) → h < 0x1000_0000 → hashFrom h cs < 0x1000_0000
 unfolding hashFrom
 hash-from-bound h [] l = l
 hash-from-bound h (c ∷ cs) l = hash-from-bound (mix h c) cs (mix-bound h c)
