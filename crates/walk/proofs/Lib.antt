@@ -1,0 +1,4 @@
+pub mod StepLaws
+pub mod NameLaws
+pub mod Children
+pub mod PathLaws

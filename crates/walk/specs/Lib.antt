@@ -1,0 +1,3 @@
+pub mod Names
+pub mod Step
+pub mod Path

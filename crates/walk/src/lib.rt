@@ -1,0 +1,10 @@
+// From a value to the one that a pointer names: document 01, "Walking and the six operations".
+
+pub mod names; // a pointer's token as a name
+pub mod steps; // from a value to its child by a token
+pub mod path; // from a value to the one that a pointer leads to
+
+pub use names::token_name;
+pub use path::walk;
+pub use steps::Child;
+pub use steps::step;
