@@ -90,6 +90,10 @@ byte-taken s at low high n h e =
       here = inside (within low high) (below-within low high 0 h) s at (p .0);
     }
 
+pub byte-within : (s : Bytes) (at low high n : ℕ) → byteIn s at low high ≡ ok n → within low high (byte s at) ≡ true
+unfolding byteIn
+byte-within s at low high n e = passed (within low high (byte s at)) (byte s at) n not-json at e .0
+
 pub byte-is : (s : Bytes) (at low high n : ℕ) → byteIn s at low high ≡ ok n → byte s at ≡ n
 unfolding byteIn
 byte-is s at low high n e = passed (within low high (byte s at)) (byte s at) n not-json at e .1

@@ -7,4 +7,7 @@ pub mod EscapeLaws
 pub mod StringLaws
 pub mod StringLoop
 pub mod NameLaws
+pub mod NumberLoop
+pub mod NumberLaws
+pub mod BlankLaws
 pub mod Auto

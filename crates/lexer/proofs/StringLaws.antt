@@ -1,12 +1,12 @@
 -- Where characters and strings end.
 use Prim.Native.Nat.{ℕ, zero, suc, _+_, _-_, _*_, _≤_, _<_}
 use Prim.Native.Char.{code}
-use mathlib.Core.List.{_∷_}
+use mathlib.Core.List.{[], _∷_}
 use mathlib.Core.Path.{_≡_, refl}
 use mathlib.Core.Bool.{Bool, true, false, not}
 use native.Mathlib.Omega.{arith}
 use native.Mathlib.Decide.{decLt}
-use borrow.Author.Tests.{ne-eqb}
+use borrow.Author.Tests.{ne-eqb, eqb-true}
 use lib.ListN.{length}
 use lib.Dec.{eqb}
 use Rattle.spec.specs.Outcome.{Outcome, ok, refused, _>>=_, if_then_else_}
@@ -96,3 +96,31 @@ module _ (s : Bytes) where
 
 pub character-ok-past : (s : Bytes) (at : ℕ) (v : ℕ × ℕ) → character s at ≡ ok v → Past s at v
 character-ok-past s at v e = result (rw e at (character-past s at))
+
+-- characters of a string end past a place, within the text, and with a quotation mark
+pub record Closed (s : Bytes) (at next : ℕ) : Type 0 where
+  pub past : at < next
+  pub within : next ≤ length s
+  pub quote : byte s (next - 1) ≡ code "\""
+
+characters-closed : (s : Bytes) (fuel at : ℕ) → Always (λ t. Closed s at (t .1)) (characters fuel s at)
+unfolding characters
+characters-closed s zero at = refuses
+characters-closed s (suc fuel) at =
+    either (eqb (byte s at) (code "\"")) (λ e.
+    let k = inside (λ b. eqb b (code "\"")) refl s at e in
+    let z : at + 1 - 1 ≡ at = omega arith in
+    gives ([], at + 1) (record { past = omega arith; within = omega arith; quote = rw z (eqb-true _ _ e) })) (λ _.
+    next (character s at) λ v e.
+    let l = character-ok-past s at v e in
+    next (characters fuel s (v .1)) λ t f.
+    let c : Closed s (v .1) (t .1) = result (rw f at (characters-closed s fuel (v .1))) in
+    gives (v .0 ∷ t .0, t .1) (record { past = omega arith; within = c .within; quote = c .quote }))
+
+-- a string has its two quotation marks, and ends with one
+pub string-closed : (s : Bytes) (at : ℕ) → Always (λ t. Closed s (at + 1) (t .1)) (string s at)
+unfolding string
+string-closed s at = next _ λ b e. characters-closed s (length s) (at + 1)
+
+pub string-ok-closed : (s : Bytes) (at : ℕ) (t : Text × ℕ) → string s at ≡ ok t → Closed s (at + 1) (t .1)
+string-ok-closed s at t e = result (rw e at (string-closed s at))

@@ -4,6 +4,8 @@
 pub mod cursor; // a place in a text, what reading there answers, and the byte there
 pub mod characters; // one character of a string
 pub mod strings; // strings, and names
+pub mod numbers; // numbers
+pub mod blanks; // blanks and literals
 mod escapes; // a character written as an escape
 mod utf8; // a character of two to four bytes
 
