@@ -20,7 +20,7 @@ use Rattle.lexer.specs.Answers.{characterOutcome}
 use Rattle.lexer.proofs.AnswerLaws.{scalar-ok, character-refused}
 use Rattle.text.specs.Decode.{characterIn, decodeFrom, unescapeToken, textFrom}
 use Rattle.text.specs.Letters.{afterTilde, tokenStep, tokenLetter, letterAt, isPlain}
-use Rattle.text.proofs.DecodeLaws.{character-inside, character-grows, decode-more, decode-ends}
+use Rattle.text.proofs.DecodeLaws.{in-past, decode-more, decode-ends}
 
 -- ---- a token's letter
 
@@ -47,10 +47,10 @@ token-last : (t : Text) → t ≡ [] → unescapeToken (code "~" ∷ []) ≡ cod
 unfolding unescapeToken
 token-last t e = rw e
 
--- what a letter is to the text from its place on
+-- what a letter is to the text from its place on: the first character; it takes at least one byte, and none past the end
 pub record Begins (s : Bytes) (at : ℕ) (left : ℕ → Text) (letter : ℕ × ℕ) : Type 0 where
   pub text : left at ≡ letter .0 ∷ left (letter .1)
-  pub grows : at < letter .1
+  pub past : (at < letter .1) × (letter .1 ≤ length s)
 
 -- a token's text from a place on
 abbrev tokenFrom : Bytes → ℕ → Text
@@ -61,28 +61,28 @@ module _ (s : Bytes) (at c next : ℕ) (e : characterIn s at ≡ ok (c, next)) w
   unfolding afterTilde
   tilde-begins t (ok (d, after)) f = go (eqb d (code "0")) (eqb d (code "1")) refl refl
     where
-      n : at < next
-      n = character-grows s at e
+      n : (at < next) × (next ≤ length s)
+      n = in-past s at e
 
-      m : next < after
-      m = character-grows s next f
+      m : (next < after) × (after ≤ length s)
+      m = in-past s next f
 
       two : decodeFrom s at ≡ c ∷ d ∷ decodeFrom s after
       two = decode-more s at c next e ∙ ap (_∷_ c) (decode-more s next d after f)
 
       go : (zero one : Bool) → eqb d (code "0") ≡ zero → eqb d (code "1") ≡ one →
           Begins s at (tokenFrom s) (if_then_else_ {A = ℕ × ℕ} zero (code "~", after) (if_then_else_ {A = ℕ × ℕ} one (code "/", after) (code "~", next)))
-      go true one p q = record { text = ap unescapeToken two ∙ token-zero c d _ t p; grows = omega (arith, n, m) }
-      go false true p q = record { text = ap unescapeToken two ∙ token-one c d _ t p q; grows = omega (arith, n, m) }
+      go true one p q = record { text = ap unescapeToken two ∙ token-zero c d _ t p; past = omega (arith, n, m) }
+      go false true p q = record { text = ap unescapeToken two ∙ token-one c d _ t p q; past = omega (arith, n, m) }
       go false false p q =
           record {
             text = ap unescapeToken two ∙ token-other c d _ t p q ∙ ap (λ x. x ∷ unescapeToken (d ∷ decodeFrom s after)) (eqb-true c (code "~") t) ∙ ap (λ x. code "~" ∷ unescapeToken x) (sym (decode-more s next d after f));
-            grows = n;
+            past = n;
           }
   tilde-begins t (refused number place) f =
       let last : decodeFrom s next ≡ [] = decode-ends s next f in
       let alone : decodeFrom s at ≡ code "~" ∷ [] = decode-more s at c next e ∙ ap₂ _∷_ (eqb-true c (code "~") t) last in
-      record { text = ap unescapeToken alone ∙ token-last (decodeFrom s next) last; grows = character-grows s at e }
+      record { text = ap unescapeToken alone ∙ token-last (decodeFrom s next) last; past = in-past s at e }
 
   step-begins : Begins s at (tokenFrom s) (tokenStep s c next)
   unfolding tokenStep
@@ -90,13 +90,13 @@ module _ (s : Bytes) (at c next : ℕ) (e : characterIn s at ≡ ok (c, next)) w
     where
       go : (escaped : Bool) → eqb c (code "~") ≡ escaped → Begins s at (tokenFrom s) (if_then_else_ {A = ℕ × ℕ} escaped (afterTilde (characterIn s next) next) (c, next))
       go true t = tilde-begins t (characterIn s next) refl
-      go false t = record { text = ap unescapeToken (decode-more s at c next e) ∙ token-plain c _ t; grows = character-grows s at e }
+      go false t = record { text = ap unescapeToken (decode-more s at c next e) ∙ token-plain c _ t; past = in-past s at e }
 
 -- ---- a letter in any form
 
 module _ (s : Bytes) (at : ℕ) where
   string-begins : (letter : ℕ × ℕ) → characterIn s at ≡ ok letter → Begins s at (decodeFrom s) letter
-  string-begins (c, next) e = record { text = decode-more s at c next e; grows = character-grows s at e }
+  string-begins (c, next) e = record { text = decode-more s at c next e; past = in-past s at e }
 
   token-begins : (letter : ℕ × ℕ) → tokenLetter s at ≡ ok letter → Begins s at (tokenFrom s) letter
   unfolding tokenLetter
@@ -104,10 +104,6 @@ module _ (s : Bytes) (at : ℕ) where
       let ((c, next), e, i) = both-ok (characterIn s at) _ letter h in
       let same : tokenStep s c next ≡ letter = cc in
       subst (Begins s at (tokenFrom s)) same (step-begins s at c next e)
-
-  token-inside : (letter : ℕ × ℕ) → tokenLetter s at ≡ ok letter → at < length s
-  unfolding tokenLetter
-  token-inside letter h = let (_, e, _) = both-ok (characterIn s at) _ letter h in character-inside s at e
 
   token-ends : (number place : ℕ) → tokenLetter s at ≡ refused number place → tokenFrom s at ≡ []
   unfolding tokenLetter _>>=_ unescapeToken
@@ -133,9 +129,6 @@ by-form form s at P string token other = go (eqb form 1) (eqb form 2) (eqb form 
 
 pub letter-begins : (form : ℕ) (s : Bytes) (at : ℕ) (letter : ℕ × ℕ) → letterAt form s at ≡ ok letter → Begins s at (textFrom form s) letter
 letter-begins form s at letter = by-form form s at (λ left o. o ≡ ok letter → Begins s at left letter) (string-begins s at letter) (token-begins s at letter) (λ h. absurd (refused≢ok h))
-
-pub letter-inside : (form : ℕ) (s : Bytes) (at : ℕ) (letter : ℕ × ℕ) → letterAt form s at ≡ ok letter → at < length s
-letter-inside form s at letter = by-form form s at (λ left o. o ≡ ok letter → at < length s) (character-inside s at) (token-inside s at letter) (λ h. absurd (refused≢ok h))
 
 pub letter-ends : (form : ℕ) (s : Bytes) (at number place : ℕ) → letterAt form s at ≡ refused number place → textFrom form s at ≡ []
 letter-ends form s at number place = by-form form s at (λ left o. o ≡ refused number place → left at ≡ []) (decode-ends s at) (token-ends s at number place) (λ h. refl)
@@ -169,7 +162,7 @@ module _ (s : Bytes) (at : ℕ) (plain : isPlain (byte s at) ≡ true) where
   plain-token = let t = tested (byte s at) plain in rw (plain-string, t .tilde)
 
   pub plain-inside : at < length s
-  plain-inside = character-inside s at plain-string
+  plain-inside = omega (arith, in-past s at plain-string)
 
   pub plain-letter : (form : ℕ) → 1 ≤ form → form ≤ 3 → letterAt form s at ≡ ok (byte s at, at + 1)
   unfolding letterAt
@@ -190,9 +183,7 @@ module _ (form : ℕ) (s : Bytes) (at : ℕ) {r : Character} (e : characterOutco
 
   -- the letter takes a byte of those that are left
   pub scalar-less : (c : ℕ) (next : Cursor) → r ≡ Character.Scalar c next → length s - next .at < length s - at
-  scalar-less c next t =
-      let h = scalar-ok c next e t in
-      omega (arith, letter-begins form s at (c, next .at) h .grows, letter-inside form s at (c, next .at) h)
+  scalar-less c next t = omega (arith, letter-begins form s at (c, next .at) (scalar-ok c next e t) .past)
 
   pub refused-text : (place : ℕ) → r ≡ Character.Refused place → textFrom form s at ≡ []
   refused-text place t = letter-ends form s at not-json place (character-refused place e t)
