@@ -1,17 +1,21 @@
 -- A change of a node's children in the table. At each level of a walk down, the words in use are `front`, those of a forest, and `back` (Laid): a law
 -- goes down to the children or to the k-th child, one replaces words of a forest, and one goes up again with the node's own word brought up to date.
-use Prim.Native.Nat.{ℕ, zero, suc, _+_, _-_, _≤_, _<_, min, max}
+use Prim.Native.Nat.{ℕ, zero, suc, _+_, _-_, _%_, _≤_, _<_, min, max}
 use native.Mathlib.Omega.{arith}
 use mathlib.Core.Path.{_≡_, refl, sym, ap, _∙_}
 use mathlib.Core.List.{List, [], _∷_, _++_, append-assoc, append-nil}
-use lib.ListN.{length, take, drop, set, length-append, length-take, length-drop, take-append-drop}
-use lib.Seq.{take-at, drop-at, drop-append-seam, set-append-seam, take-set-lt, drop-drop}
+use lib.ListN.{length, take, drop, getD, set, length-append, length-take, length-drop, take-append-drop}
+use lib.Seq.{take-at, drop-at, drop-append-seam, getD-append-seam, set-append-seam, take-set-lt, drop-drop}
 use Rattle.spec.specs.Forest.{Forest, none, tree, Tree, single, count, size, before, from, nth, insertAt, removeAt, replaceAt, _⧺_}
 use Rattle.tape.specs.Columns.{replaced, moved, usedAfter, spliced}
 use Rattle.tape.specs.Tape.{tape, words, Holds, Laid}
+use Rattle.tape.specs.Layout.{spans}
+use Rattle.tape.specs.Packing.{withSpan}
+use Rattle.tape.specs.Cell.{Cell, word, nameWord, Fit}
 use Rattle.tape.specs.Rows.{childRow}
 use Rattle.tape.proofs.Columns.{replaced-within, take-moved, take-spliced}
 use Rattle.tape.proofs.Forests.{size-single, size-cut, size-kth, before-from, from-nth}
+use Rattle.tape.proofs.Cells.{withSpan-word, nameWord-same}
 use Rattle.tape.proofs.Tape.{length-tape, tape-⧺, tape-single, tape-cut}
 
 -- ---- the words of a changed forest
@@ -149,3 +153,32 @@ module _ {A W : Type 0} {w : A → Forest A → W} {xs : List W} {used : ℕ} {f
       laid-removeAt none-new room =
           laid-splice (removeAt k kids) row (size (before k kids)) removed source n (laid-kids l) (place-of k row row-is) fits room there
           (tape-removeAt w t k kids kth ∙ rw (none-new, removed-is))
+
+-- the word before a forest
+pub laid-word : {A W : Type 0} {w : A → Forest A → W} {xs : List W} {used : ℕ} {f : Forest A} {back : List W} (front : List W) (x z : W) → Laid w xs used (front ++ (x ∷ [])) f back → getD xs (length front) z ≡ x
+laid-word {w = w} {xs} {used} {f} {back} front x z l =
+    let split : xs ≡ front ++ (x ∷ (tape w f ++ (back ++ drop used xs))) = sym (take-append-drop used xs) ∙ rw (l .is) (simp append-assoc) in
+    ap (λ ys. getD ys (length front) z) split ∙ getD-append-seam front x (tape w f ++ (back ++ drop used xs)) z
+
+-- ---- the two columns: a node whose children are changed gets its new span, and keeps its name
+module _ {xs : List ℕ} {used : ℕ} {front : List ℕ} {c : Cell} {rest : Forest Cell} {back : List ℕ} (kids : Forest Cell) where
+  pub laid-span : {changed : Forest Cell} (row span : ℕ) → Fit c kids → row ≡ length front → span ≡ size changed → span < spans → Laid word xs used (front ++ (word c kids ∷ [])) changed (tape word rest ++ back)
+      → Laid word (set xs row (withSpan (getD xs row 0) (span % spans))) used front (tree c changed rest) back
+  laid-span {changed} row span fit e n h l =
+      let here : getD xs row 0 ≡ word c kids = rw e (laid-word front (word c kids) 0 l) in
+      let new : withSpan (getD xs row 0) (span % spans) ≡ word c changed = rw here (withSpan-word fit changed span n (omega arith)) in
+      laid-store c row (word c kids) (withSpan (getD xs row 0) (span % spans)) e new l
+
+  pub laid-name : {changed : Forest Cell} → Laid nameWord xs used (front ++ (nameWord c kids ∷ [])) changed (tape nameWord rest ++ back) → Laid nameWord xs used front (tree c changed rest) back
+  laid-name {changed} l = laid-tree c (nameWord c kids) l (nameWord-same c kids changed)
+
+  -- the same where one child was changed, as a walk comes up from it
+  pub laid-span-child : (k : ℕ) (b : Tree Cell) (row span : ℕ) → Fit c kids → row ≡ length front → span ≡ size (replaceAt k b kids) → span < spans
+      → Laid word xs used ((front ++ (word c kids ∷ [])) ++ tape word (before k kids)) (tree (b .root) (b .kids) (from (suc k) kids)) (tape word rest ++ back)
+      → Laid word (set xs row (withSpan (getD xs row 0) (span % spans))) used front (tree c (replaceAt k b kids) rest) back
+  laid-span-child k b row span fit e n h l = laid-span row span fit e n h (laid-put b k kids l)
+
+  pub laid-name-child : (k : ℕ) (b : Tree Cell)
+      → Laid nameWord xs used ((front ++ (nameWord c kids ∷ [])) ++ tape nameWord (before k kids)) (tree (b .root) (b .kids) (from (suc k) kids)) (tape nameWord rest ++ back)
+      → Laid nameWord xs used front (tree c (replaceAt k b kids) rest) back
+  laid-name-child k b l = laid-name (laid-put b k kids l)

@@ -8,7 +8,7 @@ use lib.Dec.{leb}
 use lib.ListN.{length, getD}
 use borrow.Author.Tests.{le-leb, lt-leb, leb-true, leb-false}
 use Rattle.spec.specs.Forest.{Forest, none, tree, size}
-use Rattle.tape.specs.Layout.{array}
+use Rattle.tape.specs.Layout.{arrayKind}
 use Rattle.tape.specs.Packing.{kindOf}
 use Rattle.tape.specs.Tape.{tape}
 use Rattle.tape.specs.Cell.{Cell, word, Formed, Node, level, deep}
@@ -34,13 +34,13 @@ leb-max a b m = go (leb a m) refl
     go true p = let h : a ≤ m = leb-true a m p in leb-same (max a b) m b m (λ q. omega arith) (λ q. omega arith)
     go false p = let h : m < a = leb-false a m p in lt-leb (max a b) m (omega arith)
 
-pub level-scalar : (c : Cell) (below : ℕ) → c .kind < array → level c below ≡ 0
+pub level-scalar : (c : Cell) (below : ℕ) → c .kind < arrayKind → level c below ≡ 0
 unfolding level
-level-scalar c below h = rw (lt-leb array (c .kind) h, level)
+level-scalar c below h = rw (lt-leb arrayKind (c .kind) h, level)
 
-pub level-container : (c : Cell) (below : ℕ) → array ≤ c .kind → level c below ≡ suc below
+pub level-container : (c : Cell) (below : ℕ) → arrayKind ≤ c .kind → level c below ≡ suc below
 unfolding level
-level-container c below h = rw (le-leb array (c .kind) h, level)
+level-container c below h = rw (le-leb arrayKind (c .kind) h, level)
 
 module _ (c : Cell) (kids : Forest Cell) (m : ℕ) where
   -- a forest fits where its first tree and the others do
@@ -48,13 +48,13 @@ module _ (c : Cell) (kids : Forest Cell) (m : ℕ) where
   unfolding deep
   deep-tree rest = leb-max (level c (deep kids)) (deep rest) m
 
-  pub level-fits : c .kind < array → leb (level c (deep kids)) m ≡ true
+  pub level-fits : c .kind < arrayKind → leb (level c (deep kids)) m ≡ true
   level-fits h = rw (level-scalar c (deep kids) h) (le-leb 0 m (omega arith))
 
-  pub level-flat : array ≤ c .kind → m ≡ 0 → leb (level c (deep kids)) m ≡ false
+  pub level-flat : arrayKind ≤ c .kind → m ≡ 0 → leb (level c (deep kids)) m ≡ false
   level-flat h e = rw (level-container c (deep kids) h) (lt-leb (suc (deep kids)) m (omega arith))
 
-  pub level-below : array ≤ c .kind → 0 < m → leb (level c (deep kids)) m ≡ leb (deep kids) (m - 1)
+  pub level-below : arrayKind ≤ c .kind → 0 < m → leb (level c (deep kids)) m ≡ leb (deep kids) (m - 1)
   level-below h e = rw (level-container c (deep kids) h) (leb-same (suc (deep kids)) m (deep kids) (m - 1) (λ q. omega arith) (λ q. omega arith))
 
 -- ---- the loop over a node's children: whether all fit is whether those that are left do
@@ -103,10 +103,10 @@ abbrev pub Judging : List ℕ → ℕ → ℕ → ℕ → Type 0
 Judging xs at row m = ForNode xs at (λ c kids. Undecided xs row (at + 1 + size kids) m kids)
 
 module _ {xs : List ℕ} {at : ℕ} (levels : ℕ) where
-  pub within-scalar : kindOf (getD xs at 0) < array → WithinIs xs at levels true
+  pub within-scalar : kindOf (getD xs at 0) < arrayKind → WithinIs xs at levels true
   within-scalar h c kids node = sym (level-fits c kids levels (omega (arith, kind-here node)))
 
-  module _ (container : array ≤ kindOf (getD xs at 0)) where
+  module _ (container : arrayKind ≤ kindOf (getD xs at 0)) where
     pub within-flat : levels ≡ 0 → WithinIs xs at levels false
     within-flat e c kids node = sym (level-flat c kids levels (omega (arith, kind-here node)) e)
 

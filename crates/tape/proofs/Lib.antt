@@ -10,3 +10,4 @@ pub mod Changes
 pub mod Storing
 pub mod Held
 pub mod Map
+pub mod Examples

@@ -8,7 +8,7 @@ use Rattle.spec.specs.Outcome.{if_then_else_}
 use Rattle.spec.specs.Bytes.{Text}
 use Rattle.spec.specs.Forest.{Forest, none, tree, Tree, single, count, size, before, from, insertAt, removeAt, replaceAt, nth, _⧺_}
 use Rattle.spec.specs.Value.{Label, Entry, tag, isContainer, levels, depths, sameText, find}
-use Rattle.tape.specs.Layout.{array, object}
+use Rattle.tape.specs.Layout.{arrayKind, objectKind}
 use Rattle.tape.specs.Cell.{Cell, Formed, formed-none, formed-tree, level, deep}
 use Rattle.tape.specs.Map.{mapForest, mapTree, position}
 use Rattle.tape.proofs.Forests.{from-nth, from-all}
@@ -97,10 +97,10 @@ find-map f n none = refl
 find-map f n (tree a kids rest) = ap (λ m. if sameText (f a .name) n then 0 else suc m) (find-map f n rest)
 
 -- how deep containers are nested
-module _ (f : Cell → Entry) (same : (c : Cell) → c .kind ≤ object → tag (f c .label) ≡ c .kind) where
-  pub levels-map : (c : Cell) (below : ℕ) → c .kind ≤ object → levels (f c .label) below ≡ level c below
+module _ (f : Cell → Entry) (same : (c : Cell) → c .kind ≤ objectKind → tag (f c .label) ≡ c .kind) where
+  pub levels-map : (c : Cell) (below : ℕ) → c .kind ≤ objectKind → levels (f c .label) below ≡ level c below
   unfolding levels level isContainer
-  levels-map c below h = ap (λ n. if leb array n then suc below else 0) (same c h)
+  levels-map c below h = ap (λ n. if leb arrayKind n then suc below else 0) (same c h)
 
   pub depths-map : {g : Forest Cell} → Formed g → depths (mapForest f g) ≡ deep g
   unfolding mapForest depths deep

@@ -7,10 +7,10 @@ use mathlib.Core.List.{List, [], _∷_, _++_, append-assoc, append-nil}
 use lib.ListN.{length, take, drop, getD, set, length-append, length-drop}
 use lib.Seq.{drop-drop, drop-at, take-at, drop-set-lt}
 use Rattle.spec.specs.Forest.{Forest, none, tree, Tree, single, count, size, before, from, nth, _⧺_}
-use Rattle.tape.specs.Columns.{usedAfter, spliced}
+use Rattle.tape.specs.Columns.{moved, usedAfter, spliced}
 use Rattle.tape.specs.Tape.{tape, words, Holds}
 use Rattle.tape.specs.Rows.{childRow}
-use Rattle.tape.proofs.Columns.{drop-spliced}
+use Rattle.tape.proofs.Columns.{words-moved, drop-spliced}
 use Rattle.tape.proofs.Forests.{before-from, from-nth, size-none, first-tree}
 
 -- ---- a forest's words
@@ -103,6 +103,12 @@ module _ {A W : Type 0} {w : A → Forest A → W} {xs : List W} {at : ℕ} {f :
   pub holds-spliced : (used row removed source n : ℕ) → row + removed ≤ used → max used (usedAfter used removed n) ≤ source → source + n ≤ length xs → usedAfter used removed n ≤ at
       → Holds w (spliced xs used row removed source n) at f after
   holds-spliced used row removed source n in-use room there l = record { is = drop-spliced xs used row removed source n in-use room there at l ∙ h .is }
+
+-- one tree copied to another row
+pub holds-moved : {A W : Type 0} {w : A → Forest A → W} {xs : List W} {start : ℕ} {a : A} {kids rest : Forest A} {after : List W} (to n : ℕ) → n ≡ suc (size kids)
+    → to + n ≤ length xs → start + n ≤ length xs → Holds w xs start (tree a kids rest) after → Holds w (moved xs to start n) to (tree a kids none) (drop (to + n) xs)
+holds-moved {w = w} {xs} {start} {a} {kids} to n e target there h =
+    record { is = words-moved xs to start n target there ∙ rw (holds-words n e h, tape-single w (record { root = a; kids = kids })) }
 
 -- ---- a loop over a node's children, `while row < end`
 -- The trees that are left stand from a row on, up to the row `end`.

@@ -5,7 +5,7 @@ use mathlib.Core.List.{List}
 use lib.Dec.{leb}
 use Rattle.spec.specs.Outcome.{if_then_else_}
 use Rattle.spec.specs.Forest.{Forest, none, tree, size}
-use Rattle.tape.specs.Layout.{array, object, spans}
+use Rattle.tape.specs.Layout.{arrayKind, objectKind, spans}
 use Rattle.tape.specs.Packing.{packed}
 use Rattle.tape.specs.Tape.{Holds}
 
@@ -24,9 +24,9 @@ nameWord c kids = c .name
 
 -- a node that its word tells whole; a scalar has no children
 pub record Fit (c : Cell) (kids : Forest Cell) : Type 0 where
-  pub kind : c .kind ≤ object
+  pub kind : c .kind ≤ objectKind
   pub small : size kids < spans
-  pub scalar : c .kind < array → kids ≡ none
+  pub scalar : c .kind < arrayKind → kids ≡ none
 
 pub data Formed : Forest Cell → Type 0 where
   formed-none : Formed none
@@ -34,7 +34,7 @@ pub data Formed : Forest Cell → Type 0 where
 
 -- how deep containers are nested, as `depths` of the definitions has it
 unfoldable pub level : Cell → ℕ → ℕ
-level c below = if leb array (c .kind) then suc below else 0
+level c below = if leb arrayKind (c .kind) then suc below else 0
 
 unfoldable pub deep : Forest Cell → ℕ
 deep none = 0

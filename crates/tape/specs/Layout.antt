@@ -1,17 +1,53 @@
--- The node table's numbers: a node's kind, the fields of its words, the rows of a column. src/layout.rt has the same.
+-- The node table's numbers: kinds of nodes, fields of words, rows of a column. src/layout.rt has the same.
 use Prim.Native.Nat.{ℕ}
 
--- ---- kinds, numbered as `tag` numbers labels; from `array` on they are containers
-abbrev pub array : ℕ
-array = 5
+-- ---- a node's kind, numbered as `tag` numbers a label; from arrayKind on they are containers
+abbrev pub nullKind : ℕ
+nullKind = 0
 
-abbrev pub object : ℕ
-object = 6
+abbrev pub trueKind : ℕ
+trueKind = 1
 
-abbrev pub lastKind : ℕ
-lastKind = 6
+abbrev pub falseKind : ℕ
+falseKind = 2
 
--- ---- how many values a field can have
+abbrev pub numberKind : ℕ
+numberKind = 3
+
+abbrev pub stringKind : ℕ
+stringKind = 4
+
+abbrev pub arrayKind : ℕ
+arrayKind = 5
+
+abbrev pub objectKind : ℕ
+objectKind = 6
+
+-- ---- how a text is read where it stands: not at all, for it is empty; a JSON string without escapes, and with them; a pointer's token inside a
+-- JSON string; a number
+abbrev pub noText : ℕ
+noText = 0
+
+abbrev pub plainString : ℕ
+plainString = 1
+
+abbrev pub escapedString : ℕ
+escapedString = 2
+
+abbrev pub token : ℕ
+token = 3
+
+abbrev pub numeral : ℕ
+numeral = 4
+
+-- ---- which text it stands in
+abbrev pub inDocument : ℕ
+inDocument = 0
+
+abbrev pub inPatch : ℕ
+inPatch = 1
+
+-- ---- how many values a field can have; a span is below twice the number of nodes that a text may have
 abbrev pub kinds : ℕ
 kinds = 8
 
@@ -36,15 +72,15 @@ spellings = 68_719_476_736
 abbrev pub hashes : ℕ
 hashes = 268_435_456
 
--- ---- rows: a column has three parts of as many rows as a text may have nodes
-abbrev pub document : ℕ
-document = 0
+-- ---- a column's rows: three parts, each of as many rows as a text may have nodes
+abbrev pub documentRow : ℕ
+documentRow = 0
 
-abbrev pub patch : ℕ
-patch = 2_048
+abbrev pub patchRow : ℕ
+patchRow = 2_048
 
-abbrev pub scratch : ℕ
-scratch = 4_096
+abbrev pub scratchRow : ℕ
+scratchRow = 4_096
 
 abbrev pub rows : ℕ
 rows = 6_144

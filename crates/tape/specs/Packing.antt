@@ -20,9 +20,7 @@ payloadOf w = w / (kinds * spans)
 abbrev pub withSpan : ℕ → ℕ → ℕ
 withSpan w span = packed (kindOf w) span (payloadOf w)
 
--- ---- a spelling says where a text stands, and how it is read there.
--- form: 0 no text, 1 a JSON string without escapes, 2 a JSON string with escapes, 3 a pointer's token inside a JSON string, 4 a number.
--- source: 0 the document, 1 the patch.
+-- ---- a spelling says where a text stands, and how it is read there: its form, its source, its start and its length in bytes
 abbrev pub spelling : ℕ → ℕ → ℕ → ℕ → ℕ
 spelling form source start length = form + forms * (source + sources * (start + places * length))
 

@@ -1,6 +1,6 @@
 // The node table's numbers. specs/Layout.antt has the same.
 
-// A node's kind, in the order of `tag` in the definitions; from ARRAY on they are containers.
+// A node's kind, numbered as `tag` of the definitions numbers a label; from ARRAY on they are containers.
 pub const NULL: u64 = 0;
 
 pub const TRUE: u64 = 1;
@@ -15,7 +15,8 @@ pub const ARRAY: u64 = 5;
 
 pub const OBJECT: u64 = 6;
 
-// How a text is read where it stands.
+// How a text is read where it stands: not at all, for it is empty; a JSON string without escapes, and with them; a pointer's token inside a
+// JSON string; a number.
 pub const NO_TEXT: u64 = 0;
 
 pub const PLAIN_STRING: u64 = 1;
@@ -31,7 +32,7 @@ pub const IN_DOCUMENT: u64 = 0;
 
 pub const IN_PATCH: u64 = 1;
 
-// How many values a field can have.
+// How many values a field can have; PLACES is of a text's start, and of its length.
 pub const KINDS: u64 = 8;
 
 pub const SPANS: u64 = 4096;
@@ -46,7 +47,7 @@ pub const SPELLINGS: u64 = 68719476736;
 
 pub const HASHES: u64 = 268435456;
 
-// A column's rows: the document's, the patch's, and scratch.
+// A column's rows: where the document begins, the patch, and scratch; and how many there are.
 pub const DOCUMENT: usize = 0;
 
 pub const PATCH: usize = 2048;
