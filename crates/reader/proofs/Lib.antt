@@ -2,3 +2,7 @@
 pub mod ValueLaws
 pub mod ItemLaws
 pub mod PastLaws
+pub mod WordLaws
+pub mod ColumnLaws
+pub mod FilledLaws
+pub mod MemberLaws
