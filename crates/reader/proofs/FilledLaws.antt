@@ -28,7 +28,7 @@ use Rattle.table.specs.Meaning.{sourceText, labelOf, nameText, entryOf, members
 use Rattle.table.proofs.MeaningLaws.{keyed-⧺}
 use Rattle.lexer.specs.Hash.{hash}
 use Rattle.reader.specs.Words.{InText, Labels, Titles}
-use Rattle.reader.specs.Filled.{nodeRows, Between, Added, Changed, AllVerbatim, verbatim-none, verbatim-tree, Filled}
+use Rattle.reader.specs.Filled.{nodeRows, Between, Added, Noted, Changed, AllVerbatim, verbatim-none, verbatim-tree, Filled}
 use Rattle.reader.proofs.ColumnLaws.{between, between-none, between-join, between-set, from-between, unchanged, change-then, change-wider, change-set, between-kept}
 
 -- ---- behind the nodes
@@ -67,8 +67,14 @@ module _ {start end : ℕ} {vs ns : List ℕ} where
       }
 
   -- a key
-  pub changed-key : {vs' : List ℕ} {key : ℕ} → Filter.Added vs vs' scratchRow key → Changed start end vs ns vs' ns
-  changed-key a = record { nodes = record { before = ap (take start) (a .before); behind = ap (drop end) (a .before) }; filter = record { kept = a .kept; behind = a .behind }; titles = unchanged start end ns }
+  pub changed-noted : {vs' : List ℕ} → Noted vs vs' → Changed start end vs ns vs' ns
+  changed-noted n = record { nodes = record { before = ap (take start) (n .nodes); behind = ap (drop end) (n .nodes) }; filter = n .filter; titles = unchanged start end ns }
+
+pub noted-none : (xs : List ℕ) → Noted xs xs
+noted-none xs = record { nodes = refl; filter = added-none xs }
+
+pub noted-key : {xs ys : List ℕ} {key : ℕ} → Filter.Added xs ys scratchRow key → Noted xs ys
+noted-key a = record { nodes = a .before; filter = record { kept = a .kept; behind = a .behind } }
 
 -- ---- strings that are written as they stand
 verbatim-⧺ : {D P : Bytes} {f g : Forest Cell} → AllVerbatim D P f → AllVerbatim D P g → AllVerbatim D P (f ⧺ g)

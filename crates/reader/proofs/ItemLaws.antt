@@ -8,15 +8,52 @@ use lib.ListN.{length}
 use lib.Dec.{eqb}
 use borrow.Author.Tests.{ne-eqb}
 use Rattle.spec.specs.Outcome.{Outcome, ok, refused, _>>=_, if_then_else_}
-use Rattle.spec.specs.Bytes.{Bytes, Text, byte, byteIn}
+use Rattle.spec.specs.Refusal.{not-json}
+use Rattle.spec.specs.Bytes.{Bytes, Text, byte, byteIn, within}
 use Rattle.spec.specs.Forest.{none, Tree, size, count, single, _⧺_}
 use Rattle.spec.specs.Value as Value
 use Rattle.spec.specs.Value.{Members, named, Entry}
 use Rattle.spec.specs.Read.{blanks, nameFor, closingBracket, items, contents}
 use Rattle.spec.proofs.OutcomeLaws.{>>=-assoc}
+use Rattle.lexer.proofs.Tests.{within-bounds, between-within}
 use Rattle.tape.proofs.Forests.{count-⧺}
+use Rattle.reader.specs.Names.{afterColon}
 use Rattle.reader.specs.Items.{Next, closed, begins, afterComma, begun, nextItem}
 
+-- ---- the byte that separates
+byte-one : (s : Bytes) (at b : ℕ) → byte s at ≡ b → byteIn s at b b ≡ ok b
+unfolding byteIn
+byte-one s at b e = rw (e, between-within b b b (omega arith) (omega arith))
+
+byte-other : (s : Bytes) (at b : ℕ) → (byte s at ≡ b → ⊥) → byteIn s at b b ≡ refused not-json at
+unfolding byteIn
+byte-other s at b n = go (within b b (byte s at)) refl
+  where
+    go : (t : Bool) → within b b (byte s at) ≡ t → (if t then ok (byte s at) else refused not-json at) ≡ refused not-json at
+    go true e = let h = within-bounds b b (byte s at) e in absurd (n (omega arith))
+    go false e = refl
+
+pub comma-first : (s : Bytes) (first : Bool) (at : ℕ) → first ≡ true → ok at ≡ afterComma s first at
+unfolding afterComma
+comma-first s first at e = rw e
+
+pub comma-here : (s : Bytes) (first : Bool) (at : ℕ) → first ≡ false → byte s at ≡ code "," → ok (blanks s (at + 1)) ≡ afterComma s first at
+unfolding afterComma _>>=_
+comma-here s first at e h = rw (e, byte-one s at (code ",") h)
+
+pub comma-missing : (s : Bytes) (first : Bool) (at : ℕ) → first ≡ false → (byte s at ≡ code "," → ⊥) → refused not-json at ≡ afterComma s first at
+unfolding afterComma _>>=_
+comma-missing s first at e n = rw (e, byte-other s at (code ",") n)
+
+pub colon-here : (s : Bytes) (at : ℕ) → byte s (blanks s at) ≡ code ":" → ok (blanks s (blanks s at + 1)) ≡ afterColon s at
+unfolding afterColon _>>=_
+colon-here s at h = rw (byte-one s (blanks s at) (code ":") h)
+
+pub colon-missing : (s : Bytes) (at : ℕ) → (byte s (blanks s at) ≡ code ":" → ⊥) → refused not-json (blanks s at) ≡ afterColon s at
+unfolding afterColon _>>=_
+colon-missing s at n = rw (byte-other s (blanks s at) (code ":") n)
+
+-- ---- the definition's loop
 not-first : (f : Members) (t : Tree Entry) → eqb (count (f ⧺ single t)) 0 ≡ false
 unfolding count
 not-first f t = ne-eqb (count (f ⧺ single t)) 0 (λ e. omega (arith, count-⧺ f (single t)))

@@ -85,10 +85,10 @@ comma-past s first at h =
     either first (λ _. gives at (omega arith)) (λ _.
     next _ λ b e. let k = byte-taken s at (code ",") (code ",") b (omega arith) e in let m = blanks-behind s at (k .here) in gives _ (omega arith))
 
-bracket-here : (object : Bool) (s : Bytes) (at : ℕ) → eqb (byte s at) (closingBracket object) ≡ true → at < length s
+pub bracket-here : (object : Bool) (s : Bytes) (at : ℕ) → byte s at ≡ closingBracket object → at < length s
 unfolding closingBracket
-bracket-here false s at e = here s at (code "]") (eqb-true (byte s at) (code "]") e) (omega arith)
-bracket-here true s at e = here s at (code "}") (eqb-true (byte s at) (code "}") e) (omega arith)
+bracket-here false s at e = here s at (code "]") e (omega arith)
+bracket-here true s at e = here s at (code "}") e (omega arith)
 
 item-past : (object : Bool) (s : Bytes) (so-far : Members) (at : ℕ) → at ≤ length s → Always (Beyond s at) (nextItem object s so-far at)
 unfolding nextItem begun
@@ -96,7 +96,7 @@ item-past object s so-far at h =
     let place = blanks s at in
     let l = blanks-past s at in
     let m = blanks-within s at h in
-    either (eqb (byte s place) (closingBracket object)) (λ e. let k = bracket-here object s place e in gives (closed (place + 1)) (omega arith)) (λ _.
+    either (eqb (byte s place) (closingBracket object)) (λ e. let k = bracket-here object s place (eqb-true _ _ e) in gives (closed (place + 1)) (omega arith)) (λ _.
     next (afterComma s (eqb (count so-far) 0) place) λ first e.
     let n : (place ≤ first) × (first ≤ length s) = result (rw e at (comma-past s (eqb (count so-far) 0) place m)) in
     next (nameFor object s so-far first) λ t f.

@@ -30,6 +30,11 @@ pub record Added (xs ys : List ℕ) : Type 0 where
   pub kept : (k : ℕ) → found xs scratchRow k ≡ true → found ys scratchRow k ≡ true
   pub behind : drop (scratchRow + 1024) ys ≡ drop (scratchRow + 1024) xs
 
+-- a key is added, and nothing else
+pub record Noted (xs ys : List ℕ) : Type 0 where
+  pub nodes : nodeRows ys ≡ nodeRows xs
+  pub filter : Added xs ys
+
 pub record Changed (start end : ℕ) (values names values' names' : List ℕ) : Type 0 where
   pub nodes : Between start end (nodeRows values) (nodeRows values')
   pub filter : Added values values'

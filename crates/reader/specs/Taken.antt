@@ -9,6 +9,7 @@ use Rattle.spec.specs.Forest.{single}
 use Rattle.spec.specs.Value as Value
 use Rattle.spec.specs.Value.{named}
 use Rattle.lexer.specs.declared.cursor.Cursor.{Cursor}
+use Rattle.reader.specs.Words.{Titles}
 use Rattle.reader.specs.Filled.{Changed, Filled}
 use Rattle.reader.specs.declared.values.Read as Declared
 use Rattle.reader.specs.declared.values.Read.the-variants as Read
@@ -26,3 +27,7 @@ pub data Taken (source : ℕ) (s : Bytes) (at : ℕ) (text : Text) (row limit : 
       → Changed row end values names values' names' → Taken source s at text row limit values names values' names' o (Read.Value next end)
   refusal : (number place : ℕ) → o ≡ refused number place → Changed row limit values names values' names'
       → Taken source s at text row limit values names values' names' o (Read.Refused number place)
+
+-- whatever text the name's word says
+abbrev pub ForTitle : ℕ → Bytes → ℕ → (Text → Type 0) → Type 0
+ForTitle source s name P = (text : Text) → Titles source s text name → P text

@@ -1,7 +1,9 @@
 -- What the words say that are read of a text: of a scalar its label, of a name its text.
-use Prim.Native.Nat.{ℕ, _<_}
+use Prim.Native.Nat.{ℕ, _+_, _<_, _≤_}
 use mathlib.Core.Path.{_≡_}
 use mathlib.Core.Bool.{Bool}
+use mathlib.Core.List.{List}
+use lib.ListN.{length}
 use Rattle.spec.specs.Outcome.{Outcome, ok, refused, if_then_else_}
 use Rattle.spec.specs.Bytes.{Bytes, Text}
 use Rattle.spec.specs.Write.{writeCharacters}
@@ -9,7 +11,9 @@ use Rattle.spec.specs.Value as Value
 use Rattle.spec.specs.Value.{Label, leaf}
 use Rattle.lexer.specs.Hash.{hash}
 use Rattle.lexer.specs.declared.cursor.Cursor.{Cursor}
-use Rattle.tape.specs.Layout.{spellings, plainString, escapedString}
+use Rattle.lexer.specs.declared.cursor.Scan.{Scan}
+use Rattle.lexer.specs.declared.cursor.Scan.the-variants as Scan
+use Rattle.tape.specs.Layout.{sources, places, spellings, plainString, escapedString, scratchRow}
 use Rattle.tape.specs.Packing.{formOf, spellingOf, hashOf}
 use Rattle.table.specs.Meaning.{sourceText, partOf, spelled, labelOf, nameText}
 use Rattle.reader.specs.declared.words.Word.{Word}
@@ -18,6 +22,13 @@ use Rattle.reader.specs.declared.words.Word.the-variants.{Read, Refused}
 -- what holds whatever the two texts are, provided that the source names this one
 abbrev pub InText : ℕ → Bytes → (Bytes → Bytes → Type 0) → Type 0
 InText source s P = (document patch : Bytes) → sourceText document patch source ≡ s → P document patch
+
+-- what a reader is lent: a text whose places fit a spelling, and columns with room for the nodes and the filter
+pub record Lent (source : ℕ) (s : Bytes) (values names : List ℕ) : Type 0 where
+  pub source< : source < sources
+  pub short : length s < places
+  pub values-long : scratchRow + 1024 ≤ length values
+  pub names-long : scratchRow ≤ length names
 
 -- the form of a string, by whether it is written without escapes
 unfoldable pub stringForm : Bool → ℕ
@@ -45,12 +56,12 @@ pub record Titles (source : ℕ) (s : Bytes) (text : Text) (name : ℕ) : Type 0
   pub hashed : hashOf name ≡ hash text
   pub verbatim : InText source s (λ document patch. Verbatim document patch (spellingOf name))
 
+-- a literal has no text
+unfoldable pub literalWord : Scan → Word
+literalWord (Scan.To next) = Read next 0
+literalWord (Scan.Refused number place) = Refused number place
+
 -- what a scalar's reader answers
 pub data ScalarIs (source : ℕ) (s : Bytes) (kind : ℕ) (o : Outcome (Value.Value × ℕ)) : Word → Type 0 where
   scalar-read : (label : Label) (next : Cursor) (payload : ℕ) → o ≡ ok (leaf label, next .at) → Labels source s kind label payload → ScalarIs source s kind o (Read next payload)
   scalar-refused : (number place : ℕ) → o ≡ refused number place → ScalarIs source s kind o (Refused number place)
-
--- what a name's reader answers
-pub data NameIs (source : ℕ) (s : Bytes) (o : Outcome (Text × ℕ)) : Word → Type 0 where
-  name-read : (text : Text) (next : Cursor) (name : ℕ) → o ≡ ok (text, next .at) → Titles source s text name → NameIs source s o (Read next name)
-  name-refused : (number place : ℕ) → o ≡ refused number place → NameIs source s o (Refused number place)

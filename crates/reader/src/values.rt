@@ -1,4 +1,14 @@
-// Values.
+// Values, one level inside the other.
+ghost use mathlib.Core.Path.{_≡_};
+ghost use Prim.Native.Nat.{_+_, _-_, _%_, _<_, _≤_};
+ghost use lib.ListN.{length, set};
+ghost use Rattle.spec.specs.Limits.{maxNodes};
+ghost use Rattle.spec.specs.Read.{value};
+ghost use Rattle.tape.specs.Layout.{kinds, spans, spellings, arrayKind, scratchRow};
+ghost use Rattle.tape.specs.Packing.{packed};
+ghost use Rattle.reader.specs.Begins.{scalarOf};
+ghost use Rattle.reader.specs.Words.{Lent};
+ghost use Rattle.reader.specs.Taken.{Taken, ForTitle};
 use crate::begins::beginning;
 use crate::begins::refusal;
 use crate::items::Item;
@@ -27,11 +37,15 @@ fn put(
     name: u64,
     values: &mut [u64],
     names: &mut [u64],
-) {
+)
+    ensures { λ _. ⌜ now (values .exit) ≡ set (now (values .entry)) row (packed (kind % kinds) (span % spans) (payload % spellings)) ⌝ }
+    ensures { λ _. ⌜ now (names .exit) ≡ set (now (names .entry)) row name ⌝ }
+{
     store(values, row, pack(kind, span, payload));
     store(names, row, name);
 }
 
+// A scalar of a kind, in a row below `limit`.
 fn scalar_value(
     s: &[u8],
     at: Cursor,
@@ -41,7 +55,11 @@ fn scalar_value(
     row: usize,
     values: &mut [u64],
     names: &mut [u64],
-) -> Read {
+) -> Read
+    requires { ⌜ Lent source (now s) (now values) (now names) ⌝ }
+    requires { ⌜ (at .at < length (now s)) × (kind < arrayKind) × (row < scratchRow) ⌝ }
+    ensures { λ r. ⌜ ForTitle source (now (s .entry)) name (λ text. Taken source (now (s .entry)) (at .at) text row (row + 1) (now (values .entry)) (now (names .entry)) (now (values .exit)) (now (names .exit)) (scalarOf kind (now (s .entry)) (at .at)) r) ⌝ }
+{
     match scalar(s, at, kind, source) {
         Word::Read(next, payload) => {
             put(row, kind, 0, payload, name, values, names);
@@ -51,6 +69,8 @@ fn scalar_value(
     }
 }
 
+// The value at a cursor is stored from `row` on, under a name. The text's rows begin at `base`, so that so many values have begun before as there
+// are rows from there.
 fn value(
     s: &[u8],
     at: Cursor,
@@ -61,7 +81,11 @@ fn value(
     row: usize,
     values: &mut [u64],
     names: &mut [u64],
-) -> Read {
+) -> Read
+    requires { ⌜ Lent source (now s) (now values) (now names) ⌝ }
+    requires { ⌜ (at .at ≤ length (now s)) × (base ≤ row) × (row ≤ base + maxNodes) × (base + maxNodes ≤ scratchRow) ⌝ }
+    ensures { λ r. ⌜ ForTitle source (now (s .entry)) name (λ text. Taken source (now (s .entry)) (at .at) text row (base + maxNodes) (now (values .entry)) (now (names .entry)) (now (values .exit)) (now (names .exit)) (value levels (now (s .entry)) (at .at) (row - base)) r) ⌝ }
+{
     let kind = beginning(peek(s, at.at));
     let number = refusal(kind, levels, base, row);
     if number != 0 {
