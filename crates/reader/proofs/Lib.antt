@@ -6,3 +6,4 @@ pub mod WordLaws
 pub mod ColumnLaws
 pub mod FilledLaws
 pub mod MemberLaws
+pub mod ReadingLaws

@@ -4,16 +4,19 @@ use Prim.Native.Char.{code}
 use mathlib.Core.Path.{_≡_, refl, sym, _∙_, ap}
 use mathlib.Core.Bool.{Bool, true, false, _||_}
 use native.Mathlib.Omega.{arith}
+use native.Mathlib.Decide.{decLt}
+use lib.ListN.{length}
 use lib.Dec.{ltb, eqb}
-use borrow.Author.Tests.{eq-eqb, ne-eqb, lt-ltb, le-ltb}
+use borrow.Author.Tests.{eq-eqb, ne-eqb, lt-ltb, le-ltb, eqb-false, ltb-true}
 use Rattle.spec.specs.Outcome.{Outcome, ok, refused, _>>=_, if_then_else_}
 use Rattle.spec.specs.Refusal.{not-json, too-deep, too-many-nodes}
 use Rattle.spec.specs.Limits.{maxNodes}
-use Rattle.spec.specs.Bytes.{Bytes, byte}
+use Rattle.spec.specs.Bytes.{Bytes, byte, within}
 use Rattle.spec.specs.Numbers.{isDigit}
 use Rattle.spec.specs.Value as Value
 use Rattle.spec.specs.Value.{Members}
 use Rattle.spec.specs.Read.{roomFor, scalar, contents, container, containerLabel, value}
+use Rattle.lexer.proofs.ByteLaws.{byte-past}
 use Rattle.tape.specs.Layout.{arrayKind, objectKind}
 use Rattle.reader.specs.Begins.{noKind, beginning, roomRefusal, refusalFor, scalarOf}
 
@@ -95,6 +98,19 @@ refusal-deep kind levels nodes l e z = go (eqb kind noKind) (rw (le-ltb kind arr
     go true e = omega arith
     go false e = omega arith
 
+refusal-none : (kind levels nodes : ℕ) → refusalFor kind levels nodes ≡ 0 → (kind ≡ noKind → ⊥) × (nodes < maxNodes)
+unfolding refusalFor roomRefusal
+refusal-none kind levels nodes e = go (eqb kind noKind) refl (ltb kind arrayKind) (eqb levels 0) (ltb nodes maxNodes) refl e
+  where
+    go : (a : Bool) → eqb kind noKind ≡ a → (b c d : Bool) → ltb nodes maxNodes ≡ d
+        → (if a then not-json else if b then (if d then 0 else too-many-nodes) else if c then too-deep else if d then 0 else too-many-nodes) ≡ 0 → (kind ≡ noKind → ⊥) × (nodes < maxNodes)
+    go true p b c d q e = absurd (omega arith)
+    go false p true c true q e = (eqb-false kind noKind p, ltb-true nodes maxNodes q)
+    go false p true c false q e = absurd (omega arith)
+    go false p false true d q e = absurd (omega arith)
+    go false p false false true q e = (eqb-false kind noKind p, ltb-true nodes maxNodes q)
+    go false p false false false q e = absurd (omega arith)
+
 -- ---- the three ways
 -- a container's label joined to what was read in it
 unfoldable pub whole : Bool → Members × ℕ → Outcome (Value.Value × ℕ)
@@ -116,6 +132,28 @@ module _ (s : Bytes) (at nodes : ℕ) where
       go (suc l) kind (no-value t u q) e = rw (t, u, q nodes, e)
 
   module _ (levels : ℕ) (passes : refusalFor (beginning (byte s at)) levels nodes ≡ 0) where
+    -- there is room for it
+    pub value-room : nodes < maxNodes
+    value-room = refusal-none (beginning (byte s at)) levels nodes passes .1
+
+    -- it begins within the text, and it is of a kind
+    pub value-inside : at < length s
+    unfolding beginning isDigit within
+    value-inside = go (decLt at (length s))
+      where
+        go : Dec (at < length s) → at < length s
+        go (yes h) = h
+        go (no h) = absurd (refusal-none (beginning (byte s at)) levels nodes passes .0 (ap beginning (byte-past s at (omega arith))))
+
+    pub value-kind : beginning (byte s at) ≤ objectKind
+    value-kind = go (beginning (byte s at)) (begins s at) (refusal-none (beginning (byte s at)) levels nodes passes .0)
+      where
+        go : (kind : ℕ) → Begins s at kind → (kind ≡ noKind → ⊥) → kind ≤ objectKind
+        go kind (an-array t) n = omega arith
+        go kind (an-object t u) n = omega arith
+        go kind (a-scalar t u k q) n = omega arith
+        go kind (no-value t u q) n = absurd (n refl)
+
     pub value-scalar : beginning (byte s at) < arrayKind → value levels s at nodes ≡ scalarOf (beginning (byte s at)) s at
     unfolding value _>>=_
     value-scalar h = go levels (beginning (byte s at)) (begins s at) passes h
