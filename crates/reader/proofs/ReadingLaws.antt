@@ -68,13 +68,13 @@ module _ {source : ℕ} {s : Bytes} {at kind : ℕ} {w : Word} (inside : at < le
       go w (scalar-refused n' place' q) e = let a : n' ≡ n = cc in let b : place' ≡ place = cc in refusal n place (q ∙ ap₂ refused a b) changed-none
 
 -- ---- the loop over a container's items
-module _ (source : ℕ) (s : Bytes) (at levels kind base row : ℕ) where
+module _ (source : ℕ) (s : Bytes) (start levels kind base row : ℕ) where
   abbrev object : Bool
   object = eqb kind objectKind
 
-  -- the container's items by the definition, and what is left of them, with so much fuel, behind those so far
+  -- the container's items by the definition, from the place after its opening bracket on, and what is left of them, with so much fuel, behind those so far
   abbrev pub allItems : Outcome (Members × ℕ)
-  allItems = contents (value (levels - 1) s) object s (row - base + 1) (at + 1)
+  allItems = contents (value (levels - 1) s) object s (row - base + 1) start
 
   abbrev left : ℕ → Members → ℕ → Outcome (Members × ℕ)
   left fuel so-far next = rest (value (levels - 1) s) object s (row - base + 1) fuel so-far next
@@ -92,17 +92,17 @@ module _ (source : ℕ) (s : Bytes) (at levels kind base row : ℕ) where
     pub marked : object ≡ true → Marked vs' row so-far
     pub changed : Changed (row + 1) end vs ns vs' ns'
 
-  pub filling-none : (vs ns : List ℕ) → at < length s → Filling vs ns vs ns (at + 1) (row + 1)
-  filling-none vs ns h = go (length s) refl
+  pub filling-none : (vs ns : List ℕ) → 0 < start → start ≤ length s → Filling vs ns vs ns start (row + 1)
+  filling-none vs ns h l = go (length s) refl
     where
-      go : (n : ℕ) → length s ≡ n → Filling vs ns vs ns (at + 1) (row + 1)
+      go : (n : ℕ) → length s ≡ n → Filling vs ns vs ns start (row + 1)
       go zero e = absurd (omega arith)
       go (suc fuel) e =
           record {
             so-far = none;
             fuel = fuel;
             enough = omega arith;
-            same = contents-rest (value (levels - 1) s) object s (row - base + 1) (at + 1) ∙ ap (λ n. left n none (at + 1)) e;
+            same = contents-rest (value (levels - 1) s) object s (row - base + 1) start ∙ ap (λ n. left n none start) e;
             filled = filled-none (row + 1) vs ns;
             marked = λ _. marked-none;
             changed = changed-none;
@@ -122,10 +122,10 @@ module _ (source : ℕ) (s : Bytes) (at levels kind base row : ℕ) where
       item = told (g .so-far) (g .filled) (g .marked)
 
       -- the columns after the key
-      changed-so-far : Changed (row + 1) end vs ns vs'' ns'
+      pub changed-so-far : Changed (row + 1) end vs ns vs'' ns'
       changed-so-far = changed-then (g .changed) (changed-noted noted)
 
-      filled-so-far : Filled source s (row + 1) end (g .so-far) vs'' ns'
+      pub filled-so-far : Filled source s (row + 1) end (g .so-far) vs'' ns'
       filled-so-far = filled-kept {end' = end} (changed-noted noted) (g .filled)
 
       pub filling-unread : (n place : ℕ) → i ≡ Item.Refused n place → allItems ≡ refused n place
@@ -250,58 +250,69 @@ container-says document patch kind l m = go (ℕ-discrete kind arrayKind)
     go (yes e) = rw e
     go (no n) = let e : kind ≡ objectKind = omega arith in rw e
 
-module _ (source : ℕ) (s : Bytes) (at levels base row name : ℕ) (vs ns : List ℕ) (kind : ℕ) (kind-is : kind ≡ beginning (byte s at)) (number : ℕ) (number-is : number ≡ refusalFor kind levels (row - base)) where
-  pub value-way-refused : (number ≡ 0 → ⊥) → ForTitle source s name (λ text. Taken source s at text row (base + maxNodes) vs ns vs ns (value levels s at (row - base)) (Read.Refused number at))
-  value-way-refused n text titles = refusal number at (value-refused s at (row - base) levels number (rw (← kind-is) number-is) n) changed-none
+-- refused at its first byte
+pub value-way-refused : {source : ℕ} {s : Bytes} {at row name : ℕ} {vs ns : List ℕ} (levels base kind number : ℕ) → kind ≡ beginning (byte s at) → number ≡ refusalFor kind levels (row - base) → (number ≡ 0 → ⊥)
+    → ForTitle source s name (λ text. Taken source s at text row (base + maxNodes) vs ns vs ns (value levels s at (row - base)) (Read.Refused number at))
+value-way-refused {s = s} {at} {row} levels base kind number kind-is number-is n text titles =
+    refusal number at (value-refused s at (row - base) levels number (rw (← kind-is) number-is) n) changed-none
 
-  module _ (from-base : base ≤ row) (passes : number ≡ 0) where
-    begins-here : refusalFor (beginning (byte s at)) levels (row - base) ≡ 0
-    begins-here = rw (← kind-is) (sym number-is ∙ passes)
+-- a value of a kind begins, and may begin
+pub record Begun (s : Bytes) (at levels base row kind : ℕ) : Type 0 where
+  pub kind-is : kind ≡ beginning (byte s at)
+  pub from-base : base ≤ row
+  pub passes : refusalFor kind levels (row - base) ≡ 0
 
-    pub value-starts : at < length s
-    value-starts = value-inside s at (row - base) levels begins-here
+pub begun : (s : Bytes) (at levels base row kind number : ℕ) → kind ≡ beginning (byte s at) → number ≡ refusalFor kind levels (row - base) → base ≤ row → number ≡ 0 → Begun s at levels base row kind
+begun s at levels base row kind number k n l z = record { kind-is = k; from-base = l; passes = sym n ∙ z }
 
-    pub value-fits : row < base + maxNodes
-    value-fits = omega (arith, value-room s at (row - base) levels begins-here)
+module _ {s : Bytes} {at levels base row kind : ℕ} (b : Begun s at levels base row kind) where
+  begins-here : refusalFor (beginning (byte s at)) levels (row - base) ≡ 0
+  begins-here = rw (← b .kind-is) (b .passes)
 
-    pub value-way-scalar : {vs' ns' : List ℕ} {r : Read} → kind < arrayKind → ForTitle source s name (λ text. Taken source s at text row (row + 1) vs ns vs' ns' (scalarOf kind s at) r)
-        → ForTitle source s name (λ text. Taken source s at text row (base + maxNodes) vs ns vs' ns' (value levels s at (row - base)) r)
-    value-way-scalar h told text titles =
-        taken-wider (base + maxNodes) (omega (arith, value-fits))
-        (value-scalar s at (row - base) levels begins-here (rw (← kind-is) h) ∙ ap (λ k. scalarOf k s at) (sym kind-is)) (told text titles)
+  pub value-starts : at < length s
+  value-starts = value-inside s at (row - base) levels begins-here
 
-    module _ (container : arrayKind ≤ kind) where
-      pub value-levels : levels ≡ suc (levels - 1)
-      value-levels = go levels refl
-        where
-          go : (l : ℕ) → levels ≡ l → l ≡ suc (l - 1)
-          go zero e = absurd (value-level s at (row - base) levels begins-here (rw (← kind-is) container) e)
-          go (suc l) e = omega arith
+  pub value-fits : row < base + maxNodes
+  value-fits = omega (arith, value-room s at (row - base) levels begins-here, b .from-base)
 
-      by-items : (o : Outcome (Members × ℕ)) → allItems source s at levels kind base row ≡ o → value levels s at (row - base) ≡ (o >>= whole (eqb kind objectKind))
-      by-items o e =
-          value-container s at (row - base) levels begins-here (rw (← kind-is) container) (levels - 1) value-levels
-          ∙ ap (λ k. contents (value (levels - 1) s) (eqb k objectKind) s (row - base + 1) (at + 1) >>= whole (eqb k objectKind)) (sym kind-is)
-          ∙ ap (λ o. o >>= whole (eqb kind objectKind)) e
+  pub value-way-scalar : {source name : ℕ} {vs ns vs' ns' : List ℕ} {r : Read} → kind < arrayKind → ForTitle source s name (λ text. Taken source s at text row (row + 1) vs ns vs' ns' (scalarOf kind s at) r)
+      → ForTitle source s name (λ text. Taken source s at text row (base + maxNodes) vs ns vs' ns' (value levels s at (row - base)) r)
+  value-way-scalar h told text titles =
+      taken-wider (base + maxNodes) (omega (arith, value-fits))
+      (value-scalar s at (row - base) levels begins-here (rw (← b .kind-is) h) ∙ ap (λ k. scalarOf k s at) (sym (b .kind-is))) (told text titles)
 
-      -- a refusal among its items
-      pub value-way-items : {vs' ns' : List ℕ} (n place end : ℕ) → end ≤ base + maxNodes → allItems source s at levels kind base row ≡ refused n place → Changed (row + 1) end vs ns vs' ns'
-          → ForTitle source s name (λ text. Taken source s at text row (base + maxNodes) vs ns vs' ns' (value levels s at (row - base)) (Read.Refused n place))
-      unfolding _>>=_
-      value-way-items n place end room e c text titles = refusal n place (by-items (refused n place) e) (changed-wider row (base + maxNodes) (omega arith) room c)
+  module _ (container : arrayKind ≤ kind) where
+    pub value-levels : levels ≡ suc (levels - 1)
+    value-levels = go levels refl
+      where
+        go : (l : ℕ) → levels ≡ l → l ≡ suc (l - 1)
+        go zero e = absurd (value-level s at (row - base) levels begins-here (rw (← b .kind-is) container) e)
+        go (suc l) e = omega arith
 
-      -- its closing bracket, and its own words stored
-      pub value-way-closed : {vs' ns' vs3 ns3 : List ℕ} {so-far : Members} (last : Cursor) (end : ℕ) → allItems source s at levels kind base row ≡ ok (so-far, last .at) → Ahead s at (last .at) row end (base + maxNodes)
-          → base + maxNodes ≤ scratchRow → scratchRow ≤ length vs' → scratchRow ≤ length ns' → Filled source s (row + 1) end so-far vs' ns' → Changed (row + 1) end vs ns vs' ns'
-          → vs3 ≡ set vs' row (packed (kind % kinds) ((end - row - 1) % spans) (0 % spellings)) → ns3 ≡ set ns' row name
-          → ForTitle source s name (λ text. Taken source s at text row (base + maxNodes) vs ns vs3 ns3 (value levels s at (row - base)) (Read.Value last end))
-      unfolding whole _>>=_
-      value-way-closed {vs'} {ns'} {vs3} {ns3} {so-far} last end e ahead room long-vs long-ns f c v n text titles =
-          let k = value-kind s at (row - base) levels begins-here in
-          let m : kind ≤ objectKind = omega (arith, kind-is) in
-          let label = containerLabel (eqb kind objectKind) in
-          let labels = literal-labels source s kind label (λ D P. container-says D P kind container m) in
-          rw (v, n)
-          (taken (record { label = label; kids = so-far }) last end (by-items (ok (so-far, last .at)) e) ahead
-          (filled-tree kind 0 name _ label text labels titles m (λ h. absurd (omega arith)) (omega (arith, ahead .room)) long-vs (omega (arith, ahead .room)) refl f)
-          (changed-then (changed-wider row end (omega arith) (omega arith) c) (changed-set row _ name (omega arith) (ahead .grows) (omega (arith, ahead .grows, ahead .room)))))
+    by-items : (source : ℕ) (o : Outcome (Members × ℕ)) → allItems source s (at + 1) levels kind base row ≡ o → value levels s at (row - base) ≡ (o >>= whole (eqb kind objectKind))
+    by-items source o e =
+        value-container s at (row - base) levels begins-here (rw (← b .kind-is) container) (levels - 1) value-levels
+        ∙ ap (λ k. contents (value (levels - 1) s) (eqb k objectKind) s (row - base + 1) (at + 1) >>= whole (eqb k objectKind)) (sym (b .kind-is))
+        ∙ ap (λ o. o >>= whole (eqb kind objectKind)) e
+
+    -- a refusal among its items
+    pub value-way-items : {source name : ℕ} {vs ns vs' ns' : List ℕ} (n place end : ℕ) → end ≤ base + maxNodes → allItems source s (at + 1) levels kind base row ≡ refused n place → Changed (row + 1) end vs ns vs' ns'
+        → ForTitle source s name (λ text. Taken source s at text row (base + maxNodes) vs ns vs' ns' (value levels s at (row - base)) (Read.Refused n place))
+    unfolding _>>=_
+    value-way-items {source} n place end room e c text titles = refusal n place (by-items source (refused n place) e) (changed-wider row (base + maxNodes) (omega arith) room c)
+
+    -- its closing bracket, and its own words stored
+    pub value-way-closed : {source name : ℕ} {vs ns vs' ns' vs3 ns3 : List ℕ} {so-far : Members} (last : Cursor) (end : ℕ) → allItems source s (at + 1) levels kind base row ≡ ok (so-far, last .at)
+        → Ahead s at (last .at) row end (base + maxNodes) → base + maxNodes ≤ scratchRow → scratchRow ≤ length vs' → scratchRow ≤ length ns' → Filled source s (row + 1) end so-far vs' ns' → Changed (row + 1) end vs ns vs' ns'
+        → vs3 ≡ set vs' row (packed (kind % kinds) ((end - row - 1) % spans) (0 % spellings)) → ns3 ≡ set ns' row name
+        → ForTitle source s name (λ text. Taken source s at text row (base + maxNodes) vs ns vs3 ns3 (value levels s at (row - base)) (Read.Value last end))
+    unfolding whole _>>=_
+    value-way-closed {source} {name} {vs' = vs'} {ns'} {so-far = so-far} last end e ahead room long-vs long-ns f c v n text titles =
+        let k = value-kind s at (row - base) levels begins-here in
+        let m : kind ≤ objectKind = omega (arith, b .kind-is) in
+        let label = containerLabel (eqb kind objectKind) in
+        let labels = literal-labels source s kind label (λ D P. container-says D P kind container m) in
+        rw (v, n)
+        (taken (record { label = label; kids = so-far }) last end (by-items source (ok (so-far, last .at)) e) ahead
+        (filled-tree kind 0 name _ label text labels titles m (λ h. absurd (omega arith)) (omega (arith, ahead .room)) long-vs (omega (arith, ahead .room)) refl f)
+        (changed-then (changed-wider row end (omega arith) (omega arith) c) (changed-set row _ name (omega arith) (ahead .grows) (omega (arith, ahead .grows, ahead .room)))))
