@@ -1,0 +1,181 @@
+-- Laws of rows that are filled: another item behind those so far, and a node's own words before those of its children.
+use Prim.Native.Nat.{ℕ, suc, _+_, _-_, _≤_, _<_, _%_}
+use native.Mathlib.Omega.{arith}
+use mathlib.Core.Path.{_≡_, refl, sym, ap, ap₂, _∙_}
+use mathlib.Core.Bool.{Bool, true, false}
+use mathlib.Core.List.{List, [], _∷_, _++_, append-nil}
+use native.Mathlib.Nat.{add-zero}
+use lib.ListN.{length, take, drop, getD, set, length-take}
+use lib.Dec.{eqb}
+use lib.Seq.{take-take, take-set-lt, drop-set-lt, getD-set-other, length-take-le}
+use Rattle.spec.specs.Outcome.{if_then_else_}
+use Rattle.spec.specs.Bytes.{Bytes, Text}
+use Rattle.spec.specs.Forest.{Forest, none, tree, Tree, single, size, _⧺_}
+use Rattle.spec.specs.Value as Value
+use Rattle.spec.specs.Value.{Label, Members, named, Entry}
+use Rattle.filter.specs.Filter.{found, wordOf}
+use Rattle.filter.specs.Filter as Filter
+use Rattle.tape.specs.Layout.{kinds, spans, spellings, arrayKind, objectKind, scratchRow}
+use Rattle.tape.specs.Packing.{packed}
+use Rattle.tape.specs.Tape.{tape, Holds}
+use Rattle.tape.specs.Cell.{Cell, word, nameWord, Fit, Formed, formed-none, formed-tree, Held}
+use Rattle.tape.specs.Map.{mapForest}
+use Rattle.tape.proofs.Forests.{size-⧺, size-none}
+use Rattle.tape.proofs.Tape.{tape-⧺}
+use Rattle.tape.proofs.Cells.{formed-⧺, packed-word}
+use Rattle.tape.proofs.Map.{map-⧺, size-map}
+use Rattle.table.specs.Meaning.{sourceText, labelOf, nameText, entryOf, members, Hashed, Keyed, keyed-none, keyed-tree}
+use Rattle.table.proofs.MeaningLaws.{keyed-⧺}
+use Rattle.lexer.specs.Hash.{hash}
+use Rattle.reader.specs.Words.{InText, Labels, Titles}
+use Rattle.reader.specs.Filled.{nodeRows, Between, Added, Noted, Changed, AllVerbatim, verbatim-none, verbatim-tree, Filled}
+use Rattle.reader.proofs.ColumnLaws.{between, between-none, between-join, between-set, from-between, unchanged, change-then, change-wider, change-set, between-kept}
+
+-- ---- behind the nodes
+pub added-none : (xs : List ℕ) → Added xs xs
+added-none xs = record { kept = λ k h. h; behind = refl }
+
+pub added-then : {xs ys zs : List ℕ} → Added xs ys → Added ys zs → Added xs zs
+added-then a b = record { kept = λ k h. b .kept k (a .kept k h); behind = b .behind ∙ a .behind }
+
+pub added-set : (xs : List ℕ) (row y : ℕ) → row < scratchRow → Added xs (set xs row y)
+unfolding found
+added-set xs row y l =
+    record {
+      kept = λ k h. rw (getD-set-other xs row (wordOf scratchRow k) y 0 (λ e. omega arith)) h;
+      behind = drop-set-lt (scratchRow + 1024) xs row y (omega arith);
+    }
+
+-- ---- both columns
+module _ {start end : ℕ} {vs ns : List ℕ} where
+  pub changed-none : Changed start end vs ns vs ns
+  changed-none = record { nodes = unchanged start end (nodeRows vs); filter = added-none vs; titles = unchanged start end ns }
+
+  pub changed-then : {vs' ns' vs'' ns'' : List ℕ} → Changed start end vs ns vs' ns' → Changed start end vs' ns' vs'' ns'' → Changed start end vs ns vs'' ns''
+  changed-then b c = record { nodes = change-then (b .nodes) (c .nodes); filter = added-then (b .filter) (c .filter); titles = change-then (b .titles) (c .titles) }
+
+  pub changed-wider : {vs' ns' : List ℕ} (start' end' : ℕ) → start' ≤ start → end ≤ end' → Changed start end vs ns vs' ns' → Changed start' end' vs ns vs' ns'
+  changed-wider start' end' l m b = record { nodes = change-wider start' end' l m (b .nodes); filter = b .filter; titles = change-wider start' end' l m (b .titles) }
+
+  -- a node's two words
+  pub changed-set : (row x y : ℕ) → start ≤ row → row < end → row < scratchRow → Changed start end vs ns (set vs row x) (set ns row y)
+  changed-set row x y l m h =
+      record {
+        nodes = rw (take-set-lt scratchRow vs row x h) (change-set start end (nodeRows vs) row x l m);
+        filter = added-set vs row x h;
+        titles = change-set start end ns row y l m;
+      }
+
+  -- a key
+  pub changed-noted : {vs' : List ℕ} → Noted vs vs' → Changed start end vs ns vs' ns
+  changed-noted n = record { nodes = record { before = ap (take start) (n .nodes); behind = ap (drop end) (n .nodes) }; filter = n .filter; titles = unchanged start end ns }
+
+pub noted-none : (xs : List ℕ) → Noted xs xs
+noted-none xs = record { nodes = refl; filter = added-none xs }
+
+pub noted-key : {xs ys : List ℕ} {key : ℕ} → Filter.Added xs ys scratchRow key → Noted xs ys
+noted-key a = record { nodes = a .before; filter = record { kept = a .kept; behind = a .behind } }
+
+-- ---- strings that are written as they stand
+verbatim-⧺ : {D P : Bytes} {f g : Forest Cell} → AllVerbatim D P f → AllVerbatim D P g → AllVerbatim D P (f ⧺ g)
+unfolding _⧺_
+verbatim-⧺ verbatim-none n = n
+verbatim-⧺ (verbatim-tree a b k r) n = verbatim-tree a b k (verbatim-⧺ r n)
+
+-- ---- rows that are filled
+-- a text taken for both
+pub one-text : (s : Bytes) (source : ℕ) → sourceText s s source ≡ s
+unfolding sourceText
+one-text s source = go (eqb source 0)
+  where
+    go : (t : Bool) → (if t then s else s) ≡ s
+    go true = refl
+    go false = refl
+
+module _ {source : ℕ} {s : Bytes} where
+  pub filled-none : (start : ℕ) (vs ns : List ℕ) → Filled source s start start none vs ns
+  unfolding size tape mapForest
+  filled-none start vs ns =
+      record {
+        cells = none;
+        ends = add-zero start;
+        words = between-none start (nodeRows vs);
+        titles = between-none start ns;
+        formed = formed-none;
+        meant = λ document patch e. refl;
+        keyed = λ document patch e. keyed-none;
+        verbatim = λ document patch e. verbatim-none;
+      }
+
+  -- they stand as long as only words behind them change
+  pub filled-kept : {start end end' : ℕ} {all : Members} {vs ns vs' ns' : List ℕ} → Changed end end' vs ns vs' ns' → Filled source s start end all vs ns → Filled source s start end all vs' ns'
+  filled-kept {start} {end} c f =
+      record {
+        cells = f .cells;
+        ends = f .ends;
+        words = between-kept start end (c .nodes) ∙ f .words;
+        titles = between-kept start end (c .titles) ∙ f .titles;
+        formed = f .formed;
+        meant = f .meant;
+        keyed = f .keyed;
+        verbatim = f .verbatim;
+      }
+
+  pub filled-join : {start mid end : ℕ} {all more : Members} {vs ns : List ℕ} → Filled source s start mid all vs ns → Filled source s mid end more vs ns → Filled source s start end (all ⧺ more) vs ns
+  filled-join {start} {mid} {end} {all} {more} {vs} {ns} f g =
+      let l : start ≤ mid = omega (arith, f .ends) in
+      let m : mid ≤ end = omega (arith, g .ends) in
+      record {
+        cells = f .cells ⧺ g .cells;
+        ends = omega (arith, f .ends, g .ends, size-⧺ (f .cells) (g .cells));
+        words = between-join start mid end (nodeRows vs) l m ∙ ap₂ _++_ (f .words) (g .words) ∙ sym (tape-⧺ word (f .cells) (g .cells));
+        titles = between-join start mid end ns l m ∙ ap₂ _++_ (f .titles) (g .titles) ∙ sym (tape-⧺ nameWord (f .cells) (g .cells));
+        formed = formed-⧺ (f .formed) (g .formed);
+        meant = λ D P e. map-⧺ (entryOf D P) (f .cells) (g .cells) ∙ ap₂ _⧺_ (f .meant D P e) (g .meant D P e);
+        keyed = λ D P e. keyed-⧺ (f .keyed D P e) (g .keyed D P e);
+        verbatim = λ D P e. verbatim-⧺ (f .verbatim D P e) (g .verbatim D P e);
+      }
+
+  -- a node's own words are stored
+  pub filled-tree : {row end : ℕ} {kids : Members} {vs ns : List ℕ} (kind payload name x : ℕ) (label : Label) (text : Text) → Labels source s kind label payload → Titles source s text name
+      → kind ≤ objectKind → (kind < arrayKind → end ≡ row + 1) → end ≤ scratchRow → scratchRow ≤ length vs → end ≤ length ns → x ≡ packed (kind % kinds) ((end - row - 1) % spans) (payload % spellings)
+      → Filled source s (row + 1) end kids vs ns → Filled source s row end (single (named text (record { label = label; kids = kids }))) (set vs row x) (set ns row name)
+  unfolding tape nameWord mapForest size
+  filled-tree {row} {end} {kids} {vs} {ns} kind payload name x label text labels titles k scalar room long-vs long-ns e f =
+      let c : Cell = record { kind = kind; payload = payload; name = name } in
+      let many : size (f .cells) ≡ end - row - 1 = omega (arith, f .ends) in
+      let fit : Fit c (f .cells) = record { kind = k; small = omega arith; scalar = λ h. size-none (f .cells) (omega (arith, scalar h, f .ends)) } in
+      let x-is : x ≡ word c (f .cells) = e ∙ ap (λ n. packed (kind % kinds) (n % spans) (payload % spellings)) (sym many) ∙ packed-word fit (labels .fits) in
+      let l : row < end = omega (arith, f .ends) in
+      let long-rows : length (nodeRows vs) ≡ scratchRow = length-take-le scratchRow vs long-vs in
+      record {
+        cells = tree c (f .cells) none;
+        ends = omega (arith, f .ends);
+        words = ap (between row end) (take-set-lt scratchRow vs row x (omega arith)) ∙ between-set row end (nodeRows vs) x l (rw long-rows room) ∙ ap₂ _∷_ x-is (f .words ∙ sym (append-nil (tape word (f .cells))));
+        titles = between-set row end ns name l long-ns ∙ ap (_∷_ name) (f .titles ∙ sym (append-nil (tape nameWord (f .cells))));
+        formed = formed-tree fit (f .formed) formed-none;
+        meant = λ D P t.
+            let entry : entryOf D P c ≡ record { name = text; label = label } = ap₂ (λ n l. record { name = n; label = l }) (titles .says D P t) (labels .says D P t) in
+            ap₂ (λ e m. tree e m none) entry (f .meant D P t);
+        keyed = λ D P t. keyed-tree (record { is = titles .hashed ∙ ap hash (sym (titles .says D P t)) }) (f .keyed D P t) keyed-none;
+        verbatim = λ D P t. verbatim-tree (titles .verbatim D P t) (labels .verbatim D P t) (f .verbatim D P t) verbatim-none;
+      }
+
+  -- the columns hold what fills them, whatever stands behind
+  pub filled-held : {start end : ℕ} {all : Members} {vs ns : List ℕ} → end ≤ scratchRow → scratchRow ≤ length vs → end ≤ length ns → (f : Filled source s start end all vs ns) → Held vs ns start (f .cells)
+  filled-held {start} {end} {all} {vs} {ns} room long-vs long-ns f =
+      let l : start ≤ end = omega (arith, f .ends) in
+      let same : between start end (nodeRows vs) ≡ between start end vs = ap (drop start) (take-take end scratchRow vs room) in
+      record {
+        after = drop end vs;
+        behind = drop end ns;
+        words = record { is = from-between start end vs l (omega arith) ∙ ap (λ ys. ys ++ drop end vs) (sym same ∙ f .words) };
+        titles = record { is = from-between start end ns l long-ns ∙ ap (λ ys. ys ++ drop end ns) (f .titles) };
+        formed = f .formed;
+      }
+
+  -- how many rows are filled
+  pub filled-size : {start end : ℕ} {all : Members} {vs ns : List ℕ} → Filled source s start end all vs ns → start + size all ≡ end
+  filled-size {all = all} f =
+      let n : size all ≡ size (f .cells) = ap size (sym (f .meant s s (one-text s source))) ∙ size-map (entryOf s s) (f .cells) in
+      omega (arith, f .ends)

@@ -1,0 +1,9 @@
+-- Laws that the proofs cite.
+pub mod ValueLaws
+pub mod ItemLaws
+pub mod PastLaws
+pub mod WordLaws
+pub mod ColumnLaws
+pub mod FilledLaws
+pub mod MemberLaws
+pub mod ReadingLaws

@@ -1,0 +1,318 @@
+-- Laws of reading a value: each way out of `scalar_value`, and the loop over a container's items in `value`.
+use Prim.Native.Nat.{ℕ, zero, suc, _+_, _-_, _≤_, _<_, _%_}
+use native.Mathlib.Omega.{arith}
+use mathlib.Core.Path.{_≡_, refl, sym, ap, ap₂, _∙_, subst}
+use mathlib.Core.Bool.{Bool, true, false}
+use mathlib.Core.List.{List}
+use native.Mathlib.Decide.{ℕ-discrete}
+use lib.Dec.{eqb}
+use lib.ListN.{length, set}
+use Rattle.spec.specs.Outcome.{Outcome, ok, refused, _>>=_}
+use Rattle.spec.specs.Limits.{maxNodes}
+use Rattle.spec.specs.Bytes.{Bytes, Text, byte}
+use Rattle.spec.specs.Forest.{none, single, size, _⧺_}
+use Rattle.spec.specs.Value as Value
+use Rattle.spec.specs.Value.{Label, Members, leaf, named}
+use Rattle.spec.specs.Read.{containerLabel, contents, value}
+use Rattle.lexer.specs.declared.cursor.Cursor.{Cursor}
+use Rattle.lexer.specs.Hash.{hash}
+use Rattle.filter.specs.Filter.{found}
+use Rattle.tape.specs.Layout.{kinds, spans, spellings, arrayKind, objectKind, scratchRow}
+use Rattle.tape.specs.Packing.{packed}
+use Rattle.table.specs.Meaning.{labelOf}
+use Rattle.reader.specs.Begins.{beginning, refusalFor, scalarOf}
+use Rattle.reader.specs.Words.{Labels, Titles, ScalarIs, scalar-read, scalar-refused}
+use Rattle.reader.specs.Filled.{Noted, Changed, Filled, keyOf, Marked, marked-none}
+use Rattle.reader.specs.Items.{Next, closed, begins, nextItem, ItemIs, item-begins, item-closed, item-refused}
+use Rattle.reader.specs.Names.{Having}
+use Rattle.reader.specs.Taken.{Ahead, Taken, taken, refusal, ForTitle}
+use Rattle.reader.specs.declared.words.Word.{Word}
+use Rattle.reader.specs.declared.words.Word.the-variants as Word
+use Rattle.reader.specs.declared.items.Item.{Item}
+use Rattle.reader.specs.declared.items.Item.the-variants as Item
+use Rattle.reader.specs.declared.values.Read.{Read}
+use Rattle.reader.specs.declared.values.Read.the-variants as Read
+use Rattle.reader.proofs.ValueLaws.{whole, value-refused, value-room, value-inside, value-kind, value-scalar, value-level, value-container}
+use Rattle.reader.proofs.ItemLaws as ItemLaws
+use Rattle.reader.proofs.ItemLaws.{rest, after, contents-rest, rest-step}
+use Rattle.reader.proofs.PastLaws.{scalar-ok-past, Beyond, item-ok-past}
+use Rattle.reader.proofs.WordLaws.{literal-labels}
+use Rattle.reader.proofs.FilledLaws.{changed-none, changed-then, changed-wider, changed-set, changed-noted, filled-none, filled-kept, filled-join, filled-tree, filled-size}
+use Rattle.reader.proofs.MemberLaws.{marked-kept, marked-more}
+
+-- ---- each way out of `scalar_value`
+module _ {source : ℕ} {s : Bytes} {at kind : ℕ} {w : Word} (inside : at < length s) (scalar : kind < arrayKind) (told : ScalarIs source s kind (scalarOf kind s at) w) where
+  pub scalar-taken : {vs ns vs' ns' : List ℕ} {row name : ℕ} (next : Cursor) (payload : ℕ) → w ≡ Word.Read next payload → row < scratchRow → scratchRow ≤ length vs → scratchRow ≤ length ns
+      → vs' ≡ set vs row (packed (kind % kinds) (0 % spans) (payload % spellings)) → ns' ≡ set ns row name
+      → ForTitle source s name (λ text. Taken source s at text row (row + 1) vs ns vs' ns' (scalarOf kind s at) (Read.Value next (row + 1)))
+  scalar-taken {vs} {ns} {vs'} {ns'} {row} {name} next payload e room long-vs long-ns v n text titles = go w told e
+    where
+      go : (w : Word) → ScalarIs source s kind (scalarOf kind s at) w → w ≡ Word.Read next payload → Taken source s at text row (row + 1) vs ns vs' ns' (scalarOf kind s at) (Read.Value next (row + 1))
+      go w (scalar-refused number place q) e = absurd (let z : _≡_ {A = ℕ} 0 1 = cc in omega arith)
+      go w (scalar-read label next' payload' q l) e =
+          let a : next' ≡ next = cc in
+          let b : payload' ≡ payload = cc in
+          let o : scalarOf kind s at ≡ ok (leaf label, next .at) = q ∙ ap (λ m. ok (leaf label, m .at)) a in
+          let k = scalar-ok-past kind s at (leaf label) (next .at) inside o in
+          let span : row + 1 - row - 1 ≡ 0 = omega arith in
+          rw (v, n)
+          (taken (leaf label) next (row + 1) o (record { past = k .0; inside = k .1; grows = omega arith; room = omega arith })
+          (filled-tree kind payload name _ label text (rw b at l) titles (omega arith) (λ h. refl) (omega arith) long-vs (omega arith) (rw span) (filled-none (row + 1) vs ns))
+          (changed-set row _ name (omega arith) (omega arith) room))
+
+  pub scalar-refusal : {vs ns : List ℕ} {row name : ℕ} (n place : ℕ) → w ≡ Word.Refused n place → ForTitle source s name (λ text. Taken source s at text row (row + 1) vs ns vs ns (scalarOf kind s at) (Read.Refused n place))
+  scalar-refusal {vs} {ns} {row} n place e text titles = go w told e
+    where
+      go : (w : Word) → ScalarIs source s kind (scalarOf kind s at) w → w ≡ Word.Refused n place → Taken source s at text row (row + 1) vs ns vs ns (scalarOf kind s at) (Read.Refused n place)
+      go w (scalar-read label next payload q l) e = absurd (let z : _≡_ {A = ℕ} 0 1 = cc in omega arith)
+      go w (scalar-refused n' place' q) e = let a : n' ≡ n = cc in let b : place' ≡ place = cc in refusal n place (q ∙ ap₂ refused a b) changed-none
+
+-- ---- the loop over a container's items
+module _ (source : ℕ) (s : Bytes) (start levels kind base row : ℕ) where
+  abbrev object : Bool
+  object = eqb kind objectKind
+
+  -- the container's items by the definition, from the place after its opening bracket on, and what is left of them, with so much fuel, behind those so far
+  abbrev pub allItems : Outcome (Members × ℕ)
+  allItems = contents (value (levels - 1) s) object s (row - base + 1) start
+
+  abbrev left : ℕ → Members → ℕ → Outcome (Members × ℕ)
+  left fuel so-far next = rest (value (levels - 1) s) object s (row - base + 1) fuel so-far next
+
+  abbrev behind : ℕ → Members → Next → Outcome (Members × ℕ)
+  behind fuel so-far = after (value (levels - 1) s) object s (row - base + 1) fuel so-far
+
+  -- the items so far are in the rows behind the container's own, up to the row `end`, and the next one is looked for at `next`
+  pub record Filling (vs ns vs' ns' : List ℕ) (next end : ℕ) : Type 0 where
+    pub so-far : Members
+    pub fuel : ℕ
+    pub enough : length s < suc fuel + next
+    pub same : allItems ≡ left (suc fuel) so-far next
+    pub filled : Filled source s (row + 1) end so-far vs' ns'
+    pub marked : object ≡ true → Marked vs' row so-far
+    pub changed : Changed (row + 1) end vs ns vs' ns'
+
+  pub filling-none : (vs ns : List ℕ) → 0 < start → start ≤ length s → Filling vs ns vs ns start (row + 1)
+  filling-none vs ns h l = go (length s) refl
+    where
+      go : (n : ℕ) → length s ≡ n → Filling vs ns vs ns start (row + 1)
+      go zero e = absurd (omega arith)
+      go (suc fuel) e =
+          record {
+            so-far = none;
+            fuel = fuel;
+            enough = omega arith;
+            same = contents-rest (value (levels - 1) s) object s (row - base + 1) start ∙ ap (λ n. left n none start) e;
+            filled = filled-none (row + 1) vs ns;
+            marked = λ _. marked-none;
+            changed = changed-none;
+          }
+
+  module _ {vs ns vs' ns' : List ℕ} {next end : ℕ} (g : Filling vs ns vs' ns' next end) (within : next ≤ length s) (from-base : base ≤ row) where
+    -- one step of the definition
+    step : (o : Outcome Next) → nextItem object s (g .so-far) next ≡ o → allItems ≡ (o >>= behind (g .fuel) (g .so-far))
+    step o e = g .same ∙ rest-step (value (levels - 1) s) object s (row - base + 1) (g .fuel) (g .so-far) next ∙ ap (λ o. o >>= behind (g .fuel) (g .so-far)) e
+
+    -- so many values have begun before the next
+    nodes-before : row - base + 1 + size (g .so-far) ≡ end - base
+    nodes-before = omega (arith, filled-size (g .filled))
+
+    module _ {vs'' : List ℕ} {i : Item} (told : Having source s object row end vs' ns' (λ all. ItemIs source s object row vs'' (nextItem object s all next) i)) (noted : Noted vs' vs'') where
+      item : ItemIs source s object row vs'' (nextItem object s (g .so-far) next) i
+      item = told (g .so-far) (g .filled) (g .marked)
+
+      -- the columns after the key
+      pub changed-so-far : Changed (row + 1) end vs ns vs'' ns'
+      changed-so-far = changed-then (g .changed) (changed-noted noted)
+
+      pub filled-so-far : Filled source s (row + 1) end (g .so-far) vs'' ns'
+      filled-so-far = filled-kept {end' = end} (changed-noted noted) (g .filled)
+
+      pub filling-unread : (n place : ℕ) → i ≡ Item.Refused n place → allItems ≡ refused n place
+      unfolding _>>=_
+      filling-unread n place e = go i item e
+        where
+          go : (i : Item) → ItemIs source s object row vs'' (nextItem object s (g .so-far) next) i → i ≡ Item.Refused n place → allItems ≡ refused n place
+          go i (item-begins text first name q t k) e = absurd (let z : _≡_ {A = ℕ} 0 1 = cc in omega arith)
+          go i (item-closed after q) e = absurd (let z : _≡_ {A = ℕ} 0 1 = cc in omega arith)
+          go i (item-refused n' place' q) e = let a : n' ≡ n = cc in let b : place' ≡ place = cc in step _ q ∙ ap₂ refused a b
+
+      pub filling-closed : (last : Cursor) → i ≡ Item.Closed last → (allItems ≡ ok (g .so-far, last .at)) × (next < last .at) × (last .at ≤ length s)
+      unfolding after _>>=_
+      filling-closed last e = go i item e
+        where
+          go : (i : Item) → ItemIs source s object row vs'' (nextItem object s (g .so-far) next) i → i ≡ Item.Closed last → (allItems ≡ ok (g .so-far, last .at)) × (next < last .at) × (last .at ≤ length s)
+          go i (item-begins text first name q t k) e = absurd (let z : _≡_ {A = ℕ} 0 1 = cc in omega arith)
+          go i (item-closed last' q) e =
+              let a : last' ≡ last = cc in
+              let o : nextItem object s (g .so-far) next ≡ ok (closed (last .at)) = q ∙ ap (λ c. ok (closed (c .at))) a in
+              let p = item-ok-past object s (g .so-far) next (closed (last .at)) within o in
+              (step _ o, p .0, p .1)
+          go i (item-refused n' place' q) e = absurd (let z : _≡_ {A = ℕ} 0 1 = cc in omega arith)
+
+      -- an item's value is read from here, under this name
+      record Entered (first : Cursor) (name : ℕ) : Type 0 where
+        pub text : Text
+        pub here : nextItem object s (g .so-far) next ≡ ok (begins text (first .at))
+        pub titles : Titles source s text name
+        pub key : object ≡ true → found vs'' scratchRow (keyOf row (hash text)) ≡ true
+
+      entered : (first : Cursor) (name : ℕ) → i ≡ Item.Begins first name → Entered first name
+      entered first name e = go i item e
+        where
+          go : (i : Item) → ItemIs source s object row vs'' (nextItem object s (g .so-far) next) i → i ≡ Item.Begins first name → Entered first name
+          go i (item-begins text first' name' q t k) e =
+              let a : first' ≡ first = cc in
+              let b : name' ≡ name = cc in
+              record { text = text; here = q ∙ ap (λ c. ok (begins text (c .at))) a; titles = rw b at t; key = k }
+          go i (item-closed last q) e = absurd (let z : _≡_ {A = ℕ} 0 1 = cc in omega arith)
+          go i (item-refused n' place' q) e = absurd (let z : _≡_ {A = ℕ} 0 1 = cc in omega arith)
+
+      pub filling-begins : (first : Cursor) (name : ℕ) → i ≡ Item.Begins first name → (next ≤ first .at) × (first .at ≤ length s)
+      filling-begins first name e = let n = entered first name e in item-ok-past object s (g .so-far) next (begins (n .text) (first .at)) within (n .here)
+
+      module _ {limit : ℕ} {vs3 ns3 : List ℕ} {r : Read} (first : Cursor) (name : ℕ) (is : i ≡ Item.Begins first name)
+          (read : ForTitle source s name (λ text. Taken source s (first .at) text end limit vs'' ns' vs3 ns3 (value (levels - 1) s (first .at) (end - base)) r)) where
+        -- by the definition, after the item's name
+        by-value : (text : Text) (o : Outcome (Value.Value × ℕ)) → nextItem object s (g .so-far) next ≡ ok (begins text (first .at)) → value (levels - 1) s (first .at) (end - base) ≡ o
+            → allItems ≡ (o >>= λ (v, p). left (g .fuel) (g .so-far ⧺ single (named text v)) p)
+        unfolding after _>>=_
+        by-value text o q e = step _ q ∙ ap (λ n. value (levels - 1) s (first .at) n >>= λ (v, p). left (g .fuel) (g .so-far ⧺ single (named text v)) p) nodes-before ∙ ap (λ o. o >>= λ (v, p). left (g .fuel) (g .so-far ⧺ single (named text v)) p) e
+
+        -- another item behind those so far
+        more : (text : Text) (v : Value.Value) (last : Cursor) (free fuel : ℕ) → nextItem object s (g .so-far) next ≡ ok (begins text (first .at)) → value (levels - 1) s (first .at) (end - base) ≡ ok (v, last .at)
+            → (object ≡ true → found vs'' scratchRow (keyOf row (hash text)) ≡ true) → g .fuel ≡ suc fuel → next < last .at → end ≤ free → Filled source s end free (single (named text v)) vs3 ns3
+            → Changed end free vs'' ns' vs3 ns3 → Filling vs ns vs3 ns3 (last .at) free
+        unfolding _>>=_
+        more text v last free fuel q o key some past grows f c =
+            record {
+              so-far = g .so-far ⧺ single (named text v);
+              fuel = fuel;
+              enough = omega (arith, g .enough);
+              same = by-value text (ok (v, last .at)) q o ∙ ap (λ n. left n (g .so-far ⧺ single (named text v)) (last .at)) some;
+              filled = filled-join (filled-kept c filled-so-far) f;
+              marked = λ e. marked-more (named text v) (c .filter .kept _ (key e)) (marked-kept (c .filter) (marked-kept (noted .filter) (g .marked e)));
+              changed = changed-then (changed-wider (row + 1) free (omega arith) grows changed-so-far) (changed-wider (row + 1) free (omega (arith, filled-so-far .ends)) (omega arith) c);
+            }
+
+        pub filling-next : (last : Cursor) (free : ℕ) → r ≡ Read.Value last free → Ahead s (first .at) (last .at) end free limit × Filling vs ns vs3 ns3 (last .at) free
+        filling-next last free e = go r (read (n .text) (n .titles)) e
+          where
+            n : Entered first name
+            n = entered first name is
+
+            from-next : (next ≤ first .at) × (first .at ≤ length s)
+            from-next = filling-begins first name is
+
+            fuelled : (v : Value.Value) (fuel : ℕ) → g .fuel ≡ fuel → value (levels - 1) s (first .at) (end - base) ≡ ok (v, last .at) → Ahead s (first .at) (last .at) end free limit
+                → Filled source s end free (single (named (n .text) v)) vs3 ns3 → Changed end free vs'' ns' vs3 ns3 → Filling vs ns vs3 ns3 (last .at) free
+            fuelled v zero some o ahead f c = absurd (omega (arith, g .enough, from-next))
+            fuelled v (suc fuel) some o ahead f c = more (n .text) v last free fuel (n .here) o (n .key) some (omega (arith, from-next)) (omega arith) f c
+
+            go : (r : Read) → Taken source s (first .at) (n .text) end limit vs'' ns' vs3 ns3 (value (levels - 1) s (first .at) (end - base)) r → r ≡ Read.Value last free
+                → Ahead s (first .at) (last .at) end free limit × Filling vs ns vs3 ns3 (last .at) free
+            go r (refusal number place q c) e = absurd (let z : _≡_ {A = ℕ} 0 1 = cc in omega arith)
+            go r (taken v last' free' q ahead f c) e =
+                let a : last' ≡ last = cc in
+                let b : free' ≡ free = cc in
+                let ahead' : Ahead s (first .at) (last .at) end free limit = rw (a, b) at ahead in
+                (ahead', fuelled v (g .fuel) refl (q ∙ ap (λ c. ok (v, c .at)) a) ahead' (rw b at f) (rw b at c))
+
+        pub filling-refused : (p place : ℕ) → r ≡ Read.Refused p place → end ≤ limit → (allItems ≡ refused p place) × Changed (row + 1) limit vs ns vs3 ns3
+        unfolding _>>=_
+        filling-refused p place e room = go r (read (n .text) (n .titles)) e
+          where
+            n : Entered first name
+            n = entered first name is
+
+            go : (r : Read) → Taken source s (first .at) (n .text) end limit vs'' ns' vs3 ns3 (value (levels - 1) s (first .at) (end - base)) r → r ≡ Read.Refused p place
+                → (allItems ≡ refused p place) × Changed (row + 1) limit vs ns vs3 ns3
+            go r (taken v last free q ahead f c) e = absurd (let z : _≡_ {A = ℕ} 0 1 = cc in omega arith)
+            go r (refusal p' place' q c) e =
+                let a : p' ≡ p = cc in
+                let b : place' ≡ place = cc in (
+                  by-value (n .text) (refused p' place') (n .here) q ∙ ap₂ refused a b,
+                  changed-then (changed-wider (row + 1) limit (omega arith) room changed-so-far) (changed-wider (row + 1) limit (omega (arith, filled-so-far .ends)) (omega arith) c),
+                )
+
+-- ---- each way out of `value`
+taken-wider : {source : ℕ} {s : Bytes} {at : ℕ} {text : Text} {row limit : ℕ} {vs ns vs' ns' : List ℕ} {o o' : Outcome (Value.Value × ℕ)} {r : Read} (limit' : ℕ) → limit ≤ limit' → o' ≡ o
+    → Taken source s at text row limit vs ns vs' ns' o r → Taken source s at text row limit' vs ns vs' ns' o' r
+taken-wider limit' l e (taken v next end q ahead f c) = taken v next end (e ∙ q) (record { past = ahead .past; inside = ahead .inside; grows = ahead .grows; room = omega (arith, ahead .room) }) f c
+taken-wider limit' l e (refusal number place q c) = refusal number place (e ∙ q) (changed-wider _ limit' (omega arith) l c)
+
+-- a container's label is its kind
+container-says : (document patch : Bytes) (kind : ℕ) → arrayKind ≤ kind → kind ≤ objectKind → labelOf document patch kind 0 ≡ containerLabel (eqb kind objectKind)
+unfolding labelOf containerLabel
+container-says document patch kind l m = go (ℕ-discrete kind arrayKind)
+  where
+    go : Dec (kind ≡ arrayKind) → labelOf document patch kind 0 ≡ containerLabel (eqb kind objectKind)
+    go (yes e) = rw e
+    go (no n) = let e : kind ≡ objectKind = omega arith in rw e
+
+-- refused at its first byte
+pub value-way-refused : {source : ℕ} {s : Bytes} {at row name : ℕ} {vs ns : List ℕ} (levels base kind number : ℕ) → kind ≡ beginning (byte s at) → number ≡ refusalFor kind levels (row - base) → (number ≡ 0 → ⊥)
+    → ForTitle source s name (λ text. Taken source s at text row (base + maxNodes) vs ns vs ns (value levels s at (row - base)) (Read.Refused number at))
+value-way-refused {s = s} {at} {row} levels base kind number kind-is number-is n text titles =
+    refusal number at (value-refused s at (row - base) levels number (rw (← kind-is) number-is) n) changed-none
+
+-- a value of a kind begins, and may begin
+pub record Begun (s : Bytes) (at levels base row kind : ℕ) : Type 0 where
+  pub kind-is : kind ≡ beginning (byte s at)
+  pub from-base : base ≤ row
+  pub passes : refusalFor kind levels (row - base) ≡ 0
+
+pub begun : (s : Bytes) (at levels base row kind number : ℕ) → kind ≡ beginning (byte s at) → number ≡ refusalFor kind levels (row - base) → base ≤ row → number ≡ 0 → Begun s at levels base row kind
+begun s at levels base row kind number k n l z = record { kind-is = k; from-base = l; passes = sym n ∙ z }
+
+module _ {s : Bytes} {at levels base row kind : ℕ} (b : Begun s at levels base row kind) where
+  begins-here : refusalFor (beginning (byte s at)) levels (row - base) ≡ 0
+  begins-here = rw (← b .kind-is) (b .passes)
+
+  pub value-starts : at < length s
+  value-starts = value-inside s at (row - base) levels begins-here
+
+  pub value-fits : row < base + maxNodes
+  value-fits = omega (arith, value-room s at (row - base) levels begins-here, b .from-base)
+
+  pub value-way-scalar : {source name : ℕ} {vs ns vs' ns' : List ℕ} {r : Read} → kind < arrayKind → ForTitle source s name (λ text. Taken source s at text row (row + 1) vs ns vs' ns' (scalarOf kind s at) r)
+      → ForTitle source s name (λ text. Taken source s at text row (base + maxNodes) vs ns vs' ns' (value levels s at (row - base)) r)
+  value-way-scalar h told text titles =
+      taken-wider (base + maxNodes) (omega (arith, value-fits))
+      (value-scalar s at (row - base) levels begins-here (rw (← b .kind-is) h) ∙ ap (λ k. scalarOf k s at) (sym (b .kind-is))) (told text titles)
+
+  module _ (container : arrayKind ≤ kind) where
+    pub value-levels : levels ≡ suc (levels - 1)
+    value-levels = go levels refl
+      where
+        go : (l : ℕ) → levels ≡ l → l ≡ suc (l - 1)
+        go zero e = absurd (value-level s at (row - base) levels begins-here (rw (← b .kind-is) container) e)
+        go (suc l) e = omega arith
+
+    by-items : (source : ℕ) (o : Outcome (Members × ℕ)) → allItems source s (at + 1) levels kind base row ≡ o → value levels s at (row - base) ≡ (o >>= whole (eqb kind objectKind))
+    by-items source o e =
+        value-container s at (row - base) levels begins-here (rw (← b .kind-is) container) (levels - 1) value-levels
+        ∙ ap (λ k. contents (value (levels - 1) s) (eqb k objectKind) s (row - base + 1) (at + 1) >>= whole (eqb k objectKind)) (sym (b .kind-is))
+        ∙ ap (λ o. o >>= whole (eqb kind objectKind)) e
+
+    -- a refusal among its items
+    pub value-way-items : {source name : ℕ} {vs ns vs' ns' : List ℕ} (n place end : ℕ) → end ≤ base + maxNodes → allItems source s (at + 1) levels kind base row ≡ refused n place → Changed (row + 1) end vs ns vs' ns'
+        → ForTitle source s name (λ text. Taken source s at text row (base + maxNodes) vs ns vs' ns' (value levels s at (row - base)) (Read.Refused n place))
+    unfolding _>>=_
+    value-way-items {source} n place end room e c text titles = refusal n place (by-items source (refused n place) e) (changed-wider row (base + maxNodes) (omega arith) room c)
+
+    -- its closing bracket, and its own words stored
+    pub value-way-closed : {source name : ℕ} {vs ns vs' ns' vs3 ns3 : List ℕ} {so-far : Members} (last : Cursor) (end : ℕ) → allItems source s (at + 1) levels kind base row ≡ ok (so-far, last .at)
+        → Ahead s at (last .at) row end (base + maxNodes) → base + maxNodes ≤ scratchRow → scratchRow ≤ length vs' → scratchRow ≤ length ns' → Filled source s (row + 1) end so-far vs' ns' → Changed (row + 1) end vs ns vs' ns'
+        → vs3 ≡ set vs' row (packed (kind % kinds) ((end - row - 1) % spans) (0 % spellings)) → ns3 ≡ set ns' row name
+        → ForTitle source s name (λ text. Taken source s at text row (base + maxNodes) vs ns vs3 ns3 (value levels s at (row - base)) (Read.Value last end))
+    unfolding whole _>>=_
+    value-way-closed {source} {name} {vs' = vs'} {ns'} {so-far = so-far} last end e ahead room long-vs long-ns f c v n text titles =
+        let k = value-kind s at (row - base) levels begins-here in
+        let m : kind ≤ objectKind = omega (arith, b .kind-is) in
+        let label = containerLabel (eqb kind objectKind) in
+        let labels = literal-labels source s kind label (λ D P. container-says D P kind container m) in
+        rw (v, n)
+        (taken (record { label = label; kids = so-far }) last end (by-items source (ok (so-far, last .at)) e) ahead
+        (filled-tree kind 0 name _ label text labels titles m (λ h. absurd (omega arith)) (omega (arith, ahead .room)) long-vs (omega (arith, ahead .room)) refl f)
+        (changed-then (changed-wider row end (omega arith) (omega arith) c) (changed-set row _ name (omega arith) (ahead .grows) (omega (arith, ahead .grows, ahead .room)))))

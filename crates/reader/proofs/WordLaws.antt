@@ -1,0 +1,220 @@
+-- What the words say that are read of a text: each names the bytes that were read.
+use Prim.Native.Nat.{ℕ, _+_, _-_, _≤_, _<_, _%_}
+use mathlib.Core.Path.{_≡_, refl, sym, _∙_, ap, ap₂}
+use mathlib.Core.Bool.{Bool, true, false}
+use mathlib.Core.List.{List, [], _∷_}
+use native.Mathlib.Omega.{arith}
+use lib.ListN.{length, take, drop}
+use Rattle.spec.specs.Outcome.{Outcome, ok, refused, _>>=_}
+use Rattle.spec.specs.Refusal.{not-json}
+use Rattle.spec.specs.Bytes.{Bytes, Text}
+use Rattle.spec.specs.Numbers.{number}
+use Rattle.spec.specs.Strings.{string}
+use Rattle.spec.specs.Write.{writeCharacters}
+use Rattle.spec.specs.Value as Value
+use Rattle.spec.specs.Value.{Label}
+use Rattle.spec.specs.Read as Definition
+use Rattle.spec.specs.Read.{literalValue, numberValue, stringValue}
+use Rattle.spec.proofs.OutcomeLaws.{refused≢ok}
+use Rattle.lexer.specs.Hash.{mix, hashFrom, hash}
+use Rattle.lexer.specs.Names.{noBackslash, part, kept, keptOf}
+use Rattle.lexer.specs.Answers.{nameOutcome, scanOutcome}
+use Rattle.lexer.specs.declared.cursor.Cursor.{Cursor}
+use Rattle.lexer.specs.declared.cursor.Scan.{Scan}
+use Rattle.lexer.specs.declared.cursor.Scan.the-variants as Scan
+use Rattle.lexer.specs.declared.strings.Name.{Name}
+use Rattle.lexer.specs.declared.strings.Name.the-variants as Name
+use Rattle.lexer.proofs.NameLaws.{mix-bound}
+use Rattle.lexer.proofs.StringLaws.{Closed, string-ok-closed}
+use Rattle.lexer.proofs.NumberLaws.{number-ok-past}
+use Rattle.text.specs.Decode.{decodeFrom, decode, textFrom, textOf}
+use Rattle.text.proofs.DecodeLaws.{decode-string}
+use Rattle.text.proofs.WriteLaws.{string-same}
+use Rattle.tape.specs.Layout.{forms, sources, places, spellings, hashes, noText, plainString, escapedString, numeral, numberKind, stringKind}
+use Rattle.tape.specs.Packing.{spelling, formOf, sourceOf, startOf, lengthOf, nameOf, spellingOf, hashOf}
+use Rattle.tape.proofs.Packing.{form-spelling, source-spelling, start-spelling, length-spelling, spelling<, spelling-fits, spelling-name, hash-name, name-fits}
+use Rattle.table.specs.Meaning.{sourceText, partOf, spelled, labelOf, nameText}
+use Rattle.reader.specs.Words.{InText, stringForm, Verbatim, Spells, Labels, Titles, literalWord, ScalarIs, scalar-read, scalar-refused}
+use Rattle.reader.specs.declared.words.Word.{Word}
+use Rattle.reader.specs.declared.words.Word.the-variants.{Read, Refused}
+
+-- ---- what the reader of names tells: the text, its hash, and whether it is written without escapes
+pub record NameRead (s : Bytes) (at next h : ℕ) (plain : Bool) : Type 0 where
+  pub text : Text
+  pub reads : string s at ≡ ok (text, next)
+  pub hash-is : h ≡ hash text
+  pub plain-is : plain ≡ noBackslash (part s (at + 1) (next - 1))
+
+pub name-told : (s : Bytes) (at : ℕ) (next : Cursor) (h : ℕ) (plain : Bool) {r : Name} → nameOutcome r ≡ keptOf s (at + 1) (string s at) → r ≡ Name.Read next h plain → NameRead s at (next .at) h plain
+unfolding nameOutcome keptOf kept _>>=_
+name-told s at next h plain e t = go (string s at) refl (ap nameOutcome (sym t) ∙ e)
+  where
+    go : (o : Outcome (Text × ℕ)) → string s at ≡ o → ok (next .at, h, plain) ≡ keptOf s (at + 1) o → NameRead s at (next .at) h plain
+    go (ok (cs, end)) e f =
+        let same : _≡_ {A = ℕ × ℕ × Bool} (next .at, h, plain) (end, hash cs, noBackslash (part s (at + 1) (end - 1))) = cc in
+        let place : next .at ≡ end = ap (λ v. v .0) same in
+        record {
+          text = cs;
+          reads = rw place e;
+          hash-is = ap (λ v. v .1) same;
+          plain-is = rw place (ap (λ v. v .2) same);
+        }
+    go (refused number place) e f = absurd (refused≢ok (sym f))
+
+pub name-untold : (s : Bytes) (at place : ℕ) {r : Name} → nameOutcome r ≡ keptOf s (at + 1) (string s at) → r ≡ Name.Refused place → string s at ≡ refused not-json place
+unfolding nameOutcome keptOf _>>=_
+name-untold s at place e t = go (string s at) (ap nameOutcome (sym t) ∙ e)
+  where
+    go : (o : Outcome (Text × ℕ)) → refused not-json place ≡ keptOf s (at + 1) o → o ≡ refused not-json place
+    go (ok v) f = absurd (refused≢ok f)
+    go (refused n p) f = let a : n ≡ not-json = cc in let b : p ≡ place = cc in ap₂ refused a b
+
+-- where the name ends
+pub name-closed : {s : Bytes} {at next h : ℕ} {plain : Bool} → NameRead s at next h plain → Closed s (at + 1) next
+name-closed {s} {at} {next} r = string-ok-closed s at (r .text, next) (r .reads)
+
+-- ---- a spelling names its part of the text
+module _ (form source start count : ℕ) (form< : form < forms) (source< : source < sources) (start< : start < places) (count< : count < places) where
+  part-spelling : (s : Bytes) → InText source s (λ document patch. partOf document patch (spelling form source start count) ≡ take count (drop start s))
+  unfolding partOf
+  part-spelling s document patch e =
+      rw (length-spelling form source start count form< source< start< count<, start-spelling form source start count form< source< start< count<, source-spelling form source start count form< source< start< count<, e)
+
+  -- one that is no string without escapes
+  other-verbatim : (form ≡ plainString → ⊥) → (document patch : Bytes) → Verbatim document patch (spelling form source start count)
+  other-verbatim n document patch = record { is = λ e. absurd (n (sym (form-spelling form source start count form< source< start< count<) ∙ e)) }
+
+pub form-string : (plain : Bool) → stringForm plain < forms
+unfolding stringForm
+form-string false = omega arith
+form-string true = omega arith
+
+-- either form of a string is decoded
+text-string : (plain : Bool) (bytes : Bytes) → textOf (stringForm plain) bytes ≡ decode bytes
+unfolding textOf textFrom decode stringForm
+text-string false bytes = refl
+text-string true bytes = refl
+
+is-plain : (plain : Bool) → stringForm plain ≡ plainString → plain ≡ true
+unfolding stringForm
+is-plain true e = refl
+is-plain false e = absurd (omega arith)
+
+-- ---- a string
+module _ (s : Bytes) (at : ℕ) (cs : Text) (next : ℕ) (reads : string s at ≡ ok (cs, next)) (source : ℕ) (source< : source < sources) (short : length s < places)
+    (plain : Bool) (told : plain ≡ noBackslash (part s (at + 1) (next - 1))) where
+  abbrev word : ℕ
+  word = spelling (stringForm plain) source (at + 1) (next - 1 - (at + 1))
+
+  start< : at + 1 < places
+  start< = let k = string-ok-closed s at (cs, next) reads in omega arith
+
+  count< : next - 1 - (at + 1) < places
+  count< = let k = string-ok-closed s at (cs, next) reads in omega arith
+
+  string-part : InText source s (λ document patch. partOf document patch word ≡ part s (at + 1) (next - 1))
+  unfolding part
+  string-part = part-spelling (stringForm plain) source (at + 1) (next - 1 - (at + 1)) (form-string plain) source< start< count< s
+
+  string-says : InText source s (λ document patch. spelled document patch word ≡ cs)
+  unfolding spelled
+  string-says document patch e =
+      rw (form-spelling (stringForm plain) source (at + 1) (next - 1 - (at + 1)) (form-string plain) source< start< count<, string-part document patch e, text-string plain (part s (at + 1) (next - 1)))
+      (decode-string s at cs next reads)
+
+  string-verbatim : InText source s (λ document patch. Verbatim document patch word)
+  string-verbatim document patch e =
+      record {
+        is = λ f.
+            let p : plain ≡ true = is-plain plain (sym (form-spelling (stringForm plain) source (at + 1) (next - 1 - (at + 1)) (form-string plain) source< start< count<) ∙ f) in
+            rw (string-says document patch e, string-part document patch e) (string-same s at cs next reads (sym told ∙ p));
+      }
+
+  pub string-spells : Spells source s cs word
+  string-spells =
+      record {
+        fits = spelling< (stringForm plain) source (at + 1) (next - 1 - (at + 1)) (form-string plain) source< start< count<;
+        says = string-says;
+        verbatim = string-verbatim;
+      }
+
+  pub string-labels : Labels source s stringKind (Label.string cs) word
+  unfolding labelOf
+  string-labels = record { fits = string-spells .fits; says = λ document patch e. rw (string-says document patch e); verbatim = string-verbatim }
+
+-- ---- a name
+hash-bound : (h : ℕ) (cs : Text) → h < hashes → hashFrom h cs < hashes
+unfolding hashFrom
+hash-bound h [] l = l
+hash-bound h (c ∷ cs) l = hash-bound (mix h c) cs (mix-bound h c)
+
+hash< : (cs : Text) → hash cs < hashes
+unfolding hash
+hash< cs = hash-bound 0 cs (omega arith)
+
+-- the word that `name` makes of a spelling and a hash
+name-titles : (source : ℕ) (s : Bytes) (cs : Text) (sp h name : ℕ) → Spells source s cs sp → h ≡ hash cs → name ≡ nameOf (sp % spellings) (h % hashes) → Titles source s cs name
+name-titles source s cs sp h name spells is e =
+    let small : h < hashes = rw is (hash< cs) in
+    let whole : name ≡ nameOf sp h = e ∙ name-fits sp h (spells .fits) small in
+    let says-it : spellingOf name ≡ sp = ap spellingOf whole ∙ spelling-name sp h (spells .fits) in
+    record {
+      says = λ document patch t. rw says-it (spells .says document patch t);
+      hashed = ap hashOf whole ∙ hash-name sp h (spells .fits) ∙ is;
+      verbatim = λ document patch t. rw says-it (spells .verbatim document patch t);
+    }
+
+-- of a name that was read
+pub read-titles : {s : Bytes} {at next h : ℕ} {plain : Bool} (source sp name : ℕ) → source < sources → length s < places → (r : NameRead s at next h plain) → sp ≡ spelling (stringForm plain) source (at + 1) (next - 1 - (at + 1))
+    → name ≡ nameOf (sp % spellings) (h % hashes) → Titles source s (r .text) name
+read-titles {s} {at} {next} {h} {plain} source sp name source< short r is e =
+    name-titles source s (r .text) sp h name (rw is (string-spells s at (r .text) next (r .reads) source source< short plain (r .plain-is))) (r .hash-is) e
+
+-- the word 0 names nothing: the root, and an array's element
+pub no-titles : (source : ℕ) (s : Bytes) → Titles source s [] 0
+unfolding spelled textOf textFrom hash hashFrom
+no-titles source s = record { says = λ document patch t. refl; hashed = refl; verbatim = λ document patch t. record { is = λ e. absurd (omega arith) } }
+
+-- ---- a number, and a literal, which has no text
+module _ (s : Bytes) (at next : ℕ) (past : at < next) (within : next ≤ length s) (source : ℕ) (source< : source < sources) (short : length s < places) where
+  pub number-labels : Labels source s numberKind (Label.number (take (next - at) (drop at s))) (spelling numeral source at (next - at))
+  unfolding labelOf
+  number-labels =
+      record {
+        fits = spelling< numeral source at (next - at) (omega arith) source< (omega arith) (omega arith);
+        says = λ document patch e. rw (part-spelling numeral source at (next - at) (omega arith) source< (omega arith) (omega arith) s document patch e);
+        verbatim = λ document patch e. other-verbatim numeral source at (next - at) (omega arith) source< (omega arith) (omega arith) (λ f. omega arith) document patch;
+      }
+
+pub literal-labels : (source : ℕ) (s : Bytes) (kind : ℕ) (label : Label) → ((document patch : Bytes) → labelOf document patch kind 0 ≡ label) → Labels source s kind label 0
+literal-labels source s kind label is = record { fits = omega arith; says = λ document patch e. is document patch; verbatim = λ document patch e. record { is = λ f. absurd (omega arith) } }
+
+-- ---- each way out of the readers of scalars
+module _ (source : ℕ) (s : Bytes) (at : ℕ) where
+  pub number-read : (next : Cursor) (w : ℕ) → source < sources → length s < places → number s at ≡ ok (next .at) → w ≡ spelling (numeral % forms) (source % sources) (at % places) ((next .at - at) % places)
+      → ScalarIs source s numberKind (numberValue s at) (Read next w)
+  unfolding numberValue _>>=_
+  number-read next w source< short e is =
+      let k = number-ok-past s at (next .at) e in
+      let same : w ≡ spelling numeral source at (next .at - at) = is ∙ spelling-fits numeral source at (next .at - at) (omega arith) source< (omega arith) (omega arith) in
+      scalar-read (Label.number (take (next .at - at) (drop at s))) next w (rw e) (rw same (number-labels s at (next .at) (k .0) (k .1) source source< short))
+
+  pub number-refused : (n place : ℕ) → number s at ≡ refused n place → ScalarIs source s numberKind (numberValue s at) (Refused n place)
+  unfolding numberValue _>>=_
+  number-refused n place e = scalar-refused n place (rw e)
+
+  pub string-read : (next : Cursor) (h : ℕ) (plain : Bool) (w : ℕ) → source < sources → length s < places → NameRead s at (next .at) h plain → w ≡ spelling (stringForm plain) source (at + 1) (next .at - 1 - (at + 1))
+      → ScalarIs source s stringKind (stringValue s at) (Read next w)
+  unfolding stringValue _>>=_
+  string-read next h plain w source< short r is =
+      scalar-read (Label.string (r .text)) next w (rw (r .reads)) (rw is (string-labels s at (r .text) (next .at) (r .reads) source source< short plain (r .plain-is)))
+
+  pub string-refused : (n place : ℕ) → string s at ≡ refused n place → ScalarIs source s stringKind (stringValue s at) (Refused n place)
+  unfolding stringValue _>>=_
+  string-refused n place e = scalar-refused n place (rw e)
+
+  pub literal-read : (kind : ℕ) (label : Label) (rest : Bytes) (r : Scan) (w : Word) → scanOutcome r ≡ Definition.spelled rest s (at + 1) → w ≡ literalWord r → ((document patch : Bytes) → labelOf document patch kind 0 ≡ label)
+      → ScalarIs source s kind (literalValue label rest s at) w
+  unfolding literalValue literalWord scanOutcome _>>=_
+  literal-read kind label rest (Scan.To next) w e is says = rw is (scalar-read label next 0 (rw (← e)) (literal-labels source s kind label says))
+  literal-read kind label rest (Scan.Refused n place) w e is says = rw is (scalar-refused n place (rw (← e)))

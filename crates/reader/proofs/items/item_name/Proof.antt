@@ -1,0 +1,19 @@
+use Rattle.lexer.proofs.Auto.{auto}
+use borrow.Author.Needs.{needs}
+use Rattle.reader.proofs.FilledLaws.{noted-none}
+use Rattle.reader.proofs.MemberLaws.{item-named, item-nameless}
+use Rattle.reader.proofs.items.item_name.Statement.{statement}
+use Rattle.reader.proofs.items.item_name.Tie as tie
+
+pub item-name-spec : {M : Type 1} → statement M
+item-name-spec =
+    tie.close
+    (tie.spec
+    -- member-name-requires
+    (λ c κs. search auto)
+    -- same-length
+    (λ c. search auto)
+    -- returns
+    (λ c. (item-named _ (c .before .before .before .before .if1 .taken) (c .before .before .member-name .ensures .0), c .before .before .member-name .ensures .1))
+    -- returns-2
+    (λ c. (item-nameless _ _ (c .if1 .left), noted-none _)))

@@ -1,0 +1,128 @@
+-- `value` meets its contract: a container's items so far stand in the rows behind its own, and the measure of the loop is what is left of the text.
+use Prim.Native.Nat.{ℕ, _+_, _-_, _<_, _≤_}
+use native.Mathlib.Omega.{arith}
+use mathlib.Core.Path.{_≡_, refl, sym, ap, _∙_}
+use lib.ListN.{length}
+use borrow.Author.Needs.{needs}
+use borrow.Fn.Kinds.{In}
+use borrow.Fn.PlainCycle.{Measures, is, falls, and}
+use Rattle.spec.specs.Limits.{maxNodes}
+use Rattle.reader.specs.Begins.{beginning}
+use Rattle.reader.proofs.ReadingLaws.{Filling, filling-none, filled-so-far, changed-so-far, filling-unread, filling-closed, filling-begins, filling-next, filling-refused, value-way-refused, begun, value-starts, value-fits, value-way-scalar, value-levels, value-way-items, value-way-closed}
+use Rattle.reader.proofs.values.value.Reads as value
+use Rattle.reader.proofs.values.value.Kinds as value-kinds
+use Rattle.reader.proofs.values.+value.Lts-value as value-lts
+use Rattle.lexer.proofs.peek.Reads as peek-reads
+use Rattle.reader.proofs.begins.beginning.Reads as beginning-reads
+use Rattle.reader.proofs.begins.refusal.Reads as refusal-reads
+use Rattle.reader.proofs.items.next_item.Reads as next-item-reads
+use Rattle.reader.proofs.values.put.Reads as put-reads
+use Rattle.reader.proofs.values.scalar_value.Reads as scalar-value-reads
+use Rattle.reader.proofs.values.+value.{statement}
+use Rattle.reader.proofs.values.+value.Tie.{close}
+
+-- the levels fall
+abbrev μ-value : Measures 3 value-kinds.ps ℕ
+μ-value κs a = a .1 .1 .0
+
+abbrev value-at : ℕ → In 3 value-kinds.ps
+value-at t = and 3 value-kinds.ps (is 3 value-kinds.ps μ-value t) value.Pre
+
+abbrev value-below : ℕ → In 3 value-kinds.ps
+value-below t = and 3 value-kinds.ps (falls 3 value-kinds.ps _<_ μ-value t) value.Pre
+
+abbrev value-Inv-loop : value-lts.InvT-loop
+value-Inv-loop s levels source name base row values₀ names₀ kind number next₀ end₀ values names next end =
+    (next₀ .at ≤ next .at) × (next .at ≤ length s) × (row < end) × (end ≤ base + maxNodes) × (length values ≡ length values₀) × (length names ≡ length names₀)
+    × Filling source s (next₀ .at) levels kind base row values₀ names₀ values names (next .at) end
+
+abbrev value-μ-loop : value-lts.MeasureT-loop
+value-μ-loop s levels source name base row values₀ names₀ kind number next₀ end₀ values names next end = length s - next .at
+
+pub +value-spec : {M : Type 1} → statement M
++value-spec = close μ-value λ t. value-lts.spec (
+  peek-reads.Asked,
+  peek-reads.Learnt,
+  beginning-reads.Asked,
+  beginning-reads.Learnt,
+  refusal-reads.Asked,
+  refusal-reads.Learnt,
+  scalar-value-reads.Asked,
+  scalar-value-reads.Learnt,
+  next-item-reads.Asked,
+  next-item-reads.Learnt,
+  value-below t,
+  value.Post,
+  put-reads.Asked,
+  put-reads.Learnt,
+)
+    (value-at t)
+    value.Post
+    value-Inv-loop
+    value-μ-loop
+    -- peek-requires
+    (λ c κs. search needs)
+    -- beginning-requires
+    (λ c κs. search needs)
+    -- refusal-requires
+    (λ c κs. search needs)
+    -- returns
+    (λ c. value-way-refused _ _ _ _ (c .before .before .beginning .ensures ∙ ap beginning (c .before .before .before .peek .ensures)) (c .before .refusal .ensures) (c .if1 .taken))
+    -- scalar-value-requires
+    (λ c κs. let p = c .before .before .before .before .before .before .before .before .before .before .pre .1 in let b = begun _ _ _ _ _ _ _ (c .before .before .before .before .before .beginning .ensures ∙ ap beginning (c .before .before .before .before .before .before .peek .ensures)) (c .before .before .before .before .refusal .ensures) (p .1 .1) (c .before .before .before .if1 .left) in (p .0, (value-starts b, c .before .before .if2 .taken, omega (arith, value-fits b, p .1))))
+    -- same-length
+    (λ c. search needs)
+    -- same-length-2
+    (λ c. search needs)
+    -- returns-2
+    (λ c. let p = c .before .before .before .before .before .before .before .before .before .before .before .before .before .before .before .pre .1 in let b = begun _ _ _ _ _ _ _ (c .before .before .before .before .before .before .before .before .before .before .beginning .ensures ∙ ap beginning (c .before .before .before .before .before .before .before .before .before .before .before .peek .ensures)) (c .before .before .before .before .before .before .before .before .before .refusal .ensures) (p .1 .1) (c .before .before .before .before .before .before .before .before .if1 .left) in value-way-scalar b (c .before .before .before .before .before .before .before .if2 .taken) (c .before .before .before .before .scalar-value .ensures))
+    -- add-t29
+    (λ c. let p = c .before .before .before .before .before .before .before .before .before .pre .1 in let b = begun _ _ _ _ _ _ _ (c .before .before .before .before .beginning .ensures ∙ ap beginning (c .before .before .before .before .before .peek .ensures)) (c .before .before .before .refusal .ensures) (p .1 .1) (c .before .before .if1 .left) in omega (arith, value-starts b))
+    -- add-end
+    (λ c. search needs)
+    -- loop-holds
+    (λ c. let p = c .before .before .before .before .before .before .before .before .before .pre .1 in let b = begun _ _ _ _ _ _ _ (c .before .before .before .before .beginning .ensures ∙ ap beginning (c .before .before .before .before .before .peek .ensures)) (c .before .before .before .refusal .ensures) (p .1 .1) (c .before .before .if1 .left) in let l = value-starts b in let m = value-fits b in (omega arith, omega arith, omega arith, omega arith, refl, refl, filling-none _ _ _ _ _ _ _ _ _ (omega arith) (omega arith)))
+    -- next-item-requires
+    (λ c κs. let p = c .before .before .before .before .before .before .before .before .before .before .before .before .pre .1 in let i = c .before .before .loop .inv in (record { source< = p .0 .source<; short = p .0 .short; values-long = omega (arith, p .0 .values-long, i); names-long = omega (arith, p .0 .names-long, i) }, (omega (arith, i), omega (arith, i, p .1))))
+    -- enum-known-first
+    (λ c. search needs)
+    -- sub-value
+    (λ c. let p = c .before .before .before .before .before .before .before .before .before .before .before .before .before .before .before .before .before .before .pre .1 in let b = begun _ _ _ _ _ _ _ (c .before .before .before .before .before .before .before .before .before .before .before .before .before .beginning .ensures ∙ ap beginning (c .before .before .before .before .before .before .before .before .before .before .before .before .before .before .peek .ensures)) (c .before .before .before .before .before .before .before .before .before .before .before .before .refusal .ensures) (p .1 .1) (c .before .before .before .before .before .before .before .before .before .before .before .if1 .left) in omega (arith, value-levels b (c .before .before .before .before .before .before .before .before .before .before .if2 .left)))
+    -- value-requires
+    (λ c κs. let p = c .before .before .before .before .before .before .before .before .before .before .before .before .before .before .before .before .before .before .before .before .pre .1 in let b = begun _ _ _ _ _ _ _ (c .before .before .before .before .before .before .before .before .before .before .before .before .before .before .before .beginning .ensures ∙ ap beginning (c .before .before .before .before .before .before .before .before .before .before .before .before .before .before .before .before .peek .ensures)) (c .before .before .before .before .before .before .before .before .before .before .before .before .before .before .refusal .ensures) (p .1 .1) (c .before .before .before .before .before .before .before .before .before .before .before .before .before .if1 .left) in let i = c .before .before .before .before .before .before .before .before .before .before .loop .inv in let f = filling-begins _ _ _ _ _ _ _ (i .6) (i .1) (p .1 .1) (c .before .before .before .before .before .before .before .next-item .ensures .0) (c .before .before .before .before .before .before .before .next-item .ensures .1) _ _ (c .before .before .before .first .given .1) in (omega (arith, c .before .before .before .before .before .before .before .before .before .before .before .before .before .before .before .before .before .before .before .before .pre .0, value-levels b (c .before .before .before .before .before .before .before .before .before .before .before .before .if2 .left)), (record { source< = p .0 .source<; short = p .0 .short; values-long = omega (arith, p .0 .values-long, i .4, c .before .before .before .before .before .before .before .next-item .kept .1 .1 .1 .1 .1 .1 .0); names-long = omega (arith, p .0 .names-long, i .5) }, (f .1, omega (arith, i .2, p .1 .1), i .3, p .1 .3))))
+    -- enum-known-after
+    (λ c. search needs)
+    -- loop-less
+    (λ c. let p = c .before .before .before .before .before .before .before .before .before .before .before .before .before .before .before .before .before .before .before .before .before .before .before .before .before .before .before .before .pre .1 in let b = begun _ _ _ _ _ _ _ (c .before .before .before .before .before .before .before .before .before .before .before .before .before .before .before .before .before .before .before .before .before .before .before .beginning .ensures ∙ ap beginning (c .before .before .before .before .before .before .before .before .before .before .before .before .before .before .before .before .before .before .before .before .before .before .before .before .peek .ensures)) (c .before .before .before .before .before .before .before .before .before .before .before .before .before .before .before .before .before .before .before .before .before .before .refusal .ensures) (p .1 .1) (c .before .before .before .before .before .before .before .before .before .before .before .before .before .before .before .before .before .before .before .before .before .if1 .left) in let i = c .before .before .before .before .before .before .before .before .before .before .before .before .before .before .before .before .before .before .loop .inv in let n = filling-next _ _ _ _ _ _ _ (i .6) (i .1) (p .1 .1) (c .before .before .before .before .before .before .before .before .before .before .before .before .before .before .before .next-item .ensures .0) (c .before .before .before .before .before .before .before .before .before .before .before .before .before .before .before .next-item .ensures .1) _ _ (c .before .before .before .before .before .before .before .before .before .before .before .first .given .1) (c .before .before .before .before .before .before .before .value .ensures) _ _ (c .before .after .given .1) in let f = filling-begins _ _ _ _ _ _ _ (i .6) (i .1) (p .1 .1) (c .before .before .before .before .before .before .before .before .before .before .before .before .before .before .before .next-item .ensures .0) (c .before .before .before .before .before .before .before .before .before .before .before .before .before .before .before .next-item .ensures .1) _ _ (c .before .before .before .before .before .before .before .before .before .before .before .first .given .1) in omega (arith, n .0, f))
+    -- loop-again
+    (λ c. let p = c .before .before .before .before .before .before .before .before .before .before .before .before .before .before .before .before .before .before .before .before .before .before .before .before .before .before .before .before .pre .1 in let b = begun _ _ _ _ _ _ _ (c .before .before .before .before .before .before .before .before .before .before .before .before .before .before .before .before .before .before .before .before .before .before .before .beginning .ensures ∙ ap beginning (c .before .before .before .before .before .before .before .before .before .before .before .before .before .before .before .before .before .before .before .before .before .before .before .before .peek .ensures)) (c .before .before .before .before .before .before .before .before .before .before .before .before .before .before .before .before .before .before .before .before .before .before .refusal .ensures) (p .1 .1) (c .before .before .before .before .before .before .before .before .before .before .before .before .before .before .before .before .before .before .before .before .before .if1 .left) in let i = c .before .before .before .before .before .before .before .before .before .before .before .before .before .before .before .before .before .before .loop .inv in let n = filling-next _ _ _ _ _ _ _ (i .6) (i .1) (p .1 .1) (c .before .before .before .before .before .before .before .before .before .before .before .before .before .before .before .next-item .ensures .0) (c .before .before .before .before .before .before .before .before .before .before .before .before .before .before .before .next-item .ensures .1) _ _ (c .before .before .before .before .before .before .before .before .before .before .before .first .given .1) (c .before .before .before .before .before .before .before .value .ensures) _ _ (c .before .after .given .1) in let f = filling-begins _ _ _ _ _ _ _ (i .6) (i .1) (p .1 .1) (c .before .before .before .before .before .before .before .before .before .before .before .before .before .before .before .next-item .ensures .0) (c .before .before .before .before .before .before .before .before .before .before .before .before .before .before .before .next-item .ensures .1) _ _ (c .before .before .before .before .before .before .before .before .before .before .before .first .given .1) in (omega (arith, n .0, f, i .0), n .0 .inside, omega (arith, n .0, i .2), n .0 .room, c .before .before .before .before .before .before .before .value .kept .1 .1 .1 .1 .1 .1 .1 .0 ∙ c .before .before .before .before .before .before .before .before .before .before .before .before .before .before .before .next-item .kept .1 .1 .1 .1 .1 .1 .0 ∙ i .4, c .before .before .before .before .before .before .before .value .kept .1 .1 .1 .1 .1 .1 .1 .1 .0 ∙ i .5, n .1))
+    -- enum-known-number
+    (λ c. search needs)
+    -- same-length-3
+    (λ c. search needs)
+    -- same-length-4
+    (λ c. search needs)
+    -- returns-3
+    (λ c. let p = c .before .before .before .before .before .before .before .before .before .before .before .before .before .before .before .before .before .before .before .before .before .before .before .before .before .before .before .before .pre .1 in let b = begun _ _ _ _ _ _ _ (c .before .before .before .before .before .before .before .before .before .before .before .before .before .before .before .before .before .before .before .before .before .before .before .beginning .ensures ∙ ap beginning (c .before .before .before .before .before .before .before .before .before .before .before .before .before .before .before .before .before .before .before .before .before .before .before .before .peek .ensures)) (c .before .before .before .before .before .before .before .before .before .before .before .before .before .before .before .before .before .before .before .before .before .before .refusal .ensures) (p .1 .1) (c .before .before .before .before .before .before .before .before .before .before .before .before .before .before .before .before .before .before .before .before .before .if1 .left) in let i = c .before .before .before .before .before .before .before .before .before .before .before .before .before .before .before .before .before .before .loop .inv in let r = filling-refused _ _ _ _ _ _ _ (i .6) (i .1) (p .1 .1) (c .before .before .before .before .before .before .before .before .before .before .before .before .before .before .before .next-item .ensures .0) (c .before .before .before .before .before .before .before .before .before .before .before .before .before .before .before .next-item .ensures .1) _ _ (c .before .before .before .before .before .before .before .before .before .before .before .first .given .1) (c .before .before .before .before .before .before .before .value .ensures) _ _ (c .before .number .given .1) (i .3) in value-way-items b (c .before .before .before .before .before .before .before .before .before .before .before .before .before .before .before .before .before .before .before .before .if2 .left) _ _ _ (omega arith) (r .0) (r .1))
+    -- enum-known-after-2
+    (λ c. search needs)
+    -- sub-put
+    (λ c. search needs)
+    -- sub-put-2
+    (λ c. search needs)
+    -- put-requires
+    (λ c κs. search needs)
+    -- same-length-5
+    (λ c. search needs)
+    -- same-length-6
+    (λ c. search needs)
+    -- returns-4
+    (λ c. let p = c .before .before .before .before .before .before .before .before .before .before .before .before .before .before .before .before .before .before .before .before .before .before .before .before .before .pre .1 in let b = begun _ _ _ _ _ _ _ (c .before .before .before .before .before .before .before .before .before .before .before .before .before .before .before .before .before .before .before .before .beginning .ensures ∙ ap beginning (c .before .before .before .before .before .before .before .before .before .before .before .before .before .before .before .before .before .before .before .before .before .peek .ensures)) (c .before .before .before .before .before .before .before .before .before .before .before .before .before .before .before .before .before .before .before .refusal .ensures) (p .1 .1) (c .before .before .before .before .before .before .before .before .before .before .before .before .before .before .before .before .before .before .if1 .left) in let i = c .before .before .before .before .before .before .before .before .before .before .before .before .before .before .before .loop .inv in let z = filling-closed _ _ _ _ _ _ _ (i .6) (i .1) (p .1 .1) (c .before .before .before .before .before .before .before .before .before .before .before .before .next-item .ensures .0) (c .before .before .before .before .before .before .before .before .before .before .before .before .next-item .ensures .1) _ (c .before .before .before .before .before .before .before .before .after2 .given .1) in value-way-closed b (c .before .before .before .before .before .before .before .before .before .before .before .before .before .before .before .before .before .if2 .left) _ _ (z .0) (record { past = omega (arith, z, i .0); inside = z .2; grows = i .2; room = i .3 }) (p .1 .3) (omega (arith, p .0 .values-long, i .4, c .before .before .before .before .before .before .before .before .before .before .before .before .next-item .kept .1 .1 .1 .1 .1 .1 .0)) (omega (arith, p .0 .names-long, i .5)) (filled-so-far _ _ _ _ _ _ _ (i .6) (i .1) (p .1 .1) (c .before .before .before .before .before .before .before .before .before .before .before .before .next-item .ensures .0) (c .before .before .before .before .before .before .before .before .before .before .before .before .next-item .ensures .1)) (changed-so-far _ _ _ _ _ _ _ (i .6) (i .1) (p .1 .1) (c .before .before .before .before .before .before .before .before .before .before .before .before .next-item .ensures .0) (c .before .before .before .before .before .before .before .before .before .before .before .before .next-item .ensures .1)) (c .before .before .before .before .put .ensures .0) (c .before .before .before .before .put .ensures .1))
+    -- enum-known-number-2
+    (λ c. search needs)
+    -- same-length-7
+    (λ c. search needs)
+    -- same-length-8
+    (λ c. search needs)
+    -- returns-5
+    (λ c. let p = c .before .before .before .before .before .before .before .before .before .before .before .before .before .before .before .before .before .before .pre .1 in let b = begun _ _ _ _ _ _ _ (c .before .before .before .before .before .before .before .before .before .before .before .before .before .beginning .ensures ∙ ap beginning (c .before .before .before .before .before .before .before .before .before .before .before .before .before .before .peek .ensures)) (c .before .before .before .before .before .before .before .before .before .before .before .before .refusal .ensures) (p .1 .1) (c .before .before .before .before .before .before .before .before .before .before .before .if1 .left) in let i = c .before .before .before .before .before .before .before .before .loop .inv in value-way-items b (c .before .before .before .before .before .before .before .before .before .before .if2 .left) _ _ _ (i .3) (filling-unread _ _ _ _ _ _ _ (i .6) (i .1) (p .1 .1) (c .before .before .before .before .before .next-item .ensures .0) (c .before .before .before .before .before .next-item .ensures .1) _ _ (c .before .number2 .given .1)) (changed-so-far _ _ _ _ _ _ _ (i .6) (i .1) (p .1 .1) (c .before .before .before .before .before .next-item .ensures .0) (c .before .before .before .before .before .next-item .ensures .1)))

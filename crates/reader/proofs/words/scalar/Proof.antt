@@ -1,0 +1,44 @@
+use Rattle.lexer.proofs.Auto.{auto}
+use borrow.Author.Needs.{needs}
+use native.Mathlib.Omega.{arith}
+use mathlib.Core.Path.{_≡_, refl}
+use Rattle.table.specs.Meaning.{labelOf}
+use Rattle.reader.specs.Begins.{scalarOf}
+use Rattle.reader.proofs.WordLaws.{literal-read}
+use Rattle.spec.specs.Value.{Label}
+use Rattle.reader.proofs.words.scalar.Statement.{statement}
+use Rattle.reader.proofs.words.scalar.Tie as tie
+
+pub scalar-spec : {M : Type 1} → statement M
+unfolding scalarOf labelOf
+scalar-spec =
+    tie.close
+    (tie.spec
+    -- string-requires
+    (λ c κs. search auto)
+    -- returns
+    (λ c. rw (c .before .if1 .taken) (c .string .ensures))
+    -- number-requires
+    (λ c κs. search auto)
+    -- returns-2
+    (λ c. rw (c .before .if2 .taken) (c .number .ensures))
+    -- add-t7
+    (λ c. search auto)
+    -- null-literal-requires
+    (λ c κs. search auto)
+    -- literal-requires
+    (λ c κs. search auto)
+    -- returns-3
+    (λ c. rw (c .before .before .if3 .taken) (literal-read _ _ _ 0 Label.null-literal _ _ _ (c .before .null-literal .ensures) (c .literal .ensures) (λ D P. refl)))
+    -- true-literal-requires
+    (λ c κs. search auto)
+    -- literal-requires-2
+    (λ c κs. search auto)
+    -- returns-4
+    (λ c. rw (c .before .before .if4 .taken) (literal-read _ _ _ 1 Label.true-literal _ _ _ (c .before .true-literal .ensures) (c .literal2 .ensures) (λ D P. refl)))
+    -- false-literal-requires
+    (λ c κs. search auto)
+    -- literal-requires-3
+    (λ c κs. search auto)
+    -- returns-5
+    (λ c. let kind : c .before .before .before .before .before .before .before .before .args .kind ≡ 2 = omega arith in rw kind (literal-read _ _ _ 2 Label.false-literal _ _ _ (c .before .false-literal .ensures) (c .literal3 .ensures) (λ D P. refl))))

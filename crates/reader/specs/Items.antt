@@ -1,0 +1,46 @@
+-- What comes next in a container.
+use Prim.Native.Nat.{ℕ, _+_}
+use Prim.Native.Char.{code}
+use mathlib.Core.Path.{_≡_}
+use mathlib.Core.Bool.{Bool, true}
+use mathlib.Core.List.{List}
+use lib.Dec.{eqb}
+use Rattle.spec.specs.Outcome.{Outcome, ok, refused, _>>=_, if_then_else_}
+use Rattle.spec.specs.Bytes.{Bytes, Text, byte, byteIn}
+use Rattle.spec.specs.Forest.{count}
+use Rattle.spec.specs.Value.{Members}
+use Rattle.spec.specs.Read.{blanks, nameFor, closingBracket}
+use Rattle.lexer.specs.Hash.{hash}
+use Rattle.lexer.specs.declared.cursor.Cursor.{Cursor}
+use Rattle.filter.specs.Filter.{found}
+use Rattle.tape.specs.Layout.{scratchRow}
+use Rattle.reader.specs.Words.{Titles}
+use Rattle.reader.specs.Filled.{keyOf}
+use Rattle.reader.specs.declared.items.Item.{Item}
+use Rattle.reader.specs.declared.items.Item.the-variants.{Begins, Closed, Refused}
+
+-- its closing bracket, with the place after it; or an item's name, with the place where its value begins
+pub data Next : Type 0 where
+  closed : ℕ → Next
+  begins : Text → ℕ → Next
+
+-- the place of an item: a comma stands before every one but the first
+unfoldable pub afterComma : Bytes → Bool → ℕ → Outcome ℕ
+afterComma s first at = if first then ok at else (byteIn s at (code ",") (code ",") >>= λ _. ok (blanks s (at + 1)))
+
+unfoldable pub begun : Text × ℕ → Outcome Next
+begun (name, at) = ok (begins name at)
+
+-- from the place after the opening bracket, or after a value, on; `so-far` are the items before
+unfoldable pub nextItem : Bool → Bytes → Members → ℕ → Outcome Next
+nextItem object s so-far at =
+    let place = blanks s at in
+    if eqb (byte s place) (closingBracket object) then ok (closed (place + 1)) else
+    (afterComma s (eqb (count so-far) 0) place >>= λ first. nameFor object s so-far first >>= begun)
+
+-- what the code answers
+pub data ItemIs (source : ℕ) (s : Bytes) (object : Bool) (row : ℕ) (values' : List ℕ) (o : Outcome Next) : Item → Type 0 where
+  item-begins : (text : Text) (first : Cursor) (name : ℕ) → o ≡ ok (begins text (first .at)) → Titles source s text name
+      → (object ≡ true → found values' scratchRow (keyOf row (hash text)) ≡ true) → ItemIs source s object row values' o (Begins first name)
+  item-closed : (next : Cursor) → o ≡ ok (closed (next .at)) → ItemIs source s object row values' o (Closed next)
+  item-refused : (number place : ℕ) → o ≡ refused number place → ItemIs source s object row values' o (Refused number place)

@@ -1,0 +1,6 @@
+pub mod Begins
+pub mod Words
+pub mod Filled
+pub mod Names
+pub mod Items
+pub mod Taken

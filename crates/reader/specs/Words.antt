@@ -1,0 +1,67 @@
+-- What the words say that are read of a text: of a scalar its label, of a name its text.
+use Prim.Native.Nat.{ℕ, _+_, _<_, _≤_}
+use mathlib.Core.Path.{_≡_}
+use mathlib.Core.Bool.{Bool}
+use mathlib.Core.List.{List}
+use lib.ListN.{length}
+use Rattle.spec.specs.Outcome.{Outcome, ok, refused, if_then_else_}
+use Rattle.spec.specs.Bytes.{Bytes, Text}
+use Rattle.spec.specs.Write.{writeCharacters}
+use Rattle.spec.specs.Value as Value
+use Rattle.spec.specs.Value.{Label, leaf}
+use Rattle.lexer.specs.Hash.{hash}
+use Rattle.lexer.specs.declared.cursor.Cursor.{Cursor}
+use Rattle.lexer.specs.declared.cursor.Scan.{Scan}
+use Rattle.lexer.specs.declared.cursor.Scan.the-variants as Scan
+use Rattle.tape.specs.Layout.{sources, places, spellings, plainString, escapedString, scratchRow}
+use Rattle.tape.specs.Packing.{formOf, spellingOf, hashOf}
+use Rattle.table.specs.Meaning.{sourceText, partOf, spelled, labelOf, nameText}
+use Rattle.reader.specs.declared.words.Word.{Word}
+use Rattle.reader.specs.declared.words.Word.the-variants.{Read, Refused}
+
+-- what holds whatever the two texts are, provided that the source names this one
+abbrev pub InText : ℕ → Bytes → (Bytes → Bytes → Type 0) → Type 0
+InText source s P = (document patch : Bytes) → sourceText document patch source ≡ s → P document patch
+
+-- what a reader is lent: a text whose places fit a spelling, and columns with room for the nodes and the filter
+pub record Lent (source : ℕ) (s : Bytes) (values names : List ℕ) : Type 0 where
+  pub source< : source < sources
+  pub short : length s < places
+  pub values-long : scratchRow + 1024 ≤ length values
+  pub names-long : scratchRow ≤ length names
+
+-- the form of a string, by whether it is written without escapes
+unfoldable pub stringForm : Bool → ℕ
+stringForm plain = if plain then plainString else escapedString
+
+-- a string without escapes is written as it stands
+pub record Verbatim (document patch : Bytes) (spelling : ℕ) : Type 0 where
+  pub is : formOf spelling ≡ plainString → writeCharacters (spelled document patch spelling) ≡ partOf document patch spelling
+
+-- a spelling says a text
+pub record Spells (source : ℕ) (s : Bytes) (text : Text) (spelling : ℕ) : Type 0 where
+  pub fits : spelling < spellings
+  pub says : InText source s (λ document patch. spelled document patch spelling ≡ text)
+  pub verbatim : InText source s (λ document patch. Verbatim document patch spelling)
+
+-- a scalar's payload says its label
+pub record Labels (source : ℕ) (s : Bytes) (kind : ℕ) (label : Label) (payload : ℕ) : Type 0 where
+  pub fits : payload < spellings
+  pub says : InText source s (λ document patch. labelOf document patch kind payload ≡ label)
+  pub verbatim : InText source s (λ document patch. Verbatim document patch payload)
+
+-- a name's word says its text, and has its hash
+pub record Titles (source : ℕ) (s : Bytes) (text : Text) (name : ℕ) : Type 0 where
+  pub says : InText source s (λ document patch. nameText document patch name ≡ text)
+  pub hashed : hashOf name ≡ hash text
+  pub verbatim : InText source s (λ document patch. Verbatim document patch (spellingOf name))
+
+-- a literal has no text
+unfoldable pub literalWord : Scan → Word
+literalWord (Scan.To next) = Read next 0
+literalWord (Scan.Refused number place) = Refused number place
+
+-- what a scalar's reader answers
+pub data ScalarIs (source : ℕ) (s : Bytes) (kind : ℕ) (o : Outcome (Value.Value × ℕ)) : Word → Type 0 where
+  scalar-read : (label : Label) (next : Cursor) (payload : ℕ) → o ≡ ok (leaf label, next .at) → Labels source s kind label payload → ScalarIs source s kind o (Read next payload)
+  scalar-refused : (number place : ℕ) → o ≡ refused number place → ScalarIs source s kind o (Refused number place)

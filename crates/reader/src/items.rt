@@ -1,0 +1,94 @@
+// The next item of a container.
+ghost use mathlib.Core.Path.{_≡_};
+ghost use Prim.Native.Nat.{_<_, _≤_};
+ghost use lib.ListN.{length};
+ghost use Rattle.spec.specs.Read.{closingBracket, nameFor};
+ghost use Rattle.lexer.specs.Answers.{scanOutcome};
+ghost use Rattle.tape.specs.Layout.{scratchRow};
+ghost use Rattle.reader.specs.Words.{Lent};
+ghost use Rattle.reader.specs.Filled.{Noted};
+ghost use Rattle.reader.specs.Names.{NameIs, Having};
+ghost use Rattle.reader.specs.Items.{afterComma, nextItem, ItemIs};
+use crate::names::member_name;
+use crate::words::Word;
+use lexer::Cursor;
+use lexer::Scan;
+use lexer::peek;
+
+pub enum Item {
+    // the cursor where the item's value begins, and the word of its name
+    Begins(Cursor, u64),
+    // the cursor after the closing bracket
+    Closed(Cursor),
+    Refused(u8, usize),
+}
+
+fn closing_bracket(object: bool) -> u8
+    ensures { λ r. ⌜ r ≡ closingBracket object ⌝ }
+{
+    if object { b'}' } else { b']' }
+}
+
+// The comma before an item that is not the first.
+fn comma(s: &[u8], at: Cursor, first: bool) -> Scan
+    ensures { λ r. ⌜ scanOutcome r ≡ afterComma (now (s .entry)) first (at .at) ⌝ }
+{
+    if first {
+        return Scan::To(at);
+    }
+    if peek(s, at.at) != b',' {
+        return Scan::Refused(3, at.at);
+    }
+    Scan::To((Cursor { at: at.at + 1 }).blanks(s))
+}
+
+// The name of an item; an array's element has none.
+fn item_name(
+    s: &[u8],
+    at: Cursor,
+    object: bool,
+    source: u64,
+    row: usize,
+    end: usize,
+    values: &mut [u64],
+    names: &[u64],
+) -> Word
+    requires { ⌜ Lent source (now s) (now values) (now names) ⌝ }
+    requires { ⌜ (row < end) × (end ≤ scratchRow) ⌝ }
+    ensures { λ r. ⌜ Having source (now (s .entry)) object row end (now (values .entry)) (now (names .entry)) (λ all. NameIs source (now (s .entry)) object row (now (values .exit)) (nameFor object (now (s .entry)) all (at .at)) r) ⌝ }
+    ensures { λ r. ⌜ Noted (now (values .entry)) (now (values .exit)) ⌝ }
+{
+    if object {
+        return member_name(s, at, source, row, end, values, names);
+    }
+    Word::Read(at, 0)
+}
+
+// The next item of the container in a row, whose items so far stand in the rows up to `end`: from after its opening bracket, or after a value, on.
+pub fn next_item(
+    s: &[u8],
+    at: Cursor,
+    object: bool,
+    source: u64,
+    row: usize,
+    end: usize,
+    values: &mut [u64],
+    names: &[u64],
+) -> Item
+    requires { ⌜ Lent source (now s) (now values) (now names) ⌝ }
+    requires { ⌜ (row < end) × (end ≤ scratchRow) ⌝ }
+    ensures { λ r. ⌜ Having source (now (s .entry)) object row end (now (values .entry)) (now (names .entry)) (λ all. ItemIs source (now (s .entry)) object row (now (values .exit)) (nextItem object (now (s .entry)) all (at .at)) r) ⌝ }
+    ensures { λ r. ⌜ Noted (now (values .entry)) (now (values .exit)) ⌝ }
+{
+    let place = at.blanks(s);
+    if peek(s, place.at) == closing_bracket(object) {
+        return Item::Closed(Cursor { at: place.at + 1 });
+    }
+    match comma(s, place, end == row + 1) {
+        Scan::To(first) => match item_name(s, first, object, source, row, end, values, names) {
+            Word::Read(next, word) => Item::Begins(next, word),
+            Word::Refused(number, refused) => Item::Refused(number, refused),
+        },
+        Scan::Refused(number, refused) => Item::Refused(number, refused),
+    }
+}
