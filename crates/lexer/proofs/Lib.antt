@@ -1,0 +1,12 @@
+pub mod Tests
+pub mod Fuel
+pub mod Always
+pub mod ByteLaws
+pub mod AnswerLaws
+pub mod StringLaws
+pub mod StringLoop
+pub mod NameLaws
+pub mod NumberLoop
+pub mod NumberLaws
+pub mod BlankLaws
+pub mod Auto

@@ -1,0 +1,35 @@
+-- What each answer of the code stands for: the outcome of the definition that it is held to.
+use Prim.Native.Nat.{ℕ}
+use mathlib.Core.Bool.{Bool}
+use Rattle.spec.specs.Outcome.{Outcome, ok, refused, _>>=_}
+use Rattle.spec.specs.Refusal.{not-json}
+use Rattle.spec.specs.Bytes.{Text}
+use Rattle.lexer.specs.declared.cursor.Bounded.{Bounded}
+use Rattle.lexer.specs.declared.cursor.Bounded.the-variants as Bounded
+use Rattle.lexer.specs.declared.cursor.Scan.{Scan}
+use Rattle.lexer.specs.declared.cursor.Scan.the-variants as Scan
+use Rattle.lexer.specs.declared.characters.Character.{Character}
+use Rattle.lexer.specs.declared.characters.Character.the-variants as Character
+use Rattle.lexer.specs.declared.strings.Name.{Name}
+use Rattle.lexer.specs.declared.strings.Name.the-variants as Name
+
+-- of a number that was asked for at a place
+unfoldable pub boundedOutcome : ℕ → Bounded → Outcome ℕ
+boundedOutcome at (Bounded.Within n) = ok n
+boundedOutcome at Bounded.Outside = refused not-json at
+
+unfoldable pub characterOutcome : Character → Outcome (ℕ × ℕ)
+characterOutcome (Character.Scalar c next) = ok (c, next .at)
+characterOutcome (Character.Refused place) = refused not-json place
+
+unfoldable pub scanOutcome : Scan → Outcome ℕ
+scanOutcome (Scan.To next) = ok (next .at)
+scanOutcome (Scan.Refused number place) = refused number place
+
+unfoldable pub nameOutcome : Name → Outcome (ℕ × ℕ × Bool)
+nameOutcome (Name.Read next hash plain) = ok (next .at, hash, plain)
+nameOutcome (Name.Refused place) = refused not-json place
+
+-- where a text that was read ends
+unfoldable pub endOf : Outcome (Text × ℕ) → Outcome ℕ
+endOf o = o >>= λ t. ok (t .1)

@@ -1,0 +1,131 @@
+// Strings: RFC 8259, section 7. A name is read as any other string is, and what makes two names quick to compare is kept on the way.
+ghost use mathlib.Core.Path.{_≡_};
+ghost use Prim.Native.Nat.{_+_};
+ghost use mathlib.Core.Bool.{_&&_, not};
+ghost use lib.ListN.{length};
+ghost use lib.Dec.{eqb};
+ghost use Rattle.spec.specs.Strings.{characters, string};
+ghost use Rattle.lexer.specs.Names.{standsForItself, keptOf};
+ghost use Rattle.lexer.specs.Answers.{scanOutcome, endOf, nameOutcome};
+use crate::characters::Character;
+use crate::cursor::Bounded;
+use crate::cursor::Cursor;
+use crate::cursor::NOT_JSON;
+use crate::cursor::Scan;
+use crate::cursor::byte_in;
+use crate::cursor::peek;
+use crate::hash::mix;
+
+// A name's cursor after it, the hash of its characters, and whether it is plain: written with no escape; or the place of a refusal, whose
+// number is 3.
+pub enum Name {
+    Read {
+        next: Cursor,
+        hash: u32,
+        plain: bool,
+    },
+    Refused(usize),
+}
+
+// Whether a byte is a whole character of its string, as most bytes of most strings are: asked first, it keeps a loop over them quick.
+pub fn stands_for_itself(b: u8) -> bool
+    ensures { λ r. ⌜ r ≡ standsForItself b ⌝ }
+{
+    if b < 0x20 {
+        return false;
+    }
+    if 0x7F < b {
+        return false;
+    }
+    if b == b'"' {
+        return false;
+    }
+    b != b'\\'
+}
+
+// The characters from a place to the closing quotation mark.
+fn characters(s: &[u8], start: usize) -> Scan
+    ensures { λ r. ⌜ scanOutcome r ≡ endOf (characters (length (now (s .entry))) (now (s .entry)) start) ⌝ }
+{
+    let mut at = start;
+    loop {
+        let b = peek(s, at);
+        if stands_for_itself(b) {
+            at += 1;
+            continue;
+        }
+        if b == b'"' {
+            return Scan::To(Cursor { at: at + 1 });
+        }
+        match (Cursor { at }).character(s) {
+            Character::Scalar(_, next) => at = next.at,
+            Character::Refused(place) => return Scan::Refused(NOT_JSON, place),
+        }
+    }
+}
+
+// Whether a text is still plain after a character that begins with a byte.
+fn still_plain(plain: bool, b: u8) -> bool
+    ensures { λ r. ⌜ r ≡ (plain && not (eqb b 0x5C)) ⌝ }
+{
+    if b == b'\\' {
+        return false;
+    }
+    plain
+}
+
+// The characters from a place to the closing quotation mark, with what is kept of them.
+fn name_characters(s: &[u8], start: usize) -> Name
+    ensures { λ r. ⌜ nameOutcome r ≡ keptOf (now (s .entry)) start (characters (length (now (s .entry))) (now (s .entry)) start) ⌝ }
+{
+    let mut at = start;
+    let mut hash: u32 = 0;
+    let mut plain = true;
+    loop {
+        let b = peek(s, at);
+        if stands_for_itself(b) {
+            hash = mix(hash, b as u32);
+            at += 1;
+            continue;
+        }
+        if b == b'"' {
+            return Name::Read {
+                next: Cursor { at: at + 1 },
+                hash,
+                plain,
+            };
+        }
+        match (Cursor { at }).character(s) {
+            Character::Scalar(c, next) => {
+                hash = mix(hash, c);
+                plain = still_plain(plain, b);
+                at = next.at;
+            }
+            Character::Refused(place) => return Name::Refused(place),
+        }
+    }
+}
+
+impl Cursor {
+    // The string at the cursor, with its quotation marks.
+    pub fn string(self, s: &[u8]) -> Scan
+        ensures { λ r. ⌜ scanOutcome r ≡ endOf (string (now (s .entry)) (self .at)) ⌝ }
+    {
+        let at = self.at;
+        let Bounded::Within(_) = byte_in(s, at, b'"', b'"') else {
+            return Scan::Refused(NOT_JSON, at);
+        };
+        characters(s, at + 1)
+    }
+
+    // The string at the cursor, with its quotation marks, and what is kept of it as a name.
+    pub fn name(self, s: &[u8]) -> Name
+        ensures { λ r. ⌜ nameOutcome r ≡ keptOf (now (s .entry)) (self .at + 1) (string (now (s .entry)) (self .at)) ⌝ }
+    {
+        let at = self.at;
+        let Bounded::Within(_) = byte_in(s, at, b'"', b'"') else {
+            return Name::Refused(at);
+        };
+        name_characters(s, at + 1)
+    }
+}
