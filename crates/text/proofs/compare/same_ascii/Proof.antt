@@ -1,0 +1,49 @@
+use Prim.Native.Nat.{_-_, _≤_}
+use mathlib.Core.Path.{_≡_, refl, sym, ap, _∙_}
+use native.Mathlib.Omega.{arith}
+use lib.ListN.{length, drop}
+use Rattle.spec.specs.Value.{sameText}
+use Rattle.text.specs.Decode.{textFrom, textOf}
+use Rattle.text.proofs.Auto.{auto}
+use Rattle.text.proofs.LetterLaws.{scalar-text, scalar-less, refused-text}
+use Rattle.text.proofs.CompareLaws.{front, back, heads-same, heads-differ, longer, end-same}
+use Rattle.text.proofs.compare.same_ascii.Statement.{statement}
+use Rattle.text.proofs.compare.same_ascii.Tie as tie
+
+abbrev Inv-loop : tie.InvT-loop
+Inv-loop form a constant i₀ j₀ i j = (j ≤ length constant) × (sameText (textFrom form a i) (drop j constant) ≡ sameText (textOf form a) constant)
+
+abbrev μ-loop : tie.MeasureT-loop
+μ-loop form a constant i₀ j₀ i j = length a - i
+
+pub same-ascii-spec : {M : Type 1} → statement M
+unfolding textOf
+same-ascii-spec =
+    tie.close
+    (tie.spec
+    Inv-loop
+    μ-loop
+    -- loop-holds
+    (λ c. (omega arith, refl))
+    -- letter-requires
+    (λ c κs. search auto)
+    -- enum-known-c
+    (λ c. search auto)
+    -- enum-told
+    (λ c. search auto)
+    -- returns
+    (λ c. end-same _ _ (c .before .before .before .loop .inv .0) (refused-text _ _ _ (c .before .before .letter .ensures) _ (c .enum-told .given .1)) ∙ c .before .before .before .loop .inv .1)
+    -- returns-2
+    (λ c. let l = c .before .before .before .before .before .before .before .before .args .constant .now in longer (scalar-text _ _ _ (c .before .before .before .before .letter .ensures) _ _ (c .before .before .c .given .1)) (back l (c .before .before .before .before .before .loop .j) (omega arith)) ∙ c .before .before .before .before .before .loop .inv .1)
+    -- shared-slice-read-if2
+    (λ c. search auto)
+    -- cast-if2
+    (λ c. omega (arith, c .shared-slice-known3 .given (c .before .before .before .before .before .before .loop .j)))
+    -- returns-3
+    (λ c. heads-differ (scalar-text _ _ _ (c .before .before .before .before .before .before .letter .ensures) _ _ (c .before .before .before .before .c .given .1)) (front _ _ (c .before .before .if1 .left)) (c .if2 .taken) ∙ c .before .before .before .before .before .before .before .loop .inv .1)
+    -- add-j
+    (λ c. search auto)
+    -- loop-less
+    (λ c. scalar-less _ _ _ (c .before .before .before .before .before .before .letter .ensures) _ _ (c .before .before .before .before .c .given .1))
+    -- loop-again
+    (λ c. (omega arith, sym (heads-same (scalar-text _ _ _ (c .before .before .before .before .before .before .letter .ensures) _ _ (c .before .before .before .before .c .given .1)) (front _ _ (c .before .before .if1 .left)) (c .if2 .left)) ∙ c .before .before .before .before .before .before .before .loop .inv .1)))

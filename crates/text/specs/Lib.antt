@@ -1,0 +1,3 @@
+pub mod Decode
+pub mod Letters
+pub mod Written

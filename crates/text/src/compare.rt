@@ -1,0 +1,88 @@
+// Whether two texts are the same.
+ghost use mathlib.Core.Path.{_≡_};
+ghost use mathlib.Core.List.{[]};
+ghost use Rattle.spec.specs.Value.{sameText};
+ghost use Rattle.text.specs.Decode.{textFrom, textOf};
+use crate::letters::letter;
+use lexer::Character;
+
+// Whether two parts have the same bytes.
+fn same_bytes(a: &[u8], b: &[u8]) -> bool
+    ensures { λ r. ⌜ r ≡ sameText (now (a .entry)) (now (b .entry)) ⌝ }
+{
+    if a.len() != b.len() {
+        return false;
+    }
+    let mut i = 0;
+    while i < a.len() {
+        if a[i] != b[i] {
+            return false;
+        }
+        i += 1;
+    }
+    true
+}
+
+// Whether a text has ended at a place of its part.
+fn ended(form: u64, s: &[u8], at: usize) -> bool
+    ensures { λ r. ⌜ r ≡ sameText [] (textFrom form (now (s .entry)) at) ⌝ }
+{
+    let Character::Refused(_) = letter(form, s, at) else {
+        return false;
+    };
+    true
+}
+
+// Whether two parts say the same text, character by character.
+fn same_letters(form: u64, a: &[u8], other: u64, b: &[u8]) -> bool
+    ensures { λ r. ⌜ r ≡ sameText (textOf form (now (a .entry))) (textOf other (now (b .entry))) ⌝ }
+{
+    let mut i = 0;
+    let mut j = 0;
+    loop {
+        let Character::Scalar(c, next) = letter(form, a, i) else {
+            return ended(other, b, j);
+        };
+        let Character::Scalar(d, after) = letter(other, b, j) else {
+            return false;
+        };
+        if c != d {
+            return false;
+        }
+        i = next.at;
+        j = after.at;
+    }
+}
+
+// Whether a part in a form says the same text as another part in another form. The same bytes in the same form do.
+pub fn same_text(form: u64, a: &[u8], other: u64, b: &[u8]) -> bool
+    ensures { λ r. ⌜ r ≡ sameText (textOf form (now (a .entry))) (textOf other (now (b .entry))) ⌝ }
+{
+    if form == other {
+        if same_bytes(a, b) {
+            return true;
+        }
+    }
+    same_letters(form, a, other, b)
+}
+
+// Whether a part says a text whose code points are the bytes of `constant`: a word of ASCII, as `op`.
+pub fn same_ascii(form: u64, a: &[u8], constant: &[u8]) -> bool
+    ensures { λ r. ⌜ r ≡ sameText (textOf form (now (a .entry))) (now (constant .entry)) ⌝ }
+{
+    let mut i = 0;
+    let mut j = 0;
+    loop {
+        let Character::Scalar(c, next) = letter(form, a, i) else {
+            return j == constant.len();
+        };
+        if constant.len() <= j {
+            return false;
+        }
+        if c != constant[j] as u32 {
+            return false;
+        }
+        i = next.at;
+        j += 1;
+    }
+}

@@ -1,0 +1,93 @@
+// One character of what a part says.
+ghost use mathlib.Core.Path.{_≡_};
+ghost use Rattle.spec.specs.Outcome.{ok};
+ghost use Rattle.lexer.specs.Answers.{characterOutcome};
+ghost use Rattle.text.specs.Decode.{characterIn};
+ghost use Rattle.text.specs.Letters.{afterTilde, tokenLetter, letterAt, isPlain};
+use lexer::Character;
+use lexer::Cursor;
+use lexer::peek;
+
+// The character of a string at a place of its part; refused where the string ends.
+fn string_letter(s: &[u8], at: usize) -> Character
+    ensures { λ r. ⌜ characterOutcome r ≡ characterIn (now (s .entry)) at ⌝ }
+{
+    if peek(s, at) == b'"' {
+        return Character::Refused(at);
+    }
+    (Cursor { at }).character(s)
+}
+
+// The character that a `~` begins, given the cursor behind it.
+fn after_tilde(s: &[u8], next: Cursor) -> Character
+    ensures { λ r. ⌜ characterOutcome r ≡ ok (afterTilde (characterIn (now (s .entry)) (next .at)) (next .at)) ⌝ }
+{
+    let Character::Scalar(c, after) = string_letter(s, next.at) else {
+        return Character::Scalar(0x7E, next);
+    };
+    match c {
+        0x30 => Character::Scalar(0x7E, after),
+        0x31 => Character::Scalar(0x2F, after),
+        _ => Character::Scalar(0x7E, next),
+    }
+}
+
+// The character of a pointer's token at a place of its part, `~0` and `~1` each read as one.
+fn token_letter(s: &[u8], at: usize) -> Character
+    ensures { λ r. ⌜ characterOutcome r ≡ tokenLetter (now (s .entry)) at ⌝ }
+{
+    let r = string_letter(s, at);
+    let Character::Scalar(c, next) = r else {
+        return r;
+    };
+    if c == 0x7E {
+        return after_tilde(s, next);
+    }
+    Character::Scalar(c, next)
+}
+
+// Whether a byte is a character by itself in every form.
+fn is_plain(b: u8) -> bool
+    ensures { λ r. ⌜ r ≡ isPlain b ⌝ }
+{
+    if b == b'"' {
+        return false;
+    }
+    if b == b'\\' {
+        return false;
+    }
+    if b == b'~' {
+        return false;
+    }
+    if b < 0x20 {
+        return false;
+    }
+    b <= 0x7F
+}
+
+// The letter at a place, whatever it begins with.
+fn any_letter(form: u64, s: &[u8], at: usize) -> Character
+    ensures { λ r. ⌜ characterOutcome r ≡ letterAt form (now (s .entry)) at ⌝ }
+{
+    match form {
+        1 => string_letter(s, at),
+        2 => string_letter(s, at),
+        3 => token_letter(s, at),
+        _ => Character::Refused(at),
+    }
+}
+
+// The character at a place of a part in a form, with the cursor behind it; refused where the text ends. Most characters are one byte, and
+// are seen here: through the layers below a comparison took ten times as long.
+pub fn letter(form: u64, s: &[u8], at: usize) -> Character
+    ensures { λ r. ⌜ characterOutcome r ≡ letterAt form (now (s .entry)) at ⌝ }
+{
+    let b = peek(s, at);
+    if is_plain(b) {
+        match form {
+            1..=3 => return Character::Scalar(b as u32, Cursor { at: at + 1 }),
+            _ => {}
+        }
+    }
+    any_letter(form, s, at)
+}
