@@ -1,0 +1,196 @@
+-- A change of a node's children in the table. At each level of a walk down, the words in use are `front`, those of a forest, and `back` (Laid): a law
+-- goes down to the children or to the k-th child, one replaces words of a forest, and one goes up again with the node's own word brought up to date.
+use Prim.Native.Nat.{ℕ, suc, _+_, _%_, _≤_, _<_, min}
+use native.Mathlib.Omega.{arith}
+use mathlib.Core.Path.{_≡_, sym, ap, _∙_}
+use mathlib.Core.List.{List, [], _∷_, _++_, append-assoc}
+use lib.ListN.{length, take, drop, getD, set, length-append, length-take, take-append-drop}
+use lib.Seq.{take-at, drop-at, drop-append-seam, getD-append-seam, set-append-seam, take-set-lt, drop-drop}
+use Rattle.spec.specs.Forest.{Forest, none, tree, Tree, single, count, size, before, from, nth, insertAt, removeAt, replaceAt, _⧺_}
+use Rattle.tape.specs.Columns.{replaced, moved, usedAfter, spliced}
+use Rattle.tape.specs.Tape.{tape, words, Holds, Laid}
+use Rattle.tape.specs.Layout.{spans}
+use Rattle.tape.specs.Packing.{withSpan}
+use Rattle.tape.specs.Cell.{Cell, word, nameWord, Fit}
+use Rattle.tape.specs.Rows.{childRow}
+use Rattle.tape.proofs.Columns.{Room, replaced-within, take-moved, take-spliced}
+use Rattle.tape.proofs.Forests.{size-single, size-cut, size-kth, before-from, from-nth}
+use Rattle.tape.proofs.Cells.{withSpan-word, nameWord-same}
+use Rattle.tape.proofs.Tape.{length-tape, tape-⧺, tape-single, tape-cut}
+
+-- ---- the words of a changed forest
+module _ {A W : Type 0} (w : A → Forest A → W) where
+  -- some trees exchanged for others
+  pub tape-exchange : (left old new right f : Forest A) → f ≡ left ⧺ old ⧺ right
+      → tape w (left ⧺ new ⧺ right) ≡ replaced (tape w f) (size left) (size old) (tape w new)
+  unfolding replaced
+  tape-exchange left old new right f e =
+      let three : (g : Forest A) → tape w (left ⧺ g ⧺ right) ≡ tape w left ++ (tape w g ++ tape w right) = λ g. rw (tape-⧺ w left (g ⧺ right), tape-⧺ w g right) in
+      let front : take (size left) (tape w f) ≡ tape w left = rw (e, three old) (take-at (tape w left) (tape w old ++ tape w right) (size left) (length-tape w left)) in
+      let back : drop (size left + size old) (tape w f) ≡ tape w right =
+      rw (← drop-drop, e, three old, drop-at (tape w left) (tape w old ++ tape w right) (size left) (length-tape w left)) (drop-at (tape w old) (tape w right) (size old) (length-tape w old)) in
+      rw (three new, front, back) (sym (append-assoc (tape w left) (tape w new) (tape w right)))
+
+  -- the three changes, at the place of the k-th tree; t is any tree
+  pub tape-insertAt : (k : ℕ) (new : Tree A) (f : Forest A) → tape w (insertAt k new f) ≡ replaced (tape w f) (size (before k f)) 0 (words w new)
+  unfolding insertAt _⧺_ size
+  tape-insertAt k new f = tape-exchange (before k f) none (single new) (from k f) f (sym (before-from k f)) ∙ rw (tape-single w new)
+
+  module _ (t : Tree A) (k : ℕ) (f : Forest A) (there : k < count f) where
+    cut-kth : f ≡ before k f ⧺ single (nth t k f) ⧺ from (suc k) f
+    cut-kth = sym (before-from k f) ∙ ap (λ g. before k f ⧺ g) (from-nth t k f there)
+
+    pub tape-removeAt : tape w (removeAt k f) ≡ replaced (tape w f) (size (before k f)) (suc (size (nth t k f .kids))) []
+    unfolding removeAt _⧺_ tape
+    tape-removeAt = tape-exchange (before k f) (single (nth t k f)) none (from (suc k) f) f cut-kth ∙ rw (size-single (nth t k f))
+
+    pub tape-replaceAt : (new : Tree A)
+        → tape w (replaceAt k new f) ≡ replaced (tape w f) (size (before k f)) (suc (size (nth t k f .kids))) (words w new)
+    unfolding replaceAt
+    tape-replaceAt new = tape-exchange (before k f) (single (nth t k f)) (single new) (from (suc k) f) f cut-kth ∙ rw (size-single (nth t k f), tape-single w new)
+
+-- ---- the words in use
+module _ {A W : Type 0} {w : A → Forest A → W} {xs : List W} {used : ℕ} {front : List W} where
+  pub laid-length : {f : Forest A} {back : List W} → Laid w xs used front f back → length front + (size f + length back) ≡ min used (length xs)
+  laid-length {f} {back} l = simp (length-append, length-take, length-tape) at (sym (ap length (l .is)))
+
+  pub laid-holds : {f : Forest A} {back : List W} → Laid w xs used front f back → Holds w xs (length front) f (back ++ drop used xs)
+  laid-holds {f} {back} l =
+      record {
+        is =
+            let split : xs ≡ front ++ (tape w f ++ (back ++ drop used xs)) = sym (take-append-drop used xs) ∙ rw (l .is) (simp append-assoc) in
+            ap (drop (length front)) split ∙ drop-append-seam front (tape w f ++ (back ++ drop used xs));
+      }
+
+  -- down to the children of the first tree, and to the trees from the k-th on
+  pub laid-kids : {a : A} {kids rest : Forest A} {back : List W} → Laid w xs used front (tree a kids rest) back
+      → Laid w xs used (front ++ (w a kids ∷ [])) kids (tape w rest ++ back)
+  unfolding tape
+  laid-kids {a} {kids} {rest} {back} l = record { is = l .is ∙ simp append-assoc }
+
+  pub laid-from : {f : Forest A} {back : List W} (k : ℕ) → Laid w xs used front f back → Laid w xs used (front ++ tape w (before k f)) (from k f) back
+  laid-from {f} {back} k l = record { is = l .is ∙ rw (tape-cut w k f) (simp append-assoc) }
+
+  -- and up again
+  pub laid-tree : (a : A) {kids rest : Forest A} {back : List W} (x : W) → Laid w xs used (front ++ (x ∷ [])) kids (tape w rest ++ back)
+      → x ≡ w a kids → Laid w xs used front (tree a kids rest) back
+  unfolding tape
+  laid-tree a {kids} {rest} {back} x l e = record { is = l .is ∙ rw e (simp append-assoc) }
+
+  pub laid-join : (f : Forest A) {g : Forest A} {back : List W} → Laid w xs used (front ++ tape w f) g back → Laid w xs used front (f ⧺ g) back
+  laid-join f {g} {back} l = record { is = l .is ∙ rw (tape-⧺ w f g) (simp append-assoc) }
+
+  -- up again with the node's own word stored anew
+  pub laid-store : (a : A) {kids rest : Forest A} {back : List W} (row : ℕ) (x y : W) → row ≡ length front → y ≡ w a kids
+      → Laid w xs used (front ++ (x ∷ [])) kids (tape w rest ++ back)
+      → Laid w (set xs row y) used front (tree a kids rest) back
+  unfolding tape
+  laid-store a {kids} {rest} {back} row x y e new l =
+      record {
+        is =
+            let long = simp (length-append, length-take) at (ap length (l .is)) in
+            let inside : length front < used = omega (arith, long) in
+            let behind : List W = tape w kids ++ (tape w rest ++ back) in
+            let put : set (front ++ (x ∷ behind)) (length front) y ≡ front ++ (y ∷ behind) = set-append-seam front x behind y in
+            rw (e, take-set-lt used xs (length front) y inside, l .is, append-assoc, put, new) (simp append-assoc);
+      }
+
+  -- words of a forest replaced
+  pub laid-splice : {f : Forest A} {back : List W} (g : Forest A) (row place removed source n : ℕ) → Laid w xs used front f back
+      → row ≡ length front + place
+      → place + removed ≤ size f → Room xs used removed source n → tape w g ≡ replaced (tape w f) place removed (take n (drop source xs))
+      → Laid w (spliced xs used row removed source n) (usedAfter used removed n) front g back
+  laid-splice {f} {back} g row place removed source n l e h room new =
+      record {
+        is =
+            let in-use : row + removed ≤ used = omega (arith, laid-length l) in
+            let within : replaced (front ++ (tape w f ++ back)) row removed (take n (drop source xs)) ≡ front ++ (replaced (tape w f) place removed (take n (drop source xs)) ++ back) =
+            replaced-within front (tape w f) back row place removed (take n (drop source xs)) e (omega (arith, length-tape w f)) in
+            take-spliced xs used row removed source n in-use room ∙ ap (λ ys. replaced ys row removed (take n (drop source xs))) (l .is) ∙ within ∙ rw new;
+      }
+
+  -- a move to rows behind the words in use
+  pub laid-moved : {f : Forest A} {back : List W} (to start n : ℕ) → Laid w xs used front f back → used ≤ to → to + n ≤ length xs
+      → start + n ≤ length xs
+      → Laid w (moved xs to start n) used front f back
+  laid-moved to start n l h target there = record { is = take-moved xs to start n target there used h ∙ l .is }
+
+-- ---- down to the k-th child, and up again with another in its place; t is any tree
+module _ {A W : Type 0} {w : A → Forest A → W} {xs : List W} {used : ℕ} {front : List W} where
+  pub laid-child : {a : A} {kids rest : Forest A} {back : List W} (t : Tree A) (k : ℕ) → k < count kids → Laid w xs used front (tree a kids rest) back
+      → Laid w xs used ((front ++ (w a kids ∷ [])) ++ tape w (before k kids)) (tree (nth t k kids .root) (nth t k kids .kids) (from (suc k) kids)) (tape w rest ++ back)
+  unfolding _⧺_
+  laid-child {kids = kids} t k h l = rw (from-nth t k kids h) at (laid-from k (laid-kids l))
+
+  pub laid-put : {back : List W} (b : Tree A) (k : ℕ) (kids : Forest A)
+      → Laid w xs used (front ++ tape w (before k kids)) (tree (b .root) (b .kids) (from (suc k) kids)) back
+      → Laid w xs used front (replaceAt k b kids) back
+  unfolding replaceAt _⧺_
+  laid-put b k kids l = laid-join (before k kids) l
+
+-- the k-th child's row
+pub child-front : {A W : Type 0} (w : A → Forest A → W) (front : List W) (x : W) (k : ℕ) (kids : Forest A)
+    → length ((front ++ (x ∷ [])) ++ tape w (before k kids)) ≡ childRow (length front) k kids
+unfolding childRow
+child-front w front x k kids = simp length-append (ap (_+_ (length front + 1)) (length-tape w (before k kids)))
+
+-- ---- the three changes of a node's children; the node's own word is then stored anew (laid-store), or does not tell of them (laid-tree)
+module _ {A W : Type 0} {w : A → Forest A → W} {xs : List W} {used : ℕ} {front : List W} {a : A} {kids rest : Forest A} {back : List W} (l : Laid w xs used front (tree a kids rest) back) where
+  place-of : (k row : ℕ) → row ≡ childRow (length front) k kids → row ≡ length (front ++ (w a kids ∷ [])) + size (before k kids)
+  unfolding childRow
+  place-of k row e = e ∙ simp length-append
+
+  module _ (k row source n : ℕ) (row-is : row ≡ childRow (length front) k kids) where
+    pub laid-insertAt : (new : Tree A) → take n (drop source xs) ≡ words w new → Room xs used 0 source n
+        → Laid w (spliced xs used row 0 source n) (usedAfter used 0 n) (front ++ (w a kids ∷ [])) (insertAt k new kids) (tape w rest ++ back)
+    laid-insertAt new given room =
+        laid-splice (insertAt k new kids) row (size (before k kids)) 0 source n (laid-kids l) (place-of k row row-is) (omega (arith, size-cut k kids)) room
+        (tape-insertAt w k new kids ∙ rw given)
+
+    module _ (t : Tree A) (kth : k < count kids) (removed : ℕ) (removed-is : removed ≡ suc (size (nth t k kids .kids))) where
+      fits : size (before k kids) + removed ≤ size kids
+      fits = omega (arith, size-kth t k kids kth)
+
+      pub laid-replaceAt : (new : Tree A) → take n (drop source xs) ≡ words w new → Room xs used removed source n
+          → Laid w (spliced xs used row removed source n) (usedAfter used removed n) (front ++ (w a kids ∷ [])) (replaceAt k new kids) (tape w rest ++ back)
+      laid-replaceAt new given room =
+          laid-splice (replaceAt k new kids) row (size (before k kids)) removed source n (laid-kids l) (place-of k row row-is) fits room
+          (tape-replaceAt w t k kids kth new ∙ rw (given, removed-is))
+
+      pub laid-removeAt : n ≡ 0 → Room xs used removed source n
+          → Laid w (spliced xs used row removed source n) (usedAfter used removed n) (front ++ (w a kids ∷ [])) (removeAt k kids) (tape w rest ++ back)
+      laid-removeAt none-new room =
+          laid-splice (removeAt k kids) row (size (before k kids)) removed source n (laid-kids l) (place-of k row row-is) fits room
+          (tape-removeAt w t k kids kth ∙ rw (none-new, removed-is))
+
+-- the word before a forest
+pub laid-word : {A W : Type 0} {w : A → Forest A → W} {xs : List W} {used : ℕ} {f : Forest A} {back : List W} (front : List W) (x z : W)
+    → Laid w xs used (front ++ (x ∷ [])) f back → getD xs (length front) z ≡ x
+laid-word {w = w} {xs} {used} {f} {back} front x z l =
+    let split : xs ≡ front ++ (x ∷ (tape w f ++ (back ++ drop used xs))) = sym (take-append-drop used xs) ∙ rw (l .is) (simp append-assoc) in
+    ap (λ ys. getD ys (length front) z) split ∙ getD-append-seam front x (tape w f ++ (back ++ drop used xs)) z
+
+-- ---- the two columns: a node whose children are changed gets its new span, and keeps its name
+module _ {xs : List ℕ} {used : ℕ} {front : List ℕ} {c : Cell} {rest : Forest Cell} {back : List ℕ} (kids : Forest Cell) where
+  pub laid-span : {changed : Forest Cell} (row span : ℕ) → Fit c kids → row ≡ length front → span ≡ size changed → span < spans
+      → Laid word xs used (front ++ (word c kids ∷ [])) changed (tape word rest ++ back)
+      → Laid word (set xs row (withSpan (getD xs row 0) (span % spans))) used front (tree c changed rest) back
+  laid-span {changed} row span fit e n h l =
+      let here : getD xs row 0 ≡ word c kids = rw e (laid-word front (word c kids) 0 l) in
+      let new : withSpan (getD xs row 0) (span % spans) ≡ word c changed = rw here (withSpan-word fit changed span n (omega arith)) in
+      laid-store c row (word c kids) (withSpan (getD xs row 0) (span % spans)) e new l
+
+  pub laid-name : {changed : Forest Cell} → Laid nameWord xs used (front ++ (nameWord c kids ∷ [])) changed (tape nameWord rest ++ back)
+      → Laid nameWord xs used front (tree c changed rest) back
+  laid-name {changed} l = laid-tree c (nameWord c kids) l (nameWord-same c kids changed)
+
+  -- the same where one child was changed, as a walk comes up from it
+  pub laid-span-child : (k : ℕ) (b : Tree Cell) (row span : ℕ) → Fit c kids → row ≡ length front → span ≡ size (replaceAt k b kids) → span < spans
+      → Laid word xs used ((front ++ (word c kids ∷ [])) ++ tape word (before k kids)) (tree (b .root) (b .kids) (from (suc k) kids)) (tape word rest ++ back)
+      → Laid word (set xs row (withSpan (getD xs row 0) (span % spans))) used front (tree c (replaceAt k b kids) rest) back
+  laid-span-child k b row span fit e n h l = laid-span row span fit e n h (laid-put b k kids l)
+
+  pub laid-name-child : (k : ℕ) (b : Tree Cell)
+      → Laid nameWord xs used ((front ++ (nameWord c kids ∷ [])) ++ tape nameWord (before k kids)) (tree (b .root) (b .kids) (from (suc k) kids)) (tape nameWord rest ++ back)
+      → Laid nameWord xs used front (tree c (replaceAt k b kids) rest) back
+  laid-name-child k b l = laid-name (laid-put b k kids l)

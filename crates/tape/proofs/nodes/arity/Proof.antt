@@ -1,0 +1,39 @@
+-- `tape::nodes::arity` meets its contract. Assumes nothing.
+use Prim.Native.Nat.{_≤_, _<_, _-_, _+_}
+use native.Mathlib.Omega.{arith}
+use lib.ListN.{length}
+use borrow.Author.Needs.{needs}
+use Rattle.tape.proofs.Rows.{Passing, passed-none, passing-next, no-node, arity-counted}
+use Rattle.tape.proofs.nodes.arity.Statement.{statement}
+use Rattle.tape.proofs.nodes.arity.Tie as tie
+
+abbrev Inv-loop : tie.InvT-loop
+Inv-loop values at end row₀ passed₀ row passed = (passed + at < row) × (row ≤ length values) × Passing values at row passed
+
+abbrev μ-loop : tie.MeasureT-loop
+μ-loop values at end row₀ passed₀ row passed = end - row
+
+pub arity-spec : {M : Type 1} → statement M
+arity-spec =
+    tie.close
+    (tie.spec
+    Inv-loop
+    μ-loop
+    -- returns
+    (λ c. (λ cell kids node. no-node node (c .if1 .taken), omega arith))
+    -- end-of-requires
+    (λ c κs. search needs)
+    -- add-row
+    (λ c. search needs)
+    -- loop-holds
+    (λ c. (omega arith, omega arith, λ cell kids node. passed-none _ kids))
+    -- end-of-requires-2
+    (λ c κs. search needs)
+    -- add-passed
+    (λ c. search needs)
+    -- loop-less
+    (λ c. search needs)
+    -- loop-again
+    (λ c. (omega arith, omega arith, passing-next (c .before .before .loop .inv .2) _ (c .before .before .before .end-of .ensures) _ (c .end-of2 .ensures) (omega arith)))
+    -- returns-2
+    (λ c. (arity-counted (c .before .loop .inv .2) _ (c .before .before .end-of .ensures) (omega arith), omega arith)))

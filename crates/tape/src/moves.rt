@@ -1,0 +1,121 @@
+// Words moved in a column. Each public function is total: where the numbers do not fit the column, nothing changes.
+ghost use mathlib.Core.Path.{_≡_};
+ghost use Prim.Native.Nat.{_+_, _≤_};
+ghost use lib.ListN.{length, getD, set};
+ghost use Rattle.tape.specs.Columns.{copied, moved, spliced, cleared};
+
+// The word in a row, and 0 behind the column.
+pub fn load(column: &[u64], row: usize) -> u64
+    ensures { λ r. ⌜ r ≡ getD (now (column .entry)) row 0 ⌝ }
+{
+    if column.len() <= row {
+        return 0;
+    }
+    column[row]
+}
+
+pub fn store(column: &mut [u64], row: usize, word: u64)
+    ensures { λ _. ⌜ now (column .exit) ≡ set (now (column .entry)) row word ⌝ }
+{
+    if row < column.len() {
+        column[row] = word;
+    }
+}
+
+// `count` words from `start` on are made 0.
+pub fn clear(column: &mut [u64], start: usize, count: usize)
+    ensures { λ _. ⌜ now (column .exit) ≡ cleared (now (column .entry)) start count ⌝ }
+{
+    if column.len() < count {
+        return;
+    }
+    if column.len() - count < start {
+        return;
+    }
+    let mut i = 0;
+    while i < count {
+        column[start + i] = 0;
+        i += 1;
+    }
+}
+
+// Words are copied towards the front, the first one first.
+fn shift_down(column: &mut [u64], to: usize, start: usize, count: usize)
+    requires { ⌜ (to ≤ start) × (start + count ≤ length (now column)) ⌝ }
+    ensures { λ _. ⌜ now (column .exit) ≡ copied (now (column .entry)) to start count ⌝ }
+{
+    let mut i = 0;
+    while i < count {
+        column[to + i] = column[start + i];
+        i += 1;
+    }
+}
+
+// Words are copied towards the back, the last one first.
+fn shift_up(column: &mut [u64], to: usize, start: usize, count: usize)
+    requires { ⌜ (start ≤ to) × (to + count ≤ length (now column)) ⌝ }
+    ensures { λ _. ⌜ now (column .exit) ≡ copied (now (column .entry)) to start count ⌝ }
+{
+    let mut i = count;
+    while 0 < i {
+        i -= 1;
+        column[to + i] = column[start + i];
+    }
+}
+
+// `count` words from `start` on are copied to the rows from `to` on; the two runs may overlap.
+pub fn slide(column: &mut [u64], to: usize, start: usize, count: usize)
+    ensures { λ _. ⌜ now (column .exit) ≡ moved (now (column .entry)) to start count ⌝ }
+{
+    if column.len() < count {
+        return;
+    }
+    let last = column.len() - count;
+    if last < to {
+        return;
+    }
+    if last < start {
+        return;
+    }
+    if to < start {
+        shift_down(column, to, start, count);
+        return;
+    }
+    if start < to {
+        shift_up(column, to, start, count);
+    }
+}
+
+// In the first `used` words, `removed` words at `at` are replaced by `count` words from `source`, which lies behind all that are in use before and after.
+pub fn splice(
+    column: &mut [u64],
+    used: usize,
+    at: usize,
+    removed: usize,
+    source: usize,
+    count: usize,
+)
+    ensures { λ _. ⌜ now (column .exit) ≡ spliced (now (column .entry)) used at removed source count ⌝ }
+{
+    if used < removed {
+        return;
+    }
+    let kept = used - removed;
+    if kept < at {
+        return;
+    }
+    if source < used {
+        return;
+    }
+    if source - kept < count {
+        return;
+    }
+    if column.len() < count {
+        return;
+    }
+    if column.len() - count < source {
+        return;
+    }
+    slide(column, at + count, at + removed, kept - at);
+    slide(column, at, source, count);
+}
