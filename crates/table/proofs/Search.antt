@@ -1,0 +1,108 @@
+-- Laws of a search for a name: what has been passed has other names.
+use Prim.Native.Nat.{ℕ, suc, _+_, _<_, _≤_}
+use native.Mathlib.Numerals.{add-one}
+use native.Mathlib.Omega.{arith}
+use native.Mathlib.Decide.{decLt}
+use mathlib.Core.Path.{_≡_, refl, ap, sym, _∙_}
+use mathlib.Core.Bool.{Bool, true, false}
+use mathlib.Core.List.{List}
+use lib.ListN.{length, getD}
+use Rattle.spec.specs.Bytes.{Bytes, Text}
+use Rattle.spec.specs.Forest.{Forest, none, tree, Tree, count, size, before, from, nth, _⧺_}
+use Rattle.spec.specs.Value.{sameText, find}
+use Rattle.spec.proofs.TextLaws.{sameText-true}
+use Rattle.lexer.specs.Hash.{hash}
+use Rattle.tape.specs.Packing.{hashOf}
+use Rattle.tape.specs.Cell.{Cell, Held}
+use Rattle.tape.specs.Rows.{endOf}
+use Rattle.tape.specs.Map.{position}
+use Rattle.tape.proofs.Forests.{count-from, from-nth, size-cut, size-before-suc, before-all, from-all, count-le-size}
+use Rattle.tape.proofs.Held.{held-from, held-node, name-here, held-next}
+use Rattle.tape.proofs.Rows.{end-here, inside-here}
+use Rattle.tape.proofs.Map.{count-map, find-map, position-found, position-next, position-none}
+use Rattle.table.specs.Meaning.{nameText, entryOf, members, Hashed, Keyed}
+use Rattle.table.specs.Find.{SameNameIs, Found, found, missing, Asked, FindIs}
+use Rattle.table.specs.declared.find.Member.the-variants.{At, Missing}
+use Rattle.table.proofs.MeaningLaws.{keyed-first, keyed-from}
+
+-- names whose hashes differ are not the same
+pub other-hash : {D P : Bytes} {a b : ℕ} → (hashOf a ≡ hashOf b → ⊥) → SameNameIs D P a b false
+other-hash {D} {P} {a} {b} differ h i = go (sameText (nameText D P a) (nameText D P b)) refl
+  where
+    go : (r : Bool) → sameText (nameText D P a) (nameText D P b) ≡ r → false ≡ sameText (nameText D P a) (nameText D P b)
+    go true e = absurd (differ (h .is ∙ ap hash (sameText-true _ _ e) ∙ sym (i .is)))
+    go false e = sym e
+
+-- the test of the search, and any tree
+abbrev named : Bytes → Bytes → Text → Cell → Bool
+named D P name c = sameText (nameText D P (c .name)) name
+
+abbrev blank : Tree Cell
+blank = record { root = record { kind = 0; payload = 0; name = 0 }; kids = none }
+
+-- k trees are passed, none of which has the name, and the next one, or the end, is in a row
+pub record Seeking (D P : Bytes) (start : ℕ) (f : Forest Cell) (name : Text) (row : ℕ) : Type 0 where
+  pub k : ℕ
+  pub few : k ≤ count f
+  pub place : row ≡ start + size (before k f)
+  pub passed : position (named D P name) f ≡ k + position (named D P name) (from k f)
+
+-- of whatever trees the columns hold
+abbrev pub SeekingAny : Bytes → Bytes → List ℕ → List ℕ → ℕ → ℕ → Text → ℕ → Type 0
+SeekingAny D P values names start end name row = (f : Forest Cell) → Asked D P values names start end f → Seeking D P start f name row
+
+pub seeking-all : (D P : Bytes) (values names : List ℕ) (start end : ℕ) (name : Text) → SeekingAny D P values names start end name start
+unfolding before from size
+seeking-all D P values names start end name f a = record { k = 0; few = omega arith; place = omega arith; passed = omega arith }
+
+-- no tree is left in the row `end`
+at-end : {D P : Bytes} {start : ℕ} {f : Forest Cell} {name : Text} {row : ℕ} (s : Seeking D P start f name row) → start + size f ≤ row → count f ≤ s .k
+at-end {f = f} s h = go (decLt (s .k) (count f))
+  where
+    go : Dec (s .k < count f) → count f ≤ s .k
+    go (yes l) = absurd (omega (arith, s .place, size-cut (s .k) f, count-from (s .k) f (s .few), count-le-size (from (s .k) f)))
+    go (no l) = omega arith
+
+module _ {D P : Bytes} {values names : List ℕ} {start end : ℕ} {f : Forest Cell} {name : Text} {row : ℕ} (a : Asked D P values names start end f) (s : Seeking D P start f name row) where
+  pub seek-none : end ≤ row → Found D P start f name Missing
+  seek-none h =
+      let all = at-end s (omega (arith, a .ends)) in
+      let e : s .k ≡ count f = omega (arith, s .few) in
+      missing (find-map (entryOf D P) name f ∙ position-none (named D P name) (s .k) f all (s .passed) ∙ e)
+
+  module _ (h : row < end) where
+    there : s .k < count f
+    there = go (decLt (s .k) (count f))
+      where
+        go : Dec (s .k < count f) → s .k < count f
+        go (yes l) = l
+        go (no l) = absurd (omega (arith, s .place, a .ends, ap size (before-all (s .k) f (omega arith))))
+
+    here : Held values names row (tree (nth blank (s .k) f .root) (nth blank (s .k) f .kids) (from (suc (s .k)) f))
+    unfolding _⧺_
+    here = rw (s .place) (rw (from-nth blank (s .k) f there) at (held-from (s .k) (a .held)))
+
+    -- the row is in the column
+    pub seek-inside : row < length values
+    seek-inside = inside-here (held-node here)
+
+    -- the name in the row has the hash of its text
+    pub seek-hashed : Hashed D P (getD names row 0)
+    unfolding _⧺_
+    seek-hashed = rw (name-here here) (keyed-first (rw (from-nth blank (s .k) f there) at (keyed-from (s .k) (a .keyed))))
+
+    test-here : (r : Bool) → r ≡ sameText (nameText D P (getD names row 0)) name → named D P name (nth blank (s .k) f .root) ≡ r
+    test-here r t = sym (t ∙ ap (λ n. sameText (nameText D P n) name) (name-here here))
+
+    pub seek-found : true ≡ sameText (nameText D P (getD names row 0)) name → Found D P start f name (At row)
+    seek-found t =
+        found (s .k) row (find-map (entryOf D P) name f ∙ position-found (named D P name) blank (s .k) f there (test-here true t) (s .passed)) there (s .place)
+
+    pub seek-next : (next : ℕ) → next ≡ endOf values row → false ≡ sameText (nameText D P (getD names row 0)) name → Seeking D P start f name next
+    seek-next next n t =
+        record {
+          k = suc (s .k);
+          few = there;
+          place = n ∙ end-here (held-node here) ∙ omega (arith, s .place, size-before-suc blank (s .k) f there);
+          passed = position-next (named D P name) blank (s .k) f there (test-here false t) (s .passed);
+        }

@@ -1,0 +1,22 @@
+-- `spells` meets its contract, by those of `part` and of the comparison with a constant.
+use mathlib.Core.Path.{_∙_, ap, ap₂}
+use borrow.Author.Needs.{needs}
+use Rattle.spec.specs.Value.{sameText}
+use Rattle.text.specs.Decode.{textOf}
+use Rattle.table.specs.Meaning.{spelled}
+use Rattle.table.proofs.spellings.spells.Statement.{statement}
+use Rattle.table.proofs.spellings.spells.Tie as tie
+
+pub spells-spec : {M : Type 1} → statement M
+unfolding spelled
+spells-spec =
+    tie.close
+    (tie.spec
+    -- part-requires
+    (λ c κs. search needs)
+    -- form-requires
+    (λ c κs. search needs)
+    -- same-ascii-requires
+    (λ c κs. search needs)
+    -- returns
+    (λ c. c .same-ascii .ensures ∙ ap (λ t. sameText t (c .before .before .before .before .before .before .args .text .now)) (ap₂ textOf (c .before .form .ensures) (c .before .before .part .ensures))))
