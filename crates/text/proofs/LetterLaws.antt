@@ -1,25 +1,26 @@
 -- A letter is the first character of the text that is left, and the text after it begins at the next place.
 use mathlib.Core.Path.{_≡_, refl, sym, ap, ap₂, subst, _∙_}
-use mathlib.Core.Bool.{Bool, true, false, _&&_, true≢false}
+use mathlib.Core.Bool.{Bool, true, false, _&&_}
 use mathlib.Core.List.{[], _∷_}
 use Prim.Native.Nat.{ℕ, _+_, _-_, _≤_, _<_}
 use Prim.Native.Char.{code}
 use native.Mathlib.Omega.{arith}
 use lib.ListN.{length}
 use lib.Dec.{eqb}
-use borrow.Author.Tests.{eqb-true, eqb-false}
+use borrow.Author.Tests.{eqb-true, eqb-false, ne-eqb}
 use Rattle.spec.specs.Outcome.{Outcome, ok, refused, _>>=_, if_then_else_}
 use Rattle.spec.specs.Refusal.{not-json}
-use Rattle.spec.specs.Bytes.{Bytes, Text, byte, within}
-use Rattle.spec.specs.Strings.{character}
+use Rattle.spec.specs.Bytes.{Bytes, Text, byte}
 use Rattle.spec.proofs.OutcomeLaws.{refused≢ok, both-ok}
 use Rattle.lexer.specs.declared.cursor.Cursor.{Cursor}
 use Rattle.lexer.specs.declared.characters.Character.{Character}
 use Rattle.lexer.specs.declared.characters.Character.the-variants as Character
+use Rattle.lexer.specs.Names.{standsForItself}
 use Rattle.lexer.specs.Answers.{characterOutcome}
 use Rattle.lexer.proofs.AnswerLaws.{scalar-ok, character-refused}
+use Rattle.lexer.proofs.StringLoop.{self-no-quote, self-character}
 use Rattle.text.specs.Decode.{characterIn, decodeFrom, unescapeToken, textFrom}
-use Rattle.text.specs.Letters.{afterTilde, tokenStep, tokenLetter, letterAt, isPlain}
+use Rattle.text.specs.Letters.{afterTilde, tokenStep, tokenLetter, letterAt}
 use Rattle.text.proofs.DecodeLaws.{in-past, decode-more, decode-ends}
 
 -- ---- a token's letter
@@ -133,46 +134,26 @@ letter-begins form s at letter = by-form form s at (λ left o. o ≡ ok letter �
 pub letter-ends : (form : ℕ) (s : Bytes) (at number place : ℕ) → letterAt form s at ≡ refused number place → textFrom form s at ≡ []
 letter-ends form s at number place = by-form form s at (λ left o. o ≡ refused number place → left at ≡ []) (decode-ends s at) (token-ends s at number place) (λ h. refl)
 
--- ---- a byte that is a character by itself
+-- ---- a byte that is a character by itself, in every form
 
-record Tested (b : ℕ) : Type 0 where
-  quote : eqb b (code "\"") ≡ false
-  backslash : eqb b (code "\\") ≡ false
-  tilde : eqb b (code "~") ≡ false
-  printed : within 0x20 0x7F b ≡ true
+module _ (s : Bytes) (at : ℕ) (self : standsForItself (byte s at) ≡ true) (no-tilde : byte s at ≡ code "~" → ⊥) where
+  self-string : characterIn s at ≡ ok (byte s at, at + 1)
+  unfolding characterIn
+  self-string = rw (ne-eqb (byte s at) (code "\"") (self-no-quote s at self)) (self-character s at self)
 
-tested : (b : ℕ) → isPlain b ≡ true → Tested b
-unfolding isPlain
-tested b plain = go (eqb b (code "\"")) (eqb b (code "\\")) (eqb b (code "~")) refl refl refl plain
-  where
-    go : (q k t : Bool) → eqb b (code "\"") ≡ q → eqb b (code "\\") ≡ k → eqb b (code "~") ≡ t →
-        (if q then false else if k then false else if t then false else within 0x20 0x7F b) ≡ true → Tested b
-    go true k t a d e h = absurd (true≢false (sym h))
-    go false true t a d e h = absurd (true≢false (sym h))
-    go false false true a d e h = absurd (true≢false (sym h))
-    go false false false a d e h = record { quote = a; backslash = d; tilde = e; printed = h }
-
-module _ (s : Bytes) (at : ℕ) (plain : isPlain (byte s at) ≡ true) where
-  plain-string : characterIn s at ≡ ok (byte s at, at + 1)
-  unfolding characterIn character
-  plain-string = let t = tested (byte s at) plain in rw (t .quote, t .backslash, t .printed)
-
-  plain-token : tokenLetter s at ≡ ok (byte s at, at + 1)
+  self-token : tokenLetter s at ≡ ok (byte s at, at + 1)
   unfolding tokenLetter tokenStep _>>=_
-  plain-token = let t = tested (byte s at) plain in rw (plain-string, t .tilde)
+  self-token = rw (self-string, ne-eqb (byte s at) (code "~") no-tilde)
 
-  pub plain-inside : at < length s
-  plain-inside = omega (arith, in-past s at plain-string)
-
-  pub plain-letter : (form : ℕ) → 1 ≤ form → form ≤ 3 → letterAt form s at ≡ ok (byte s at, at + 1)
+  pub self-letter : (form : ℕ) → 1 ≤ form → form ≤ 3 → letterAt form s at ≡ ok (byte s at, at + 1)
   unfolding letterAt
-  plain-letter form l m = go (eqb form 1) (eqb form 2) (eqb form 3) refl refl refl
+  self-letter form l m = go (eqb form 1) (eqb form 2) (eqb form 3) refl refl refl
     where
       go : (one two three : Bool) → eqb form 1 ≡ one → eqb form 2 ≡ two → eqb form 3 ≡ three →
           (if one then characterIn s at else if two then characterIn s at else if three then tokenLetter s at else refused not-json at) ≡ ok (byte s at, at + 1)
-      go true two three p q r = plain-string
-      go false true three p q r = plain-string
-      go false false true p q r = plain-token
+      go true two three p q r = self-string
+      go false true three p q r = self-string
+      go false false true p q r = self-token
       go false false false p q r = absurd (omega (arith, eqb-false form 1 p, eqb-false form 2 q, eqb-false form 3 r))
 
 -- ---- what the code answered

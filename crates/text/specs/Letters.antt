@@ -1,11 +1,10 @@
 -- One character of what a part says: its code point with the place after it, or a refusal where the text ends.
-use Prim.Native.Nat.{ℕ, _+_}
+use Prim.Native.Nat.{ℕ}
 use Prim.Native.Char.{code}
-use mathlib.Core.Bool.{Bool, false}
 use lib.Dec.{eqb}
 use Rattle.spec.specs.Outcome.{Outcome, ok, refused, _>>=_, if_then_else_}
 use Rattle.spec.specs.Refusal.{not-json}
-use Rattle.spec.specs.Bytes.{Bytes, byte, within}
+use Rattle.spec.specs.Bytes.{Bytes}
 use Rattle.text.specs.Decode.{characterIn}
 
 -- after a `~`, given the character behind it and the place between the two
@@ -28,10 +27,3 @@ letterAt form s at =
     if eqb form 1 then characterIn s at else
     if eqb form 2 then characterIn s at else
     if eqb form 3 then tokenLetter s at else refused not-json at
-
--- a byte that is a character by itself in every form: of ASCII, and no control, quotation mark, backslash or tilde
-unfoldable pub isPlain : ℕ → Bool
-isPlain b =
-    if eqb b (code "\"") then false else
-    if eqb b (code "\\") then false else
-    if eqb b (code "~") then false else within 0x20 0x7F b

@@ -3,25 +3,10 @@ ghost use mathlib.Core.Path.{_≡_};
 ghost use lib.ListN.{length};
 ghost use Rattle.spec.specs.Write.{utf8, writeCharacter, writeCharacters};
 ghost use Rattle.text.specs.Decode.{textOf};
-ghost use Rattle.text.specs.Written.{written, shortLetter};
+ghost use Rattle.text.specs.Written.{written};
+use crate::escapes::short_letter;
 use crate::letters::letter;
 use lexer::Character;
-
-// The letter of a character's two-character escape, and 0 where it has none.
-pub fn short_letter(c: u32) -> u8
-    ensures { λ r. ⌜ r ≡ shortLetter c ⌝ }
-{
-    match c {
-        0x22 => b'"',
-        0x5C => b'\\',
-        0x08 => b'b',
-        0x09 => b't',
-        0x0A => b'n',
-        0x0C => b'f',
-        0x0D => b'r',
-        _ => 0,
-    }
-}
 
 // The number of bytes of a code point in UTF-8.
 fn utf8_length(c: u32) -> usize

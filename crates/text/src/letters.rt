@@ -3,10 +3,11 @@ ghost use mathlib.Core.Path.{_≡_};
 ghost use Rattle.spec.specs.Outcome.{ok};
 ghost use Rattle.lexer.specs.Answers.{characterOutcome};
 ghost use Rattle.text.specs.Decode.{characterIn};
-ghost use Rattle.text.specs.Letters.{afterTilde, tokenLetter, letterAt, isPlain};
+ghost use Rattle.text.specs.Letters.{afterTilde, tokenLetter, letterAt};
 use lexer::Character;
 use lexer::Cursor;
 use lexer::peek;
+use lexer::stands_for_itself;
 
 // The character of a string at a place of its part; refused where the string ends.
 fn string_letter(s: &[u8], at: usize) -> Character
@@ -46,25 +47,6 @@ fn token_letter(s: &[u8], at: usize) -> Character
     Character::Scalar(c, next)
 }
 
-// Whether a byte is a character by itself in every form.
-fn is_plain(b: u8) -> bool
-    ensures { λ r. ⌜ r ≡ isPlain b ⌝ }
-{
-    if b == b'"' {
-        return false;
-    }
-    if b == b'\\' {
-        return false;
-    }
-    if b == b'~' {
-        return false;
-    }
-    if b < 0x20 {
-        return false;
-    }
-    b <= 0x7F
-}
-
 // The letter at a place, whatever it begins with.
 fn any_letter(form: u64, s: &[u8], at: usize) -> Character
     ensures { λ r. ⌜ characterOutcome r ≡ letterAt form (now (s .entry)) at ⌝ }
@@ -83,10 +65,12 @@ pub fn letter(form: u64, s: &[u8], at: usize) -> Character
     ensures { λ r. ⌜ characterOutcome r ≡ letterAt form (now (s .entry)) at ⌝ }
 {
     let b = peek(s, at);
-    if is_plain(b) {
-        match form {
-            1..=3 => return Character::Scalar(b as u32, Cursor { at: at + 1 }),
-            _ => {}
+    if stands_for_itself(b) {
+        if b != b'~' {
+            match form {
+                1..=3 => return Character::Scalar(b as u32, Cursor { at: at + 1 }),
+                _ => {}
+            }
         }
     }
     any_letter(form, s, at)

@@ -4,10 +4,11 @@ ghost use mathlib.Core.List.{[], _∷_};
 ghost use Prim.Native.Nat.{_+_, _%_, _<_, min};
 ghost use lib.ListN.{length, set};
 ghost use lib.Seq.{sets};
-ghost use Rattle.spec.specs.Write.{hexDigit, utf8, writeCharacter, writeCharacters};
+ghost use Rattle.spec.specs.Write.{utf8, writeCharacter, writeCharacters};
 ghost use Rattle.text.specs.Decode.{textOf};
 ghost use Rattle.text.specs.Written.{Stored, LaidDown, written, hexEscape};
-use crate::lengths::short_letter;
+use crate::escapes::hex_digit;
+use crate::escapes::short_letter;
 use crate::letters::letter;
 use lexer::Character;
 
@@ -43,17 +44,6 @@ fn put_four(out: &mut [u8], at: usize, a: u8, b: u8, c: u8, d: u8)
 {
     put_three(out, at, a, b, c);
     put(out, at + 3, d);
-}
-
-// A hexadecimal digit, in lower case.
-fn hex_digit(n: u8) -> u8
-    requires { ⌜ n < 16 ⌝ }
-    ensures { λ r. ⌜ r ≡ hexDigit n ⌝ }
-{
-    if n < 10 {
-        return b'0' + n;
-    }
-    b'a' + (n - 10)
 }
 
 // A control as \u00 and two hexadecimal digits, from a place on; the answer is the place after it.

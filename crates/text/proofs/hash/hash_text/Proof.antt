@@ -1,9 +1,7 @@
-use Prim.Native.Nat.{_-_, _<_}
-use mathlib.Core.Path.{_≡_, refl, sym, ap, _∙_}
-use native.Mathlib.Omega.{arith}
+use Prim.Native.Nat.{_-_}
+use mathlib.Core.Path.{_≡_, refl}
 use lib.ListN.{length}
 use Rattle.lexer.specs.Hash.{hashFrom, hash}
-use Rattle.lexer.proofs.NameLaws.{mix-bound}
 use Rattle.text.specs.Decode.{textFrom, textOf}
 use Rattle.text.proofs.Auto.{auto}
 use Rattle.text.proofs.LetterLaws.{scalar-text, scalar-less, refused-text}
@@ -12,7 +10,7 @@ use Rattle.text.proofs.hash.hash_text.Statement.{statement}
 use Rattle.text.proofs.hash.hash_text.Tie as tie
 
 abbrev Inv-loop : tie.InvT-loop
-Inv-loop form s h₀ at₀ h at = (h < 0x1000_0000) × (hashFrom h (textFrom form s at) ≡ hash (textOf form s))
+Inv-loop form s h₀ at₀ h at = hashFrom h (textFrom form s at) ≡ hash (textOf form s)
 
 abbrev μ-loop : tie.MeasureT-loop
 μ-loop form s h₀ at₀ h at = length s - at
@@ -25,7 +23,7 @@ hash-text-spec =
     Inv-loop
     μ-loop
     -- loop-holds
-    (λ c. (omega arith, refl))
+    (λ c. refl)
     -- letter-requires
     (λ c κs. search auto)
     -- enum-known-c
@@ -33,10 +31,10 @@ hash-text-spec =
     -- enum-told
     (λ c. search auto)
     -- returns
-    (λ c. hash-ends (refused-text _ _ _ (c .before .before .letter .ensures) _ (c .enum-told .given .1)) (c .before .before .before .loop .inv .1))
+    (λ c. hash-ends (refused-text _ _ _ (c .before .before .letter .ensures) _ (c .enum-told .given .1)) (c .before .before .before .loop .inv))
     -- mix-requires
-    (λ c κs. c .before .before .before .before .loop .inv .0)
+    (λ c κs. search auto)
     -- loop-less
     (λ c. scalar-less _ _ _ (c .before .before .before .before .letter .ensures) _ _ (c .before .before .c .given .1))
     -- loop-again
-    (λ c. hash-more _ (scalar-text _ _ _ (c .before .before .before .before .letter .ensures) _ _ (c .before .before .c .given .1)) (c .mix .ensures) (c .before .before .before .before .before .loop .inv .1)))
+    (λ c. hash-more _ (scalar-text _ _ _ (c .before .before .before .before .letter .ensures) _ _ (c .before .before .c .given .1)) (c .mix .ensures) (c .before .before .before .before .before .loop .inv)))

@@ -1,7 +1,7 @@
 use Rattle.spec.specs.Write.{hexDigit}
 use Rattle.text.proofs.Auto.{auto}
-use Rattle.text.proofs.write.hex_digit.Statement.{statement}
-use Rattle.text.proofs.write.hex_digit.Tie as tie
+use Rattle.text.proofs.escapes.hex_digit.Statement.{statement}
+use Rattle.text.proofs.escapes.hex_digit.Tie as tie
 
 pub hex-digit-spec : {M : Type 1} → statement M
 unfolding hexDigit

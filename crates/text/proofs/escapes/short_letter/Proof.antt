@@ -1,7 +1,7 @@
 use borrow.Author.Tests.{ne-eqb}
 use Rattle.text.specs.Written.{shortLetter}
-use Rattle.text.proofs.lengths.short_letter.Statement.{statement}
-use Rattle.text.proofs.lengths.short_letter.Tie as tie
+use Rattle.text.proofs.escapes.short_letter.Statement.{statement}
+use Rattle.text.proofs.escapes.short_letter.Tie as tie
 
 pub short-letter-spec : {M : Type 1} → statement M
 unfolding shortLetter
