@@ -8,4 +8,7 @@ pub mod LengthLaws
 pub mod HashLaws
 pub mod EscapeLaws
 pub mod StoreLaws
+pub mod SegmentLaws
+pub mod PartLaws
+pub mod Examples
 pub mod Auto

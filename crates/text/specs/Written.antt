@@ -11,7 +11,7 @@ use Rattle.spec.specs.Bytes.{Bytes}
 use Rattle.spec.specs.Write.{writeCharacters, hexDigit}
 use Rattle.text.specs.Decode.{textOf}
 
--- A string that was read without escapes is written as it stands: that is its text, written (`written-string` in proofs/PlainLaws).
+-- A string that was read without escapes is written as it stands: that is its text, written (`plain-written` in proofs/PartLaws).
 unfoldable pub written : ℕ → Bytes → Bytes
 written form s = if eqb form 1 then s else writeCharacters (textOf form s)
 
