@@ -1,2 +1,4 @@
 pub mod Meaning
 pub mod Find
+pub mod All
+pub mod Numbers

@@ -1,0 +1,4 @@
+pub mod LabelLaws
+pub mod MatchLaws
+pub mod SiblingLaws
+pub mod CompareLaws

@@ -1,0 +1,103 @@
+-- Trees that the columns hold in the rows from one to another, ready to be compared.
+use Prim.Native.Nat.{ℕ, suc, _+_, _≤_, _<_}
+use native.Mathlib.Omega.{arith}
+use mathlib.Core.Path.{_≡_, refl, sym, ap, _∙_, subst}
+use mathlib.Core.Bool.{true}
+use mathlib.Core.List.{List}
+use lib.ListN.{length, getD}
+use Rattle.spec.specs.Bytes.{Bytes, Text}
+use Rattle.spec.specs.Forest.{Forest, none, tree, Tree, count, size, before, from, nth, _⧺_}
+use Rattle.spec.specs.Equality.{partner}
+use Rattle.tape.specs.Packing.{kindOf, payloadOf}
+use Rattle.tape.specs.Cell.{Cell, Node}
+use Rattle.tape.specs.Rows.{endOf}
+use Rattle.tape.specs.Map.{mapForest}
+use Rattle.tape.proofs.Forests.{size-cut, from-nth, from-all}
+use Rattle.tape.proofs.Cells.{formed-fit}
+use Rattle.tape.proofs.Rows.{kind-here, payload-here, inside-here}
+use Rattle.tape.proofs.Held.{Remaining, remaining-all, remaining-next, remaining-none, remaining-first, held-node, held-from, name-here}
+use Rattle.tape.proofs.Map.{map-from, count-map}
+use Rattle.table.specs.Meaning.{nameText, entryOf, members, Hashed, Keyed}
+use Rattle.table.specs.Numbers.{NumberFits, Limited}
+use Rattle.table.specs.Find.{Asked, Found, found, missing}
+use Rattle.table.specs.declared.find.Member.the-variants.{At, Missing}
+use Rattle.table.proofs.AllLaws.{all-first, all-kids, all-rest, all-from}
+use Rattle.table.proofs.MeaningLaws.{keyed-first, keyed-kids, keyed-rest, keyed-from}
+use Rattle.equality.specs.Compare.{Labelled, ValueAt}
+use Rattle.equality.proofs.MatchLaws.{partner-find}
+
+-- ---- a value in a row
+module _ {D P : Bytes} {vs ns : List ℕ} {at : ℕ} {c : Cell} {kids : Forest Cell} (x : ValueAt D P vs ns at c kids) where
+  pub value-node : Node vs at c kids
+  value-node = held-node (x .held)
+
+  pub value-inside : at < length vs
+  value-inside = inside-here value-node
+
+  pub value-labelled : Labelled D P (getD vs at 0)
+  value-labelled =
+      record {
+        kind = omega (arith, kind-here value-node, formed-fit (x .held .formed) .kind);
+        fits = rw (kind-here value-node, payload-here value-node) (x .fits);
+      }
+
+-- ---- trees in the rows from one to another
+pub record Siblings (D P : Bytes) (vs ns : List ℕ) (row end : ℕ) (f : Forest Cell) : Type 0 where
+  pub left : Remaining vs ns row end f
+  pub keyed : Keyed D P f
+  pub limited : Limited D P f
+
+module _ {D P : Bytes} {vs ns : List ℕ} where
+  -- the children of a value
+  pub siblings-all : {at : ℕ} {c : Cell} {kids : Forest Cell} (end : ℕ) → end ≡ endOf vs at → ValueAt D P vs ns at c kids → Siblings D P vs ns (at + 1) end kids
+  siblings-all end e x = record { left = remaining-all end e (x .held); keyed = x .keyed; limited = x .limited }
+
+  pub siblings-none : {row end : ℕ} {f : Forest Cell} → Siblings D P vs ns row end f → end ≤ row → f ≡ none
+  siblings-none s h = remaining-none (s .left) h
+
+  pub siblings-first : {C : Type 0} {row end : ℕ} {f : Forest Cell} → Siblings D P vs ns row end f → row < end
+      → ((c : Cell) (kids rest : Forest Cell) → f ≡ tree c kids rest → Siblings D P vs ns row end (tree c kids rest) → C) → C
+  siblings-first {row = row} {end} s h then-it = remaining-first (s .left) h (λ c kids rest e l. then-it c kids rest e (subst (Siblings D P vs ns row end) e s))
+
+  -- those from the k-th on
+  pub siblings-from : {row end : ℕ} {f : Forest Cell} (k : ℕ) → Siblings D P vs ns row end f → Siblings D P vs ns (row + size (before k f)) end (from k f)
+  siblings-from {f = f} k s =
+      record {
+        left = record { held = held-from k (s .left .held); ends = omega (arith, s .left .ends, size-cut k f) };
+        keyed = keyed-from k (s .keyed);
+        limited = all-from k (s .limited);
+      }
+
+  module _ {row end : ℕ} {c : Cell} {kids rest : Forest Cell} (s : Siblings D P vs ns row end (tree c kids rest)) where
+    -- the first one is a value, and its name has its hash
+    pub siblings-value : ValueAt D P vs ns row c kids
+    siblings-value = record { rest = rest; held = s .left .held; keyed = keyed-kids (s .keyed); fits = all-first (s .limited); limited = all-kids (s .limited) }
+
+    pub siblings-name : getD ns row 0 ≡ c .name
+    siblings-name = name-here (s .left .held)
+
+    pub siblings-hashed : Hashed D P (getD ns row 0)
+    siblings-hashed = rw siblings-name (keyed-first (s .keyed))
+
+    pub siblings-next : (next : ℕ) → next ≡ endOf vs row → Siblings D P vs ns next end rest
+    siblings-next next e = record { left = remaining-next next e (s .left); keyed = keyed-rest (s .keyed); limited = all-rest (s .limited) }
+
+  -- ---- a member found among them by its name
+  module _ {start end : ℕ} {f : Forest Cell} (s : Siblings D P vs ns start end f) where
+    pub siblings-asked : Asked D P vs ns start end f
+    siblings-asked = record { held = s .left .held; ends = s .left .ends; keyed = s .keyed }
+
+    pub member-found : {C : Type 0} {name : Text} {row : ℕ} → Found D P start f name (At row)
+        → ((c : Cell) (kids after : Forest Cell) → partner true name (members D P f) ≡ members D P (tree c kids after) → ValueAt D P vs ns row c kids → C) → C
+    unfolding _⧺_
+    member-found {name = name} (found k row e few place) then-it =
+        let t : Tree Cell = record { root = record { kind = 0; payload = 0; name = 0 }; kids = none } in
+        let cut : from k f ≡ tree (nth t k f .root) (nth t k f .kids) (from (suc k) f) = from-nth t k f few in
+        let here : Siblings D P vs ns row end (from k f) = subst (λ n. Siblings D P vs ns n end (from k f)) (sym place) (siblings-from k s) in
+        then-it (nth t k f .root) (nth t k f .kids) (from (suc k) f)
+        (partner-find name (members D P f) ∙ ap (λ n. from n (members D P f)) e ∙ sym (map-from (entryOf D P) k f) ∙ ap (members D P) cut)
+        (siblings-value (subst (Siblings D P vs ns row end) cut here))
+
+    pub member-missing : {name : Text} → Found D P start f name Missing → partner true name (members D P f) ≡ none
+    member-missing {name} (missing e) =
+        partner-find name (members D P f) ∙ from-all _ (members D P f) (omega (arith, e, count-map (entryOf D P) f))

@@ -1,0 +1,51 @@
+-- What the comparison of two values in the columns answers.
+use Prim.Native.Nat.{ℕ, _≤_}
+use mathlib.Core.Path.{_≡_}
+use mathlib.Core.Bool.{Bool, true, false}
+use mathlib.Core.List.{List}
+use lib.ListN.{getD}
+use Rattle.spec.specs.Bytes.{Bytes}
+use Rattle.spec.specs.Forest.{Forest, tree}
+use Rattle.spec.specs.Value.{Label, depth}
+use Rattle.spec.specs.Equality.{sameLabel, equal}
+use Rattle.tape.specs.Layout.{objectKind}
+use Rattle.tape.specs.Packing.{kindOf, payloadOf}
+use Rattle.tape.specs.Cell.{Cell, Held}
+use Rattle.table.specs.Meaning.{labelOf, meant, Keyed}
+use Rattle.table.specs.Numbers.{NumberFits, CellFits, Limited}
+use Rattle.table.specs.Find.{FindIs}
+use Rattle.table.specs.declared.find.Member.{Member}
+use Rattle.table.specs.declared.find.Member.the-variants.{At}
+
+-- ---- two labels by their words in the column of values
+-- a word of one of the kinds; where it is a number's, the number is within the limits
+pub record Labelled (document patch : Bytes) (word : ℕ) : Type 0 where
+  pub kind : kindOf word ≤ objectKind
+  pub fits : NumberFits document patch (kindOf word) (payloadOf word)
+
+abbrev pub wordLabel : Bytes → Bytes → ℕ → Label
+wordLabel document patch word = labelOf document patch (kindOf word) (payloadOf word)
+
+abbrev pub SameLabelIs : Bytes → Bytes → ℕ → ℕ → Bool → Type 0
+SameLabelIs document patch a b r =
+    Labelled document patch a → Labelled document patch b → r ≡ sameLabel (wordLabel document patch a) (wordLabel document patch b)
+
+-- ---- the child that is compared with the one in a row
+pub record PartnerIs (document patch : Bytes) (values names : List ℕ) (object : Bool) (start end row next : ℕ) (r : Member) : Type 0 where
+  pub named : object ≡ true → FindIs document patch values names start end (getD names row 0) r
+  pub element : object ≡ false → r ≡ At next
+
+-- ---- two values
+-- the columns hold a value in a row: the names in it have their hashes, and its numbers are within the limits
+pub record ValueAt (document patch : Bytes) (values names : List ℕ) (row : ℕ) (c : Cell) (kids : Forest Cell) : Type 0 where
+  pub rest : Forest Cell
+  pub held : Held values names row (tree c kids rest)
+  pub keyed : Keyed document patch kids
+  pub fits : CellFits document patch c
+  pub limited : Limited document patch kids
+
+-- of whatever values the columns hold in two rows, the first of which nests at most so many containers
+abbrev pub EqualIs : Bytes → Bytes → List ℕ → List ℕ → ℕ → ℕ → ℕ → Bool → Type 0
+EqualIs document patch values names at other levels r =
+    (c : Cell) (kids : Forest Cell) (e : Cell) (below : Forest Cell) → ValueAt document patch values names at c kids → ValueAt document patch values names other e below →
+    depth (meant document patch c kids) ≤ levels → r ≡ equal (meant document patch c kids) (meant document patch e below)
