@@ -1,2 +1,2 @@
-pub mod Members
 pub mod Kinds
+pub mod Members

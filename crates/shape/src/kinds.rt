@@ -3,6 +3,7 @@ use table::spellings::spells;
 ghost use mathlib.Core.Path.{_≡_};
 ghost use Rattle.spec.specs.Patch.{kindNamed, usesValue, usesFrom, isMove};
 ghost use Rattle.table.specs.Meaning.{spelled};
+ghost use Rattle.pointer.specs.Tokens.{accepted};
 ghost use Rattle.shape.specs.Kinds.{kindOutcome, asks};
 
 pub enum Kind {
@@ -39,15 +40,32 @@ pub fn kind_named<'a>(document: &'a [u8], patch: &'a [u8], op: u64) -> Kind
     Kind::Unknown
 }
 
+pub fn is_known(kind: Kind) -> bool
+    ensures { λ r. ⌜ r ≡ accepted (kindOutcome kind) ⌝ }
+{
+    match kind {
+        Kind::Add => true,
+        Kind::Remove => true,
+        Kind::Replace => true,
+        Kind::Move => true,
+        Kind::Copy => true,
+        Kind::Test => true,
+        Kind::Unknown => false,
+    }
+}
+
 // Which members a kind uses beside op and path.
 pub fn uses_value(kind: Kind) -> bool
     ensures { λ r. ⌜ r ≡ asks usesValue kind ⌝ }
 {
     match kind {
         Kind::Add => true,
+        Kind::Remove => false,
         Kind::Replace => true,
+        Kind::Move => false,
+        Kind::Copy => false,
         Kind::Test => true,
-        _ => false,
+        Kind::Unknown => false,
     }
 }
 
@@ -55,9 +73,13 @@ pub fn uses_from(kind: Kind) -> bool
     ensures { λ r. ⌜ r ≡ asks usesFrom kind ⌝ }
 {
     match kind {
+        Kind::Add => false,
+        Kind::Remove => false,
+        Kind::Replace => false,
         Kind::Move => true,
         Kind::Copy => true,
-        _ => false,
+        Kind::Test => false,
+        Kind::Unknown => false,
     }
 }
 
@@ -65,7 +87,12 @@ pub fn is_move(kind: Kind) -> bool
     ensures { λ r. ⌜ r ≡ asks isMove kind ⌝ }
 {
     match kind {
+        Kind::Add => false,
+        Kind::Remove => false,
+        Kind::Replace => false,
         Kind::Move => true,
-        _ => false,
+        Kind::Copy => false,
+        Kind::Test => false,
+        Kind::Unknown => false,
     }
 }
