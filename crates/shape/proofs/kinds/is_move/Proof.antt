@@ -1,0 +1,26 @@
+-- `is_move` meets its contract, kind by kind.
+use Rattle.lexer.proofs.Auto.{auto}
+use Rattle.spec.specs.Patch.{isMove}
+use Rattle.shape.specs.Kinds.{kindOutcome, answered}
+use Rattle.shape.proofs.kinds.is_move.Statement.{statement}
+use Rattle.shape.proofs.kinds.is_move.Tie as tie
+
+pub is-move-spec : {M : Type 1} → statement M
+unfolding kindOutcome answered isMove
+is-move-spec =
+    tie.close
+    (tie.spec
+    (λ c. search auto)
+    (λ c. search auto)
+    (λ c. search auto)
+    (λ c. search auto)
+    (λ c. search auto)
+    (λ c. search auto)
+    (λ c. search auto)
+    (λ c. rw (c .enum-told .given .1))
+    (λ c. rw (c .enum-told2 .given .1))
+    (λ c. rw (c .enum-told3 .given .1))
+    (λ c. rw (c .enum-told4 .given .1))
+    (λ c. rw (c .enum-told5 .given .1))
+    (λ c. rw (c .enum-told6 .given .1))
+    (λ c. rw (c .enum-told7 .given .1)))
