@@ -1,0 +1,4 @@
+pub mod PlacedLaws
+pub mod PieceLaws
+pub mod ProgressLaws
+pub mod LengthLaws
