@@ -2,10 +2,11 @@
 use Prim.Native.Nat.{ℕ, suc, _+_, _*_, _≤_, _<_, min}
 use native.Mathlib.Omega.{arith}
 use native.Mathlib.Decide.{decLt}
-use mathlib.Core.Path.{_≡_, refl, sym, ap, _∙_}
+use mathlib.Core.Path.{_≡_, refl, sym, ap, ap₂, _∙_}
 use mathlib.Core.Bool.{Bool, true, false}
 use mathlib.Core.List.{List, [], _∷_, _++_}
 use lib.Dec.{eqb}
+use borrow.Author.Tests.{ne-eqb}
 use lib.ListN.{length, take, drop, length-append, length-take}
 use Rattle.spec.specs.Outcome.{if_then_else_}
 use Rattle.spec.specs.Bytes.{Bytes, ascii}
@@ -21,13 +22,25 @@ use Rattle.table.specs.Meaning.{sourceText, partOf, members, meant}
 use Rattle.writer.specs.Verbatim.{Verbatim, AllVerbatim, verbatim-none, verbatim-tree}
 use Rattle.writer.specs.Pieces.{stringBytes, literalBytes, scalarBytes, openingBracket, closingBracket, nameBytes, prefixBytes}
 use Rattle.writer.specs.Writing.{Writable, lengthLimit}
-use Rattle.writer.proofs.PieceLaws.{verbatim-payload, verbatim-kids, write-scalar, write-container, items-tree, items-none}
+use Rattle.writer.proofs.PieceLaws.{name-member, verbatim-payload, verbatim-kids, write-scalar, write-container, items-tree, items-none}
 
 -- ---- pieces
-pub comma-length : (first : Bool) → length (comma first) ≤ 1
+pub comma-short : (first : Bool) → length (comma first) ≤ 1
 unfolding comma ascii
-comma-length true = omega arith
-comma-length false = omega arith
+comma-short true = omega arith
+comma-short false = omega arith
+
+pub literal-false : (kind : ℕ) → kind ≡ falseKind → 5 ≡ length (literalBytes kind)
+unfolding literalBytes ascii
+literal-false kind e = rw e
+
+pub literal-other : (kind : ℕ) → (kind ≡ falseKind → ⊥) → 4 ≡ length (literalBytes kind)
+unfolding literalBytes ascii
+literal-other kind e = rw (ne-eqb kind falseKind e) (go (eqb kind trueKind))
+  where
+    go : (a : Bool) → 4 ≡ length (if a then ascii "true" else ascii "null")
+    go true = refl
+    go false = refl
 
 literal-short : (kind : ℕ) → length (literalBytes kind) ≤ 5
 unfolding literalBytes ascii
@@ -43,9 +56,12 @@ module _ (D P : Bytes) where
   unfolding partOf
   part-short spelling = omega (arith, length-take (lengthOf spelling) (drop (startOf spelling) (sourceText D P (sourceOf spelling))))
 
-  pub string-length : (spelling : ℕ) → length (stringBytes D P spelling) ≡ length (written (formOf spelling) (partOf D P spelling)) + 2
+  string-length : (spelling : ℕ) → length (stringBytes D P spelling) ≡ length (written (formOf spelling) (partOf D P spelling)) + 2
   unfolding stringBytes
   string-length spelling = simp length-append (omega arith)
+
+  pub string-counted : (spelling : ℕ) {form n : ℕ} {s : Bytes} → n ≡ length (written form s) → form ≡ formOf spelling → s ≡ partOf D P spelling → n + 2 ≡ length (stringBytes D P spelling)
+  string-counted spelling {form} {n} {s} e f h = ap (λ m. m + 2) (e ∙ ap₂ (λ m t. length (written m t)) f h) ∙ sym (string-length spelling)
 
   pub string-short : (spelling : ℕ) → length (stringBytes D P spelling) < 65_538
   string-short spelling = omega (arith, string-length spelling, part-short spelling, written-short (formOf spelling) (partOf D P spelling))
@@ -64,12 +80,15 @@ module _ (D P : Bytes) where
   name-short true name = simp length-append (omega (arith, string-short (spellingOf name)))
   name-short false name = omega arith
 
+  pub name-counted : (object : Bool) (name : ℕ) {spelling n : ℕ} → object ≡ true → spelling ≡ spellingOf name → n ≡ length (stringBytes D P spelling) → n + 1 ≡ length (nameBytes D P object name)
+  name-counted object name {spelling} {n} e f h = ap (λ m. m + 1) h ∙ sym (ap length (name-member D P object name e f) ∙ length-append (stringBytes D P spelling) (58 ∷ []))
+
   pub prefix-length : (object first : Bool) (name : ℕ) → length (prefixBytes D P object first name) ≡ length (comma first) + length (nameBytes D P object name)
   unfolding prefixBytes
   prefix-length object first name = length-append (comma first) (nameBytes D P object name)
 
   prefix-short : (object first : Bool) (name : ℕ) → length (prefixBytes D P object first name) < 65_540
-  prefix-short object first name = omega (arith, prefix-length object first name, comma-length first, name-short object name)
+  prefix-short object first name = omega (arith, prefix-length object first name, comma-short first, name-short object name)
 
   -- ---- a value
   pub container-length : (c : Cell) (kids : Forest Cell) → Fit c kids → arrayKind ≤ c .kind → length (write (meant D P c kids)) ≡ 2 + length (writeItems (eqb (c .kind) objectKind) true (members D P kids))

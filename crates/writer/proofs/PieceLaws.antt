@@ -6,7 +6,7 @@ use mathlib.Core.Path.{_≡_, refl, sym, ap, ap₂, _∙_}
 use mathlib.Core.Bool.{Bool, true, false}
 use mathlib.Core.List.{List, [], _∷_, _++_, append-assoc, append-nil}
 use lib.Dec.{eqb}
-use borrow.Author.Tests.{eqb-true}
+use borrow.Author.Tests.{eqb-true, eq-eqb, ne-eqb}
 use Rattle.spec.specs.Outcome.{if_then_else_}
 use Rattle.spec.specs.Bytes.{Bytes, ascii}
 use Rattle.spec.specs.Forest.{Forest, none, tree}
@@ -14,7 +14,7 @@ use Rattle.spec.specs.Value.{Label, isObject}
 use Rattle.spec.specs.Write.{writeCharacters, writeString, opening, closing, writeName, comma, writeItems, write}
 use Rattle.text.specs.Decode.{textOf}
 use Rattle.text.specs.Written.{written}
-use Rattle.tape.specs.Layout.{plainString, arrayKind, objectKind}
+use Rattle.tape.specs.Layout.{numberKind, stringKind, arrayKind, objectKind}
 use Rattle.tape.specs.Packing.{formOf, spellingOf}
 use Rattle.tape.specs.Cell.{Cell, Fit}
 use Rattle.tape.specs.Map.{mapForest}
@@ -36,6 +36,39 @@ module _ {D P : Bytes} {c : Cell} {kids rest : Forest Cell} where
 
   pub verbatim-rest : AllVerbatim D P (tree c kids rest) → AllVerbatim D P rest
   verbatim-rest (verbatim-tree n p k r) = r
+
+-- ---- the pieces, as the code tells them apart
+module _ (D P : Bytes) where
+  pub string-pieces : (spelling : ℕ) {form : ℕ} {s : Bytes} → form ≡ formOf spelling → s ≡ partOf D P spelling
+      → stringBytes D P spelling ≡ (code "\"" ∷ []) ++ written form s ++ (code "\"" ∷ [])
+  unfolding stringBytes
+  string-pieces spelling e h = rw (e, h)
+
+  module _ (kind payload : ℕ) where
+    pub scalar-string : kind ≡ stringKind → scalarBytes D P kind payload ≡ stringBytes D P payload
+    unfolding scalarBytes
+    scalar-string e = rw (eq-eqb kind stringKind e)
+
+    module _ (other : kind ≡ stringKind → ⊥) where
+      pub scalar-number : kind ≡ numberKind → scalarBytes D P kind payload ≡ partOf D P payload
+      unfolding scalarBytes
+      scalar-number e = rw (ne-eqb kind stringKind other, eq-eqb kind numberKind e)
+
+      pub scalar-literal : (kind ≡ numberKind → ⊥) → scalarBytes D P kind payload ≡ literalBytes kind
+      unfolding scalarBytes
+      scalar-literal e = rw (ne-eqb kind stringKind other, ne-eqb kind numberKind e)
+
+  pub name-member : (object : Bool) (name : ℕ) {spelling : ℕ} → object ≡ true → spelling ≡ spellingOf name → nameBytes D P object name ≡ stringBytes D P spelling ++ (code ":" ∷ [])
+  unfolding nameBytes
+  name-member object name e h = rw (e, h)
+
+  pub name-element : (object : Bool) (name : ℕ) → object ≡ false → nameBytes D P object name ≡ []
+  unfolding nameBytes
+  name-element object name e = rw e
+
+  pub prefix-pieces : (object first : Bool) (name : ℕ) → prefixBytes D P object first name ≡ comma first ++ nameBytes D P object name
+  unfolding prefixBytes
+  prefix-pieces object first name = refl
 
 module _ (D P : Bytes) where
   -- ---- strings
@@ -113,7 +146,7 @@ module _ (D P : Bytes) where
 
   -- the values of a container: the first, with what stands before it, and the others
   pub items-tree : (object first : Bool) (c : Cell) (kids rest : Forest Cell) → Verbatim D P (spellingOf (c .name))
-      → writeItems object first (members D P (tree c kids rest)) ≡ (prefixBytes D P object first (c .name) ++ write (meant D P c kids)) ++ writeItems object false (members D P rest)
+      → writeItems object first (members D P (tree c kids rest)) ≡ prefixBytes D P object first (c .name) ++ write (meant D P c kids) ++ writeItems object false (members D P rest)
   unfolding writeItems write mapForest
   items-tree object first c kids rest v = rw (prefix-verbatim object first (c .name) v) (simp append-assoc)
 

@@ -9,7 +9,6 @@ use lib.ListN.{length, take, drop, set, length-append, length-take, length-drop,
 use lib.Seq.{sets, length-sets, take-set-le, drop-set-add, take-all}
 use borrow.Rule.Slice.PartMut.{putMid}
 use Rattle.spec.specs.Bytes.{Bytes}
-use Rattle.text.specs.Written.{LaidDown}
 use Rattle.text.proofs.StoreLaws.{sets-out, stores-on, laid-down}
 use Rattle.writer.specs.Writing.{Placed}
 
@@ -43,6 +42,10 @@ placed-as {at = at} {before} e p = record { next-is = p .next-is ∙ ap (λ b. m
 pub placed-none : (at : ℕ) (before : Bytes) → at ≤ length before → Placed [] at before before at
 placed-none at before h = record { next-is = omega arith; after-is = refl }
 
+-- no room at all
+pub placed-full : (bytes before : Bytes) → length before ≡ 0 → Placed bytes 0 before before 0
+placed-full bytes before h = record { next-is = omega arith; after-is = sym (sets-out before 0 bytes (omega arith)) }
+
 -- bytes behind bytes
 pub placed-on : {u v : Bytes} {i j k : ℕ} {before between after : Bytes} → Placed u i before between j → Placed v j between after k → Placed (u ++ v) i before after k
 placed-on {u} {v} {i} {j} {k} {before} {between} {after} p q =
@@ -64,27 +67,24 @@ module _ (out : Bytes) (put : ℕ) where
   back ys =
       ap (λ l. take put out ++ (ys ++ l)) (drop-of-length-le (drop put out) {i = length out - put} (rw length-drop (omega arith))) ∙ ap (λ l. take put out ++ l) (append-nil ys)
 
--- bytes laid down in the part, said of the whole
-pub placed-back : {bytes out part : Bytes} {put n : ℕ} → put ≤ length out → Placed bytes 0 (take (length out - put) (drop put out)) part n → Placed bytes put out (putMid put (length out - put) out part) (put + n)
-placed-back {bytes} {out} {part} {put} {n} h p =
-    let e = lent out put in
-    let long : length (drop put out) ≡ length out - put = length-drop put out in
-    let q = p .next-is ∙ ap (λ l. min (0 + length bytes) (length l)) e in
-    let zero-more : put + 0 ≡ put = omega arith in
-    record {
+-- bytes laid down in the part behind others, said of the whole
+pub placed-then : {u v : Bytes} {i j n : ℕ} {before between part : Bytes} → Placed u i before between j → Placed v 0 (take (length between - j) (drop j between)) part n
+    → Placed (u ++ v) i before (putMid j (length between - j) between part) (j + n)
+placed-then {u} {v} {i} {j} {n} {before} {between} {part} p q =
+    let h : j ≤ length between = omega (arith, placed-inside p, placed-length p) in
+    let e = lent between j in
+    let long : length (drop j between) ≡ length between - j = length-drop j between in
+    let count = q .next-is ∙ ap (λ l. min (0 + length v) (length l)) e in
+    let zero-more : j + 0 ≡ j = omega arith in
+    placed-on p
+    (record {
       next-is = omega arith;
       after-is =
-          back out put part
-          ∙ ap (λ l. take put out ++ l) (p .after-is ∙ ap (λ l. sets l 0 bytes) e)
-          ∙ sym (sets-part put out 0 bytes)
-          ∙ ap (λ k. sets out k bytes) zero-more;
-    }
-
--- what `write_text` lays down, with no place past the end
-pub placed-text : {bytes before after : Bytes} {count n : ℕ} → LaidDown bytes before after count → n ≡ min count (length after) → Placed bytes 0 before after n
-placed-text {bytes} {before} {after} {count} {n} p e =
-    let long : length after ≡ length before = ap length (p .after-is) ∙ length-sets before 0 bytes in
-    record { next-is = omega (arith, p .count-is); after-is = p .after-is }
+          back between j part
+          ∙ ap (λ l. take j between ++ l) (q .after-is ∙ ap (λ l. sets l 0 v) e)
+          ∙ sym (sets-part j between 0 v)
+          ∙ ap (λ k. sets between k v) zero-more;
+    })
 
 -- where there is room for all
 pub placed-whole : {bytes before after : Bytes} {next : ℕ} → Placed bytes 0 before after next → length bytes ≤ length before → (next ≡ length bytes) × (after ≡ bytes ++ drop (length bytes) before)

@@ -47,7 +47,7 @@ module _ {D P : Bytes} {vs ns : List ℕ} where
   module _ {object : Bool} {levels : ℕ} {kids : Forest Cell} {row end : ℕ} {first : Bool} {R : Bytes → Type 0} (p : Progress D P vs ns object levels kids row end first R) where
     -- a turn: what the code does to the text, given the value in the row
     pub progress-next : {R' : Bytes → Type 0} → row < end → (next : ℕ) → next ≡ endOf vs row
-        → ((c : Cell) (ks : Forest Cell) → Writable D P vs ns row levels c ks → (text : Bytes) → R text → R' (text ++ (prefixBytes D P object first (getD ns row 0) ++ write (meant D P c ks))))
+        → ((c : Cell) (ks : Forest Cell) → Writable D P vs ns row levels c ks → (text : Bytes) → R text → R' (text ++ prefixBytes D P object first (getD ns row 0) ++ write (meant D P c ks)))
         → Progress D P vs ns object levels kids next end false R'
     unfolding deep
     progress-next more next n step =
@@ -56,9 +56,10 @@ module _ {D P : Bytes} {vs ns : List ℕ} where
         let d : deep (tree c ks rest) ≤ levels = subst (λ f. deep f ≤ levels) e (p .nested) in
         let w : Writable D P vs ns row levels c ks = record { rest = rest; held = r .held; verbatim = v; nested = omega arith } in
         let name : getD ns row 0 ≡ c .name = name-here (r .held) in
-        let piece : Bytes = prefixBytes D P object first (c .name) ++ write (meant D P c ks) in
+        let before : Bytes = prefixBytes D P object first (c .name) in
+        let value : Bytes = write (meant D P c ks) in
         record {
-          text = p .text ++ piece;
+          text = p .text ++ before ++ value;
           so-far = rw name at (step c ks w (p .text) (p .so-far));
           left = rest;
           remaining = remaining-next next n r;
@@ -68,7 +69,7 @@ module _ {D P : Bytes} {vs ns : List ℕ} where
               p .whole
               ∙ ap (λ f. p .text ++ writeItems object first (members D P f)) e
               ∙ ap (_++_ (p .text)) (items-tree D P object first c ks rest (verbatim-name v))
-              ∙ sym (append-assoc (p .text) piece (writeItems object false (members D P rest)));
+              ∙ simp append-assoc;
         }
 
     -- after the last

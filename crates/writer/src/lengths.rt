@@ -21,11 +21,10 @@ fn string_length<'a>(document: &'a [u8], patch: &'a [u8], spelling: u64) -> usiz
 fn literal_length(kind: u64) -> usize
     ensures { λ r. ⌜ r ≡ length (literalBytes kind) ⌝ }
 {
-    match kind {
-        1 => 4,
-        2 => 5,
-        _ => 4,
+    if kind == FALSE {
+        return 5;
     }
+    4
 }
 
 // The length of a value that is no container.
