@@ -87,7 +87,7 @@ module _ (D P : Bytes) where
   unfolding prefixBytes
   prefix-length object first name = length-append (comma first) (nameBytes D P object name)
 
-  prefix-short : (object first : Bool) (name : ℕ) → length (prefixBytes D P object first name) < 65_540
+  pub prefix-short : (object first : Bool) (name : ℕ) → length (prefixBytes D P object first name) < 65_540
   prefix-short object first name = omega (arith, prefix-length object first name, comma-short first, name-short object name)
 
   -- ---- a value
