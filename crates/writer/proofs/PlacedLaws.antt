@@ -1,0 +1,91 @@
+-- Laws of bytes that are laid down one after another in an output, and in a part of it.
+use Prim.Native.Nat.{ℕ, suc, _+_, _-_, _≤_, _<_, min}
+use native.Mathlib.Nat.{add-suc}
+use native.Mathlib.Omega.{arith}
+use native.Mathlib.Decide.{decLe}
+use mathlib.Core.Path.{_≡_, refl, sym, ap, _∙_}
+use mathlib.Core.List.{List, [], _∷_, _++_, append-nil}
+use lib.ListN.{length, take, drop, set, length-append, length-take, length-drop, take-append-drop, drop-of-length-le}
+use lib.Seq.{sets, length-sets, take-set-le, drop-set-add, take-all}
+use borrow.Rule.Slice.PartMut.{putMid}
+use Rattle.spec.specs.Bytes.{Bytes}
+use Rattle.text.proofs.StoreLaws.{sets-out, stores-on, laid-down}
+use Rattle.writer.specs.Writing.{Placed}
+
+-- stores from a place on are stores to the part that begins before it
+sets-part : (n : ℕ) (l : Bytes) (i : ℕ) (vs : Bytes) → sets l (n + i) vs ≡ take n l ++ sets (drop n l) i vs
+sets-part n l i [] = sym (take-append-drop n l)
+sets-part n l i (a ∷ vs) =
+    ap (λ k. sets (set l (n + i) a) k vs) (sym (add-suc n i))
+    ∙ sets-part n (set l (n + i) a) (suc i) vs
+    ∙ rw (take-set-le n l (n + i) a (omega arith), drop-set-add n l i a)
+
+-- stores past the end change nothing, wherever they begin
+sets-capped : (l : Bytes) (i : ℕ) (vs : Bytes) → sets l (min i (length l)) vs ≡ sets l i vs
+sets-capped l i vs = go (decLe i (length l))
+  where
+    go : Dec (i ≤ length l) → sets l (min i (length l)) vs ≡ sets l i vs
+    go (yes h) = let e : min i (length l) ≡ i = omega arith in ap (λ k. sets l k vs) e
+    go (no h) = sets-out l (min i (length l)) vs (omega arith) ∙ sym (sets-out l i vs (omega arith))
+
+module _ {bytes : Bytes} {at : ℕ} {before after : Bytes} {next : ℕ} (p : Placed bytes at before after next) where
+  pub placed-length : length after ≡ length before
+  placed-length = ap length (p .after-is) ∙ length-sets before at bytes
+
+  pub placed-inside : next ≤ length before
+  placed-inside = omega (arith, p .next-is)
+
+-- the same bytes, said another way
+pub placed-as : {bytes others : Bytes} {at : ℕ} {before after : Bytes} {next : ℕ} → bytes ≡ others → Placed others at before after next → Placed bytes at before after next
+placed-as {at = at} {before} e p = record { next-is = p .next-is ∙ ap (λ b. min (at + length b) (length before)) (sym e); after-is = p .after-is ∙ ap (sets before at) (sym e) }
+
+pub placed-none : (at : ℕ) (before : Bytes) → at ≤ length before → Placed [] at before before at
+placed-none at before h = record { next-is = omega arith; after-is = refl }
+
+-- no room at all
+pub placed-full : (bytes before : Bytes) → length before ≡ 0 → Placed bytes 0 before before 0
+placed-full bytes before h = record { next-is = omega arith; after-is = sym (sets-out before 0 bytes (omega arith)) }
+
+-- bytes behind bytes
+pub placed-on : {u v : Bytes} {i j k : ℕ} {before between after : Bytes} → Placed u i before between j → Placed v j between after k → Placed (u ++ v) i before after k
+placed-on {u} {v} {i} {j} {k} {before} {between} {after} p q =
+    let long = placed-length p in
+    let place : j ≡ min (i + length u) (length between) = p .next-is ∙ ap (min (i + length u)) (sym long) in
+    record {
+      next-is = q .next-is ∙ rw (length-append u v, p .next-is, long) (omega arith);
+      after-is = stores-on before i u v (p .after-is) (q .after-is ∙ ap (λ n. sets between n v) place ∙ sets-capped between (i + length u) v) refl;
+    }
+
+-- ---- a part `&mut out[put..]` that is lent to a call and comes back
+module _ (out : Bytes) (put : ℕ) where
+  -- what is lent
+  pub lent : take (length out - put) (drop put out) ≡ drop put out
+  lent = take-all (length out - put) (drop put out) (rw length-drop (omega arith))
+
+  -- what the whole is when the part comes back
+  pub back : (ys : Bytes) → putMid put (length out - put) out ys ≡ take put out ++ ys
+  back ys =
+      ap (λ l. take put out ++ (ys ++ l)) (drop-of-length-le (drop put out) {i = length out - put} (rw length-drop (omega arith))) ∙ ap (λ l. take put out ++ l) (append-nil ys)
+
+-- bytes laid down in the part behind others, said of the whole
+pub placed-then : {u v : Bytes} {i j n : ℕ} {before between part : Bytes} → Placed u i before between j → Placed v 0 (take (length between - j) (drop j between)) part n
+    → Placed (u ++ v) i before (putMid j (length between - j) between part) (j + n)
+placed-then {u} {v} {i} {j} {n} {before} {between} {part} p q =
+    let h : j ≤ length between = omega (arith, placed-inside p, placed-length p) in
+    let e = lent between j in
+    let long : length (drop j between) ≡ length between - j = length-drop j between in
+    let count = q .next-is ∙ ap (λ l. min (0 + length v) (length l)) e in
+    let zero-more : j + 0 ≡ j = omega arith in
+    placed-on p
+    (record {
+      next-is = omega arith;
+      after-is =
+          back between j part
+          ∙ ap (λ l. take j between ++ l) (q .after-is ∙ ap (λ l. sets l 0 v) e)
+          ∙ sym (sets-part j between 0 v)
+          ∙ ap (λ k. sets between k v) zero-more;
+    })
+
+-- where there is room for all
+pub placed-whole : {bytes before after : Bytes} {next : ℕ} → Placed bytes 0 before after next → length bytes ≤ length before → (next ≡ length bytes) × (after ≡ bytes ++ drop (length bytes) before)
+placed-whole {bytes} {before} p h = (omega (arith, p .next-is), p .after-is ∙ laid-down bytes before h)

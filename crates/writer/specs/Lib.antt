@@ -1,0 +1,3 @@
+pub mod Verbatim
+pub mod Pieces
+pub mod Writing

@@ -1,0 +1,41 @@
+-- What writing a value comes to: document 01, "The text is laid down in the lent output, one value after another."
+use Prim.Native.Nat.{ℕ, _+_, _≤_, min}
+use mathlib.Core.Path.{_≡_}
+use mathlib.Core.List.{List}
+use lib.ListN.{length}
+use lib.Seq.{sets}
+use Rattle.spec.specs.Bytes.{Bytes}
+use Rattle.spec.specs.Forest.{Forest, tree}
+use Rattle.spec.specs.Value as Value
+use Rattle.spec.specs.Write.{write}
+use Rattle.tape.specs.Cell.{Cell, Held, level, deep}
+use Rattle.table.specs.Meaning.{meant}
+use Rattle.writer.specs.Verbatim.{AllVerbatim}
+
+-- Bytes laid down from a place of an output on, as many as there is room for: the place behind them, and the output afterwards. Where there is
+-- room for all they stand there, and the output is else as it was (`placed-whole` in proofs/PlacedLaws).
+pub record Placed (bytes : Bytes) (at : ℕ) (before after : Bytes) (next : ℕ) : Type 0 where
+  pub next-is : next ≡ min (at + length bytes) (length before)
+  pub after-is : after ≡ sets before at bytes
+
+-- a node that can be written: both columns hold it in a row, its strings are verbatim, and it nests at most so many containers
+pub record Writable (document patch : Bytes) (values names : List ℕ) (at levels : ℕ) (c : Cell) (kids : Forest Cell) : Type 0 where
+  pub rest : Forest Cell
+  pub held : Held values names at (tree c kids rest)
+  pub verbatim : AllVerbatim document patch (tree c kids rest)
+  pub nested : level c (deep kids) ≤ levels
+
+-- what holds of the value of whatever such node there is in a row
+abbrev pub ForWritable : Bytes → Bytes → List ℕ → List ℕ → ℕ → ℕ → (Value.Value → Type 0) → Type 0
+ForWritable document patch values names at levels P = (c : Cell) (kids : Forest Cell) → Writable document patch values names at levels c kids → P (meant document patch c kids)
+
+-- the answers of `measure` and of `write`
+abbrev pub MeasureIs : Bytes → Bytes → List ℕ → List ℕ → ℕ → ℕ → ℕ → Type 0
+MeasureIs document patch values names at levels r = ForWritable document patch values names at levels (λ v. r ≡ length (write v))
+
+abbrev pub WriteIs : Bytes → Bytes → List ℕ → List ℕ → ℕ → ℕ → Bytes → Bytes → ℕ → Type 0
+WriteIs document patch values names at levels before after r = ForWritable document patch values names at levels (λ v. Placed (write v) 0 before after r)
+
+-- more bytes than any value's text has: a node is below 131,080 bytes long, and there are at most 4,096 in a tree
+abbrev pub lengthLimit : ℕ
+lengthLimit = 0x4000_0000
