@@ -1,7 +1,7 @@
 -- What `search` is handed at a need of a function: `search auto` closes most of them.
 use Prim.Native.Nat.{ℕ}
-use mathlib.Core.Path.{_≡_, sym, _∙_, ap}
-use Rattle.spec.specs.Outcome.{Outcome, ok, refused, _>>=_}
+use mathlib.Core.Path.{_≡_, _∙_}
+use Rattle.spec.specs.Outcome.{Outcome, _>>=_}
 use Rattle.lexer.specs.declared.cursor.Cursor.{Cursor}
 use Rattle.lexer.specs.declared.characters.Character.{Character}
 use Rattle.lexer.specs.declared.characters.Character.the-variants as Character

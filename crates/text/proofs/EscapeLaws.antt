@@ -5,10 +5,10 @@ use mathlib.Core.List.{[], _∷_}
 use Prim.Native.Nat.{ℕ, _≤_, _<_}
 use Prim.Native.Char.{code}
 use native.Mathlib.Omega.{arith}
-use lib.Dec.{eqb, leb}
+use lib.Dec.{eqb}
 use borrow.Author.Tests.{eqb-true, le-leb, lt-leb}
 use Rattle.spec.specs.Bytes.{ascii}
-use Rattle.spec.specs.Write.{hexDigit, utf8, writeCharacter}
+use Rattle.spec.specs.Write.{utf8, writeCharacter}
 use Rattle.text.specs.Written.{shortLetter, hexEscape}
 
 pub record Writes (c : ℕ) : Type 0 where

@@ -1,14 +1,14 @@
 -- How long a character is when it is written: no longer than what it was read from, and so no text is longer than its part.
 use mathlib.Core.Path.{_≡_, refl, sym, ap, subst, _∙_}
 use mathlib.Core.Bool.{Bool, true, false, true≢false}
-use mathlib.Core.List.{[], _∷_, _++_}
-use Prim.Native.Nat.{ℕ, zero, suc, _+_, _-_, _*_, _≤_, _<_}
+use mathlib.Core.List.{[], _∷_}
+use Prim.Native.Nat.{ℕ, zero, suc, _+_, _*_, _≤_, _<_}
 use Prim.Native.Char.{code}
 use native.Mathlib.Omega.{arith}
 use lib.ListN.{length, length-append}
 use lib.Dec.{eqb, leb, ltb}
 use borrow.Author.Tests.{leb-true}
-use Rattle.spec.specs.Outcome.{Outcome, ok, refused, _>>=_, if_then_else_}
+use Rattle.spec.specs.Outcome.{Outcome, ok, refused, if_then_else_}
 use Rattle.spec.specs.Bytes.{Bytes, Text, ascii, byte, within}
 use Rattle.spec.specs.Strings.{secondLimit, shortEscape, escape, lowSurrogate, afterHigh, unicodeEscape, character}
 use Rattle.spec.specs.Write.{utf8, writeCharacter, writeCharacters}

@@ -1,5 +1,5 @@
 -- The part of a string that was read says the string's text, and is written as that text is; and so does a token's part.
-use mathlib.Core.Path.{_≡_, refl, sym, ap, _∙_}
+use mathlib.Core.Path.{_≡_, sym, ap}
 use mathlib.Core.Bool.{true, false}
 use Prim.Native.Nat.{ℕ, _+_, _-_}
 use Rattle.spec.specs.Outcome.{ok}

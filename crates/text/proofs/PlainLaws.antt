@@ -1,16 +1,15 @@
 -- A string that was read without escapes is written as it stands.
 use mathlib.Core.Path.{_≡_, refl, sym, ap, _∙_}
 use mathlib.Core.Bool.{Bool, true, false, not, _&&_, true≢false}
-use mathlib.Core.List.{[], _∷_, _++_}
 use Prim.Native.Nat.{ℕ, _+_, _-_, _≤_, _<_}
 use Prim.Native.Char.{code}
 use native.Mathlib.Omega.{arith}
 use lib.ListN.{length}
 use lib.Dec.{eqb}
-use Rattle.spec.specs.Outcome.{Outcome, ok}
+use Rattle.spec.specs.Outcome.{ok}
 use Rattle.spec.specs.Bytes.{Bytes, Text, byte}
 use Rattle.spec.specs.Strings.{string}
-use Rattle.spec.specs.Write.{writeCharacter, writeCharacters}
+use Rattle.spec.specs.Write.{writeCharacters}
 use Rattle.spec.proofs.TextLaws.{both-true}
 use Rattle.lexer.specs.Names.{part, noBackslash}
 use Rattle.lexer.proofs.Always.{result}

@@ -6,7 +6,7 @@ use Prim.Native.Nat.{ℕ, _≤_}
 use Prim.Native.Char.{code}
 use lib.ListN.{length}
 use lib.Dec.{eqb}
-use Rattle.spec.specs.Outcome.{Outcome, ok, refused, if_then_else_}
+use Rattle.spec.specs.Outcome.{ok, refused, if_then_else_}
 use Rattle.spec.specs.Bytes.{Bytes, Text}
 use Rattle.spec.specs.Pointer.{prepend, segments}
 use Rattle.spec.proofs.TextLaws.{both-true}

@@ -1,12 +1,12 @@
 -- Bytes stored one after another in an output.
 use mathlib.Core.Path.{_≡_, refl, sym, ap, _∙_}
-use mathlib.Core.List.{List, [], _∷_, _++_, append-nil, append-assoc}
-use Prim.Native.Nat.{ℕ, zero, suc, _+_, _-_, _≤_, _<_, min}
+use mathlib.Core.List.{[], _∷_, _++_, append-nil, append-assoc}
+use Prim.Native.Nat.{ℕ, suc, _+_, _≤_, _<_, min}
 use native.Mathlib.Omega.{arith}
 use native.Mathlib.Nat.{add-zero, zero-add}
 use native.Mathlib.Decide.{decLt}
 use native.Mathlib.Numerals.{add-one}
-use lib.ListN.{length, take, drop, set, getD, length-set, length-append, take-append-drop}
+use lib.ListN.{length, take, drop, set, getD, length-append, take-append-drop}
 use lib.Seq.{sets, sets-eq, length-sets, set-out, take-suc, take-all, length-take-le}
 use Rattle.spec.specs.Bytes.{Bytes}
 use Rattle.spec.specs.Write.{writeCharacter, writeCharacters}

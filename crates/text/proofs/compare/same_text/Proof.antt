@@ -1,4 +1,3 @@
-use mathlib.Core.Path.{sym, _∙_}
 use Rattle.lexer.proofs.Tests.{told}
 use Rattle.text.proofs.Auto.{auto}
 use Rattle.text.proofs.CompareLaws.{same-parts}
