@@ -4,3 +4,4 @@ pub mod MatchLaws
 pub mod SiblingLaws
 pub mod PendingLaws
 pub mod EqualLaws
+pub mod Examples

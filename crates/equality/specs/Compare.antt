@@ -18,7 +18,7 @@ use Rattle.table.specs.declared.find.Member.{Member}
 use Rattle.table.specs.declared.find.Member.the-variants.{At}
 
 -- ---- two labels by their words in the column of values
--- a word of one of the kinds; where it is a number's, the number is within the limits
+-- a word of one of the seven kinds; where it is a number's, the number is within the limits
 pub record Labelled (document patch : Bytes) (word : ℕ) : Type 0 where
   pub kind : kindOf word ≤ objectKind
   pub fits : NumberFits document patch (kindOf word) (payloadOf word)
@@ -45,7 +45,7 @@ pub record ValueAt (document patch : Bytes) (values names : List ℕ) (row : ℕ
   pub fits : CellFits document patch c
   pub limited : Limited document patch kids
 
--- of whatever values the columns hold in two rows, the first of which nests at most so many containers
+-- whether the values are equal that the columns hold in two rows, whatever they are, if the first nests at most so many containers
 abbrev pub EqualIs : Bytes → Bytes → List ℕ → List ℕ → ℕ → ℕ → ℕ → Bool → Type 0
 EqualIs document patch values names at other levels r =
     (c : Cell) (kids : Forest Cell) (e : Cell) (below : Forest Cell)
