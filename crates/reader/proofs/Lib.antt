@@ -7,3 +7,4 @@ pub mod ColumnLaws
 pub mod FilledLaws
 pub mod MemberLaws
 pub mod ReadingLaws
+pub mod TextLaws

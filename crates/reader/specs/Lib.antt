@@ -4,3 +4,4 @@ pub mod Filled
 pub mod Names
 pub mod Items
 pub mod Taken
+pub mod Texts

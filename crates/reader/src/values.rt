@@ -71,7 +71,7 @@ fn scalar_value(
 
 // The value at a cursor is stored from `row` on, under a name. The text's rows begin at `base`, so that so many values have begun before as there
 // are rows from there.
-fn value(
+pub fn value(
     s: &[u8],
     at: Cursor,
     levels: u32,

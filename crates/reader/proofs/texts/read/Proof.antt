@@ -1,0 +1,40 @@
+use Rattle.lexer.proofs.Auto.{auto}
+use native.Mathlib.Omega.{arith}
+use mathlib.Core.Path.{refl}
+use Rattle.lexer.proofs.BlankLaws.{blanks-within}
+use Rattle.reader.proofs.TextLaws.{text-whole, text-more, text-unread}
+use Rattle.reader.proofs.texts.read.Statement.{statement}
+use Rattle.reader.proofs.texts.read.Tie as tie
+
+pub read-spec : {M : Type 1} → statement M
+read-spec =
+    tie.close
+    (tie.spec
+    -- blanks-requires
+    (λ c κs. search auto)
+    -- value-requires
+    (λ c κs. let p = c .before .before .before .before .before .before .pre in (p .0, (rw (c .before .before .blanks .ensures) (blanks-within _ 0 (omega arith)), omega arith, omega arith, p .1)))
+    -- enum-known-next
+    (λ c. search auto)
+    -- blanks-requires-2
+    (λ c κs. search auto)
+    -- same-length
+    (λ c. search auto)
+    -- same-length-2
+    (λ c. search auto)
+    -- returns
+    (λ c. let p = c .before .before .before .before .before .before .before .before .before .before .before .before .before .before .before .before .before .pre in text-whole _ _ (c .before .before .before .before .before .before .before .before .before .before .before .before .before .blanks .ensures) (c .before .before .before .before .before .before .before .before .before .before .value .ensures) _ _ _ (c .before .before .before .before .next .given .1) (c .before .before .blanks2 .ensures) _ refl (c .if1 .taken) (p .1) (omega (arith, p .0 .values-long, c .before .before .before .before .before .before .before .before .before .before .value .kept .1 .1 .1 .1 .1 .1 .1 .0)) (omega (arith, p .0 .names-long, c .before .before .before .before .before .before .before .before .before .before .value .kept .1 .1 .1 .1 .1 .1 .1 .1 .0)))
+    -- enum-known-number
+    (λ c. search auto)
+    -- same-length-3
+    (λ c. search auto)
+    -- same-length-4
+    (λ c. search auto)
+    -- returns-2
+    (λ c. text-more _ _ (c .before .before .before .before .before .before .before .before .before .before .before .before .before .blanks .ensures) (c .before .before .before .before .before .before .before .before .before .before .value .ensures) _ _ _ (c .before .before .before .before .next .given .1) (c .before .before .blanks2 .ensures) (c .if1 .left))
+    -- same-length-5
+    (λ c. search auto)
+    -- same-length-6
+    (λ c. search auto)
+    -- returns-3
+    (λ c. text-unread _ _ (c .before .before .before .before .before .before .before .before .before .before .blanks .ensures) (c .before .before .before .before .before .before .before .value .ensures) _ _ (c .before .number .given .1)))

@@ -1,0 +1,80 @@
+// A whole text.
+ghost use mathlib.Core.Path.{_≡_};
+ghost use Prim.Native.Nat.{_+_, _≤_};
+ghost use lib.ListN.{length};
+ghost use Rattle.spec.specs.Limits.{maxNodes};
+ghost use Rattle.spec.specs.Read.{read};
+ghost use Rattle.tape.specs.Layout.{inDocument, inPatch, documentRow, patchRow, scratchRow};
+ghost use Rattle.reader.specs.Words.{Lent};
+ghost use Rattle.reader.specs.Texts.{refusalBefore, reading, TextIs};
+use crate::values::Read;
+use crate::values::value;
+use lexer::Cursor;
+use tape::layout::DOCUMENT;
+use tape::layout::IN_DOCUMENT;
+use tape::layout::IN_PATCH;
+use tape::layout::PATCH;
+use tape::layout::ROWS;
+
+// Nested containers.
+const MAX_DEPTH: u32 = 32;
+
+// Bytes of a text.
+const MAX_BYTES: usize = 32_768;
+
+// JSON-text = ws value ws, stored in the rows from `base` on.
+fn read(s: &[u8], source: u64, base: usize, values: &mut [u64], names: &mut [u64]) -> Read
+    requires { ⌜ Lent source (now s) (now values) (now names) ⌝ }
+    requires { ⌜ base + maxNodes ≤ scratchRow ⌝ }
+    ensures { λ r. ⌜ TextIs source (now (s .entry)) base (now (values .entry)) (now (names .entry)) (now (values .exit)) (now (names .exit)) (read (now (s .entry))) r ⌝ }
+{
+    let first = (Cursor { at: 0 }).blanks(s);
+    match value(s, first, MAX_DEPTH, source, 0, base, base, values, names) {
+        Read::Value(next, end) => {
+            let last = next.blanks(s);
+            if last.at == s.len() {
+                return Read::Value(last, end);
+            }
+            Read::Refused(3, last.at)
+        }
+        Read::Refused(number, place) => Read::Refused(number, place),
+    }
+}
+
+// The number of the refusal before a text is read, and 0 for none: a column too short, or the text too long.
+fn refusal(s: &[u8], values: &[u64], names: &[u64]) -> u8
+    ensures { λ r. ⌜ r ≡ refusalBefore (now (values .entry)) (now (names .entry)) (now (s .entry)) ⌝ }
+{
+    if values.len() < ROWS {
+        return 1;
+    }
+    if names.len() < ROWS {
+        return 1;
+    }
+    if MAX_BYTES < s.len() {
+        return 2;
+    }
+    0
+}
+
+// The document is read into the rows from 0 on. Where a column is shorter than stated, or the text longer, nothing changes.
+pub fn read_document(document: &[u8], values: &mut [u64], names: &mut [u64]) -> Read
+    ensures { λ r. ⌜ TextIs inDocument (now (document .entry)) documentRow (now (values .entry)) (now (names .entry)) (now (values .exit)) (now (names .exit)) (reading (now (values .entry)) (now (names .entry)) (now (document .entry))) r ⌝ }
+{
+    let number = refusal(document, values, names);
+    if number != 0 {
+        return Read::Refused(number, 0);
+    }
+    read(document, IN_DOCUMENT, DOCUMENT, values, names)
+}
+
+// The same of the patch, which is read into the rows behind those of the document.
+pub fn read_patch(patch: &[u8], values: &mut [u64], names: &mut [u64]) -> Read
+    ensures { λ r. ⌜ TextIs inPatch (now (patch .entry)) patchRow (now (values .entry)) (now (names .entry)) (now (values .exit)) (now (names .exit)) (reading (now (values .entry)) (now (names .entry)) (now (patch .entry))) r ⌝ }
+{
+    let number = refusal(patch, values, names);
+    if number != 0 {
+        return Read::Refused(number, 0);
+    }
+    read(patch, IN_PATCH, PATCH, values, names)
+}
