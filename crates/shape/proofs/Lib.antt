@@ -1,2 +1,4 @@
 pub mod KindLaws
 pub mod MemberLaws
+pub mod AnswerLaws
+pub mod RunLaws

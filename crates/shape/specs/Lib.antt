@@ -1,2 +1,4 @@
 pub mod Kinds
 pub mod Members
+pub mod Operation
+pub mod Patch

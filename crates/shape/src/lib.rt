@@ -2,3 +2,5 @@
 
 pub mod kinds; // the kinds of operations, by their names
 pub mod members; // a member of an operation, by its name
+pub mod operation; // one operation
+pub mod patch; // the whole patch

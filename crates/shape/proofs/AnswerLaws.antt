@@ -1,0 +1,190 @@
+-- Laws of answers, step by step as an operation's members are looked at.
+use Prim.Native.Nat.{ℕ, _≤_, _<_}
+use native.Mathlib.Omega.{arith}
+use mathlib.Core.Path.{_≡_, refl, sym, ap, _∙_, subst}
+use mathlib.Core.Bool.{Bool, true, false, not}
+use mathlib.Core.List.{List, []}
+use lib.Dec.{eqb}
+use lib.ListN.{getD}
+use borrow.Author.Tests.{eq-eqb, ne-eqb}
+use Rattle.spec.specs.Outcome.{Outcome, ok, refused, _>>=_, require}
+use Rattle.spec.specs.Refusal.{wrong-shape, malformed-pointer, move-into-child}
+use Rattle.spec.specs.Bytes.{Bytes, Text, ascii}
+use Rattle.spec.specs.Forest.{Forest}
+use Rattle.spec.specs.Value as Value
+use Rattle.spec.specs.Value.{Label, isObject}
+use Rattle.spec.specs.Operation as Operation
+use Rattle.spec.specs.Pointer.{tokens}
+use Rattle.spec.specs.Patch.{member, stringMember, kindNamed, usesValue, usesFrom, isMove, Members-of-operation, valueFor, fromFor, membersFor, operationMembers, properPrefix, withPointers, operation}
+use Rattle.spec.proofs.OutcomeLaws.{>>=-assoc}
+use Rattle.text.specs.Decode.{decode, decodeFrom, decodeLoop, textOf, textFrom}
+use Rattle.pointer.specs.Tokens.{accepted}
+use Rattle.pointer.specs.Prefix.{PrefixOf}
+use Rattle.pointer.proofs.AcceptLaws.{accepted-ok, not-accepted}
+use Rattle.tape.specs.Packing as Packing
+use Rattle.tape.specs.Cell.{Cell}
+use Rattle.tape.proofs.Cells.{formed-fit}
+use Rattle.tape.proofs.Rows.{kind-here}
+use Rattle.tape.proofs.Held.{held-node}
+use Rattle.table.specs.Meaning.{partOf, spelled, meant}
+use Rattle.table.proofs.MeaningLaws.{isObject-label}
+use Rattle.table.specs.declared.find.Member.{Member}
+use Rattle.table.specs.declared.find.Member.the-variants as Member
+use Rattle.shape.specs.Members.{NodeHeld, Sought, textOutcome, TextIs}
+use Rattle.shape.specs.Operation.{Answers, right, wrong, kindOf}
+use Rattle.shape.specs.declared.members.Spelled.{Spelled}
+use Rattle.shape.specs.declared.members.Spelled.the-variants as Spelled
+use Rattle.shape.proofs.MemberLaws.{sought-missing, sought-at}
+
+-- the answer 0 is a result, and any other a refusal
+pub answers-ok : {A : Type 0} {o : Outcome A} {n : ℕ} → Answers o n → n ≡ 0 → (a : A) × (o ≡ ok a)
+answers-ok (right a) e = (a, refl)
+answers-ok (wrong number h) e = absurd (omega arith)
+
+pub answers-refused : {A : Type 0} {o : Outcome A} {n : ℕ} → Answers o n → (n ≡ 0 → ⊥) → (o ≡ refused n 0) × (0 < n)
+answers-refused (right a) d = absurd (d refl)
+answers-refused (wrong number h) d = (refl, h)
+
+-- ---- a text that is known
+module _ {D P : Bytes} {t : Outcome Text} {r : Spelled} (is : TextIs D P t r) where
+  pub text-refused : r ≡ Spelled.Not → t ≡ refused wrong-shape 0
+  unfolding textOutcome
+  text-refused e = sym (is .text) ∙ ap (textOutcome (spelled D P)) e
+
+  module _ (s : ℕ) (e : r ≡ Spelled.As s) where
+    pub text-spelled : t ≡ ok (spelled D P s)
+    unfolding textOutcome
+    text-spelled = sym (is .text) ∙ ap (textOutcome (spelled D P)) e
+
+    pub text-decoded : t ≡ ok (decode (partOf D P s))
+    unfolding textOutcome
+    text-decoded = sym (is .decoded) ∙ ap (textOutcome (λ s. decode (partOf D P s))) e
+
+-- ---- the kind, of an object and of nothing else
+module _ {D P : Bytes} {values names : List ℕ} {row : ℕ} {c : Cell} {kids : Forest Cell} (n : NodeHeld D P values names row c kids)
+    (kind : ℕ) (kind-is : kind ≡ Packing.kindOf (getD values row 0)) where
+  here : kind ≡ c .kind
+  here = kind-is ∙ kind-here (held-node (n .held))
+
+  object-here : isObject (meant D P c kids .label) ≡ eqb (c .kind) 6
+  object-here = isObject-label D P (c .kind) (c .payload) (formed-fit (n .held .formed) .kind)
+
+  pub no-object : (kind ≡ 6 → ⊥) → refused wrong-shape 0 ≡ kindOf (meant D P c kids)
+  unfolding kindOf require _>>=_
+  no-object d = rw (object-here, ne-eqb (c .kind) 6 (λ e. d (here ∙ e)))
+
+  pub object-op : kind ≡ 6 → kindOf (meant D P c kids) ≡ stringMember (ascii "op") (meant D P c kids) >>= kindNamed
+  unfolding kindOf require _>>=_
+  object-op e = rw (object-here, eq-eqb (c .kind) 6 (sym here ∙ e))
+
+-- an op that is no string, and one that is
+module _ {D P : Bytes} {o : Outcome Operation.Kind} {t : Outcome Text} {r : Spelled} (steps : o ≡ t >>= kindNamed) (is : TextIs D P t r) where
+  pub op-refused : r ≡ Spelled.Not → refused wrong-shape 0 ≡ o
+  unfolding _>>=_
+  op-refused e = sym (steps ∙ ap (λ t. t >>= kindNamed) (text-refused is e))
+
+  pub op-spelled : (s : ℕ) → r ≡ Spelled.As s → kindNamed (spelled D P s) ≡ o
+  unfolding _>>=_
+  op-spelled s e = sym (steps ∙ ap (λ t. t >>= kindNamed) (text-spelled is s e))
+
+-- ---- the value
+module _ (k : Operation.Kind) (v : Value.Value) where
+  pub value-unused : usesValue k ≡ false → Answers (valueFor k v) 0
+  unfolding valueFor
+  value-unused e = rw e (right _)
+
+  module _ {D P : Bytes} {values names : List ℕ} {r : Member} (used : usesValue k ≡ true) (s : Sought D P values names (ascii "value") v r) where
+    value-is : valueFor k v ≡ member (ascii "value") v
+    unfolding valueFor
+    value-is = rw used
+
+    pub value-missing : r ≡ Member.Missing → Answers (valueFor k v) 8
+    value-missing e = rw (value-is, sought-missing e s) (wrong 8 (omega arith))
+
+    pub value-there : (at : ℕ) → r ≡ Member.At at → Answers (valueFor k v) 0
+    value-there at e = let (c, kids, n, is) = sought-at at e s in rw (value-is, is) (right _)
+
+  -- ---- `from`: 0 spells the empty text
+  pub from-unused : {D P : Bytes} → usesFrom k ≡ false → TextIs D P (fromFor k v) (Spelled.As 0)
+  unfolding fromFor textOutcome spelled textOf textFrom partOf decode decodeFrom decodeLoop
+  from-unused e = rw e (record { text = refl; decoded = refl })
+
+  pub from-used : {D P : Bytes} {r : Spelled} → usesFrom k ≡ true → TextIs D P (stringMember (ascii "from") v) r → TextIs D P (fromFor k v) r
+  unfolding fromFor
+  from-used e is = rw e is
+
+-- ---- the pointers
+-- a part that is and that is not a pointer, as the code tests it
+module _ {s part : Bytes} {r : Bool} (at : s ≡ part) (is : r ≡ accepted (tokens (decode s))) where
+  pub pointer-is : (b : Bool) → r ≡ b → accepted (tokens (decode part)) ≡ b
+  pointer-is b e = ap (λ t. accepted (tokens (decode t))) (sym at) ∙ sym is ∙ e
+
+pub prefix-is : {s part t other : Bytes} {r : Bool} → s ≡ part → t ≡ other → PrefixOf (tokens (decode s)) (tokens (decode t)) r
+    → (b : Bool) → r ≡ b → PrefixOf (tokens (decode part)) (tokens (decode other)) b
+prefix-is {s} {part} {t} {other} {r} e f is b g = rw (← e, ← f, ← g) is
+
+module _ (m : Members-of-operation) where
+  pub path-malformed : accepted (tokens (m .path)) ≡ false → Answers (withPointers m) 10
+  unfolding withPointers _>>=_
+  path-malformed e = rw (not-accepted (m .path) e) (wrong 10 (omega arith))
+
+  module _ (path : accepted (tokens (m .path)) ≡ true) where
+    pub from-malformed : accepted (tokens (m .from)) ≡ false → Answers (withPointers m) 10
+    unfolding withPointers _>>=_
+    from-malformed e = let (us, p) = accepted-ok _ path in rw (p, not-accepted (m .from) e) (wrong 10 (omega arith))
+
+    module _ (from : accepted (tokens (m .from)) ≡ true) where
+      pub no-move : isMove (m .kind) ≡ false → Answers (withPointers m) 0
+      unfolding withPointers _>>=_ require
+      no-move e = let (us, p) = accepted-ok _ path in let (ts, f) = accepted-ok _ from in rw (p, f, e) (right _)
+
+      module _ (moves : isMove (m .kind) ≡ true) where
+        pub into-child : PrefixOf (tokens (m .from)) (tokens (m .path)) true → Answers (withPointers m) 14
+        unfolding withPointers _>>=_ require
+        into-child is =
+            let (us, p) = accepted-ok _ path in
+            let (ts, f) = accepted-ok _ from in
+            rw (p, f, moves, ← is .right ts us f p) (wrong 14 (omega arith))
+
+        pub not-into-child : PrefixOf (tokens (m .from)) (tokens (m .path)) false → Answers (withPointers m) 0
+        unfolding withPointers _>>=_ require
+        not-into-child is =
+            let (us, p) = accepted-ok _ path in
+            let (ts, f) = accepted-ok _ from in
+            rw (p, f, moves, ← is .right ts us f p) (right _)
+
+-- ---- all members of an operation of a kind
+module _ (k : Operation.Kind) (v : Value.Value) where
+  pub path-missing : stringMember (ascii "path") v ≡ refused wrong-shape 0 → Answers (membersFor k v >>= withPointers) 8
+  unfolding membersFor _>>=_
+  path-missing e = rw e (wrong 8 (omega arith))
+
+  module _ {path : Text} (p : stringMember (ascii "path") v ≡ ok path) {n : ℕ} (value : Answers (valueFor k v) n) where
+    pub value-refused : (n ≡ 0 → ⊥) → Answers (membersFor k v >>= withPointers) n
+    unfolding membersFor _>>=_
+    value-refused d = let (e, h) = answers-refused value d in rw (p, e) (wrong n h)
+
+    module _ (zero : n ≡ 0) where
+      pub from-missing : fromFor k v ≡ refused wrong-shape 0 → Answers (membersFor k v >>= withPointers) 8
+      unfolding membersFor _>>=_
+      from-missing f = let (w, e) = answers-ok value zero in rw (p, e, f) (wrong 8 (omega arith))
+
+      pub members-there : {from : Text} → fromFor k v ≡ ok from → {r : ℕ}
+          → ((w : Value.Value) → Answers (withPointers (record { kind = k; path = path; from = from; value = w })) r)
+          → Answers (membersFor k v >>= withPointers) r
+      unfolding membersFor _>>=_
+      members-there f next = let (w, e) = answers-ok value zero in rw (p, e, f) (next w)
+
+-- ---- an operation: its kind, and then the rest
+module _ (v : Value.Value) where
+  operation-kind : operation v ≡ (kindOf v >>= λ k. membersFor k v >>= withPointers)
+  unfolding operation operationMembers kindOf
+  operation-kind = simp >>=-assoc
+
+  pub kind-refused : {o : Outcome Operation.Kind} → o ≡ kindOf v → o ≡ refused wrong-shape 0 → Answers (operation v) 8
+  unfolding _>>=_
+  kind-refused is e = rw (operation-kind, ← is, e) (wrong 8 (omega arith))
+
+  pub kind-known : {o : Outcome Operation.Kind} {k : Operation.Kind} {r : ℕ} → o ≡ kindOf v → o ≡ ok k → Answers (membersFor k v >>= withPointers) r → Answers (operation v) r
+  unfolding _>>=_
+  kind-known is e rest = rw (operation-kind, ← is, e) rest

@@ -1,0 +1,38 @@
+-- `elements` meets its contract: what is answered of the operations that are left is the answer, and the measure is the rows that are left.
+use Prim.Native.Nat.{_≤_, _-_}
+use native.Mathlib.Omega.{arith}
+use borrow.Author.Needs.{needs}
+use Rattle.shape.proofs.RunLaws.{LeftAny, left-all, left-none, left-inside, left-refused, left-next}
+use Rattle.shape.proofs.patch.elements.Statement.{statement}
+use Rattle.shape.proofs.patch.elements.Tie as tie
+
+abbrev Inv-loop : tie.InvT-loop
+Inv-loop values names document patch start end row₀ op₀ row op = (op ≤ row) × LeftAny document patch values names start end row op
+
+abbrev μ-loop : tie.MeasureT-loop
+μ-loop values names document patch start end row₀ op₀ row op = end - row
+
+pub elements-spec : {M : Type 1} → statement M
+elements-spec =
+    tie.close
+    (tie.spec
+    Inv-loop
+    μ-loop
+    -- loop-holds
+    (λ c. (omega arith, left-all _ _ _ _ _ _))
+    -- returns
+    (λ c. left-inside (c .before .before .loop .inv .1) (omega arith) (omega arith))
+    -- add-op
+    (λ c. search needs)
+    -- operation-number-requires
+    (λ c κs. search needs)
+    -- returns-2
+    (λ c. left-refused (c .before .before .before .before .loop .inv .1) (omega arith) (c .before .operation-number .ensures) (c .if2 .taken))
+    -- end-of-requires
+    (λ c κs. search needs)
+    -- loop-less
+    (λ c. search needs)
+    -- loop-again
+    (λ c. (omega arith, left-next (c .before .before .before .before .before .loop .inv .1) (omega arith) (c .before .before .operation-number .ensures) (c .before .if2 .left) _ (c .end-of .ensures)))
+    -- returns-3
+    (λ c. left-none (c .before .loop .inv .1) (omega arith)))
