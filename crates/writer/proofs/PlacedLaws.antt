@@ -93,15 +93,14 @@ placed-then {u} {v} {i} {j} {n} {before} {between} {part} p q =
           ∙ ap (λ k. sets between k v) zero-more;
     })
 
--- a turn of a loop that lends the rest of the output twice
-pub turn-fits : (out : Bytes) (put : ℕ) {bytes part : Bytes} (last : Bytes) {n m : ℕ} → put ≤ length out → Placed bytes 0 (take (length out - put) (drop put out)) part n
+-- a turn of a loop that lends the rest of the output twice: what both calls put fits, and the output is as long as before
+pub turn-fits : (out : Bytes) (put n : ℕ) (part last : Bytes) {m : ℕ} → put + n ≤ length out → length part ≡ length (take (length out - put) (drop put out))
     → (let between = putMid put (length out - put) out part in length last ≡ length (take (length between - (put + n)) (drop (put + n) between)))
     → (let between = putMid put (length out - put) out part in m ≤ length (take (length between - (put + n)) (drop (put + n) between)))
     → (let between = putMid put (length out - put) out part in (put + n + m ≤ length out) × (length (putMid (put + n) (length between - (put + n)) between last) ≡ length out))
-turn-fits out put {part = part} last {n} {m} h p k f =
+turn-fits out put n part last {m} h j k f =
     let between : Bytes = putMid put (length out - put) out part in
-    let same : length between ≡ length out = back-length out put part (placed-length p) in
-    let first : put + n ≤ length out = lent-fits out put n (placed-inside p) h in
+    let same : length between ≡ length out = back-length out put part j in
     let second : put + n + m ≤ length between = lent-fits between (put + n) m f (omega arith) in
     (omega arith, back-length between (put + n) last k ∙ same)
 

@@ -22,7 +22,8 @@ use Rattle.table.specs.Meaning.{members, meant}
 use Rattle.writer.specs.Pieces.{scalarBytes, openingBracket, closingBracket, prefixBytes}
 use Rattle.writer.specs.Writing.{Placed, Writable, MeasureIs, WriteIs, lengthLimit}
 use Rattle.writer.proofs.PlacedLaws.{placed-as, placed-none, placed-on, placed-then}
-use Rattle.writer.proofs.PieceLaws.{verbatim-payload, write-scalar, write-container}
+use Rattle.writer.proofs.VerbatimLaws.{verbatim-payload}
+use Rattle.writer.proofs.PieceLaws.{write-scalar, write-container}
 use Rattle.writer.proofs.LengthLaws.{writable-short}
 use Rattle.writer.proofs.ProgressLaws.{Progress, progress-all, progress-next, progress-none}
 

@@ -1,6 +1,6 @@
 -- `writer::values::write` meets its contract: the text so far is laid down, and it and the values that are left are the text of all. The
 -- levels fall.
-use Prim.Native.Nat.{ℕ, _<_, _≤_, _-_}
+use Prim.Native.Nat.{ℕ, _+_, _-_, _<_, _≤_}
 use native.Mathlib.Omega.{arith}
 use mathlib.Core.Path.{_≡_, refl, _∙_}
 use lib.ListN.{length}
@@ -122,7 +122,9 @@ pub +write-spec : {M : Type 1} → statement M
     (λ c.
     let l = c .before .before .before .before .before .before .before .before .before .before .loop in
     let w = c .before .before .write in
-    let turn = turn-fits (l .out) (l .put) (w .last .1 .1 .1 .1 .1 .1 .0) (l .inv .0) (c .before .before .before .before .before .before .write-prefix .ensures) (w .kept .1 .1 .1 .1 .1 .1 .0) (w .ensures .1) in
+    let p = c .before .before .before .before .before .before .write-prefix in
+    let fits : l .put + p .result ≤ length (l .out) = lent-fits (l .out) (l .put) (p .result) (omega arith) (l .inv .0) in
+    let turn = turn-fits (l .out) (l .put) (p .result) (p .last .1 .1 .1 .1 .1 .0) (w .last .1 .1 .1 .1 .1 .1 .0) fits (p .kept .1 .1 .1 .1 .1 .0) (w .kept .1 .1 .1 .1 .1 .1 .0) (w .ensures .1) in
     omega (arith, turn .0, placed-length (c .before .before .before .before .before .before .before .before .before .before .before .before .before .put-byte .ensures), c .before .before .before .before .before .before .before .before .before .before .before .before .before .before .before .before .before .before .before .before .before .before .before .before .before .before .before .good .1 .1 .1 .1 .1 .1 .0 .0))
     -- end-of-requires-2
     (λ c κs. search needs)
@@ -132,8 +134,10 @@ pub +write-spec : {M : Type 1} → statement M
     (λ c.
     let l = c .before .before .before .before .before .before .before .before .before .before .before .loop in
     let w = c .before .before .before .write in
-    let turn = turn-fits (l .out) (l .put) (w .last .1 .1 .1 .1 .1 .1 .0) (l .inv .0) (c .before .before .before .before .before .before .before .write-prefix .ensures) (w .kept .1 .1 .1 .1 .1 .1 .0) (w .ensures .1) in
-    (omega (arith, turn), turn .1 ∙ l .inv .1, laying-next (l .inv .2) (omega arith) _ (c .end-of2 .ensures) _ (c .before .before .before .before .before .before .before .before .before .load .ensures) (c .before .before .before .before .before .before .before .write-prefix .ensures) (w .ensures .0)))
+    let p = c .before .before .before .before .before .before .before .write-prefix in
+    let fits : l .put + p .result ≤ length (l .out) = lent-fits (l .out) (l .put) (p .result) (omega arith) (l .inv .0) in
+    let turn = turn-fits (l .out) (l .put) (p .result) (p .last .1 .1 .1 .1 .1 .0) (w .last .1 .1 .1 .1 .1 .1 .0) fits (p .kept .1 .1 .1 .1 .1 .0) (w .kept .1 .1 .1 .1 .1 .1 .0) (w .ensures .1) in
+    (omega (arith, turn), turn .1 ∙ l .inv .1, laying-next (l .inv .2) (omega arith) _ (c .end-of2 .ensures) _ (c .before .before .before .before .before .before .before .before .before .load .ensures) (p .ensures) (w .ensures .0)))
     -- closing-bracket-requires
     (λ c κs. search needs)
     -- sub-put-byte
