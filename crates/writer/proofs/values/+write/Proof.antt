@@ -34,11 +34,11 @@ abbrev write-below : ℕ → In 4 write-kinds.ps
 write-below t = and 4 write-kinds.ps (falls 4 write-kinds.ps _<_ μ-write t) write.Pre
 
 abbrev write-Inv-loop : write-lts.InvT-loop
-write-Inv-loop values names document patch at levels out₀ word label object end row₀ first₀ put₀ out row first put =
+write-Inv-loop values names document patch at levels out₀ word tag object end row₀ first₀ put₀ out row first put =
     (put ≤ length out) × (length out ≡ length out₀) × Laying document patch values names at levels object row end first put₀ out₀ out put
 
 abbrev write-μ-loop : write-lts.MeasureT-loop
-write-μ-loop values names document patch at levels out₀ word label object end row₀ first₀ put₀ out row first put =
+write-μ-loop values names document patch at levels out₀ word tag object end row₀ first₀ put₀ out row first put =
     end - row
 
 pub +write-spec : {M : Type 1} → statement M
