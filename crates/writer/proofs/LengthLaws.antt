@@ -22,7 +22,8 @@ use Rattle.table.specs.Meaning.{sourceText, partOf, members, meant}
 use Rattle.writer.specs.Verbatim.{Verbatim, AllVerbatim, verbatim-none, verbatim-tree}
 use Rattle.writer.specs.Pieces.{stringBytes, literalBytes, scalarBytes, openingBracket, closingBracket, nameBytes, prefixBytes}
 use Rattle.writer.specs.Writing.{Writable, lengthLimit}
-use Rattle.writer.proofs.PieceLaws.{name-member, verbatim-payload, verbatim-kids, write-scalar, write-container, items-tree, items-none}
+use Rattle.writer.proofs.VerbatimLaws.{verbatim-payload, verbatim-kids}
+use Rattle.writer.proofs.PieceLaws.{name-member, write-scalar, write-container, items-tree, items-none}
 
 -- ---- pieces
 pub comma-short : (first : Bool) → length (comma first) ≤ 1

@@ -20,22 +20,8 @@ use Rattle.tape.specs.Cell.{Cell, Fit}
 use Rattle.tape.specs.Map.{mapForest}
 use Rattle.table.specs.Meaning.{partOf, spelled, labelOf, nameText, members, meant}
 use Rattle.table.proofs.MeaningLaws.{isObject-label}
-use Rattle.writer.specs.Verbatim.{Verbatim, AllVerbatim, verbatim-tree}
+use Rattle.writer.specs.Verbatim.{Verbatim}
 use Rattle.writer.specs.Pieces.{stringBytes, literalBytes, scalarBytes, openingBracket, closingBracket, nameBytes, prefixBytes}
-
--- ---- the strings of a forest
-module _ {D P : Bytes} {c : Cell} {kids rest : Forest Cell} where
-  pub verbatim-name : AllVerbatim D P (tree c kids rest) → Verbatim D P (spellingOf (c .name))
-  verbatim-name (verbatim-tree n p k r) = n
-
-  pub verbatim-payload : AllVerbatim D P (tree c kids rest) → Verbatim D P (c .payload)
-  verbatim-payload (verbatim-tree n p k r) = p
-
-  pub verbatim-kids : AllVerbatim D P (tree c kids rest) → AllVerbatim D P kids
-  verbatim-kids (verbatim-tree n p k r) = k
-
-  pub verbatim-rest : AllVerbatim D P (tree c kids rest) → AllVerbatim D P rest
-  verbatim-rest (verbatim-tree n p k r) = r
 
 -- ---- the pieces, as the code tells them apart
 module _ (D P : Bytes) where

@@ -7,7 +7,7 @@ use mathlib.Core.Path.{_≡_, refl, sym, ap, _∙_}
 use mathlib.Core.List.{List, [], _∷_, _++_, append-nil}
 use lib.ListN.{length, take, drop, set, length-append, length-take, length-drop, take-append-drop, drop-of-length-le}
 use lib.Seq.{sets, length-sets, take-set-le, drop-set-add, take-all}
-use borrow.Rule.Slice.PartMut.{putMid}
+use borrow.Rule.Slice.PartMut.{putMid, same-len-mid}
 use Rattle.spec.specs.Bytes.{Bytes}
 use Rattle.text.proofs.StoreLaws.{sets-out, stores-on, laid-down}
 use Rattle.writer.specs.Writing.{Placed}
@@ -67,6 +67,13 @@ module _ (out : Bytes) (put : ℕ) where
   back ys =
       ap (λ l. take put out ++ (ys ++ l)) (drop-of-length-le (drop put out) {i = length out - put} (rw length-drop (omega arith))) ∙ ap (λ l. take put out ++ l) (append-nil ys)
 
+  -- it comes back as long as it was lent, and so does the whole; and what fits the part fits the whole
+  pub back-length : (ys : Bytes) → length ys ≡ length (take (length out - put) (drop put out)) → length (putMid put (length out - put) out ys) ≡ length out
+  back-length ys e = same-len-mid put (length out - put) out ys e
+
+  pub lent-fits : (n : ℕ) → n ≤ length (take (length out - put) (drop put out)) → put ≤ length out → put + n ≤ length out
+  lent-fits n h l = omega (arith, ap length lent, length-drop put out)
+
 -- bytes laid down in the part behind others, said of the whole
 pub placed-then : {u v : Bytes} {i j n : ℕ} {before between part : Bytes} → Placed u i before between j → Placed v 0 (take (length between - j) (drop j between)) part n
     → Placed (u ++ v) i before (putMid j (length between - j) between part) (j + n)
@@ -85,6 +92,17 @@ placed-then {u} {v} {i} {j} {n} {before} {between} {part} p q =
           ∙ sym (sets-part j between 0 v)
           ∙ ap (λ k. sets between k v) zero-more;
     })
+
+-- a turn of a loop that lends the rest of the output twice: what both calls put fits, and the output is as long as before
+pub turn-fits : (out : Bytes) (put n : ℕ) (part last : Bytes) {m : ℕ} → put + n ≤ length out → length part ≡ length (take (length out - put) (drop put out))
+    → (let between = putMid put (length out - put) out part in length last ≡ length (take (length between - (put + n)) (drop (put + n) between)))
+    → (let between = putMid put (length out - put) out part in m ≤ length (take (length between - (put + n)) (drop (put + n) between)))
+    → (let between = putMid put (length out - put) out part in (put + n + m ≤ length out) × (length (putMid (put + n) (length between - (put + n)) between last) ≡ length out))
+turn-fits out put n part last {m} h j k f =
+    let between : Bytes = putMid put (length out - put) out part in
+    let same : length between ≡ length out = back-length out put part j in
+    let second : put + n + m ≤ length between = lent-fits between (put + n) m f (omega arith) in
+    (omega arith, back-length between (put + n) last k ∙ same)
 
 -- where there is room for all
 pub placed-whole : {bytes before after : Bytes} {next : ℕ} → Placed bytes 0 before after next → length bytes ≤ length before → (next ≡ length bytes) × (after ≡ bytes ++ drop (length bytes) before)

@@ -17,7 +17,8 @@ use Rattle.table.specs.Meaning.{members, meant}
 use Rattle.writer.specs.Verbatim.{AllVerbatim}
 use Rattle.writer.specs.Pieces.{prefixBytes}
 use Rattle.writer.specs.Writing.{Writable}
-use Rattle.writer.proofs.PieceLaws.{verbatim-name, verbatim-kids, verbatim-rest, items-tree, items-none}
+use Rattle.writer.proofs.VerbatimLaws.{verbatim-name, verbatim-kids, verbatim-rest}
+use Rattle.writer.proofs.PieceLaws.{items-tree, items-none}
 
 -- `R text` is what the code knows of the text so far: that it is laid down, or how long it is
 pub record Progress (D P : Bytes) (vs ns : List ℕ) (object : Bool) (levels : ℕ) (kids : Forest Cell) (row end : ℕ) (first : Bool) (R : Bytes → Type 0) : Type 0 where

@@ -22,7 +22,8 @@ use Rattle.table.specs.Meaning.{members, meant}
 use Rattle.writer.specs.Pieces.{scalarBytes, openingBracket, closingBracket, prefixBytes}
 use Rattle.writer.specs.Writing.{Placed, Writable, MeasureIs, WriteIs, lengthLimit}
 use Rattle.writer.proofs.PlacedLaws.{placed-as, placed-none, placed-on, placed-then}
-use Rattle.writer.proofs.PieceLaws.{verbatim-payload, write-scalar, write-container}
+use Rattle.writer.proofs.VerbatimLaws.{verbatim-payload}
+use Rattle.writer.proofs.PieceLaws.{write-scalar, write-container}
 use Rattle.writer.proofs.LengthLaws.{writable-short}
 use Rattle.writer.proofs.ProgressLaws.{Progress, progress-all, progress-next, progress-none}
 
@@ -30,33 +31,33 @@ module _ {D P : Bytes} {vs ns : List ℕ} {at levels : ℕ} {c : Cell} {kids : F
   fit : Fit c kids
   fit = formed-fit (w .held .formed)
 
-  kind-is : (label : ℕ) → label ≡ kindOf (getD vs at 0) → label ≡ c .kind
-  kind-is label e = e ∙ kind-here (held-node (w .held))
+  kind-is : (tag : ℕ) → tag ≡ kindOf (getD vs at 0) → tag ≡ c .kind
+  kind-is tag e = e ∙ kind-here (held-node (w .held))
 
   -- no node stands behind the column, and with no levels left there is no container
   pub none-there : {C : Type 0} → length vs ≤ at → C
   none-there h = absurd (omega (arith, inside-here (held-node (w .held))))
 
-  pub none-nested : {C : Type 0} (label : ℕ) → label ≡ kindOf (getD vs at 0) → arrayKind ≤ label → levels ≡ 0 → C
-  none-nested label e h z = absurd (omega (arith, w .nested, level-container c (deep kids) (omega (arith, kind-is label e))))
+  pub none-nested : {C : Type 0} (tag : ℕ) → tag ≡ kindOf (getD vs at 0) → arrayKind ≤ tag → levels ≡ 0 → C
+  none-nested tag e h z = absurd (omega (arith, w .nested, level-container c (deep kids) (omega (arith, kind-is tag e))))
 
-  pub scalar-text : (label payload : ℕ) → label ≡ kindOf (getD vs at 0) → payload ≡ payloadOf (getD vs at 0) → label < arrayKind → write (meant D P c kids) ≡ scalarBytes D P label payload
-  scalar-text label payload e f h =
-      let k = kind-is label e in
+  pub scalar-text : (tag payload : ℕ) → tag ≡ kindOf (getD vs at 0) → payload ≡ payloadOf (getD vs at 0) → tag < arrayKind → write (meant D P c kids) ≡ scalarBytes D P tag payload
+  scalar-text tag payload e f h =
+      let k = kind-is tag e in
       write-scalar D P c kids fit (omega arith) (verbatim-payload (w .verbatim)) ∙ sym (ap₂ (scalarBytes D P) k (f ∙ payload-here (held-node (w .held))))
 
-  module _ (label : ℕ) (label-is : label ≡ kindOf (getD vs at 0)) (container : arrayKind ≤ label) where
+  module _ (tag : ℕ) (tag-is : tag ≡ kindOf (getD vs at 0)) (container : arrayKind ≤ tag) where
     abbrev items : Bytes
-    items = writeItems (eqb label objectKind) true (members D P kids)
+    items = writeItems (eqb tag objectKind) true (members D P kids)
 
-    pub container-text : write (meant D P c kids) ≡ (openingBracket (eqb label objectKind) ∷ []) ++ items ++ (closingBracket (eqb label objectKind) ∷ [])
+    pub container-text : write (meant D P c kids) ≡ (openingBracket (eqb tag objectKind) ∷ []) ++ items ++ (closingBracket (eqb tag objectKind) ∷ [])
     container-text =
-        let k = kind-is label label-is in
+        let k = kind-is tag tag-is in
         write-container D P c kids fit (omega arith)
         ∙ ap (λ n. (openingBracket (eqb n objectKind) ∷ []) ++ writeItems (eqb n objectKind) true (members D P kids) ++ (closingBracket (eqb n objectKind) ∷ [])) (sym k)
 
-    pub values-all : {R : Bytes → Type 0} (end : ℕ) → end ≡ endOf vs at → R [] → Progress D P vs ns (eqb label objectKind) (levels - 1) kids (at + 1) end true R
-    values-all end e r = let k = kind-is label label-is in progress-all (eqb label objectKind) end e (omega arith) w r
+    pub values-all : {R : Bytes → Type 0} (end : ℕ) → end ≡ endOf vs at → R [] → Progress D P vs ns (eqb tag objectKind) (levels - 1) kids (at + 1) end true R
+    values-all end e r = let k = kind-is tag tag-is in progress-all (eqb tag objectKind) end e (omega arith) w r
 
 -- ---- `measure`
 -- the length so far, with both brackets
@@ -70,8 +71,8 @@ module _ (D P : Bytes) (vs ns : List ℕ) (at levels : ℕ) where
       (c : Cell) (kids : Forest Cell) → Writable D P vs ns at levels c kids → Progress D P vs ns object (levels - 1) kids row end first (Counted total)
 
 module _ {D P : Bytes} {vs ns : List ℕ} {at levels : ℕ} where
-  pub measure-scalar : (label payload : ℕ) → label ≡ kindOf (getD vs at 0) → payload ≡ payloadOf (getD vs at 0) → label < arrayKind → (r : ℕ) → r ≡ length (scalarBytes D P label payload) → MeasureIs D P vs ns at levels r
-  measure-scalar label payload e f h r n c kids w = n ∙ sym (ap length (scalar-text w label payload e f h))
+  pub measure-scalar : (tag payload : ℕ) → tag ≡ kindOf (getD vs at 0) → payload ≡ payloadOf (getD vs at 0) → tag < arrayKind → (r : ℕ) → r ≡ length (scalarBytes D P tag payload) → MeasureIs D P vs ns at levels r
+  measure-scalar tag payload e f h r n c kids w = n ∙ sym (ap length (scalar-text w tag payload e f h))
 
   pub measuring-next : {object first : Bool} {row end total : ℕ} → Measuring D P vs ns at levels object row end first total → row < end
       → (next : ℕ) → next ≡ endOf vs row
@@ -88,16 +89,16 @@ module _ {D P : Bytes} {vs ns : List ℕ} {at levels : ℕ} where
       let both = length-append (text ++ own) (write (meant D P d ks)) in
       omega (arith, value-is d ks w', total-is)
 
-  module _ (label : ℕ) (label-is : label ≡ kindOf (getD vs at 0)) (container : arrayKind ≤ label) where
-    pub measuring-all : (end : ℕ) → end ≡ endOf vs at → Measuring D P vs ns at levels (eqb label objectKind) (at + 1) end true 2
-    measuring-all end e c kids w = values-all w label label-is container end e (omega arith)
+  module _ (tag : ℕ) (tag-is : tag ≡ kindOf (getD vs at 0)) (container : arrayKind ≤ tag) where
+    pub measuring-all : (end : ℕ) → end ≡ endOf vs at → Measuring D P vs ns at levels (eqb tag objectKind) (at + 1) end true 2
+    measuring-all end e c kids w = values-all w tag tag-is container end e (omega arith)
 
-    pub measuring-none : {row end total : ℕ} {first : Bool} → Measuring D P vs ns at levels (eqb label objectKind) row end first total → end ≤ row → MeasureIs D P vs ns at levels total
+    pub measuring-none : {row end total : ℕ} {first : Bool} → Measuring D P vs ns at levels (eqb tag objectKind) row end first total → end ≤ row → MeasureIs D P vs ns at levels total
     measuring-none m h c kids w =
         let all = progress-none (m c kids w) h in
-        let long = ap length (container-text w label label-is container) in
-        let one = length-append (openingBracket (eqb label objectKind) ∷ []) (writeItems (eqb label objectKind) true (members D P kids)) in
-        let both = length-append ((openingBracket (eqb label objectKind) ∷ []) ++ writeItems (eqb label objectKind) true (members D P kids)) (closingBracket (eqb label objectKind) ∷ []) in
+        let long = ap length (container-text w tag tag-is container) in
+        let one = length-append (openingBracket (eqb tag objectKind) ∷ []) (writeItems (eqb tag objectKind) true (members D P kids)) in
+        let both = length-append ((openingBracket (eqb tag objectKind) ∷ []) ++ writeItems (eqb tag objectKind) true (members D P kids)) (closingBracket (eqb tag objectKind) ∷ []) in
         omega (arith, writable-short D P c kids w)
 
 -- ---- `write`
@@ -108,9 +109,9 @@ module _ (D P : Bytes) (vs ns : List ℕ) (at levels : ℕ) where
       (c : Cell) (kids : Forest Cell) → Writable D P vs ns at levels c kids → Progress D P vs ns object (levels - 1) kids row end first (λ text. Placed text put₀ out₀ out put)
 
 module _ {D P : Bytes} {vs ns : List ℕ} {at levels : ℕ} where
-  pub write-scalar-laid : {before after : Bytes} {r : ℕ} (label payload : ℕ) → label ≡ kindOf (getD vs at 0) → payload ≡ payloadOf (getD vs at 0) → label < arrayKind
-      → Placed (scalarBytes D P label payload) 0 before after r → WriteIs D P vs ns at levels before after r
-  write-scalar-laid label payload e f h p c kids w = placed-as (scalar-text w label payload e f h) p
+  pub write-scalar-laid : {before after : Bytes} {r : ℕ} (tag payload : ℕ) → tag ≡ kindOf (getD vs at 0) → payload ≡ payloadOf (getD vs at 0) → tag < arrayKind
+      → Placed (scalarBytes D P tag payload) 0 before after r → WriteIs D P vs ns at levels before after r
+  write-scalar-laid tag payload e f h p c kids w = placed-as (scalar-text w tag payload e f h) p
 
   pub laying-next : {object first : Bool} {row end put₀ put n m : ℕ} {out₀ out part last : Bytes} → Laying D P vs ns at levels object row end first put₀ out₀ out put → row < end
       → (next : ℕ) → next ≡ endOf vs row
@@ -121,15 +122,15 @@ module _ {D P : Bytes} {vs ns : List ℕ} {at levels : ℕ} where
   laying-next {object} {first} l more next e name name-is p q c kids w =
       progress-next (l c kids w) more next e λ d ks w' text r. placed-then (placed-then r (placed-as (ap (prefixBytes D P object first) (sym name-is)) p)) (q d ks w')
 
-  module _ (label : ℕ) (label-is : label ≡ kindOf (getD vs at 0)) (container : arrayKind ≤ label) where
-    pub laying-all : (end : ℕ) → end ≡ endOf vs at → (put : ℕ) (out : Bytes) → put ≤ length out → Laying D P vs ns at levels (eqb label objectKind) (at + 1) end true put out out put
-    laying-all end e put out h c kids w = values-all w label label-is container end e (placed-none put out h)
+  module _ (tag : ℕ) (tag-is : tag ≡ kindOf (getD vs at 0)) (container : arrayKind ≤ tag) where
+    pub laying-all : (end : ℕ) → end ≡ endOf vs at → (put : ℕ) (out : Bytes) → put ≤ length out → Laying D P vs ns at levels (eqb tag objectKind) (at + 1) end true put out out put
+    laying-all end e put out h c kids w = values-all w tag tag-is container end e (placed-none put out h)
 
     pub laying-none : {row end put₀ put n : ℕ} {first : Bool} {before out₀ out last : Bytes} (opening closing : ℕ)
-        → opening ≡ openingBracket (eqb label objectKind) → closing ≡ closingBracket (eqb label objectKind)
+        → opening ≡ openingBracket (eqb tag objectKind) → closing ≡ closingBracket (eqb tag objectKind)
         → Placed (opening ∷ []) 0 before out₀ put₀
-        → Laying D P vs ns at levels (eqb label objectKind) row end first put₀ out₀ out put → end ≤ row
+        → Laying D P vs ns at levels (eqb tag objectKind) row end first put₀ out₀ out put → end ≤ row
         → Placed (closing ∷ []) 0 (take (length out - put) (drop put out)) last n
         → WriteIs D P vs ns at levels before (putMid put (length out - put) out last) (put + n)
     laying-none opening closing o k p l h q c kids w =
-        placed-as (container-text w label label-is container ∙ rw (← o, ← k)) (placed-then (placed-on p (progress-none (l c kids w) h)) q)
+        placed-as (container-text w tag tag-is container ∙ rw (← o, ← k)) (placed-then (placed-on p (progress-none (l c kids w) h)) q)

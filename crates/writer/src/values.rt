@@ -20,7 +20,7 @@ use tape::words::payload;
 // More bytes than any value's text has, so that a sum of lengths is cut off here and never wraps, whatever the columns hold.
 const LENGTH_LIMIT: usize = 0x4000_0000;
 
-// The length of the text of the tree in the row `at`, which nests at most `levels` containers.
+// The length of the text of the tree in the row `at`, which nests at most `levels` containers. It is exact, since no text reaches the limit.
 pub fn measure<'a>(
     values: &[u64],
     names: &[u64],
@@ -36,17 +36,18 @@ pub fn measure<'a>(
         return 0;
     }
     let word = values[at];
-    let label = kind(word);
-    if label < ARRAY {
-        return scalar_length(document, patch, label, payload(word));
+    let tag = kind(word);
+    if tag < ARRAY {
+        return scalar_length(document, patch, tag, payload(word));
     }
     if levels == 0 {
         return 0;
     }
-    let object = label == OBJECT;
+    let object = tag == OBJECT;
     let end = end_of(values, at);
     let mut row = at + 1;
     let mut first = true;
+    // both brackets
     let mut total = 2;
     while row < end {
         let before = prefix_length(document, patch, object, first, load(names, row));
@@ -76,14 +77,14 @@ pub fn write<'a>(
         return 0;
     }
     let word = values[at];
-    let label = kind(word);
-    if label < ARRAY {
-        return write_scalar(document, patch, label, payload(word), out);
+    let tag = kind(word);
+    if tag < ARRAY {
+        return write_scalar(document, patch, tag, payload(word), out);
     }
     if levels == 0 {
         return 0;
     }
-    let object = label == OBJECT;
+    let object = tag == OBJECT;
     let end = end_of(values, at);
     let mut row = at + 1;
     let mut first = true;

@@ -32,11 +32,11 @@ abbrev measure-below : ℕ → In 3 measure-kinds.ps
 measure-below t = and 3 measure-kinds.ps (falls 3 measure-kinds.ps _<_ μ-measure t) measure.Pre
 
 abbrev measure-Inv-loop : measure-lts.InvT-loop
-measure-Inv-loop values names document patch at levels word label object end row₀ first₀ total₀ row first total =
+measure-Inv-loop values names document patch at levels word tag object end row₀ first₀ total₀ row first total =
     (total ≤ lengthLimit) × Measuring document patch values names at levels object row end first total
 
 abbrev measure-μ-loop : measure-lts.MeasureT-loop
-measure-μ-loop values names document patch at levels word label object end row₀ first₀ total₀ row first total =
+measure-μ-loop values names document patch at levels word tag object end row₀ first₀ total₀ row first total =
     end - row
 
 pub +measure-spec : {M : Type 1} → statement M
