@@ -87,8 +87,8 @@ pub fn hash(name: u64) -> u64
     name / SPELLINGS
 }
 
-pub fn name(spelling: u64, hash: u64) -> u64
+pub fn name(spelling: u64, hash: u32) -> u64
     ensures { λ r. ⌜ r ≡ nameOf (spelling % spellings) (hash % hashes) ⌝ }
 {
-    spelling % SPELLINGS + SPELLINGS * (hash % HASHES)
+    spelling % SPELLINGS + SPELLINGS * (hash as u64 % HASHES)
 }
