@@ -67,14 +67,11 @@ module _ {source : ℕ} {s : Bytes} {start end : ℕ} {all : Members} {vs ns : L
   one : sourceText s s source ≡ s
   one = one-text s source
 
-  asked : Asked s s vs ns start end (f .cells) name
-  asked =
-      record {
-        held = filled-held room long-vs long-ns f;
-        ends = f .ends;
-        keyed = f .keyed s s one;
-        hashed = record { is = titles .hashed ∙ ap hash (sym (titles .says s s one)) };
-      }
+  asked : Asked s s vs ns start end (f .cells)
+  asked = record { held = filled-held room long-vs long-ns f; ends = f .ends; keyed = f .keyed s s one }
+
+  hashed : Hashed s s name
+  hashed = record { is = titles .hashed ∙ ap hash (sym (titles .says s s one)) }
 
   many : count all ≡ count (f .cells)
   many = ap count (sym (f .meant s s one)) ∙ count-map (entryOf s s) (f .cells)
@@ -84,16 +81,16 @@ module _ {source : ℕ} {s : Bytes} {start end : ℕ} {all : Members} {vs ns : L
 
   -- what the search found, said of the members
   pub search-found : (row : ℕ) → FindIs s s vs ns start end name (At row) → has text all ≡ true
-  search-found row r = go (At row) (r (f .cells) asked) refl
+  search-found row r = go (At row) (r (f .cells) asked hashed) refl
     where
-      go : (m : Member) → Found s s start (f .cells) name m → m ≡ At row → has text all ≡ true
+      go : (m : Member) → Found s s start (f .cells) (nameText s s name) m → m ≡ At row → has text all ≡ true
       go m (Find.found k row' e l h) q = lt-ltb (find text all) (count all) (omega (arith, e, l, place, many))
       go m (Find.missing e) q = absurd (let z : _≡_ {A = ℕ} 0 1 = cc in omega arith)
 
   pub search-missing : FindIs s s vs ns start end name Missing → has text all ≡ false
-  search-missing r = go Missing (r (f .cells) asked) refl
+  search-missing r = go Missing (r (f .cells) asked hashed) refl
     where
-      go : (m : Member) → Found s s start (f .cells) name m → m ≡ Missing → has text all ≡ false
+      go : (m : Member) → Found s s start (f .cells) (nameText s s name) m → m ≡ Missing → has text all ≡ false
       go m (Find.found k row e l h) q = absurd (let z : _≡_ {A = ℕ} 0 1 = cc in omega arith)
       go m (Find.missing e) q = le-ltb (find text all) (count all) (omega (arith, e, place, many))
 

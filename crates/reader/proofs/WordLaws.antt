@@ -29,7 +29,7 @@ use Rattle.lexer.proofs.StringLaws.{Closed, string-ok-closed}
 use Rattle.lexer.proofs.NumberLaws.{number-ok-past}
 use Rattle.text.specs.Decode.{decodeFrom, decode, textFrom, textOf}
 use Rattle.text.proofs.DecodeLaws.{decode-string}
-use Rattle.text.proofs.WriteLaws.{string-same}
+use Rattle.text.proofs.PlainLaws.{string-same}
 use Rattle.tape.specs.Layout.{forms, sources, places, spellings, hashes, noText, plainString, escapedString, numeral, numberKind, stringKind}
 use Rattle.tape.specs.Packing.{spelling, formOf, sourceOf, startOf, lengthOf, nameOf, spellingOf, hashOf}
 use Rattle.tape.proofs.Packing.{form-spelling, source-spelling, start-spelling, length-spelling, spelling<, spelling-fits, spelling-name, hash-name, name-fits}
