@@ -1,21 +1,21 @@
 -- Laws of answers, step by step as an operation's members are looked at.
-use Prim.Native.Nat.{ℕ, _≤_, _<_}
+use Prim.Native.Nat.{ℕ, _<_}
 use native.Mathlib.Omega.{arith}
-use mathlib.Core.Path.{_≡_, refl, sym, ap, _∙_, subst}
+use mathlib.Core.Path.{_≡_, refl, sym, ap, _∙_}
 use mathlib.Core.Bool.{Bool, true, false, not}
-use mathlib.Core.List.{List, []}
+use mathlib.Core.List.{List}
 use lib.Dec.{eqb}
 use lib.ListN.{getD}
 use borrow.Author.Tests.{eq-eqb, ne-eqb}
 use Rattle.spec.specs.Outcome.{Outcome, ok, refused, _>>=_, require}
-use Rattle.spec.specs.Refusal.{wrong-shape, malformed-pointer, move-into-child}
+use Rattle.spec.specs.Refusal.{wrong-shape}
 use Rattle.spec.specs.Bytes.{Bytes, Text, ascii}
 use Rattle.spec.specs.Forest.{Forest}
 use Rattle.spec.specs.Value as Value
-use Rattle.spec.specs.Value.{Label, isObject}
+use Rattle.spec.specs.Value.{isObject}
 use Rattle.spec.specs.Operation as Operation
 use Rattle.spec.specs.Pointer.{tokens}
-use Rattle.spec.specs.Patch.{member, stringMember, kindNamed, usesValue, usesFrom, isMove, Members-of-operation, valueFor, fromFor, membersFor, operationMembers, properPrefix, withPointers, operation}
+use Rattle.spec.specs.Patch.{member, stringMember, kindNamed, usesValue, usesFrom, isMove, Members-of-operation, valueFor, fromFor, membersFor, operationMembers, withPointers, operation}
 use Rattle.spec.proofs.OutcomeLaws.{>>=-assoc}
 use Rattle.text.specs.Decode.{decode, decodeFrom, decodeLoop, textOf, textFrom}
 use Rattle.pointer.specs.Tokens.{accepted}

@@ -10,12 +10,12 @@ use Rattle.spec.specs.Refusal.{wrong-shape}
 use Rattle.spec.specs.Bytes.{Bytes, Text}
 use Rattle.spec.specs.Forest.{Forest, none, tree, Tree, count, from, nth, _⧺_}
 use Rattle.spec.specs.Value as Value
-use Rattle.spec.specs.Value.{Label, Entry, leaf, named, valueOf, find, isString, tag, content}
+use Rattle.spec.specs.Value.{Label, leaf, named, valueOf, find, isString, tag, content}
 use Rattle.spec.specs.Pointer.{child}
 use Rattle.spec.specs.Patch.{member, stringMember, stringOf}
 use Rattle.text.specs.Decode.{decode, textOf, textFrom}
 use Rattle.tape.specs.Packing.{kindOf, payloadOf}
-use Rattle.tape.specs.Cell.{Cell, Node, Held}
+use Rattle.tape.specs.Cell.{Cell}
 use Rattle.tape.specs.Rows.{endOf, childRow}
 use Rattle.tape.specs.Map.{mapForest, mapTree}
 use Rattle.tape.proofs.Forests.{from-nth}
@@ -23,16 +23,14 @@ use Rattle.tape.proofs.Cells.{formed-fit}
 use Rattle.tape.proofs.Rows.{kind-here, payload-here, end-here}
 use Rattle.tape.proofs.Held.{held-node, held-kids, held-child}
 use Rattle.tape.proofs.Map.{count-map, map-nth}
-use Rattle.table.specs.All.{All}
-use Rattle.table.specs.Meaning.{partOf, spelled, labelOf, nameText, entryOf, members, meant, Keyed}
+use Rattle.table.specs.Meaning.{partOf, spelled, labelOf, entryOf, members, meant, Keyed}
 use Rattle.table.specs.Find as Find
 use Rattle.table.specs.Find.{Asked, Found}
 use Rattle.table.specs.declared.find.Member.{Member}
 use Rattle.table.specs.declared.find.Member.the-variants as Member
 use Rattle.table.proofs.AllLaws.{all-first, all-kids, all-nth}
 use Rattle.table.proofs.MeaningLaws.{keyed-kids, keyed-from, isString-label}
-use Rattle.shape.specs.Members.{StringFits, NodeHeld, Sought, found, missing, textOutcome, TextIs}
-use Rattle.shape.specs.declared.members.Spelled.{Spelled}
+use Rattle.shape.specs.Members.{NodeHeld, Sought, found, missing, textOutcome, TextIs}
 use Rattle.shape.specs.declared.members.Spelled.the-variants as Spelled
 
 -- any tree

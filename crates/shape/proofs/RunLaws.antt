@@ -1,20 +1,19 @@
 -- Laws of the loop over a patch's operations, and of what stands before it.
-use Prim.Native.Nat.{ℕ, suc, _+_, _≤_, _<_}
+use Prim.Native.Nat.{ℕ, _+_, _≤_, _<_}
 use native.Mathlib.Omega.{arith}
-use mathlib.Core.Path.{_≡_, refl, sym, ap, _∙_, subst}
+use mathlib.Core.Path.{_≡_, sym, _∙_, subst}
 use mathlib.Core.List.{List, [], _∷_}
-use lib.Dec.{eqb, leb}
+use lib.Dec.{eqb}
 use lib.ListN.{length, getD}
 use borrow.Author.Tests.{eq-eqb, ne-eqb, le-leb, lt-leb}
-use Rattle.spec.specs.Outcome.{Outcome, ok, refused}
+use Rattle.spec.specs.Outcome.{ok, refused}
 use Rattle.spec.specs.Bytes.{Bytes}
-use Rattle.spec.specs.Forest.{Forest, none, tree, count, size}
-use Rattle.spec.specs.Value as Value
+use Rattle.spec.specs.Forest.{Forest, none, tree, count}
 use Rattle.spec.specs.Value.{isArray}
 use Rattle.spec.specs.Operation as Operation
 use Rattle.spec.specs.Patch.{Run, finished, stopped, atOp, onFinish, operation, operations, shape}
 use Rattle.tape.specs.Packing.{kindOf}
-use Rattle.tape.specs.Cell.{Cell, Held}
+use Rattle.tape.specs.Cell.{Cell}
 use Rattle.tape.specs.Rows.{endOf, ArityIs}
 use Rattle.tape.specs.Map.{mapForest}
 use Rattle.tape.proofs.Forests.{first-tree, size-none}

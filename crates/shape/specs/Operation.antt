@@ -4,7 +4,7 @@ use mathlib.Core.Path.{_≡_}
 use mathlib.Core.List.{List}
 use Rattle.spec.specs.Outcome.{Outcome, ok, refused, _>>=_, require}
 use Rattle.spec.specs.Refusal.{wrong-shape}
-use Rattle.spec.specs.Bytes.{Bytes, Text, ascii}
+use Rattle.spec.specs.Bytes.{Bytes, ascii}
 use Rattle.spec.specs.Value as Value
 use Rattle.spec.specs.Value.{isObject}
 use Rattle.spec.specs.Operation as Operation

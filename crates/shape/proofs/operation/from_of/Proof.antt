@@ -1,5 +1,5 @@
 -- `from_of` meets its contract, by whether the kind uses `from`.
-use mathlib.Core.Path.{_≡_, sym, ap, _∙_}
+use mathlib.Core.Path.{sym, _∙_}
 use borrow.Author.Needs.{needs}
 use borrow.Author.Tests.{not-true}
 use Rattle.spec.specs.Bytes.{ascii}

@@ -1,5 +1,5 @@
 -- `kind_of` meets its contract, by the node's kind and the member `op`.
-use mathlib.Core.Path.{_≡_, sym, ap, _∙_}
+use mathlib.Core.Path.{ap, _∙_}
 use borrow.Author.Needs.{needs}
 use Rattle.spec.specs.Bytes.{ascii}
 use Rattle.tape.specs.Packing.{kindOf}

@@ -1,5 +1,5 @@
 -- `operation_number` meets its contract, by the kind and then the other members.
-use mathlib.Core.Path.{_≡_, sym, ap, _∙_}
+use mathlib.Core.Path.{sym, _∙_}
 use borrow.Author.Needs.{needs}
 use borrow.Author.Tests.{not-true}
 use Rattle.pointer.proofs.AcceptLaws.{accepted-ok}

@@ -1,5 +1,5 @@
 -- `pointers_number` meets its contract, by the tests on the two pointers.
-use mathlib.Core.Path.{_≡_, sym, ap, _∙_}
+use mathlib.Core.Path.{sym, _∙_}
 use mathlib.Core.Bool.{true, false}
 use borrow.Author.Needs.{needs}
 use borrow.Author.Tests.{not-true}
@@ -28,10 +28,10 @@ pointers-number-spec =
     -- is-move-requires
     (λ c κs. search needs)
     -- returns-3
-    (λ c k known w. no-move _ (pointer-is (c .before .before .before .before .before .before .before .part .ensures) (c .before .before .before .before .before .before .is-pointer .ensures) true (not-false _ (c .before .before .before .before .before .if1 .left))) (pointer-is (c .before .before .before .before .part2 .ensures) (c .before .before .before .is-pointer2 .ensures) true (not-false _ (c .before .before .if2 .left))) (sym (asks-known isMove _ (known .is) (c .before .is-move .ensures)) ∙ not-true _ (c .if3 .taken)))
+    (λ c k known w. let source = c .before .before in let to = source .before .before .before in no-move _ (pointer-is (to .before .before .part .ensures) (to .before .is-pointer .ensures) true (not-false _ (to .if1 .left))) (pointer-is (source .before .before .part2 .ensures) (source .before .is-pointer2 .ensures) true (not-false _ (source .if2 .left))) (sym (asks-known isMove _ (known .is) (c .before .is-move .ensures)) ∙ not-true _ (c .if3 .taken)))
     -- proper-prefix-requires
     (λ c κs. search needs)
     -- returns-4
-    (λ c k known w. into-child _ (pointer-is (c .before .before .before .before .before .before .before .before .before .part .ensures) (c .before .before .before .before .before .before .before .before .is-pointer .ensures) true (not-false _ (c .before .before .before .before .before .before .before .if1 .left))) (pointer-is (c .before .before .before .before .before .before .part2 .ensures) (c .before .before .before .before .before .is-pointer2 .ensures) true (not-false _ (c .before .before .before .before .if2 .left))) (sym (asks-known isMove _ (known .is) (c .before .before .before .is-move .ensures)) ∙ not-false _ (c .before .before .if3 .left)) (prefix-is (c .before .before .before .before .before .before .part2 .ensures) (c .before .before .before .before .before .before .before .before .before .part .ensures) (c .before .proper-prefix .ensures) true (c .if4 .taken)))
+    (λ c k known w. let source = c .before .before .before .before in let to = source .before .before .before in into-child _ (pointer-is (to .before .before .part .ensures) (to .before .is-pointer .ensures) true (not-false _ (to .if1 .left))) (pointer-is (source .before .before .part2 .ensures) (source .before .is-pointer2 .ensures) true (not-false _ (source .if2 .left))) (sym (asks-known isMove _ (known .is) (c .before .before .before .is-move .ensures)) ∙ not-false _ (c .before .before .if3 .left)) (prefix-is (source .before .before .part2 .ensures) (to .before .before .part .ensures) (c .before .proper-prefix .ensures) true (c .if4 .taken)))
     -- returns-5
-    (λ c k known w. not-into-child _ (pointer-is (c .before .before .before .before .before .before .before .before .before .part .ensures) (c .before .before .before .before .before .before .before .before .is-pointer .ensures) true (not-false _ (c .before .before .before .before .before .before .before .if1 .left))) (pointer-is (c .before .before .before .before .before .before .part2 .ensures) (c .before .before .before .before .before .is-pointer2 .ensures) true (not-false _ (c .before .before .before .before .if2 .left))) (sym (asks-known isMove _ (known .is) (c .before .before .before .is-move .ensures)) ∙ not-false _ (c .before .before .if3 .left)) (prefix-is (c .before .before .before .before .before .before .part2 .ensures) (c .before .before .before .before .before .before .before .before .before .part .ensures) (c .before .proper-prefix .ensures) false (c .if4 .left))))
+    (λ c k known w. let source = c .before .before .before .before in let to = source .before .before .before in not-into-child _ (pointer-is (to .before .before .part .ensures) (to .before .is-pointer .ensures) true (not-false _ (to .if1 .left))) (pointer-is (source .before .before .part2 .ensures) (source .before .is-pointer2 .ensures) true (not-false _ (source .if2 .left))) (sym (asks-known isMove _ (known .is) (c .before .before .before .is-move .ensures)) ∙ not-false _ (c .before .before .if3 .left)) (prefix-is (source .before .before .part2 .ensures) (to .before .before .part .ensures) (c .before .proper-prefix .ensures) false (c .if4 .left))))

@@ -1,5 +1,5 @@
 -- `value_number` meets its contract, by whether the kind uses a value.
-use mathlib.Core.Path.{_≡_, sym, ap, _∙_}
+use mathlib.Core.Path.{sym, _∙_}
 use borrow.Author.Needs.{needs}
 use borrow.Author.Tests.{not-true}
 use Rattle.spec.specs.Bytes.{ascii}
