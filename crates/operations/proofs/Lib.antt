@@ -1,0 +1,4 @@
+pub mod LimitLaws
+pub mod CutLaws
+pub mod SiteLaws
+pub mod PutLaws
