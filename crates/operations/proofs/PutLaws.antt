@@ -26,7 +26,7 @@ use Rattle.tape.proofs.Depth.{level-container}
 use Rattle.tape.proofs.Tape.{tape-single, holds-size, holds-words}
 use Rattle.tape.proofs.Forests.{size-single}
 use Rattle.tape.proofs.Changes.{laid-word, laid-span, laid-name}
-use Rattle.tape.proofs.Rows.{span-here, node-child}
+use Rattle.tape.proofs.Rows.{span-here}
 use Rattle.tape.proofs.Held.{held-node}
 use Rattle.table.specs.Meaning.{meant, Hashed, Keyed, keyed-none}
 use Rattle.table.proofs.MeaningLaws.{depth-meant, nodes-meant, keyed-single}
@@ -38,7 +38,7 @@ use Rattle.operations.specs.Change.{Answers, done, refusal, resized}
 use Rattle.operations.specs.declared.answers.Altered.the-variants.{Done, Refused}
 use Rattle.operations.proofs.LimitLaws.{limited-deep, limited-large, limited-fits}
 use Rattle.operations.proofs.CutLaws.{cut-inside, cut-formed, cut-keyed, cut-size, cut-deep, cut-around, past-front, laid-exchange}
-use Rattle.operations.proofs.SiteLaws.{site-held, site-fit, site-inside, site-deep, behind-set, behind-spliced, laid-rename}
+use Rattle.operations.proofs.SiteLaws.{site-fit, site-inside, site-deep, child-rows, behind-set, behind-spliced, laid-rename}
 
 -- ---- the span that `resize` sets
 pub resize-is : (values : List ℕ) (row used now old : ℕ) (new : ℕ) {w : ℕ} → w ≡ getD values row 0 → old ≡ spanOf w → new ≡ old + now - used
@@ -203,13 +203,8 @@ module _ {D P : Bytes} {values names : List ℕ} {source : ℕ} {x : Cell} {kids
 -- ---- a child taken out
 module _ {D P : Bytes} {values names : List ℕ} {used row levels : ℕ} (z : Site D P values names used row levels) (k : ℕ) (kth : k < count (z .kids)) (at : ℕ) (place : at ≡ childRow row k (z .kids))
     (removed : ℕ) (removed-is : removed ≡ spanOf (getD values at 0) + 1) where
-  child-size : removed ≡ suc (size (nth blank k (z .kids) .kids))
-  child-size =
-      let here : spanOf (getD values at 0) ≡ size (nth blank k (z .kids) .kids) = rw place (span-here (node-child blank k (held-node (site-held z .held)) kth)) in
-      omega arith
-
   cut : Cut row (z .kids) at removed (before k (z .kids)) (from (suc k) (z .kids))
-  cut = cut-around k place kth removed child-size
+  cut = cut-around k place kth removed (child-rows z k kth place removed-is)
 
   container : arrayKind ≤ z .c .kind
   container = container-fit (site-fit z) (omega arith)

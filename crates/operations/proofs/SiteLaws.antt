@@ -3,13 +3,15 @@ use Prim.Native.Nat.{ℕ, suc, _+_, _≤_, _<_}
 use native.Mathlib.Omega.{arith}
 use mathlib.Core.Path.{_≡_, refl, ap, sym, _∙_}
 use mathlib.Core.List.{List, [], _∷_, _++_, append-assoc}
-use lib.ListN.{length, drop, set, length-append}
+use lib.ListN.{length, drop, getD, set, length-append}
 use lib.Seq.{drop-set-lt}
 use Rattle.spec.specs.Limits.{maxNodes}
 use Rattle.spec.specs.Bytes.{Bytes}
-use Rattle.spec.specs.Forest.{Forest, tree, single, size, _⧺_}
+use Rattle.spec.specs.Forest.{Forest, tree, single, count, size, nth, _⧺_}
 use Rattle.spec.specs.Value.{depth}
 use Rattle.tape.specs.Layout.{arrayKind, objectKind, patchRow}
+use Rattle.tape.specs.Packing.{spanOf}
+use Rattle.tape.specs.Rows.{childRow}
 use Rattle.tape.specs.Columns.{usedAfter, spliced}
 use Rattle.tape.specs.Tape.{tape, Laid}
 use Rattle.tape.specs.Cell.{Cell, word, nameWord, Fit, level, deep}
@@ -18,10 +20,12 @@ use Rattle.tape.proofs.Cells.{formed-fit, formed-kids}
 use Rattle.tape.proofs.Depth.{level-container}
 use Rattle.tape.proofs.Tape.{tape-⧺, length-tape}
 use Rattle.tape.proofs.Changes.{laid-length, laid-kids, laid-join, laid-store}
-use Rattle.tape.proofs.Held.{held-laid}
+use Rattle.tape.proofs.Held.{held-laid, held-node, held-child, name-here}
+use Rattle.tape.proofs.Rows.{span-here, node-child}
 use Rattle.table.specs.Meaning.{meant}
 use Rattle.table.proofs.MeaningLaws.{depth-meant}
 use Rattle.walk.specs.Step.{NodeHeld}
+use Rattle.walk.proofs.Children.{blank}
 use Rattle.operations.specs.Cut.{renamed}
 use Rattle.operations.specs.Site.{Site, SameBehind}
 
@@ -48,6 +52,16 @@ module _ {D P : Bytes} {values names : List ℕ} {used row levels : ℕ} (z : Si
         depth-meant D P (z .c) (z .kids) (site-fit .kind) (formed-kids (z .standing .formed)),
         level-container (z .c) (deep (z .kids)) container,
       )
+
+  -- the k-th child's rows and its name
+  module _ (k : ℕ) (kth : k < count (z .kids)) {at : ℕ} (place : at ≡ childRow row k (z .kids)) where
+    pub child-rows : {removed : ℕ} → removed ≡ spanOf (getD values at 0) + 1 → removed ≡ suc (size (nth blank k (z .kids) .kids))
+    child-rows e =
+        let here : spanOf (getD values at 0) ≡ size (nth blank k (z .kids) .kids) = rw place (span-here (node-child blank k (held-node (site-held .held)) kth)) in
+        omega arith
+
+    pub child-name : getD names at 0 ≡ nth blank k (z .kids) .root .name
+    child-name = rw place (name-here (held-child (site-held .held) blank k kth))
 
 -- ---- the rows behind the document's
 module _ {xs : List ℕ} where
