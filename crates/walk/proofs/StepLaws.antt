@@ -1,5 +1,6 @@
 -- Laws of a step from a value to its child.
 use Prim.Native.Nat.{ℕ, _+_, _<_, _≤_}
+use native.Mathlib.Nat.{le-of-lt}
 use native.Mathlib.Omega.{arith}
 use mathlib.Core.Path.{_≡_, refl, ap, sym, _∙_, subst}
 use mathlib.Core.Bool.{Bool, true, false}
@@ -58,12 +59,12 @@ module _ {values : List ℕ} {row : ℕ} (k : ℕ) (l : Located) (is : ChildIs v
 
 -- ---- an array's element
 -- a node has fewer children than the limit on indices
-few : {c : Cell} {kids : Forest Cell} → Fit c kids → count kids ≤ indexLimit
-few {c} {kids} fit = omega (arith, count-le-size kids, fit .small)
+pub few-children : {c : Cell} {kids : Forest Cell} → Fit c kids → count kids < indexLimit
+few-children {c} {kids} fit = omega (arith, count-le-size kids, fit .small)
 
 module _ {D P : Bytes} {token : ℕ} (s : ℕ) (of : s ≡ spellingOf token) (part : Bytes) (there : part ≡ partOf D P s) (i : Index) (is : i ≡ indexOf (textOf 3 part)) where
   -- what the code reads is the token's text
-  index-is : IsToken D P token → indexOf (nameText D P token) ≡ i
+  pub index-is : IsToken D P token → indexOf (nameText D P token) ≡ i
   unfolding spelled
   index-is t = sym (is ∙ ap (λ p. indexOf (textOf 3 p)) (there ∙ ap (partOf D P) of) ∙ ap (λ n. indexOf (textOf n (partOf D P (spellingOf token)))) (sym (t .form)))
 
@@ -71,7 +72,7 @@ module _ {D P : Bytes} {token : ℕ} (s : ℕ) (of : s ≡ spellingOf token) (pa
   pub element-is : {values : List ℕ} {row : ℕ} {r : Child} → ForNode values row (λ c kids. Stepped row kids (elementAt (count kids) i) r) → ElementIs D P values row token r
   element-is step t c kids node =
       let e : elementBelow (count kids) (nameText D P token) ≡ elementAt (count kids) i =
-      element-below (count kids) (nameText D P token) (few (formed-fit (node .formed))) ∙ ap (elementAt (count kids)) (index-is t) in
+      element-below (count kids) (nameText D P token) (le-of-lt (few-children (formed-fit (node .formed)))) ∙ ap (elementAt (count kids)) (index-is t) in
       same-step (sym e) (step c kids node)
 
   pub element-at : {values : List ℕ} {row : ℕ} {r : Child} (k : ℕ) → i ≡ Index.At k → NthIs values row k r → ElementIs D P values row token r

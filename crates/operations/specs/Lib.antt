@@ -1,0 +1,4 @@
+pub mod Limited
+pub mod Site
+pub mod Cut
+pub mod Change
