@@ -99,6 +99,9 @@ module _ (D P : Bytes) (values names values' names' : List ℕ) (used row : ℕ)
   abbrev pub ReplaceIs : ℕ → ℕ → ℕ → Altered → Type 0
   ReplaceIs below token source r = (x : Cell) (kids : Forest Cell) → Offered D P values names source x kids → Changed (suc below) token (replaceChild (meant D P x kids)) r
 
+abbrev pub ReplaceTreeIs : List ℕ → List ℕ → List ℕ → List ℕ → ℕ → ℕ → ℕ → ℕ → ℕ → Altered → Type 0
+ReplaceTreeIs values names values' names' used row below at source r = (D P : Bytes) → ReplaceChildIs D P values names values' names' used row below at source r
+
 -- what a change is by the definitions
 pub data Makes (D P : Bytes) (values names : List ℕ) : Change → (Text → Value.Value → Outcome Value.Value) → Type 0 where
   adds : (source : ℕ) (x : Cell) (kids : Forest Cell) → Offered D P values names source x kids → Makes D P values names (Add source) (insertChild (meant D P x kids))
