@@ -253,7 +253,7 @@ module _ {D P : Bytes} {values names : List ℕ} {used row below token source : 
 -- ---- a child removed and replaced
 module _ {D P : Bytes} {values names : List ℕ} {used row token : ℕ} (s : Child) (is : StepIs D P values names row token s) where
   -- where the token names no child, neither has one
-  no-child : {levels number : ℕ} (z : Site D P values names used row levels) → IsToken D P token → s ≡ Child.Refused number
+  pub no-child : {levels number : ℕ} (z : Site D P values names used row levels) → IsToken D P token → s ≡ Child.Refused number
       → childAt (nameText D P token) (meant D P (z .c) (z .kids)) ≡ refused number 0
   no-child {number = number} z t e = go (is t (z .c) (z .kids) (site-held z)) e
     where
@@ -262,7 +262,7 @@ module _ {D P : Bytes} {values names : List ℕ} {used row token : ℕ} (s : Chi
       go (stepped k at f l p) g = absurd (let w : _≡_ {A = ℕ} 0 1 = cc in omega arith)
       go (missed n f) g = let same : n ≡ number = cc in f ∙ ap (λ m. refused m 0) same
 
-  the-child : {C : Type 0} {levels at : ℕ} (z : Site D P values names used row levels) → IsToken D P token → s ≡ Child.At at
+  pub the-child : {C : Type 0} {levels at : ℕ} (z : Site D P values names used row levels) → IsToken D P token → s ≡ Child.At at
       → ((k : ℕ) → childAt (nameText D P token) (meant D P (z .c) (z .kids)) ≡ ok k → k < count (z .kids) → at ≡ childRow row k (z .kids) → C) → C
   the-child {C} {at = at} z t e then-it = go (is t (z .c) (z .kids) (site-held z)) e
     where

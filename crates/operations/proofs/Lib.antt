@@ -4,3 +4,4 @@ pub mod SiteLaws
 pub mod PutLaws
 pub mod MeantLaws
 pub mod ChangeLaws
+pub mod AlterLaws

@@ -3,13 +3,13 @@ use Prim.Native.Nat.{ℕ, suc, _+_, _≤_, _<_}
 use native.Mathlib.Omega.{arith}
 use mathlib.Core.Path.{_≡_, refl, ap, sym, _∙_}
 use mathlib.Core.List.{List, [], _∷_, _++_, append-assoc}
-use lib.ListN.{length, drop, getD, set, length-append}
+use lib.ListN.{length, drop, getD, set, length-append, length-drop}
 use lib.Seq.{drop-set-lt}
 use Rattle.spec.specs.Limits.{maxNodes}
 use Rattle.spec.specs.Bytes.{Bytes}
 use Rattle.spec.specs.Forest.{Forest, tree, single, count, size, nth, _⧺_}
 use Rattle.spec.specs.Value.{depth}
-use Rattle.tape.specs.Layout.{arrayKind, objectKind, patchRow}
+use Rattle.tape.specs.Layout.{arrayKind, patchRow, rows}
 use Rattle.tape.specs.Packing.{spanOf}
 use Rattle.tape.specs.Rows.{childRow}
 use Rattle.tape.specs.Columns.{usedAfter, spliced}
@@ -70,6 +70,9 @@ module _ {xs : List ℕ} where
 
   pub behind-set : {ys : List ℕ} (row x : ℕ) → row < patchRow → SameBehind xs ys → SameBehind xs (set ys row x)
   behind-set {ys} row x h b = record { is = drop-set-lt patchRow ys row x h ∙ b .is }
+
+  pub behind-long : {ys : List ℕ} → SameBehind xs ys → rows ≤ length xs → rows ≤ length ys
+  behind-long {ys} b h = omega (arith, simp length-drop at (ap length (b .is)))
 
   pub behind-spliced : (used at removed source n : ℕ) → at + removed ≤ used → Room xs used removed source n → usedAfter used removed n ≤ patchRow
       → SameBehind xs (spliced xs used at removed source n)

@@ -132,47 +132,47 @@ module _ {D P : Bytes} {values names : List ℕ} {row token : ℕ} where
     member-missing e t c kids n = no-answer (is kids (asked n) (t .hashed)) e
 
 -- ---- a child by the node's kind
-module _ {D P : Bytes} {values names : List ℕ} {row : ℕ} {c : Cell} {kids : Forest Cell} (k : ℕ) (kind : k ≡ kindOf (getD values row 0)) (n : NodeHeld D P values names row c kids)
-    (name : Text) where
-  here : k ≡ c .kind
-  here = kind ∙ kind-here (held-node (n .held))
-
-  fits : c .kind ≤ objectKind
-  fits = formed-fit (held-node (n .held) .formed) .kind
-
-  child-array : k ≡ arrayKind → childAt name (meant D P c kids) ≡ elementBelow (count kids) name
+module _ (D P : Bytes) (c : Cell) (kids : Forest Cell) (fits : c .kind ≤ objectKind) (name : Text) where
+  child-array : c .kind ≡ arrayKind → childAt name (meant D P c kids) ≡ elementBelow (count kids) name
   unfolding childAt
-  child-array e = rw (isArray-label D P (c .kind) (c .payload) fits, eq-eqb (c .kind) arrayKind (sym here ∙ e), count-map (entryOf D P) kids)
+  child-array e = rw (isArray-label D P (c .kind) (c .payload) fits, eq-eqb (c .kind) arrayKind e, count-map (entryOf D P) kids)
 
-  child-object : k ≡ objectKind → childAt name (meant D P c kids) ≡ memberNamed name (members D P kids)
+  child-object : c .kind ≡ objectKind → childAt name (meant D P c kids) ≡ memberNamed name (members D P kids)
   unfolding childAt
   child-object e =
       rw (
         isArray-label D P (c .kind) (c .payload) fits,
         isObject-label D P (c .kind) (c .payload) fits,
-        ne-eqb (c .kind) arrayKind (λ f. omega (arith, here)),
-        eq-eqb (c .kind) objectKind (sym here ∙ e),
+        ne-eqb (c .kind) arrayKind (λ f. omega arith),
+        eq-eqb (c .kind) objectKind e,
       )
 
-  child-scalar : (k ≡ arrayKind → ⊥) → (k ≡ objectKind → ⊥) → childAt name (meant D P c kids) ≡ refused location-missing 0
+  pub child-scalar : (c .kind ≡ arrayKind → ⊥) → (c .kind ≡ objectKind → ⊥) → childAt name (meant D P c kids) ≡ refused location-missing 0
   unfolding childAt
   child-scalar e f =
       rw (
         isArray-label D P (c .kind) (c .payload) fits,
         isObject-label D P (c .kind) (c .payload) fits,
-        ne-eqb (c .kind) arrayKind (λ g. e (here ∙ g)),
-        ne-eqb (c .kind) objectKind (λ g. f (here ∙ g)),
+        ne-eqb (c .kind) arrayKind e,
+        ne-eqb (c .kind) objectKind f,
       )
 
 module _ {D P : Bytes} {values names : List ℕ} {row token : ℕ} (k : ℕ) (kind : k ≡ kindOf (getD values row 0)) where
   pub step-array : {r : Child} → k ≡ arrayKind → ElementIs D P values row token r → StepIs D P values names row token r
-  step-array e is t c kids n = same-step (sym (child-array k kind n (nameText D P token) e)) (is t c kids (held-node (n .held)))
+  step-array e is t c kids n =
+      let node = held-node (n .held) in
+      same-step (sym (child-array D P c kids (formed-fit (node .formed) .kind) (nameText D P token) (sym (kind ∙ kind-here node) ∙ e))) (is t c kids node)
 
   pub step-object : {r : Child} → k ≡ objectKind → MemberIs D P values names row token r → StepIs D P values names row token r
-  step-object e is t c kids n = same-step (sym (child-object k kind n (nameText D P token) e)) (is t c kids n)
+  step-object e is t c kids n =
+      let node = held-node (n .held) in
+      same-step (sym (child-object D P c kids (formed-fit (node .formed) .kind) (nameText D P token) (sym (kind ∙ kind-here node) ∙ e))) (is t c kids n)
 
   pub step-scalar : (k ≡ arrayKind → ⊥) → (k ≡ objectKind → ⊥) → StepIs D P values names row token (Refused location-missing)
-  step-scalar e f t c kids n = missed location-missing (child-scalar k kind n (nameText D P token) e f)
+  step-scalar e f t c kids n =
+      let node = held-node (n .held) in
+      let here : k ≡ c .kind = kind ∙ kind-here node in
+      missed location-missing (child-scalar D P c kids (formed-fit (node .formed) .kind) (nameText D P token) (λ g. e (here ∙ g)) (λ g. f (here ∙ g)))
 
 -- ---- where a child's row lies
 pub ahead-child : (values : List ℕ) (row k : ℕ) (l : Located) → Bounded values row k l → (at : ℕ) → l ≡ Located.At at → Ahead row values (At at)
