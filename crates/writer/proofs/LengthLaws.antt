@@ -1,5 +1,5 @@
 -- How long the pieces of a text are, and that a value's text is shorter than the limit.
-use Prim.Native.Nat.{ℕ, suc, _+_, _*_, _≤_, _<_, min}
+use Prim.Native.Nat.{ℕ, _+_, _*_, _≤_, _<_}
 use native.Mathlib.Omega.{arith}
 use native.Mathlib.Decide.{decLt}
 use mathlib.Core.Path.{_≡_, refl, sym, ap, ap₂, _∙_}
@@ -7,7 +7,7 @@ use mathlib.Core.Bool.{Bool, true, false}
 use mathlib.Core.List.{List, [], _∷_, _++_}
 use lib.Dec.{eqb}
 use borrow.Author.Tests.{ne-eqb}
-use lib.ListN.{length, take, drop, length-append, length-take}
+use lib.ListN.{length, drop, length-append, length-take}
 use Rattle.spec.specs.Outcome.{if_then_else_}
 use Rattle.spec.specs.Bytes.{Bytes, ascii}
 use Rattle.spec.specs.Forest.{Forest, none, tree, size}
@@ -16,11 +16,11 @@ use Rattle.text.specs.Written.{written}
 use Rattle.text.proofs.LengthLaws.{written-short}
 use Rattle.tape.specs.Layout.{stringKind, numberKind, trueKind, falseKind, arrayKind, objectKind}
 use Rattle.tape.specs.Packing.{formOf, sourceOf, startOf, lengthOf, spellingOf}
-use Rattle.tape.specs.Cell.{Cell, Fit, Formed, formed-none, formed-tree}
+use Rattle.tape.specs.Cell.{Cell, Fit, Formed, formed-tree}
 use Rattle.tape.proofs.Cells.{formed-fit, formed-kids}
 use Rattle.table.specs.Meaning.{sourceText, partOf, members, meant}
-use Rattle.writer.specs.Verbatim.{Verbatim, AllVerbatim, verbatim-none, verbatim-tree}
-use Rattle.writer.specs.Pieces.{stringBytes, literalBytes, scalarBytes, openingBracket, closingBracket, nameBytes, prefixBytes}
+use Rattle.writer.specs.Verbatim.{Verbatim, AllVerbatim, verbatim-tree}
+use Rattle.writer.specs.Pieces.{stringBytes, literalBytes, scalarBytes, nameBytes, prefixBytes}
 use Rattle.writer.specs.Writing.{Writable, lengthLimit}
 use Rattle.writer.proofs.VerbatimLaws.{verbatim-payload, verbatim-kids}
 use Rattle.writer.proofs.PieceLaws.{name-member, write-scalar, write-container, items-tree, items-none}

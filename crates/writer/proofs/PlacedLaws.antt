@@ -1,11 +1,11 @@
 -- Laws of bytes that are laid down one after another in an output, and in a part of it.
-use Prim.Native.Nat.{ℕ, suc, _+_, _-_, _≤_, _<_, min}
+use Prim.Native.Nat.{ℕ, suc, _+_, _-_, _≤_, min}
 use native.Mathlib.Nat.{add-suc}
 use native.Mathlib.Omega.{arith}
 use native.Mathlib.Decide.{decLe}
 use mathlib.Core.Path.{_≡_, refl, sym, ap, _∙_}
-use mathlib.Core.List.{List, [], _∷_, _++_, append-nil}
-use lib.ListN.{length, take, drop, set, length-append, length-take, length-drop, take-append-drop, drop-of-length-le}
+use mathlib.Core.List.{[], _∷_, _++_, append-nil}
+use lib.ListN.{length, take, drop, set, length-append, length-drop, take-append-drop, drop-of-length-le}
 use lib.Seq.{sets, length-sets, take-set-le, drop-set-add, take-all}
 use borrow.Rule.Slice.PartMut.{putMid, same-len-mid}
 use Rattle.spec.specs.Bytes.{Bytes}
@@ -56,30 +56,33 @@ placed-on {u} {v} {i} {j} {k} {before} {between} {after} p q =
       after-is = stores-on before i u v (p .after-is) (q .after-is ∙ ap (λ n. sets between n v) place ∙ sets-capped between (i + length u) v) refl;
     }
 
--- ---- a part `&mut out[put..]` that is lent to a call and comes back
-module _ (out : Bytes) (put : ℕ) where
-  -- what is lent
-  pub lent : take (length out - put) (drop put out) ≡ drop put out
-  lent = take-all (length out - put) (drop put out) (rw length-drop (omega arith))
+-- ---- a part `&mut out[put..]` that is lent to a call, and the whole when it is back
+abbrev pub lent : Bytes → ℕ → Bytes
+lent out put = take (length out - put) (drop put out)
 
-  -- what the whole is when the part comes back
-  pub back : (ys : Bytes) → putMid put (length out - put) out ys ≡ take put out ++ ys
-  back ys =
+abbrev pub back : Bytes → ℕ → Bytes → Bytes
+back out put part = putMid put (length out - put) out part
+
+module _ (out : Bytes) (put : ℕ) where
+  lent-is : lent out put ≡ drop put out
+  lent-is = take-all (length out - put) (drop put out) (rw length-drop (omega arith))
+
+  back-is : (ys : Bytes) → back out put ys ≡ take put out ++ ys
+  back-is ys =
       ap (λ l. take put out ++ (ys ++ l)) (drop-of-length-le (drop put out) {i = length out - put} (rw length-drop (omega arith))) ∙ ap (λ l. take put out ++ l) (append-nil ys)
 
   -- it comes back as long as it was lent, and so does the whole; and what fits the part fits the whole
-  pub back-length : (ys : Bytes) → length ys ≡ length (take (length out - put) (drop put out)) → length (putMid put (length out - put) out ys) ≡ length out
+  pub back-length : (ys : Bytes) → length ys ≡ length (lent out put) → length (back out put ys) ≡ length out
   back-length ys e = same-len-mid put (length out - put) out ys e
 
-  pub lent-fits : (n : ℕ) → n ≤ length (take (length out - put) (drop put out)) → put ≤ length out → put + n ≤ length out
-  lent-fits n h l = omega (arith, ap length lent, length-drop put out)
+  pub lent-fits : (n : ℕ) → n ≤ length (lent out put) → put ≤ length out → put + n ≤ length out
+  lent-fits n h l = omega (arith, ap length lent-is, length-drop put out)
 
 -- bytes laid down in the part behind others, said of the whole
-pub placed-then : {u v : Bytes} {i j n : ℕ} {before between part : Bytes} → Placed u i before between j → Placed v 0 (take (length between - j) (drop j between)) part n
-    → Placed (u ++ v) i before (putMid j (length between - j) between part) (j + n)
+pub placed-then : {u v : Bytes} {i j n : ℕ} {before between part : Bytes} → Placed u i before between j → Placed v 0 (lent between j) part n → Placed (u ++ v) i before (back between j part) (j + n)
 placed-then {u} {v} {i} {j} {n} {before} {between} {part} p q =
     let h : j ≤ length between = omega (arith, placed-inside p, placed-length p) in
-    let e = lent between j in
+    let e = lent-is between j in
     let long : length (drop j between) ≡ length between - j = length-drop j between in
     let count = q .next-is ∙ ap (λ l. min (0 + length v) (length l)) e in
     let zero-more : j + 0 ≡ j = omega arith in
@@ -87,19 +90,18 @@ placed-then {u} {v} {i} {j} {n} {before} {between} {part} p q =
     (record {
       next-is = omega arith;
       after-is =
-          back between j part
+          back-is between j part
           ∙ ap (λ l. take j between ++ l) (q .after-is ∙ ap (λ l. sets l 0 v) e)
           ∙ sym (sets-part j between 0 v)
           ∙ ap (λ k. sets between k v) zero-more;
     })
 
 -- a turn of a loop that lends the rest of the output twice: what both calls put fits, and the output is as long as before
-pub turn-fits : (out : Bytes) (put n : ℕ) (part last : Bytes) {m : ℕ} → put + n ≤ length out → length part ≡ length (take (length out - put) (drop put out))
-    → (let between = putMid put (length out - put) out part in length last ≡ length (take (length between - (put + n)) (drop (put + n) between)))
-    → (let between = putMid put (length out - put) out part in m ≤ length (take (length between - (put + n)) (drop (put + n) between)))
-    → (let between = putMid put (length out - put) out part in (put + n + m ≤ length out) × (length (putMid (put + n) (length between - (put + n)) between last) ≡ length out))
+pub turn-fits : (out : Bytes) (put n : ℕ) (part last : Bytes) {m : ℕ} → put + n ≤ length out → length part ≡ length (lent out put)
+    → length last ≡ length (lent (back out put part) (put + n)) → m ≤ length (lent (back out put part) (put + n))
+    → (put + n + m ≤ length out) × (length (back (back out put part) (put + n) last) ≡ length out)
 turn-fits out put n part last {m} h j k f =
-    let between : Bytes = putMid put (length out - put) out part in
+    let between : Bytes = back out put part in
     let same : length between ≡ length out = back-length out put part j in
     let second : put + n + m ≤ length between = lent-fits between (put + n) m f (omega arith) in
     (omega arith, back-length between (put + n) last k ∙ same)

@@ -1,15 +1,15 @@
 -- A loop over a container's values: the text so far and those that are left are the text of all.
 use Prim.Native.Nat.{ℕ, _+_, _-_, _≤_, _<_}
 use native.Mathlib.Omega.{arith}
-use mathlib.Core.Path.{_≡_, refl, sym, ap, subst, _∙_}
+use mathlib.Core.Path.{_≡_, refl, ap, subst, _∙_}
 use mathlib.Core.Bool.{Bool, true, false}
 use mathlib.Core.List.{List, [], _++_, append-assoc, append-nil}
 use lib.ListN.{getD}
 use Rattle.spec.specs.Bytes.{Bytes}
-use Rattle.spec.specs.Forest.{Forest, none, tree}
+use Rattle.spec.specs.Forest.{Forest, tree}
 use Rattle.spec.specs.Write.{writeItems, write}
 use Rattle.tape.specs.Layout.{arrayKind}
-use Rattle.tape.specs.Cell.{Cell, Held, level, deep}
+use Rattle.tape.specs.Cell.{Cell, deep}
 use Rattle.tape.specs.Rows.{endOf}
 use Rattle.tape.proofs.Depth.{level-container}
 use Rattle.tape.proofs.Held.{name-here, Remaining, remaining-all, remaining-next, remaining-none, remaining-first}

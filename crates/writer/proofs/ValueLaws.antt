@@ -5,14 +5,13 @@ use mathlib.Core.Path.{_≡_, sym, ap, ap₂, _∙_}
 use mathlib.Core.Bool.{Bool, true, false}
 use mathlib.Core.List.{List, [], _∷_, _++_}
 use lib.Dec.{eqb}
-use lib.ListN.{length, take, drop, getD, length-append}
-use borrow.Rule.Slice.PartMut.{putMid}
+use lib.ListN.{length, getD, length-append}
 use Rattle.spec.specs.Bytes.{Bytes}
 use Rattle.spec.specs.Forest.{Forest}
 use Rattle.spec.specs.Write.{writeItems, write}
 use Rattle.tape.specs.Layout.{arrayKind, objectKind}
 use Rattle.tape.specs.Packing.{kindOf, payloadOf}
-use Rattle.tape.specs.Cell.{Cell, Fit, level, deep}
+use Rattle.tape.specs.Cell.{Cell, Fit, deep}
 use Rattle.tape.specs.Rows.{endOf}
 use Rattle.tape.proofs.Cells.{formed-fit}
 use Rattle.tape.proofs.Depth.{level-container}
@@ -21,7 +20,7 @@ use Rattle.tape.proofs.Held.{held-node}
 use Rattle.table.specs.Meaning.{members, meant}
 use Rattle.writer.specs.Pieces.{scalarBytes, openingBracket, closingBracket, prefixBytes}
 use Rattle.writer.specs.Writing.{Placed, Writable, MeasureIs, WriteIs, lengthLimit}
-use Rattle.writer.proofs.PlacedLaws.{placed-as, placed-none, placed-on, placed-then}
+use Rattle.writer.proofs.PlacedLaws.{lent, back, placed-as, placed-none, placed-on, placed-then}
 use Rattle.writer.proofs.VerbatimLaws.{verbatim-payload}
 use Rattle.writer.proofs.PieceLaws.{write-scalar, write-container}
 use Rattle.writer.proofs.LengthLaws.{writable-short}
@@ -55,6 +54,9 @@ module _ {D P : Bytes} {vs ns : List ℕ} {at levels : ℕ} {c : Cell} {kids : F
         let k = kind-is tag tag-is in
         write-container D P c kids fit (omega arith)
         ∙ ap (λ n. (openingBracket (eqb n objectKind) ∷ []) ++ writeItems (eqb n objectKind) true (members D P kids) ++ (closingBracket (eqb n objectKind) ∷ [])) (sym k)
+
+    pub container-long : length (write (meant D P c kids)) ≡ 2 + length items
+    container-long = ap length container-text ∙ simp length-append (omega arith)
 
     pub values-all : {R : Bytes → Type 0} (end : ℕ) → end ≡ endOf vs at → R [] → Progress D P vs ns (eqb tag objectKind) (levels - 1) kids (at + 1) end true R
     values-all end e r = let k = kind-is tag tag-is in progress-all (eqb tag objectKind) end e (omega arith) w r
@@ -95,11 +97,7 @@ module _ {D P : Bytes} {vs ns : List ℕ} {at levels : ℕ} where
 
     pub measuring-none : {row end total : ℕ} {first : Bool} → Measuring D P vs ns at levels (eqb tag objectKind) row end first total → end ≤ row → MeasureIs D P vs ns at levels total
     measuring-none m h c kids w =
-        let all = progress-none (m c kids w) h in
-        let long = ap length (container-text w tag tag-is container) in
-        let one = length-append (openingBracket (eqb tag objectKind) ∷ []) (writeItems (eqb tag objectKind) true (members D P kids)) in
-        let both = length-append ((openingBracket (eqb tag objectKind) ∷ []) ++ writeItems (eqb tag objectKind) true (members D P kids)) (closingBracket (eqb tag objectKind) ∷ []) in
-        omega (arith, writable-short D P c kids w)
+        omega (arith, progress-none (m c kids w) h, container-long w tag tag-is container, writable-short D P c kids w)
 
 -- ---- `write`
 module _ (D P : Bytes) (vs ns : List ℕ) (at levels : ℕ) where
@@ -116,9 +114,9 @@ module _ {D P : Bytes} {vs ns : List ℕ} {at levels : ℕ} where
   pub laying-next : {object first : Bool} {row end put₀ put n m : ℕ} {out₀ out part last : Bytes} → Laying D P vs ns at levels object row end first put₀ out₀ out put → row < end
       → (next : ℕ) → next ≡ endOf vs row
       → (name : ℕ) → name ≡ getD ns row 0
-      → Placed (prefixBytes D P object first name) 0 (take (length out - put) (drop put out)) part n
-      → (let between = putMid put (length out - put) out part in WriteIs D P vs ns row (levels - 1) (take (length between - (put + n)) (drop (put + n) between)) last m)
-      → (let between = putMid put (length out - put) out part in Laying D P vs ns at levels object next end false put₀ out₀ (putMid (put + n) (length between - (put + n)) between last) (put + n + m))
+      → Placed (prefixBytes D P object first name) 0 (lent out put) part n
+      → WriteIs D P vs ns row (levels - 1) (lent (back out put part) (put + n)) last m
+      → Laying D P vs ns at levels object next end false put₀ out₀ (back (back out put part) (put + n) last) (put + n + m)
   laying-next {object} {first} l more next e name name-is p q c kids w =
       progress-next (l c kids w) more next e λ d ks w' text r. placed-then (placed-then r (placed-as (ap (prefixBytes D P object first) (sym name-is)) p)) (q d ks w')
 
@@ -130,7 +128,7 @@ module _ {D P : Bytes} {vs ns : List ℕ} {at levels : ℕ} where
         → opening ≡ openingBracket (eqb tag objectKind) → closing ≡ closingBracket (eqb tag objectKind)
         → Placed (opening ∷ []) 0 before out₀ put₀
         → Laying D P vs ns at levels (eqb tag objectKind) row end first put₀ out₀ out put → end ≤ row
-        → Placed (closing ∷ []) 0 (take (length out - put) (drop put out)) last n
-        → WriteIs D P vs ns at levels before (putMid put (length out - put) out last) (put + n)
+        → Placed (closing ∷ []) 0 (lent out put) last n
+        → WriteIs D P vs ns at levels before (back out put last) (put + n)
     laying-none opening closing o k p l h q c kids w =
         placed-as (container-text w tag tag-is container ∙ rw (← o, ← k)) (placed-then (placed-on p (progress-none (l c kids w) h)) q)

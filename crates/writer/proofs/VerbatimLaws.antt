@@ -1,7 +1,7 @@
 -- The strings of a forest are verbatim, whatever is taken from it or put into it.
 use Prim.Native.Nat.{ℕ, zero, suc}
 use Rattle.spec.specs.Bytes.{Bytes}
-use Rattle.spec.specs.Forest.{Forest, none, tree, Tree, single, before, from, insertAt, removeAt, replaceAt, _⧺_}
+use Rattle.spec.specs.Forest.{Forest, tree, Tree, single, before, from, insertAt, removeAt, replaceAt, _⧺_}
 use Rattle.tape.specs.Packing.{spellingOf}
 use Rattle.tape.specs.Cell.{Cell}
 use Rattle.writer.specs.Verbatim.{Verbatim, AllVerbatim, verbatim-none, verbatim-tree}
