@@ -299,3 +299,6 @@ module _ {D P : Bytes} {values names values' names' : List ℕ} {used row path a
       let same : atParent f u us (meant D P (z .c) (z .kids)) ≡ o >>= λ x. ok (put k x (meant D P (z .c) (z .kids))) =
       rw (more, first) (child-outcome z (nameText D P name) k below one-less named kth inner place f v vs) in
       same-answers same (rw g (up-refused z (nameText D P name) k below one-less named kth inner place answer))
+
+pub few-done : {r : Altered} {now : ℕ} → r ≡ Done now → Few r → now ≤ maxNodes
+few-done e f = subst Few e f
