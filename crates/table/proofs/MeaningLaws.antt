@@ -9,7 +9,7 @@ use Rattle.spec.specs.Forest.{Forest, none, tree, Tree, single, size, before, f
 use Rattle.spec.specs.Value.{Label, tag, isNumber, isString, isArray, isObject, isContainer, depth, nodes}
 use Rattle.tape.specs.Cell.{Cell, Formed, level, deep}
 use Rattle.tape.proofs.Map.{size-map, levels-map, depths-map}
-use Rattle.table.specs.Meaning.{labelOf, entryOf, meant, Hashed, Keyed, keyed-none, keyed-tree}
+use Rattle.table.specs.Meaning.{labelOf, entryOf, meant}
 
 module _ (D P : Bytes) where
   pub tag-label : (kind payload : ℕ) → kind ≤ 6 → tag (labelOf D P kind payload) ≡ kind
@@ -53,48 +53,3 @@ module _ (D P : Bytes) where
   depth-meant c kids h f =
       let same : (c : Cell) → c .kind ≤ 6 → tag (entryOf D P c .label) ≡ c .kind = λ c h. tag-label (c .kind) (c .payload) h in
       rw (depths-map (entryOf D P) same f) (levels-map (entryOf D P) same c (deep kids) h)
-
--- ---- names that have their hashes
-module _ {D P : Bytes} where
-  pub keyed-first : {c : Cell} {kids rest : Forest Cell} → Keyed D P (tree c kids rest) → Hashed D P (c .name)
-  keyed-first (keyed-tree h k r) = h
-
-  pub keyed-kids : {c : Cell} {kids rest : Forest Cell} → Keyed D P (tree c kids rest) → Keyed D P kids
-  keyed-kids (keyed-tree h k r) = k
-
-  pub keyed-rest : {c : Cell} {kids rest : Forest Cell} → Keyed D P (tree c kids rest) → Keyed D P rest
-  keyed-rest (keyed-tree h k r) = r
-
-  pub keyed-⧺ : {f g : Forest Cell} → Keyed D P f → Keyed D P g → Keyed D P (f ⧺ g)
-  unfolding _⧺_
-  keyed-⧺ keyed-none n = n
-  keyed-⧺ (keyed-tree h k r) n = keyed-tree h k (keyed-⧺ r n)
-
-  pub keyed-before : {f : Forest Cell} (k : ℕ) → Keyed D P f → Keyed D P (before k f)
-  unfolding before
-  keyed-before zero m = keyed-none
-  keyed-before (suc n) keyed-none = keyed-none
-  keyed-before (suc n) (keyed-tree h k r) = keyed-tree h k (keyed-before n r)
-
-  pub keyed-from : {f : Forest Cell} (k : ℕ) → Keyed D P f → Keyed D P (from k f)
-  unfolding from
-  keyed-from zero m = m
-  keyed-from (suc n) keyed-none = keyed-none
-  keyed-from (suc n) (keyed-tree h k r) = keyed-from n r
-
-  pub keyed-single : (t : Tree Cell) → Hashed D P (t .root .name) → Keyed D P (t .kids) → Keyed D P (single t)
-  keyed-single t h k = keyed-tree h k keyed-none
-
-  module _ (k : ℕ) {f : Forest Cell} (m : Keyed D P f) where
-    pub keyed-removeAt : Keyed D P (removeAt k f)
-    unfolding removeAt
-    keyed-removeAt = keyed-⧺ (keyed-before k m) (keyed-from (suc k) m)
-
-    module _ (t : Tree Cell) (n : Keyed D P (single t)) where
-      pub keyed-insertAt : Keyed D P (insertAt k t f)
-      unfolding insertAt
-      keyed-insertAt = keyed-⧺ (keyed-before k m) (keyed-⧺ n (keyed-from k m))
-
-      pub keyed-replaceAt : Keyed D P (replaceAt k t f)
-      unfolding replaceAt
-      keyed-replaceAt = keyed-⧺ (keyed-before k m) (keyed-⧺ n (keyed-from (suc k) m))

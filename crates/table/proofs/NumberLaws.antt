@@ -9,7 +9,7 @@ use Rattle.decimal.specs.Normal.{withinLimits}
 use Rattle.decimal.proofs.Accepted.{number-within-limits}
 use Rattle.tape.specs.Layout.{numberKind}
 use Rattle.table.specs.Meaning.{partOf}
-use Rattle.table.specs.Numbers.{NumberFits}
+use Rattle.table.specs.Sound.{NumberFits}
 
 module _ {D P : Bytes} {kind payload : ℕ} where
   pub number-fits : (s : Bytes) (start end : ℕ) → number s start ≡ ok end → partOf D P payload ≡ take (end - start) (drop start s)

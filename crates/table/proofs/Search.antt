@@ -20,10 +20,10 @@ use Rattle.tape.proofs.Forests.{count-from, from-nth, size-cut, size-before-suc
 use Rattle.tape.proofs.Held.{held-from, held-node, name-here, held-next}
 use Rattle.tape.proofs.Rows.{end-here, inside-here}
 use Rattle.tape.proofs.Map.{count-map, find-map, position-found, position-next, position-none}
-use Rattle.table.specs.Meaning.{nameText, entryOf, members, Hashed, Keyed}
+use Rattle.table.specs.Meaning.{nameText, entryOf, members, Hashed}
 use Rattle.table.specs.Find.{SameNameIs, Found, found, missing, Asked, FindIs}
 use Rattle.table.specs.declared.find.Member.the-variants.{At, Missing}
-use Rattle.table.proofs.MeaningLaws.{keyed-first, keyed-from}
+use Rattle.table.proofs.AllLaws.{all-first, all-from}
 
 -- names whose hashes differ are not the same
 pub other-hash : {D P : Bytes} {a b : ℕ} → (hashOf a ≡ hashOf b → ⊥) → SameNameIs D P a b false
@@ -89,7 +89,7 @@ module _ {D P : Bytes} {values names : List ℕ} {start end : ℕ} {f : Forest C
     -- the name in the row has the hash of its text
     pub seek-hashed : Hashed D P (getD names row 0)
     unfolding _⧺_
-    seek-hashed = rw (name-here here) (keyed-first (rw (from-nth blank (s .k) f there) at (keyed-from (s .k) (a .keyed))))
+    seek-hashed = rw (name-here here) (all-first (rw (from-nth blank (s .k) f there) at (all-from (s .k) (a .sound))) .title .hashed)
 
     test-here : (r : Bool) → r ≡ sameText (nameText D P (getD names row 0)) name → named D P name (nth blank (s .k) f .root) ≡ r
     test-here r t = sym (t ∙ ap (λ n. sameText (nameText D P n) name) (name-here here))

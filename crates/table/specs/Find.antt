@@ -8,7 +8,8 @@ use Rattle.spec.specs.Bytes.{Bytes, Text}
 use Rattle.spec.specs.Forest.{Forest, count, size, before}
 use Rattle.spec.specs.Value.{sameText, find}
 use Rattle.tape.specs.Cell.{Cell, Held}
-use Rattle.table.specs.Meaning.{nameText, members, Hashed, Keyed}
+use Rattle.table.specs.Meaning.{nameText, members, Hashed}
+use Rattle.table.specs.Sound.{Sound}
 use Rattle.table.specs.declared.find.Member.{Member}
 use Rattle.table.specs.declared.find.Member.the-variants.{At, Missing}
 
@@ -25,7 +26,7 @@ pub data Found (document patch : Bytes) (start : ℕ) (f : Forest Cell) (name : 
 pub record Asked (document patch : Bytes) (values names : List ℕ) (start end : ℕ) (f : Forest Cell) : Type 0 where
   pub held : Held values names start f
   pub ends : start + size f ≡ end
-  pub keyed : Keyed document patch f
+  pub sound : Sound document patch f
 
 abbrev pub FindIs : Bytes → Bytes → List ℕ → List ℕ → ℕ → ℕ → ℕ → Member → Type 0
 FindIs document patch values names start end name r =

@@ -1,4 +1,4 @@
 pub mod Meaning
-pub mod Find
 pub mod All
-pub mod Numbers
+pub mod Sound
+pub mod Find

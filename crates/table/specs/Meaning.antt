@@ -53,7 +53,3 @@ meant document patch c kids = record { label = labelOf document patch (c .kind) 
 -- a name's word has the hash of the text that it spells
 pub record Hashed (document patch : Bytes) (name : ℕ) : Type 0 where
   pub is : hashOf name ≡ hash (nameText document patch name)
-
-pub data Keyed (document patch : Bytes) : Forest Cell → Type 0 where
-  keyed-none : Keyed document patch none
-  keyed-tree : {c : Cell} {kids rest : Forest Cell} → Hashed document patch (c .name) → Keyed document patch kids → Keyed document patch rest → Keyed document patch (tree c kids rest)
