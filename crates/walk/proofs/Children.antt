@@ -14,9 +14,9 @@ use Rattle.tape.specs.Map.{mapForest, mapTree}
 use Rattle.tape.proofs.Forests.{from-nth, size-kth}
 use Rattle.tape.proofs.Held.{held-child}
 use Rattle.tape.proofs.Map.{map-nth}
-use Rattle.table.specs.Meaning.{labelOf, spelled, entryOf, members, meant, Keyed}
-use Rattle.table.proofs.MeaningLaws.{keyed-from, keyed-kids}
-use Rattle.walk.specs.Step.{NodeHeld}
+use Rattle.table.specs.Meaning.{labelOf, spelled, entryOf, members, meant}
+use Rattle.table.specs.Sound.{Sound, NodeHeld}
+use Rattle.table.proofs.AllLaws.{all-first, all-from, all-kids}
 
 -- the tree that stands for a child where there is none
 abbrev pub blank : Tree Cell
@@ -31,14 +31,16 @@ unfolding child
 child-meant D P k c kids = sym (map-nth (entryOf D P) blank k kids ∙ ap (λ t. nth t k (members D P kids)) (blank-means D P))
 
 -- the trees from the k-th on, by the k-th
-pub keyed-child : {D P : Bytes} {kids : Forest Cell} (k : ℕ) → k < count kids → Keyed D P kids
-    → Keyed D P (tree (nth blank k kids .root) (nth blank k kids .kids) (from (suc k) kids))
+pub sound-child : {D P : Bytes} {kids : Forest Cell} (k : ℕ) → k < count kids → Sound D P kids
+    → Sound D P (tree (nth blank k kids .root) (nth blank k kids .kids) (from (suc k) kids))
 unfolding _⧺_
-keyed-child {D} {P} {kids} k l keyed = subst (Keyed D P) (from-nth blank k kids l) (keyed-from k keyed)
+sound-child {D} {P} {kids} k l sound = subst (Sound D P) (from-nth blank k kids l) (all-from k sound)
 
 module _ {D P : Bytes} {values names : List ℕ} {row : ℕ} {c : Cell} {kids : Forest Cell} (n : NodeHeld D P values names row c kids) (k : ℕ) (l : k < count kids) where
   pub child-held : NodeHeld D P values names (childRow row k kids) (nth blank k kids .root) (nth blank k kids .kids)
-  child-held = record { rest = from (suc k) kids; held = held-child (n .held) blank k l; keyed = keyed-kids (keyed-child k l (n .keyed)) }
+  child-held =
+      let there = sound-child k l (n .sound) in
+      record { rest = from (suc k) kids; held = held-child (n .held) blank k l; label = all-first there .label; sound = all-kids there }
 
 -- a child lies in its parent's tree
 pub child-inside : (row k : ℕ) (kids : Forest Cell) → k < count kids → (row ≤ childRow row k kids) × (childRow row k kids + size (nth blank k kids .kids) ≤ row + size kids)

@@ -22,7 +22,8 @@ use Rattle.pointer.specs.declared.answers.Token.{Token}
 use Rattle.pointer.specs.declared.answers.Token.the-variants as Token
 use Rattle.pointer.proofs.WalkLaws.{Unfolds, first-root, first-at, first-inside, first-malformed, first-token, next-order, tokensBehind, behind-last, behind-next}
 use Rattle.walk.specs.Names.{Short, IsToken, NamesToken, TokenNameIs}
-use Rattle.walk.specs.Step.{NodeHeld, ForHeld, Stepped, stepped, missed, StepIs}
+use Rattle.table.specs.Sound.{NodeHeld, ForHeld}
+use Rattle.walk.specs.Step.{Stepped, stepped, missed, StepIs}
 use Rattle.walk.specs.Path.{PathIs, TokensFrom, Walked, reached, lost, WalkFromIs, WalkIs}
 use Rattle.walk.specs.declared.steps.Child.{Child}
 use Rattle.walk.specs.declared.steps.Child.the-variants.{At, Refused}

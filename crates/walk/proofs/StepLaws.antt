@@ -36,7 +36,8 @@ use Rattle.pointer.specs.declared.answers.Index.{Index}
 use Rattle.pointer.specs.declared.answers.Index.the-variants as Index
 use Rattle.pointer.proofs.IndexLaws.{element-below}
 use Rattle.walk.specs.Names.{IsToken}
-use Rattle.walk.specs.Step.{Stepped, stepped, missed, NthIs, NodeHeld, ForHeld, ElementIs, MemberIs, StepIs, Ahead}
+use Rattle.table.specs.Sound.{NodeHeld, ForHeld}
+use Rattle.walk.specs.Step.{Stepped, stepped, missed, NthIs, ElementIs, MemberIs, StepIs, Ahead}
 use Rattle.walk.specs.declared.steps.Child.{Child}
 use Rattle.walk.specs.declared.steps.Child.the-variants.{At, Refused}
 
@@ -110,7 +111,7 @@ module _ {D P : Bytes} {values names : List ℕ} {row token : ℕ} where
 
   module _ (end : ℕ) (ends : end ≡ endOf values row) (m : Member) (is : FindIs D P values names (row + 1) end token m) where
     asked : {c : Cell} {kids : Forest Cell} → NodeHeld D P values names row c kids → Asked D P values names (row + 1) end kids
-    asked n = record { held = held-kids (n .held); ends = sym (ends ∙ end-here (held-node (n .held))); keyed = n .keyed }
+    asked n = record { held = held-kids (n .held); ends = sym (ends ∙ end-here (held-node (n .held))); sound = n .sound }
 
     answer : {kids : Forest Cell} {m : Member} → Found D P (row + 1) kids (nameText D P token) m → (at : ℕ) → m ≡ Member.At at
         → Stepped row kids (memberNamed (nameText D P token) (members D P kids)) (At at)

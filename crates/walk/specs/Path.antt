@@ -13,7 +13,7 @@ use Rattle.tape.specs.Cell.{Cell}
 use Rattle.table.specs.Meaning.{partOf, meant}
 use Rattle.pointer.specs.Tokens.{tokensFrom}
 use Rattle.walk.specs.Names.{Short}
-use Rattle.walk.specs.Step.{NodeHeld, ForHeld}
+use Rattle.table.specs.Sound.{NodeHeld, ForHeld}
 use Rattle.walk.specs.declared.steps.Child.{Child}
 use Rattle.walk.specs.declared.steps.Child.the-variants.{At, Refused}
 

@@ -9,7 +9,8 @@ use Rattle.spec.specs.Forest.{Forest, tree, count}
 use Rattle.spec.specs.Pointer.{childAt, elementBelow, memberNamed}
 use Rattle.tape.specs.Cell.{Cell, Node, Held}
 use Rattle.tape.specs.Rows.{childRow, ForNode}
-use Rattle.table.specs.Meaning.{nameText, members, meant, Keyed}
+use Rattle.table.specs.Meaning.{nameText, members, meant}
+use Rattle.table.specs.Sound.{ForHeld}
 use Rattle.pointer.specs.Index.{elementAt}
 use Rattle.pointer.specs.declared.answers.Index.the-variants as Index
 use Rattle.walk.specs.Names.{IsToken}
@@ -28,16 +29,6 @@ NthIs values row k r = ForNode values row (λ c kids. Stepped row kids (elementA
 abbrev pub ElementIs : Bytes → Bytes → List ℕ → ℕ → ℕ → Child → Type 0
 ElementIs D P values row token r =
     IsToken D P token → ForNode values row (λ c kids. Stepped row kids (elementBelow (count kids) (nameText D P token)) r)
-
--- both columns hold a node in a row, and the names of the nodes below it have their hashes
-pub record NodeHeld (D P : Bytes) (values names : List ℕ) (row : ℕ) (c : Cell) (kids : Forest Cell) : Type 0 where
-  pub rest : Forest Cell
-  pub held : Held values names row (tree c kids rest)
-  pub keyed : Keyed D P kids
-
--- what holds of whatever node the columns hold in a row
-abbrev pub ForHeld : Bytes → Bytes → List ℕ → List ℕ → ℕ → (Cell → Forest Cell → Type 0) → Type 0
-ForHeld D P values names row Q = (c : Cell) (kids : Forest Cell) → NodeHeld D P values names row c kids → Q c kids
 
 abbrev pub MemberIs : Bytes → Bytes → List ℕ → List ℕ → ℕ → ℕ → Child → Type 0
 MemberIs D P values names row token r =
