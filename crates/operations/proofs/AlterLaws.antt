@@ -28,8 +28,9 @@ use Rattle.tape.proofs.Forests.{size-replaceAt}
 use Rattle.tape.proofs.Cells.{span-word, formed-fit, formed-kids, formed-rest, formed-child, formed-replaceAt, container-fit, fit-container}
 use Rattle.tape.proofs.Depth.{level-container}
 use Rattle.tape.proofs.Changes.{laid-length, laid-child, laid-put, child-front, laid-word, laid-span-child, laid-name-child}
-use Rattle.table.specs.Meaning.{partOf, nameText, meant, Keyed}
-use Rattle.table.proofs.MeaningLaws.{depth-meant, nodes-meant, keyed-kids, keyed-single, keyed-replaceAt}
+use Rattle.table.specs.Meaning.{partOf, nameText, meant}
+use Rattle.table.proofs.MeaningLaws.{depth-meant, nodes-meant}
+use Rattle.table.proofs.AllLaws.{all-first, all-kids, all-single, all-replaceAt}
 use Rattle.pointer.specs.Tokens.{tokensFrom, tokenBytes, TokenAt}
 use Rattle.pointer.specs.declared.answers.Token.{Token}
 use Rattle.pointer.specs.declared.answers.Token.the-variants as Token
@@ -39,7 +40,7 @@ use Rattle.walk.specs.Path.{TokensFrom}
 use Rattle.walk.specs.Step.{StepIs}
 use Rattle.walk.specs.declared.steps.Child.{Child}
 use Rattle.walk.specs.declared.steps.Child.the-variants as Child
-use Rattle.walk.proofs.Children.{blank, child-meant, keyed-child}
+use Rattle.walk.proofs.Children.{blank, child-meant, sound-child}
 use Rattle.walk.proofs.StepLaws.{child-scalar}
 use Rattle.operations.specs.Limited.{limitedTo}
 use Rattle.operations.specs.Cut.{renamed}
@@ -50,7 +51,7 @@ use Rattle.operations.specs.declared.answers.Altered.{Altered}
 use Rattle.operations.specs.declared.answers.Altered.the-variants.{Done, Refused}
 use Rattle.operations.proofs.LimitLaws.{limited-put}
 use Rattle.operations.proofs.SiteLaws.{site-held, site-fit, site-inside, behind-set, behind-long}
-use Rattle.operations.proofs.MeantLaws.{put-meant, name-hashed}
+use Rattle.operations.proofs.MeantLaws.{put-meant, name-fits}
 use Rattle.operations.proofs.ChangeLaws.{same-answers, answers-refused, insert-scalar, no-child, the-child}
 
 -- ---- there is a token at every place
@@ -190,7 +191,8 @@ module _ {D P : Bytes} {values names : List ℕ} {used row levels : ℕ} (z : Si
               place = place ∙ sym (child-front word (z .around .front) (word (z .c) (z .kids)) k (z .kids) ∙ ap (λ n. childRow n k (z .kids)) (sym (z .standing .place)));
               titlePlace = place ∙ sym (child-front nameWord (z .around .titlesFront) (nameWord (z .c) (z .kids)) k (z .kids) ∙ ap (λ n. childRow n k (z .kids)) (sym (z .standing .titlePlace)));
               formed = formed-child blank k kth (formed-kids (z .standing .formed));
-              keyed = keyed-kids (keyed-child k kth (z .standing .keyed));
+              label = all-first (sound-child k kth (z .standing .sound)) .label;
+              sound = all-kids (sound-child k kth (z .standing .sound));
             };
         few = z .few;
         fits = omega (arith, z .few);
@@ -253,7 +255,8 @@ module _ {D P : Bytes} {values names : List ℕ} {used row levels : ℕ} (z : Si
               formed-tree (fit-container (replaceAt k new (z .kids)) (site-fit z) container small)
               (formed-replaceAt k (formed-kids (z .standing .formed)) new (formed-tree (formed-fit (stands .formed)) (formed-kids (stands .formed)) formed-none))
               (formed-rest (z .standing .formed));
-          keyed = keyed-replaceAt k (z .standing .keyed) new (keyed-single new (name-hashed k kth (z .standing .keyed)) (stands .keyed));
+          label = z .standing .label;
+          sound = all-replaceAt k (z .standing .sound) new (all-single new (record { title = name-fits k kth (z .standing .sound); label = stands .label }) (stands .sound));
         }
 
   -- each way in which the change of the child ends

@@ -53,7 +53,7 @@ use Rattle.operations.specs.declared.answers.Altered.the-variants.{Done,
 use Rattle.operations.proofs.LimitLaws.{limited-refused}
 use Rattle.operations.proofs.CutLaws.{cut-before, cut-around}
 use Rattle.operations.proofs.SiteLaws.{site-held, site-fit, site-inside, child-rows, child-name}
-use Rattle.operations.proofs.MeantLaws.{no-name, no-name-hashed, removed-meant, inserted-meant, put-meant, name-hashed}
+use Rattle.operations.proofs.MeantLaws.{no-name, no-name-fits, removed-meant, inserted-meant, put-meant, name-fits, token-fits}
 
 module _ {D P : Bytes} {values names : List ℕ} {used row levels : ℕ} {z : Site D P values names used row levels} where
   pub same-answers : {values' names' : List ℕ} {o p : Outcome Value.Value} {r : Altered} → o ≡ p → Answers z values' names' p r → Answers z values' names' o r
@@ -70,7 +70,7 @@ unfolding replaceAt
 child-replaced {D} {P} {values} {names} {values'} {names'} {used} {row} {below} {at} {source} {r} removed name removed-is name-is is z x kids k offered kth place =
     let same : name ≡ nth blank k (z .kids) .root .name = name-is ∙ child-name z k kth place in
     same-answers (ap ok (put-meant D P k (z .c) (z .kids) x kids ∙ ap (λ n. meant D P (z .c) (replaceAt k (renamed n x kids) (z .kids))) (sym same)))
-    (is D P z x kids (before k (z .kids)) (from (suc k) (z .kids)) (container-fit (site-fit z) (omega arith)) offered (rw same (name-hashed k kth (z .standing .keyed)))
+    (is D P z x kids (before k (z .kids)) (from (suc k) (z .kids)) (container-fit (site-fit z) (omega arith)) offered (rw same (name-fits k kth (z .standing .sound)))
     (cut-around k place kth removed (child-rows z k kth place removed-is)))
 
 -- ---- where an element is added
@@ -145,7 +145,7 @@ module _ {D P : Bytes} {values names : List ℕ} {used row below token source : 
       go (placed k at' f l place) g =
           let same : at' ≡ at = cc in
           same-answers (element-placed i index-of (z .c) x (z .kids) kids (site-fit z) t k f)
-          (put-is D P z x kids (before k (z .kids)) (from k (z .kids)) (omega (arith, kind)) offered (no-name-hashed D P) (cut-before k (sym same ∙ place)))
+          (put-is D P z x kids (before k (z .kids)) (from k (z .kids)) (omega (arith, kind)) offered (no-name-fits D P) (cut-before k (sym same ∙ place)))
       go (unplaced n f) g = absurd (let w : _≡_ {A = ℕ} 0 1 = cc in omega arith)
 
   pub element-refused : (number : ℕ) → p ≡ Child.Refused number → AddElementIs D P values names values names used row below token source (Refused number)
@@ -170,7 +170,7 @@ module _ (D P : Bytes) (c x : Cell) (kids below : Forest Cell) (name : Text) whe
   member-new e = rw (count-map (entryOf D P) kids, e, le-ltb (count kids) (count kids) (omega arith))
 
 asked : {D P : Bytes} {values names : List ℕ} {used row levels end : ℕ} → end ≡ endOf values row → (z : Site D P values names used row levels) → Asked D P values names (row + 1) end (z .kids)
-asked ends z = record { held = held-kids (site-held z .held); ends = sym (ends ∙ end-here (held-node (site-held z .held))); keyed = z .standing .keyed }
+asked ends z = record { held = held-kids (site-held z .held); ends = sym (ends ∙ end-here (held-node (site-held z .held))); sound = z .standing .sound }
 
 module _ {D P : Bytes} {values names : List ℕ} {used row below token source : ℕ} (end : ℕ) (ends : end ≡ endOf values row) (m : Member) (is : FindIs D P values names (row + 1) end token m) where
   pub member-replaced : {values' names' : List ℕ} {r : Altered} (at : ℕ) → m ≡ Member.At at → ReplaceChildIs D P values names values' names' used row below at source r
@@ -196,7 +196,7 @@ module _ {D P : Bytes} {values names : List ℕ} {used row below token source : 
       go (missing f) g =
           let n : ℕ = count (z .kids) in
           same-answers (ap ok (member-new D P (z .c) x (z .kids) kids (nameText D P token) f ∙ inserted-meant D P n (z .c) (z .kids) x kids token))
-          (put-is D P z x kids (before n (z .kids)) (from n (z .kids)) (omega (arith, kind)) offered (t .hashed)
+          (put-is D P z x kids (before n (z .kids)) (from n (z .kids)) (omega (arith, kind)) offered (token-fits t)
           (cut-before n (at-end end n ends (held-node (site-held z .held)) (omega arith))))
 
 -- a row behind the column holds no node

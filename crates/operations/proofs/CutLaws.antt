@@ -15,8 +15,9 @@ use Rattle.tape.proofs.Columns.{Room}
 use Rattle.tape.proofs.Forests.{size-⧺, size-single, before-from, from-nth}
 use Rattle.tape.proofs.Cells.{formed-⧺}
 use Rattle.tape.proofs.Changes.{tape-exchange, laid-kids, laid-splice}
-use Rattle.table.specs.Meaning.{Keyed, keyed-none, keyed-tree}
-use Rattle.table.proofs.MeaningLaws.{keyed-⧺}
+use Rattle.table.specs.All.{all-none, all-tree}
+use Rattle.table.specs.Sound.{Sound}
+use Rattle.table.proofs.AllLaws.{all-⧺}
 use Rattle.walk.proofs.Children.{blank}
 use Rattle.operations.specs.Cut.{Cut}
 
@@ -37,15 +38,15 @@ formed-right none g o = o
 formed-right (tree c kids rest) g (formed-tree fit k r) = formed-right rest g r
 
 module _ {D P : Bytes} where
-  keyed-left : (f g : Forest Cell) → Keyed D P (f ⧺ g) → Keyed D P f
+  sound-left : (f g : Forest Cell) → Sound D P (f ⧺ g) → Sound D P f
   unfolding _⧺_
-  keyed-left none g m = keyed-none
-  keyed-left (tree c kids rest) g (keyed-tree h k r) = keyed-tree h k (keyed-left rest g r)
+  sound-left none g m = all-none
+  sound-left (tree c kids rest) g (all-tree h k r) = all-tree h k (sound-left rest g r)
 
-  keyed-right : (f g : Forest Cell) → Keyed D P (f ⧺ g) → Keyed D P g
+  sound-right : (f g : Forest Cell) → Sound D P (f ⧺ g) → Sound D P g
   unfolding _⧺_
-  keyed-right none g m = m
-  keyed-right (tree c kids rest) g (keyed-tree h k r) = keyed-right rest g r
+  sound-right none g m = m
+  sound-right (tree c kids rest) g (all-tree h k r) = sound-right rest g r
 
 -- ---- other trees in the middle
 module _ {row : ℕ} {kids : Forest Cell} {at removed : ℕ} {left right : Forest Cell} (cut : Cut row kids at removed left right) where
@@ -58,10 +59,10 @@ module _ {row : ℕ} {kids : Forest Cell} {at removed : ℕ} {left right : Fores
       let all : Formed (left ⧺ cut .middle ⧺ right) = subst Formed (cut .parts) o in
       formed-⧺ (formed-left left (cut .middle ⧺ right) all) (formed-⧺ n (formed-right (cut .middle) right (formed-right left (cut .middle ⧺ right) all)))
 
-  pub cut-keyed : {D P : Bytes} {new : Forest Cell} → Keyed D P kids → Keyed D P new → Keyed D P (left ⧺ new ⧺ right)
-  cut-keyed {D} {P} m n =
-      let all : Keyed D P (left ⧺ cut .middle ⧺ right) = subst (Keyed D P) (cut .parts) m in
-      keyed-⧺ (keyed-left left (cut .middle ⧺ right) all) (keyed-⧺ n (keyed-right (cut .middle) right (keyed-right left (cut .middle ⧺ right) all)))
+  pub cut-sound : {D P : Bytes} {new : Forest Cell} → Sound D P kids → Sound D P new → Sound D P (left ⧺ new ⧺ right)
+  cut-sound {D} {P} m n =
+      let all : Sound D P (left ⧺ cut .middle ⧺ right) = subst (Sound D P) (cut .parts) m in
+      all-⧺ (sound-left left (cut .middle ⧺ right) all) (all-⧺ n (sound-right (cut .middle) right (sound-right left (cut .middle ⧺ right) all)))
 
   module _ (new : Forest Cell) where
     pub cut-size : size (left ⧺ new ⧺ right) + removed ≡ size kids + size new

@@ -12,9 +12,11 @@ use Rattle.lexer.specs.Hash.{hashFrom, hash}
 use Rattle.text.specs.Decode.{textFrom, textOf}
 use Rattle.tape.specs.Cell.{Cell}
 use Rattle.tape.proofs.Map.{map-insertAt, map-removeAt, map-replaceAt}
-use Rattle.table.specs.Meaning.{spelled, nameText, entryOf, members, meant, Hashed, Keyed}
-use Rattle.table.proofs.MeaningLaws.{keyed-first}
-use Rattle.walk.proofs.Children.{blank, child-meant, keyed-child}
+use Rattle.table.specs.Meaning.{spelled, nameText, entryOf, members, meant}
+use Rattle.table.specs.Sound.{NameFits, Sound}
+use Rattle.table.proofs.AllLaws.{all-first}
+use Rattle.walk.proofs.Children.{blank, child-meant, sound-child}
+use Rattle.walk.specs.Names.{IsToken}
 use Rattle.operations.specs.Cut.{renamed}
 
 -- ---- no name
@@ -22,9 +24,13 @@ pub no-name : (D P : Bytes) → nameText D P 0 ≡ []
 unfolding spelled textOf textFrom
 no-name D P = refl
 
-pub no-name-hashed : (D P : Bytes) → Hashed D P 0
+pub no-name-fits : (D P : Bytes) → NameFits D P 0
 unfolding hash hashFrom
-no-name-hashed D P = record { is = sym (ap hash (no-name D P)) }
+no-name-fits D P = record { hashed = record { is = sym (ap hash (no-name D P)) }; verbatim = record { is = λ plain. absurd (omega arith) } }
+
+-- a token is decoded again when it is written
+pub token-fits : {D P : Bytes} {name : ℕ} → IsToken D P name → NameFits D P name
+token-fits t = record { hashed = t .hashed; verbatim = record { is = λ plain. absurd (omega (arith, t .form)) } }
 
 -- ---- the three changes
 module _ (D P : Bytes) (k : ℕ) (c : Cell) (kids : Forest Cell) where
@@ -42,5 +48,5 @@ module _ (D P : Bytes) (k : ℕ) (c : Cell) (kids : Forest Cell) where
         ap (λ t. withKids (meant D P c kids) (replaceAt k (named (t .root .name) (meant D P x below)) (members D P kids))) (child-meant D P k c kids)
         ∙ ap (withKids (meant D P c kids)) (sym (map-replaceAt (entryOf D P) k (renamed (nth blank k kids .root .name) x below) kids))
 
-pub name-hashed : {D P : Bytes} {kids : Forest Cell} (k : ℕ) → k < count kids → Keyed D P kids → Hashed D P (nth blank k kids .root .name)
-name-hashed k l keyed = keyed-first (keyed-child k l keyed)
+pub name-fits : {D P : Bytes} {kids : Forest Cell} (k : ℕ) → k < count kids → Sound D P kids → NameFits D P (nth blank k kids .root .name)
+name-fits k l sound = all-first (sound-child k l sound) .title

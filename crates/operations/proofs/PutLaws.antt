@@ -28,8 +28,11 @@ use Rattle.tape.proofs.Forests.{size-single}
 use Rattle.tape.proofs.Changes.{laid-word, laid-span, laid-name}
 use Rattle.tape.proofs.Rows.{span-here}
 use Rattle.tape.proofs.Held.{held-node}
-use Rattle.table.specs.Meaning.{meant, Hashed, Keyed, keyed-none}
-use Rattle.table.proofs.MeaningLaws.{depth-meant, nodes-meant, keyed-single}
+use Rattle.table.specs.Meaning.{meant}
+use Rattle.table.specs.All.{all-none}
+use Rattle.table.specs.Sound.{NameFits, Sound}
+use Rattle.table.proofs.MeaningLaws.{depth-meant, nodes-meant}
+use Rattle.table.proofs.AllLaws.{all-single}
 use Rattle.walk.proofs.Children.{blank}
 use Rattle.operations.specs.Limited.{limitedTo}
 use Rattle.operations.specs.Site.{Standing, Site, Offered, SameBehind}
@@ -37,7 +40,7 @@ use Rattle.operations.specs.Cut.{Cut, renamed}
 use Rattle.operations.specs.Change.{Answers, done, refusal, resized}
 use Rattle.operations.specs.declared.answers.Altered.the-variants.{Done, Refused}
 use Rattle.operations.proofs.LimitLaws.{limited-deep, limited-large, limited-fits}
-use Rattle.operations.proofs.CutLaws.{cut-inside, cut-formed, cut-keyed, cut-size, cut-deep, cut-around, past-front, laid-exchange}
+use Rattle.operations.proofs.CutLaws.{cut-inside, cut-formed, cut-sound, cut-size, cut-deep, cut-around, past-front, laid-exchange}
 use Rattle.operations.proofs.SiteLaws.{site-fit, site-inside, site-deep, child-rows, behind-set, behind-spliced, laid-rename}
 
 -- ---- the span that `resize` sets
@@ -80,7 +83,7 @@ module _ {D P : Bytes} {values names : List ℕ} {used row levels : ℕ} (z : Si
           (omega (arith, nodes-meant D P (z .c) changed, cut-size cut new, z .fits, site-inside z, cut-inside cut))
 
     -- ---- the columns, where the words are exchanged and the node's span is set
-    module _ (keyed : Keyed D P new) (now : ℕ) (now-is : now ≡ usedAfter used removed (size new)) (few : now ≤ maxNodes) {values' names' : List ℕ}
+    module _ (sound : Sound D P new) (now : ℕ) (now-is : now ≡ usedAfter used removed (size new)) (few : now ≤ maxNodes) {values' names' : List ℕ}
         (l : Laid word values' now (z .around .front ++ (word (z .c) (z .kids) ∷ [])) changed (tape word (z .around .rest) ++ z .around .back))
         (m : Laid nameWord names' now (z .around .titlesFront ++ (nameWord (z .c) (z .kids) ∷ [])) changed (tape nameWord (z .around .rest) ++ z .around .titlesBack))
         (span : ℕ) (span-is : span ≡ spanOf (getD values' row 0) + now - used) where
@@ -101,7 +104,8 @@ module _ {D P : Bytes} {values names : List ℕ} {used row levels : ℕ} (z : Si
             place = z .standing .place;
             titlePlace = z .standing .titlePlace;
             formed = formed-tree (fit-container changed (site-fit z) container small) changed-formed (formed-rest (z .standing .formed));
-            keyed = cut-keyed cut (z .standing .keyed) keyed;
+            label = z .standing .label;
+            sound = cut-sound cut (z .standing .sound) sound;
           }
 
 -- ---- one tree
@@ -122,7 +126,7 @@ module _ {D P : Bytes} {values names : List ℕ} {source : ℕ} {x : Cell} {kids
     unfolding size
     room-names long = record { before = omega (arith, offered .behind); after = omega (arith, offered .behind); there = omega (arith, holds-size (offered .held .held .titles), offered .behind) }
 
-  module _ (name : ℕ) (hashed : Hashed D P name) where
+  module _ (name : ℕ) (fits : NameFits D P name) where
     abbrev new : Forest Cell
     new = single (renamed name x kids)
 
@@ -130,8 +134,8 @@ module _ {D P : Bytes} {values names : List ℕ} {source : ℕ} {x : Cell} {kids
     new-formed =
         formed-tree (record { kind = offered-fit .kind; small = offered-fit .small; scalar = offered-fit .scalar }) (formed-kids (offered .held .held .formed)) formed-none
 
-    new-keyed : Keyed D P new
-    new-keyed = keyed-single (renamed name x kids) hashed (offered .held .keyed)
+    new-sound : Sound D P new
+    new-sound = all-single (renamed name x kids) (record { title = fits; label = offered .held .label }) (offered .held .sound)
 
     deep-new : deep new ≡ level x (deep kids)
     unfolding deep level
@@ -191,7 +195,7 @@ module _ {D P : Bytes} {values names : List ℕ} {source : ℕ} {x : Cell} {kids
           all-done : Answers z (resized (spliced values used at removed source count) row used now) (set (spliced names used at removed source count) at name) outcome (Done now)
           all-done =
               done (changed-fits z container cut new new-formed levels-fit (omega (arith, now-used, now-few, count-size)))
-              (changed-standing z container cut new new-formed new-keyed now (omega (arith, now-used, count-size)) now-few words titles (spanOf (getD (spliced values used at removed source count) row 0) + now - used) refl)
+              (changed-standing z container cut new new-formed new-sound now (omega (arith, now-used, count-size)) now-few words titles (spanOf (getD (spliced values used at removed source count) row 0) + now - used) refl)
               (behind-set row _ (omega (arith, site-inside z, z .few)) (behind-spliced used at removed source count (in-use z container cut) values-room (omega (arith, now-used, now-few))))
               (behind-set at name (omega (arith, cut .place, cut-inside cut, site-inside z, now-used, now-few, count-size, size-new)) (behind-spliced used at removed source count (in-use z container cut) names-room (omega (arith, now-used, now-few))))
 
@@ -220,7 +224,7 @@ module _ {D P : Bytes} {values names : List ℕ} {used row levels : ℕ} (z : Si
     unfolding removeAt _⧺_ tape deep size
     all-out =
         done (changed-fits z container cut none formed-none (omega (arith, site-deep z container)) (omega (arith, z .few)))
-        (changed-standing z container cut none formed-none keyed-none now (omega arith) (omega (arith, z .few))
+        (changed-standing z container cut none formed-none all-none now (omega arith) (omega (arith, z .few))
         (rw now-left at (laid-exchange none used 0 (z .standing .words) (z .standing .place) cut (no-words (z .long)) refl))
         (rw now-left at (laid-exchange none used 0 (z .standing .titles) (z .standing .titlePlace) cut (no-words (z .titlesLong)) refl))
         (spanOf (getD (spliced values used at removed used 0) row 0) + now - used) refl)

@@ -24,7 +24,7 @@ use Rattle.tape.proofs.Held.{held-laid, held-node, held-child, name-here}
 use Rattle.tape.proofs.Rows.{span-here, node-child}
 use Rattle.table.specs.Meaning.{meant}
 use Rattle.table.proofs.MeaningLaws.{depth-meant}
-use Rattle.walk.specs.Step.{NodeHeld}
+use Rattle.table.specs.Sound.{NodeHeld}
 use Rattle.walk.proofs.Children.{blank}
 use Rattle.operations.specs.Cut.{renamed}
 use Rattle.operations.specs.Site.{Site, SameBehind}
@@ -33,7 +33,7 @@ module _ {D P : Bytes} {values names : List ℕ} {used row levels : ℕ} (z : Si
   pub site-held : NodeHeld D P values names row (z .c) (z .kids)
   site-held =
       let s = z .standing in
-      record { rest = z .around .rest; held = held-laid row (s .place) (s .titlePlace) (s .words) (s .titles) (s .formed); keyed = s .keyed }
+      record { rest = z .around .rest; held = held-laid row (s .place) (s .titlePlace) (s .words) (s .titles) (s .formed); label = s .label; sound = s .sound }
 
   pub site-fit : Fit (z .c) (z .kids)
   site-fit = formed-fit (z .standing .formed)

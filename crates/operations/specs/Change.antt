@@ -14,7 +14,8 @@ use Rattle.tape.specs.Layout.{arrayKind, objectKind, spans}
 use Rattle.tape.specs.Cell.{Cell}
 use Rattle.tape.specs.Packing.{spanOf, withSpan}
 use Rattle.tape.specs.Rows.{childRow, ForNode}
-use Rattle.table.specs.Meaning.{nameText, partOf, meant, Hashed}
+use Rattle.table.specs.Meaning.{nameText, partOf, meant}
+use Rattle.table.specs.Sound.{NameFits}
 use Rattle.pointer.specs.Index.{insertionAt}
 use Rattle.pointer.specs.declared.answers.Index.{Index}
 use Rattle.walk.specs.declared.steps.Child.{Child}
@@ -45,7 +46,7 @@ Few (Refused number) = Unit {0}
 abbrev pub PutIs : List ℕ → List ℕ → List ℕ → List ℕ → ℕ → ℕ → ℕ → ℕ → ℕ → ℕ → ℕ → Altered → Type 0
 PutIs values names values' names' used row below at removed source name r =
     (D P : Bytes) (z : Site D P values names used row (suc below)) (x : Cell) (kids left right : Forest Cell) → arrayKind ≤ z .c .kind
-    → Offered D P values names source x kids → Hashed D P name → Cut row (z .kids) at removed left right
+    → Offered D P values names source x kids → NameFits D P name → Cut row (z .kids) at removed left right
     → Answers z values' names' (ok (meant D P (z .c) (left ⧺ single (renamed name x kids) ⧺ right))) r
 
 -- a child taken out

@@ -10,8 +10,8 @@ use Rattle.spec.specs.Value.{depth}
 use Rattle.tape.specs.Layout.{patchRow, rows}
 use Rattle.tape.specs.Tape.{Laid}
 use Rattle.tape.specs.Cell.{Cell, word, nameWord, Formed}
-use Rattle.table.specs.Meaning.{meant, Keyed}
-use Rattle.walk.specs.Step.{NodeHeld}
+use Rattle.table.specs.Meaning.{meant}
+use Rattle.table.specs.Sound.{LabelFits, Sound, NodeHeld}
 
 -- what stands around a node: the trees behind it, and in each column the words before it and those behind these trees
 pub record Surroundings : Type 0 where
@@ -28,7 +28,8 @@ pub record Standing (D P : Bytes) (values names : List ℕ) (used row : ℕ) (ar
   pub place : row ≡ length (around .front)
   pub titlePlace : row ≡ length (around .titlesFront)
   pub formed : Formed (tree c kids (around .rest))
-  pub keyed : Keyed D P kids
+  pub label : LabelFits D P (c .kind) (c .payload)
+  pub sound : Sound D P kids
 
 -- A node that stands among at most as many words as a document may have, in columns of the work area's length; its value nests at most `levels`
 -- containers. It may have as many nodes as leave the words in use within that limit: `room`.
