@@ -24,11 +24,11 @@ use Rattle.tape.proofs.Forests.{size-⧺, size-none}
 use Rattle.tape.proofs.Tape.{tape-⧺}
 use Rattle.tape.proofs.Cells.{formed-⧺, packed-word}
 use Rattle.tape.proofs.Map.{map-⧺, size-map}
-use Rattle.table.specs.Meaning.{sourceText, labelOf, nameText, entryOf, members, Hashed, Keyed, keyed-none, keyed-tree}
-use Rattle.table.proofs.MeaningLaws.{keyed-⧺}
-use Rattle.lexer.specs.Hash.{hash}
+use Rattle.table.specs.Meaning.{sourceText, entryOf, members}
+use Rattle.table.specs.All.{all-none, all-tree}
+use Rattle.table.proofs.AllLaws.{all-⧺}
 use Rattle.reader.specs.Words.{InText, Labels, Titles}
-use Rattle.reader.specs.Filled.{nodeRows, Between, Added, Noted, Changed, AllVerbatim, verbatim-none, verbatim-tree, Filled}
+use Rattle.reader.specs.Filled.{nodeRows, Between, Added, Noted, Changed, Filled}
 use Rattle.reader.proofs.ColumnLaws.{between, between-none, between-join, between-set, from-between, unchanged, change-then, change-wider, change-set, between-kept}
 
 -- ---- behind the nodes
@@ -76,12 +76,6 @@ noted-none xs = record { nodes = refl; filter = added-none xs }
 pub noted-key : {xs ys : List ℕ} {key : ℕ} → Filter.Added xs ys scratchRow key → Noted xs ys
 noted-key a = record { nodes = a .before; filter = record { kept = a .kept; behind = a .behind } }
 
--- ---- strings that are written as they stand
-verbatim-⧺ : {D P : Bytes} {f g : Forest Cell} → AllVerbatim D P f → AllVerbatim D P g → AllVerbatim D P (f ⧺ g)
-unfolding _⧺_
-verbatim-⧺ verbatim-none n = n
-verbatim-⧺ (verbatim-tree a b k r) n = verbatim-tree a b k (verbatim-⧺ r n)
-
 -- ---- rows that are filled
 -- a text taken for both
 pub one-text : (s : Bytes) (source : ℕ) → sourceText s s source ≡ s
@@ -103,8 +97,7 @@ module _ {source : ℕ} {s : Bytes} where
         titles = between-none start ns;
         formed = formed-none;
         meant = λ document patch e. refl;
-        keyed = λ document patch e. keyed-none;
-        verbatim = λ document patch e. verbatim-none;
+        sound = λ document patch e. all-none;
       }
 
   -- they stand as long as only words behind them change
@@ -117,8 +110,7 @@ module _ {source : ℕ} {s : Bytes} where
         titles = between-kept start end (c .titles) ∙ f .titles;
         formed = f .formed;
         meant = f .meant;
-        keyed = f .keyed;
-        verbatim = f .verbatim;
+        sound = f .sound;
       }
 
   pub filled-join : {start mid end : ℕ} {all more : Members} {vs ns : List ℕ} → Filled source s start mid all vs ns → Filled source s mid end more vs ns → Filled source s start end (all ⧺ more) vs ns
@@ -132,8 +124,7 @@ module _ {source : ℕ} {s : Bytes} where
         titles = between-join start mid end ns l m ∙ ap₂ _++_ (f .titles) (g .titles) ∙ sym (tape-⧺ nameWord (f .cells) (g .cells));
         formed = formed-⧺ (f .formed) (g .formed);
         meant = λ D P e. map-⧺ (entryOf D P) (f .cells) (g .cells) ∙ ap₂ _⧺_ (f .meant D P e) (g .meant D P e);
-        keyed = λ D P e. keyed-⧺ (f .keyed D P e) (g .keyed D P e);
-        verbatim = λ D P e. verbatim-⧺ (f .verbatim D P e) (g .verbatim D P e);
+        sound = λ D P e. all-⧺ (f .sound D P e) (g .sound D P e);
       }
 
   -- a node's own words are stored
@@ -145,7 +136,7 @@ module _ {source : ℕ} {s : Bytes} where
       let c : Cell = record { kind = kind; payload = payload; name = name } in
       let many : size (f .cells) ≡ end - row - 1 = omega (arith, f .ends) in
       let fit : Fit c (f .cells) = record { kind = k; small = omega arith; scalar = λ h. size-none (f .cells) (omega (arith, scalar h, f .ends)) } in
-      let x-is : x ≡ word c (f .cells) = e ∙ ap (λ n. packed (kind % kinds) (n % spans) (payload % spellings)) (sym many) ∙ packed-word fit (labels .fits) in
+      let x-is : x ≡ word c (f .cells) = e ∙ ap (λ n. packed (kind % kinds) (n % spans) (payload % spellings)) (sym many) ∙ packed-word fit (labels .small) in
       let l : row < end = omega (arith, f .ends) in
       let long-rows : length (nodeRows vs) ≡ scratchRow = length-take-le scratchRow vs long-vs in
       record {
@@ -157,8 +148,7 @@ module _ {source : ℕ} {s : Bytes} where
         meant = λ D P t.
             let entry : entryOf D P c ≡ record { name = text; label = label } = ap₂ (λ n l. record { name = n; label = l }) (titles .says D P t) (labels .says D P t) in
             ap₂ (λ e m. tree e m none) entry (f .meant D P t);
-        keyed = λ D P t. keyed-tree (record { is = titles .hashed ∙ ap hash (sym (titles .says D P t)) }) (f .keyed D P t) keyed-none;
-        verbatim = λ D P t. verbatim-tree (titles .verbatim D P t) (labels .verbatim D P t) (f .verbatim D P t) verbatim-none;
+        sound = λ D P t. all-tree (record { title = titles .fits D P t; label = labels .fits D P t }) (f .sound D P t) all-none;
       }
 
   -- the columns hold what fills them, whatever stands behind

@@ -68,10 +68,10 @@ module _ {source : ℕ} {s : Bytes} {start end : ℕ} {all : Members} {vs ns : L
   one = one-text s source
 
   asked : Asked s s vs ns start end (f .cells)
-  asked = record { held = filled-held room long-vs long-ns f; ends = f .ends; keyed = f .keyed s s one }
+  asked = record { held = filled-held room long-vs long-ns f; ends = f .ends; sound = f .sound s s one }
 
   hashed : Hashed s s name
-  hashed = record { is = titles .hashed ∙ ap hash (sym (titles .says s s one)) }
+  hashed = titles .fits s s one .hashed
 
   many : count all ≡ count (f .cells)
   many = ap count (sym (f .meant s s one)) ∙ count-map (entryOf s s) (f .cells)

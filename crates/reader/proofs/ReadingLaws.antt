@@ -36,7 +36,7 @@ use Rattle.reader.proofs.ValueLaws.{whole, value-refused, value-room, v
 use Rattle.reader.proofs.ItemLaws as ItemLaws
 use Rattle.reader.proofs.ItemLaws.{rest, after, contents-rest, rest-step}
 use Rattle.reader.proofs.PastLaws.{scalar-ok-past, Beyond, item-ok-past}
-use Rattle.reader.proofs.WordLaws.{literal-labels}
+use Rattle.reader.proofs.WordLaws.{textless-labels}
 use Rattle.reader.proofs.FilledLaws.{changed-none, changed-then, changed-wider, changed-set, changed-noted, filled-none, filled-kept, filled-join, filled-tree, filled-size}
 use Rattle.reader.proofs.MemberLaws.{marked-kept, marked-more}
 
@@ -311,7 +311,7 @@ module _ {s : Bytes} {at levels base row kind : ℕ} (b : Begun s at levels base
         let k = value-kind s at (row - base) levels begins-here in
         let m : kind ≤ objectKind = omega (arith, b .kind-is) in
         let label = containerLabel (eqb kind objectKind) in
-        let labels = literal-labels source s kind label (λ D P. container-says D P kind container m) in
+        let labels = textless-labels source s kind label (λ h. omega arith) (λ h. omega arith) (λ D P. container-says D P kind container m) in
         rw (v, n)
         (taken (record { label = label; kids = so-far }) last end (by-items source (ok (so-far, last .at)) e) ahead
         (filled-tree kind 0 name _ label text labels titles m (λ h. absurd (omega arith)) (omega (arith, ahead .room)) long-vs (omega (arith, ahead .room)) refl f)

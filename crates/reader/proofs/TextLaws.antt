@@ -19,9 +19,10 @@ use Rattle.lexer.specs.declared.cursor.Cursor.{Cursor}
 use Rattle.tape.specs.Layout.{sources, scratchRow}
 use Rattle.tape.specs.Cell.{Cell, Held}
 use Rattle.tape.specs.Map.{mapForest}
-use Rattle.table.specs.Meaning.{nameText, entryOf, members, meant, Keyed}
+use Rattle.table.specs.Meaning.{nameText, entryOf, members, meant}
+use Rattle.table.specs.Sound.{Sound}
 use Rattle.reader.specs.Words.{InText, Lent}
-use Rattle.reader.specs.Filled.{Changed, AllVerbatim, Filled}
+use Rattle.reader.specs.Filled.{Changed, Filled}
 use Rattle.reader.specs.Taken.{Taken, taken, refusal, ForTitle}
 use Rattle.reader.specs.Texts.{reading, refusalBefore, Rooted, TextIs, text-read, text-refused}
 use Rattle.reader.specs.declared.values.Read.{Read}
@@ -31,12 +32,12 @@ use Rattle.reader.proofs.FilledLaws.{one-text, filled-held, changed-non
 
 -- ---- a forest that means one value is one tree
 module _ {source : ℕ} {s : Bytes} {base end : ℕ} {v : Value.Value} {vs ns : List ℕ} where
-  rooted : (cells : Forest Cell) → base + size cells ≡ end → Held vs ns base cells → InText source s (λ D P. members D P cells ≡ single (named [] v)) → InText source s (λ D P. Keyed D P cells)
-      → InText source s (λ D P. AllVerbatim D P cells) → Rooted source s base end v vs ns
+  rooted : (cells : Forest Cell) → base + size cells ≡ end → Held vs ns base cells → InText source s (λ D P. members D P cells ≡ single (named [] v)) → InText source s (λ D P. Sound D P cells)
+      → Rooted source s base end v vs ns
   unfolding mapForest size
-  rooted none e h m k w = absurd (let n = m s s (one-text s source) in let z : _≡_ {A = ℕ} 0 1 = cc in omega arith)
-  rooted (tree c kids (tree d others rest)) e h m k w = absurd (let n = m s s (one-text s source) in let z : _≡_ {A = ℕ} 0 1 = cc in omega arith)
-  rooted (tree c kids none) e h m k w =
+  rooted none e h m sound = absurd (let n = m s s (one-text s source) in let z : _≡_ {A = ℕ} 0 1 = cc in omega arith)
+  rooted (tree c kids (tree d others rest)) e h m sound = absurd (let n = m s s (one-text s source) in let z : _≡_ {A = ℕ} 0 1 = cc in omega arith)
+  rooted (tree c kids none) e h m sound =
       record {
         root = c;
         kids = kids;
@@ -51,12 +52,11 @@ module _ {source : ℕ} {s : Bytes} {base end : ℕ} {v : Value.Value} {vs ns : 
             let n = m D P t in
             let entry : entryOf D P c ≡ record { name = []; label = v .label } = cc in
             ap (λ e. e .name) entry;
-        keyed = k;
-        verbatim = w;
+        sound = sound;
       }
 
   filled-rooted : end ≤ scratchRow → scratchRow ≤ length vs → scratchRow ≤ length ns → Filled source s base end (single (named [] v)) vs ns → Rooted source s base end v vs ns
-  filled-rooted room long-vs long-ns f = rooted (f .cells) (f .ends) (filled-held room long-vs (omega arith) f) (f .meant) (f .keyed) (f .verbatim)
+  filled-rooted room long-vs long-ns f = rooted (f .cells) (f .ends) (filled-held room long-vs (omega arith) f) (f .meant) (f .sound)
 
 -- ---- the definition's steps
 module _ (s : Bytes) where

@@ -10,7 +10,6 @@ use Rattle.spec.specs.Refusal.{not-json}
 use Rattle.spec.specs.Bytes.{Bytes, Text}
 use Rattle.spec.specs.Numbers.{number}
 use Rattle.spec.specs.Strings.{string}
-use Rattle.spec.specs.Write.{writeCharacters}
 use Rattle.spec.specs.Value as Value
 use Rattle.spec.specs.Value.{Label}
 use Rattle.spec.specs.Read as Definition
@@ -34,7 +33,9 @@ use Rattle.tape.specs.Layout.{forms, sources, places, spellings, hashes, noText
 use Rattle.tape.specs.Packing.{spelling, formOf, sourceOf, startOf, lengthOf, nameOf, spellingOf, hashOf}
 use Rattle.tape.proofs.Packing.{form-spelling, source-spelling, start-spelling, length-spelling, spelling<, spelling-fits, spelling-name, hash-name, name-fits}
 use Rattle.table.specs.Meaning.{sourceText, partOf, spelled, labelOf, nameText}
-use Rattle.reader.specs.Words.{InText, stringForm, Verbatim, Spells, Labels, Titles, literalWord, ScalarIs, scalar-read, scalar-refused}
+use Rattle.table.specs.Sound.{Verbatim, StringFits}
+use Rattle.table.proofs.NumberLaws.{number-fits, other-fits}
+use Rattle.reader.specs.Words.{InText, stringForm, Spells, Labels, Titles, literalWord, ScalarIs, scalar-read, scalar-refused}
 use Rattle.reader.specs.declared.words.Word.{Word}
 use Rattle.reader.specs.declared.words.Word.the-variants.{Read, Refused}
 
@@ -81,8 +82,8 @@ module _ (form source start count : ℕ) (form< : form < forms) (source< : sourc
       rw (length-spelling form source start count form< source< start< count<, start-spelling form source start count form< source< start< count<, source-spelling form source start count form< source< start< count<, e)
 
   -- one that is no string without escapes
-  other-verbatim : (form ≡ plainString → ⊥) → (document patch : Bytes) → Verbatim document patch (spelling form source start count)
-  other-verbatim n document patch = record { is = λ e. absurd (n (sym (form-spelling form source start count form< source< start< count<) ∙ e)) }
+  other-verbatim : {document patch : Bytes} → (form ≡ plainString → ⊥) → Verbatim document patch (spelling form source start count)
+  other-verbatim n = record { is = λ e. absurd (n (sym (form-spelling form source start count form< source< start< count<) ∙ e)) }
 
 pub form-string : (plain : Bool) → stringForm plain < forms
 unfolding stringForm
@@ -94,6 +95,12 @@ text-string : (plain : Bool) (bytes : Bytes) → textOf (stringForm plain) bytes
 unfolding textOf textFrom decode stringForm
 text-string false bytes = refl
 text-string true bytes = refl
+
+-- it is one of the two
+form-bounds : (plain : Bool) → (plainString ≤ stringForm plain) × (stringForm plain ≤ escapedString)
+unfolding stringForm
+form-bounds true = (omega arith, omega arith)
+form-bounds false = (omega arith, omega arith)
 
 is-plain : (plain : Bool) → stringForm plain ≡ plainString → plain ≡ true
 unfolding stringForm
@@ -133,14 +140,22 @@ module _ (s : Bytes) (at : ℕ) (cs : Text) (next : ℕ) (reads : string s at �
   pub string-spells : Spells source s cs word
   string-spells =
       record {
-        fits = spelling< (stringForm plain) source (at + 1) (next - 1 - (at + 1)) (form-string plain) source< start< count<;
+        small = spelling< (stringForm plain) source (at + 1) (next - 1 - (at + 1)) (form-string plain) source< start< count<;
         says = string-says;
         verbatim = string-verbatim;
       }
 
+  string-fits : StringFits stringKind word
+  string-fits = record { form = λ k. rw (form-spelling (stringForm plain) source (at + 1) (next - 1 - (at + 1)) (form-string plain) source< start< count<) (form-bounds plain) }
+
   pub string-labels : Labels source s stringKind (Label.string cs) word
   unfolding labelOf
-  string-labels = record { fits = string-spells .fits; says = λ document patch e. rw (string-says document patch e); verbatim = string-verbatim }
+  string-labels =
+      record {
+        small = string-spells .small;
+        says = λ document patch e. rw (string-says document patch e);
+        fits = λ document patch e. record { number = other-fits (λ k. omega arith); string = string-fits; verbatim = string-verbatim document patch e };
+      }
 
 -- ---- a name
 hash-bound : (h : ℕ) (cs : Text) → h < hashes → hashFrom h cs < hashes
@@ -156,12 +171,13 @@ hash< cs = hash-bound 0 cs (omega arith)
 name-titles : (source : ℕ) (s : Bytes) (cs : Text) (sp h name : ℕ) → Spells source s cs sp → h ≡ hash cs → name ≡ nameOf (sp % spellings) (h % hashes) → Titles source s cs name
 name-titles source s cs sp h name spells is e =
     let small : h < hashes = rw is (hash< cs) in
-    let whole : name ≡ nameOf sp h = e ∙ name-fits sp h (spells .fits) small in
-    let says-it : spellingOf name ≡ sp = ap spellingOf whole ∙ spelling-name sp h (spells .fits) in
+    let whole : name ≡ nameOf sp h = e ∙ name-fits sp h (spells .small) small in
+    let says-it : spellingOf name ≡ sp = ap spellingOf whole ∙ spelling-name sp h (spells .small) in
+    let hash-it : hashOf name ≡ hash cs = ap hashOf whole ∙ hash-name sp h (spells .small) ∙ is in
+    let says-text : InText source s (λ document patch. nameText document patch name ≡ cs) = λ document patch t. rw says-it (spells .says document patch t) in
     record {
-      says = λ document patch t. rw says-it (spells .says document patch t);
-      hashed = ap hashOf whole ∙ hash-name sp h (spells .fits) ∙ is;
-      verbatim = λ document patch t. rw says-it (spells .verbatim document patch t);
+      says = says-text;
+      fits = λ document patch t. record { hashed = record { is = hash-it ∙ ap hash (sym (says-text document patch t)) }; verbatim = rw says-it (spells .verbatim document patch t) };
     }
 
 -- of a name that was read
@@ -173,21 +189,50 @@ read-titles {s} {at} {next} {h} {plain} source sp name source< short r is e =
 -- the word 0 names nothing: the root, and an array's element
 pub no-titles : (source : ℕ) (s : Bytes) → Titles source s [] 0
 unfolding spelled textOf textFrom hash hashFrom
-no-titles source s = record { says = λ document patch t. refl; hashed = refl; verbatim = λ document patch t. record { is = λ e. absurd (omega arith) } }
+no-titles source s =
+    record {
+      says = λ document patch t. refl;
+      fits = λ document patch t. record { hashed = record { is = refl }; verbatim = record { is = λ e. absurd (omega arith) } };
+    }
 
--- ---- a number, and a literal, which has no text
-module _ (s : Bytes) (at next : ℕ) (past : at < next) (within : next ≤ length s) (source : ℕ) (source< : source < sources) (short : length s < places) where
-  pub number-labels : Labels source s numberKind (Label.number (take (next - at) (drop at s))) (spelling numeral source at (next - at))
+-- ---- a number
+module _ (s : Bytes) (at next : ℕ) (reads : number s at ≡ ok next) (source : ℕ) (source< : source < sources) (short : length s < places) where
+  abbrev numeral-word : ℕ
+  numeral-word = spelling numeral source at (next - at)
+
+  bounds : (at < places) × (next - at < places)
+  bounds = let k = number-ok-past s at next reads in (omega arith, omega arith)
+
+  number-part : InText source s (λ document patch. partOf document patch numeral-word ≡ take (next - at) (drop at s))
+  number-part = part-spelling numeral source at (next - at) (omega arith) source< (bounds .0) (bounds .1) s
+
+  pub number-labels : Labels source s numberKind (Label.number (take (next - at) (drop at s))) numeral-word
   unfolding labelOf
   number-labels =
       record {
-        fits = spelling< numeral source at (next - at) (omega arith) source< (omega arith) (omega arith);
-        says = λ document patch e. rw (part-spelling numeral source at (next - at) (omega arith) source< (omega arith) (omega arith) s document patch e);
-        verbatim = λ document patch e. other-verbatim numeral source at (next - at) (omega arith) source< (omega arith) (omega arith) (λ f. omega arith) document patch;
+        small = spelling< numeral source at (next - at) (omega arith) source< (bounds .0) (bounds .1);
+        says = λ document patch e. rw (number-part document patch e);
+        fits = λ document patch e.
+            record {
+              number = number-fits s at next reads (number-part document patch e);
+              string = record { form = λ k. absurd (omega arith) };
+              verbatim = other-verbatim numeral source at (next - at) (omega arith) source< (bounds .0) (bounds .1) (λ f. omega arith);
+            };
       }
 
-pub literal-labels : (source : ℕ) (s : Bytes) (kind : ℕ) (label : Label) → ((document patch : Bytes) → labelOf document patch kind 0 ≡ label) → Labels source s kind label 0
-literal-labels source s kind label is = record { fits = omega arith; says = λ document patch e. is document patch; verbatim = λ document patch e. record { is = λ f. absurd (omega arith) } }
+-- ---- a node without a text: a literal, or a container
+pub textless-labels : (source : ℕ) (s : Bytes) (kind : ℕ) (label : Label) → (kind ≡ numberKind → ⊥) → (kind ≡ stringKind → ⊥) → ((document patch : Bytes) → labelOf document patch kind 0 ≡ label) → Labels source s kind label 0
+textless-labels source s kind label no-number no-string is =
+    record {
+      small = omega arith;
+      says = λ document patch e. is document patch;
+      fits = λ document patch e.
+          record {
+            number = other-fits no-number;
+            string = record { form = λ k. absurd (no-string k) };
+            verbatim = record { is = λ f. absurd (omega arith) };
+          };
+    }
 
 -- ---- each way out of the readers of scalars
 module _ (source : ℕ) (s : Bytes) (at : ℕ) where
@@ -197,7 +242,7 @@ module _ (source : ℕ) (s : Bytes) (at : ℕ) where
   number-read next w source< short e is =
       let k = number-ok-past s at (next .at) e in
       let same : w ≡ spelling numeral source at (next .at - at) = is ∙ spelling-fits numeral source at (next .at - at) (omega arith) source< (omega arith) (omega arith) in
-      scalar-read (Label.number (take (next .at - at) (drop at s))) next w (rw e) (rw same (number-labels s at (next .at) (k .0) (k .1) source source< short))
+      scalar-read (Label.number (take (next .at - at) (drop at s))) next w (rw e) (rw same (number-labels s at (next .at) e source source< short))
 
   pub number-refused : (n place : ℕ) → number s at ≡ refused n place → ScalarIs source s numberKind (numberValue s at) (Refused n place)
   unfolding numberValue _>>=_
@@ -213,8 +258,8 @@ module _ (source : ℕ) (s : Bytes) (at : ℕ) where
   unfolding stringValue _>>=_
   string-refused n place e = scalar-refused n place (rw e)
 
-  pub literal-read : (kind : ℕ) (label : Label) (rest : Bytes) (r : Scan) (w : Word) → scanOutcome r ≡ Definition.spelled rest s (at + 1) → w ≡ literalWord r → ((document patch : Bytes) → labelOf document patch kind 0 ≡ label)
+  pub literal-read : (kind : ℕ) (label : Label) (rest : Bytes) (r : Scan) (w : Word) → kind < numberKind → scanOutcome r ≡ Definition.spelled rest s (at + 1) → w ≡ literalWord r → ((document patch : Bytes) → labelOf document patch kind 0 ≡ label)
       → ScalarIs source s kind (literalValue label rest s at) w
   unfolding literalValue literalWord scanOutcome _>>=_
-  literal-read kind label rest (Scan.To next) w e is says = rw is (scalar-read label next 0 (rw (← e)) (literal-labels source s kind label says))
-  literal-read kind label rest (Scan.Refused n place) w e is says = rw is (scalar-refused n place (rw (← e)))
+  literal-read kind label rest (Scan.To next) w k e is says = rw is (scalar-read label next 0 (rw (← e)) (textless-labels source s kind label (λ h. omega arith) (λ h. omega arith) says))
+  literal-read kind label rest (Scan.Refused n place) w k e is says = rw is (scalar-refused n place (rw (← e)))

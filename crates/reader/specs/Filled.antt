@@ -10,11 +10,11 @@ use Rattle.spec.specs.Value.{Entry, Members}
 use Rattle.lexer.specs.Hash.{hash}
 use Rattle.filter.specs.Filter.{found}
 use Rattle.tape.specs.Layout.{scratchRow}
-use Rattle.tape.specs.Packing.{spellingOf}
 use Rattle.tape.specs.Tape.{tape}
 use Rattle.tape.specs.Cell.{Cell, word, nameWord, Formed}
-use Rattle.table.specs.Meaning.{members, Keyed}
-use Rattle.reader.specs.Words.{InText, Verbatim}
+use Rattle.table.specs.Meaning.{members}
+use Rattle.table.specs.Sound.{Sound}
+use Rattle.reader.specs.Words.{InText}
 
 -- the rows of the column of values that hold nodes; behind them stands the filter
 abbrev pub nodeRows : List ℕ → List ℕ
@@ -40,13 +40,7 @@ pub record Changed (start end : ℕ) (values names values' names' : List ℕ) : 
   pub filter : Added values values'
   pub titles : Between start end names names'
 
--- every string of a forest, name or value, that was read without escapes is written as it stands
-pub data AllVerbatim (document patch : Bytes) : Forest Cell → Type 0 where
-  verbatim-none : AllVerbatim document patch none
-  verbatim-tree : {c : Cell} {kids rest : Forest Cell} → Verbatim document patch (spellingOf (c .name)) → Verbatim document patch (c .payload)
-      → AllVerbatim document patch kids → AllVerbatim document patch rest → AllVerbatim document patch (tree c kids rest)
-
--- the words from one row up to another are those of a forest that means these members, whatever the other text is
+-- the words from one row up to another are those of a sound forest that means these members, whatever the other text is
 pub record Filled (source : ℕ) (s : Bytes) (start end : ℕ) (all : Members) (values names : List ℕ) : Type 0 where
   pub cells : Forest Cell
   pub ends : start + size cells ≡ end
@@ -54,8 +48,7 @@ pub record Filled (source : ℕ) (s : Bytes) (start end : ℕ) (all : Members) (
   pub titles : drop start (take end names) ≡ tape nameWord cells
   pub formed : Formed cells
   pub meant : InText source s (λ document patch. members document patch cells ≡ all)
-  pub keyed : InText source s (λ document patch. Keyed document patch cells)
-  pub verbatim : InText source s (λ document patch. AllVerbatim document patch cells)
+  pub sound : InText source s (λ document patch. Sound document patch cells)
 
 -- the key of a member in the filter, by its object's row and the hash of its name
 abbrev pub keyOf : ℕ → ℕ → ℕ

@@ -13,9 +13,10 @@ use Rattle.spec.specs.Value as Value
 use Rattle.spec.specs.Read.{read}
 use Rattle.lexer.specs.declared.cursor.Cursor.{Cursor}
 use Rattle.tape.specs.Cell.{Cell, Held}
-use Rattle.table.specs.Meaning.{nameText, meant, Keyed}
+use Rattle.table.specs.Meaning.{nameText, meant}
+use Rattle.table.specs.Sound.{Sound}
 use Rattle.reader.specs.Words.{InText}
-use Rattle.reader.specs.Filled.{Changed, AllVerbatim}
+use Rattle.reader.specs.Filled.{Changed}
 use Rattle.reader.specs.declared.values.Read as Declared
 use Rattle.reader.specs.declared.values.Read.the-variants as Read
 
@@ -33,7 +34,7 @@ refusalBefore values names s =
     if ltb (length names) workWords then work-too-short else
     if ltb maxBytes (length s) then input-too-long else 0
 
--- In the rows from `base` up to `end` stands a tree that means the value, whatever the other text is; its root has no name.
+-- In the rows from `base` up to `end` stands a sound tree that means the value, whatever the other text is; its root has no name.
 pub record Rooted (source : ℕ) (s : Bytes) (base end : ℕ) (v : Value.Value) (values names : List ℕ) : Type 0 where
   pub root : Cell
   pub kids : Forest Cell
@@ -41,8 +42,7 @@ pub record Rooted (source : ℕ) (s : Bytes) (base end : ℕ) (v : Value.Value) 
   pub held : Held values names base (tree root kids none)
   pub means : InText source s (λ document patch. meant document patch root kids ≡ v)
   pub nameless : InText source s (λ document patch. nameText document patch (root .name) ≡ [])
-  pub keyed : InText source s (λ document patch. Keyed document patch (tree root kids none))
-  pub verbatim : InText source s (λ document patch. AllVerbatim document patch (tree root kids none))
+  pub sound : InText source s (λ document patch. Sound document patch (tree root kids none))
 
 -- the answer, and what became of the columns: beside the filter, only rows from `base` up to the tree's end changed, or, after a refusal, rows of
 -- the text

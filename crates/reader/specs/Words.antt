@@ -6,16 +6,14 @@ use mathlib.Core.List.{List}
 use lib.ListN.{length}
 use Rattle.spec.specs.Outcome.{Outcome, ok, refused, if_then_else_}
 use Rattle.spec.specs.Bytes.{Bytes, Text}
-use Rattle.spec.specs.Write.{writeCharacters}
 use Rattle.spec.specs.Value as Value
 use Rattle.spec.specs.Value.{Label, leaf}
-use Rattle.lexer.specs.Hash.{hash}
 use Rattle.lexer.specs.declared.cursor.Cursor.{Cursor}
 use Rattle.lexer.specs.declared.cursor.Scan.{Scan}
 use Rattle.lexer.specs.declared.cursor.Scan.the-variants as Scan
 use Rattle.tape.specs.Layout.{sources, places, spellings, plainString, escapedString, scratchRow}
-use Rattle.tape.specs.Packing.{formOf, spellingOf, hashOf}
-use Rattle.table.specs.Meaning.{sourceText, partOf, spelled, labelOf, nameText}
+use Rattle.table.specs.Meaning.{sourceText, spelled, labelOf, nameText}
+use Rattle.table.specs.Sound.{Verbatim, NameFits, LabelFits}
 use Rattle.reader.specs.declared.words.Word.{Word}
 use Rattle.reader.specs.declared.words.Word.the-variants.{Read, Refused}
 
@@ -34,27 +32,22 @@ pub record Lent (source : ℕ) (s : Bytes) (values names : List ℕ) : Type 0 wh
 unfoldable pub stringForm : Bool → ℕ
 stringForm plain = if plain then plainString else escapedString
 
--- a string without escapes is written as it stands
-pub record Verbatim (document patch : Bytes) (spelling : ℕ) : Type 0 where
-  pub is : formOf spelling ≡ plainString → writeCharacters (spelled document patch spelling) ≡ partOf document patch spelling
-
 -- a spelling says a text
 pub record Spells (source : ℕ) (s : Bytes) (text : Text) (spelling : ℕ) : Type 0 where
-  pub fits : spelling < spellings
+  pub small : spelling < spellings
   pub says : InText source s (λ document patch. spelled document patch spelling ≡ text)
   pub verbatim : InText source s (λ document patch. Verbatim document patch spelling)
 
--- a scalar's payload says its label
+-- a node's payload says its label, and fits the table
 pub record Labels (source : ℕ) (s : Bytes) (kind : ℕ) (label : Label) (payload : ℕ) : Type 0 where
-  pub fits : payload < spellings
+  pub small : payload < spellings
   pub says : InText source s (λ document patch. labelOf document patch kind payload ≡ label)
-  pub verbatim : InText source s (λ document patch. Verbatim document patch payload)
+  pub fits : InText source s (λ document patch. LabelFits document patch kind payload)
 
--- a name's word says its text, and has its hash
+-- a name's word says its text, and fits the table
 pub record Titles (source : ℕ) (s : Bytes) (text : Text) (name : ℕ) : Type 0 where
   pub says : InText source s (λ document patch. nameText document patch name ≡ text)
-  pub hashed : hashOf name ≡ hash text
-  pub verbatim : InText source s (λ document patch. Verbatim document patch (spellingOf name))
+  pub fits : InText source s (λ document patch. NameFits document patch name)
 
 -- a literal has no text
 unfoldable pub literalWord : Scan → Word
