@@ -19,10 +19,11 @@ use Rattle.tape.specs.Rows.{endOf}
 use Rattle.tape.specs.Map.{mapForest}
 use Rattle.tape.proofs.Rows.{kind-here, payload-here}
 use Rattle.table.specs.Meaning.{labelOf, members, meant}
+use Rattle.table.specs.Sound.{NodeHeld}
 use Rattle.table.specs.declared.find.Member.{Member}
 use Rattle.table.specs.declared.find.Member.the-variants.{At, Missing}
 use Rattle.table.proofs.MeaningLaws.{tag-label, isObject-label, isContainer-label}
-use Rattle.equality.specs.Compare.{SameLabelIs, PartnerIs, ValueAt, EqualIs}
+use Rattle.equality.specs.Compare.{SameLabelIs, PartnerIs, EqualIs}
 use Rattle.equality.proofs.LabelLaws.{sameLabel-tag}
 use Rattle.equality.proofs.MatchLaws.{equal-agree, agree-end}
 use Rattle.equality.proofs.SiblingLaws.{value-node, value-inside, value-fit, value-labelled, siblings-all}
@@ -37,7 +38,7 @@ abbrev labelled : Bytes → Bytes → Cell → Label
 labelled D P c = labelOf D P (c .kind) (c .payload)
 
 -- ---- a value of the kind k, as its word tells it
-module _ {D P : Bytes} {vs ns : List ℕ} {at : ℕ} {c : Cell} {kids : Forest Cell} (x : ValueAt D P vs ns at c kids)
+module _ {D P : Bytes} {vs ns : List ℕ} {at : ℕ} {c : Cell} {kids : Forest Cell} (x : NodeHeld D P vs ns at c kids)
     (k : ℕ) (told : k ≡ kindOf (getD vs at 0)) where
   kind-is : c .kind ≡ k
   kind-is = sym (told ∙ kind-here (value-node x))
@@ -53,7 +54,7 @@ module _ {D P : Bytes} {vs ns : List ℕ} {at : ℕ} {c : Cell} {kids : Forest C
 -- ---- at the head of the loop
 abbrev pub Comparing : Bytes → Bytes → List ℕ → List ℕ → ℕ → ℕ → ℕ → Bool → ℕ → ℕ → ℕ → ℕ → Type 0
 Comparing D P vs ns at other levels o end stop row next =
-    (c : Cell) (kids : Forest Cell) (e : Cell) (below : Forest Cell) → ValueAt D P vs ns at c kids → ValueAt D P vs ns other e below
+    (c : Cell) (kids : Forest Cell) (e : Cell) (below : Forest Cell) → NodeHeld D P vs ns at c kids → NodeHeld D P vs ns other e below
     → depth (meant D P c kids) ≤ levels → Pending D P vs ns o row end next stop (levels - 1) below (equal (meant D P c kids) (meant D P e below))
 
 -- ---- before the loop
@@ -65,7 +66,7 @@ module _ {D P : Bytes} {vs ns : List ℕ} {at other : ℕ} (levels : ℕ) where
   equal-outside-other r h c kids e below x y low = absurd (omega (arith, value-inside y))
 
   module _ (same : Bool) (said : SameLabelIs D P (getD vs at 0) (getD vs other 0) same) where
-    labels : {c e : Cell} {kids below : Forest Cell} → ValueAt D P vs ns at c kids → ValueAt D P vs ns other e below
+    labels : {c e : Cell} {kids below : Forest Cell} → NodeHeld D P vs ns at c kids → NodeHeld D P vs ns other e below
         → same ≡ sameLabel (labelled D P c) (labelled D P e)
     labels x y =
         let n = value-node x in
@@ -77,13 +78,13 @@ module _ {D P : Bytes} {vs ns : List ℕ} {at other : ℕ} (levels : ℕ) where
     equal-labels f c kids e below x y low = rw (← (labels x y), f)
 
     module _ (alike : same ≡ true) where
-      agreed : {c e : Cell} {kids below : Forest Cell} → ValueAt D P vs ns at c kids → ValueAt D P vs ns other e below
+      agreed : {c e : Cell} {kids below : Forest Cell} → NodeHeld D P vs ns at c kids → NodeHeld D P vs ns other e below
           → equal (meant D P c kids) (meant D P e below) ≡ agreeing D P (isObject (labelled D P c)) below kids below
       agreed {c} {e} {kids} {below} x y = equal-agree (meant D P c kids) (meant D P e below) (sym (labels x y) ∙ alike)
 
       -- k is the kind of both
       module _ (k : ℕ) (told : k ≡ kindOf (getD vs at 0)) where
-        kind-other : {c e : Cell} {kids below : Forest Cell} → ValueAt D P vs ns at c kids → ValueAt D P vs ns other e below → e .kind ≡ k
+        kind-other : {c e : Cell} {kids below : Forest Cell} → NodeHeld D P vs ns at c kids → NodeHeld D P vs ns other e below → e .kind ≡ k
         kind-other {c} {e} x y =
             let tags = sameLabel-tag (labelled D P c) (labelled D P e) (sym (labels x y) ∙ alike) in
             let tag-c = tag-label D P (c .kind) (c .payload) (value-fit x .kind) in

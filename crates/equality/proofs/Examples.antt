@@ -11,6 +11,7 @@ use Rattle.spec.specs.Strings.{character}
 use Rattle.spec.specs.Numbers.{isDigit, isE}
 use Rattle.spec.specs.Worth.{mantissa, fractionDigits, decimal, signedExponent, exponent, dropZeros, trimmed, isNegative, power, worth}
 use Rattle.spec.specs.Forest.{Forest, none, tree, count, size}
+use Rattle.spec.specs.Write.{utf8, writeCharacter, writeCharacters}
 use Rattle.spec.specs.Value.{tag, isNumber, isObject, isContainer, content, levels, depths, depth, sameText}
 use Rattle.spec.specs.Equality.{sameBool, sameInteger, sameWorth, sameLabel, partner, matches, equal}
 use Rattle.lexer.specs.Hash.{mix, hashFrom, hash}
@@ -18,16 +19,16 @@ use Rattle.text.specs.Decode.{characterIn, decodeLoop, decodeFrom, textFrom, te
 use Rattle.text.specs.Decode as Decode
 use Rattle.decimal.specs.Normal.{withinLimits}
 use Rattle.tape.specs.Layout.{numberKind, arrayKind, objectKind, plainString, numeral, inDocument, inPatch, spans}
-use Rattle.tape.specs.Packing.{spelling, nameOf}
+use Rattle.tape.specs.Packing.{spelling, nameOf, spellingOf, hashOf}
 use Rattle.tape.specs.Tape.{tape}
 use Rattle.tape.specs.Cell.{Cell, word, nameWord, Fit, Formed, formed-none, formed-tree, Held}
 use Rattle.tape.specs.Map.{mapForest}
 use Rattle.tape.proofs.Held.{held-next}
 use Rattle.table.specs.All.{all-none, all-tree}
-use Rattle.table.specs.Meaning.{sourceText, partOf, spelled, labelOf, meant, Keyed, keyed-none, keyed-tree}
-use Rattle.table.specs.Numbers.{NumberFits, Limited}
+use Rattle.table.specs.Meaning.{sourceText, partOf, spelled, labelOf, nameText, meant}
+use Rattle.table.specs.Sound.{NameFits, LabelFits, CellFits, Sound, NodeHeld}
 use Rattle.table.proofs.NumberLaws.{other-fits}
-use Rattle.equality.specs.Compare.{ValueAt, EqualIs}
+use Rattle.equality.specs.Compare.{EqualIs}
 
 abbrev document : Bytes
 document = ascii "{\"a\":100,\"b\":[]}"
@@ -91,40 +92,56 @@ unfoldable compute : Unit {0}
 unfolding ascii byte within character characterIn Decode.before decodeLoop decodeFrom textFrom textOf mix hashFrom hash sourceText partOf spelled
 compute = tt
 
-keyed-first : Keyed document patch first
-unfolding compute
-keyed-first = keyed-tree (record { is = refl }) keyed-none (keyed-tree (record { is = refl }) keyed-none keyed-none)
-
-keyed-second : Keyed document patch second
-unfolding compute
-keyed-second = keyed-tree (record { is = refl }) keyed-none (keyed-tree (record { is = refl }) keyed-none keyed-none)
+unfoldable compute-written : Unit {0}
+unfolding utf8 writeCharacter writeCharacters
+compute-written = tt
 
 unfoldable compute-numbers : Unit {0}
 unfolding isDigit isE mantissa fractionDigits decimal signedExponent exponent dropZeros trimmed isNegative power worth withinLimits
 compute-numbers = tt
 
-array-fits : NumberFits document patch arrayKind 0
-array-fits = other-fits (λ e. omega arith)
+-- a container has no text of its own
+container-fits : {kind : ℕ} → arrayKind ≤ kind → LabelFits document patch kind 0
+container-fits h =
+    record { number = other-fits (λ e. omega arith); string = record { form = λ e. absurd (omega arith) }; verbatim = record { is = λ e. absurd (omega arith) } }
 
-object-fits : NumberFits document patch objectKind 0
-object-fits = other-fits (λ e. omega arith)
+name-fits : {name : ℕ} → hashOf name ≡ hash (nameText document patch name)
+    → writeCharacters (nameText document patch name) ≡ partOf document patch (spellingOf name) → NameFits document patch name
+name-fits e f = record { hashed = record { is = e }; verbatim = record { is = λ g. f } }
 
-limited-first : Limited document patch first
-unfolding compute compute-numbers
-limited-first = all-tree (record { is = λ e. refl }) all-none (all-tree array-fits all-none all-none)
+module _ (source name : ℕ) where
+  a-fits : (number : ℕ) → NameFits document patch (a source name number .name) → withinLimits (partOf document patch (a source name number .payload)) ≡ true
+      → CellFits document patch (a source name number)
+  a-fits number n e =
+      record {
+        title = n;
+        label =
+            record {
+              number = record { is = λ f. e };
+              string = record { form = λ f. absurd (omega arith) };
+              verbatim = record { is = λ f. absurd (omega arith) };
+            };
+      }
 
-limited-second : Limited document patch second
-unfolding compute compute-numbers
-limited-second = all-tree array-fits all-none (all-tree (record { is = λ e. refl }) all-none all-none)
+  b-fits : NameFits document patch (b source name .name) → CellFits document patch (b source name)
+  b-fits n = record { title = n; label = container-fits (omega arith) }
 
-pub first-value : ValueAt document patch values names 0 object first
-first-value =
-    record { rest = tree object second none; held = held; keyed = keyed-first; fits = object-fits; limited = limited-first }
+sound-first : Sound document patch first
+unfolding compute compute-written compute-numbers
+sound-first =
+    all-tree (a-fits inDocument 2 5 (name-fits refl refl) refl) all-none (all-tree (b-fits inDocument 10 (name-fits refl refl)) all-none all-none)
 
-pub second-value : ValueAt document patch values names 3 object second
+sound-second : Sound document patch second
+unfolding compute compute-written compute-numbers
+sound-second =
+    all-tree (b-fits inPatch 2 (name-fits refl refl)) all-none (all-tree (a-fits inPatch 9 12 (name-fits refl refl) refl) all-none all-none)
+
+pub first-value : NodeHeld document patch values names 0 object first
+first-value = record { rest = tree object second none; held = held; label = container-fits (omega arith); sound = sound-first }
+
+pub second-value : NodeHeld document patch values names 3 object second
 unfolding size
-second-value =
-    record { rest = none; held = held-next held; keyed = keyed-second; fits = object-fits; limited = limited-second }
+second-value = record { rest = none; held = held-next held; label = container-fits (omega arith); sound = sound-second }
 
 -- ---- what it leaves
 are-equal : equal (meant document patch object first) (meant document patch object second) ≡ true

@@ -13,10 +13,11 @@ use Rattle.tape.specs.Cell.{Cell}
 use Rattle.tape.specs.Rows.{endOf}
 use Rattle.tape.specs.Map.{mapForest}
 use Rattle.table.specs.Meaning.{nameText, entryOf, members, meant}
+use Rattle.table.specs.Sound.{NodeHeld}
 use Rattle.table.specs.Find.{Found}
 use Rattle.table.specs.declared.find.Member.{Member}
 use Rattle.table.specs.declared.find.Member.the-variants.{At, Missing}
-use Rattle.equality.specs.Compare.{PartnerIs, ValueAt, EqualIs}
+use Rattle.equality.specs.Compare.{PartnerIs, EqualIs}
 use Rattle.equality.proofs.MatchLaws.{agree, agree-end, agree-less, agree-more, agree-element, agree-member, agree-alone}
 use Rattle.equality.proofs.SiblingLaws.{Siblings, siblings-none, siblings-first, siblings-value, siblings-name, siblings-hashed, siblings-next}
 use Rattle.equality.proofs.SiblingLaws.{siblings-asked, member-found, member-missing}
@@ -60,7 +61,7 @@ module _ {D P : Bytes} {vs ns : List ℕ} {start row end next stop : ℕ} {all :
         ∙ ap (λ b. b && agreeing D P true all rest after) (sym (compared c ks p ps (siblings-value x) there low))
     paired false q t e =
         let same : next ≡ pair = cc (t .element refl) in
-        let there : ValueAt D P vs ns pair d ds = subst (λ n. ValueAt D P vs ns n d ds) same (siblings-value y) in
+        let there : NodeHeld D P vs ns pair d ds = subst (λ n. NodeHeld D P vs ns n d ds) same (siblings-value y) in
         agree-element (members D P all) (entryOf D P c) (members D P ks) (members D P rest) (entryOf D P d) (members D P ds) (members D P after)
         ∙ ap (λ b. b && agreeing D P false all rest after) (sym (compared c ks d ds (siblings-value x) there low))
 

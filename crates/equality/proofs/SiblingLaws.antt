@@ -15,17 +15,16 @@ use Rattle.tape.proofs.Cells.{formed-fit}
 use Rattle.tape.proofs.Rows.{kind-here, payload-here, inside-here}
 use Rattle.tape.proofs.Held.{Remaining, remaining-all, remaining-next, remaining-none, remaining-first, held-node, held-from, name-here}
 use Rattle.tape.proofs.Map.{map-from, count-map}
-use Rattle.table.specs.Meaning.{entryOf, members, Hashed, Keyed}
-use Rattle.table.specs.Numbers.{Limited}
+use Rattle.table.specs.Meaning.{entryOf, members, Hashed}
+use Rattle.table.specs.Sound.{Sound, NodeHeld}
 use Rattle.table.specs.Find.{Asked, Found, found, missing}
 use Rattle.table.specs.declared.find.Member.the-variants.{At, Missing}
 use Rattle.table.proofs.AllLaws.{all-first, all-kids, all-rest, all-from}
-use Rattle.table.proofs.MeaningLaws.{keyed-first, keyed-kids, keyed-rest, keyed-from}
-use Rattle.equality.specs.Compare.{Labelled, ValueAt}
+use Rattle.equality.specs.Compare.{Labelled}
 use Rattle.equality.proofs.MatchLaws.{partner-find}
 
 -- ---- a value in a row
-module _ {D P : Bytes} {vs ns : List ℕ} {at : ℕ} {c : Cell} {kids : Forest Cell} (x : ValueAt D P vs ns at c kids) where
+module _ {D P : Bytes} {vs ns : List ℕ} {at : ℕ} {c : Cell} {kids : Forest Cell} (x : NodeHeld D P vs ns at c kids) where
   pub value-node : Node vs at c kids
   value-node = held-node (x .held)
 
@@ -39,20 +38,19 @@ module _ {D P : Bytes} {vs ns : List ℕ} {at : ℕ} {c : Cell} {kids : Forest C
   value-labelled =
       record {
         kind = omega (arith, kind-here value-node, value-fit .kind);
-        fits = rw (kind-here value-node, payload-here value-node) (x .fits);
+        fits = rw (kind-here value-node, payload-here value-node) (x .label .number);
       }
 
 -- ---- trees in the rows from one to another
 pub record Siblings (D P : Bytes) (vs ns : List ℕ) (row end : ℕ) (f : Forest Cell) : Type 0 where
   pub left : Remaining vs ns row end f
-  pub keyed : Keyed D P f
-  pub limited : Limited D P f
+  pub sound : Sound D P f
 
 module _ {D P : Bytes} {vs ns : List ℕ} where
   -- the children of a value
-  pub siblings-all : {at : ℕ} {c : Cell} {kids : Forest Cell} (end : ℕ) → end ≡ endOf vs at → ValueAt D P vs ns at c kids
+  pub siblings-all : {at : ℕ} {c : Cell} {kids : Forest Cell} (end : ℕ) → end ≡ endOf vs at → NodeHeld D P vs ns at c kids
       → Siblings D P vs ns (at + 1) end kids
-  siblings-all end e x = record { left = remaining-all end e (x .held); keyed = x .keyed; limited = x .limited }
+  siblings-all end e x = record { left = remaining-all end e (x .held); sound = x .sound }
 
   pub siblings-none : {row end : ℕ} {f : Forest Cell} → Siblings D P vs ns row end f → end ≤ row → f ≡ none
   siblings-none s h = remaining-none (s .left) h
@@ -67,32 +65,30 @@ module _ {D P : Bytes} {vs ns : List ℕ} where
   siblings-from {f = f} k s =
       record {
         left = record { held = held-from k (s .left .held); ends = omega (arith, s .left .ends, size-cut k f) };
-        keyed = keyed-from k (s .keyed);
-        limited = all-from k (s .limited);
+        sound = all-from k (s .sound);
       }
 
   module _ {row end : ℕ} {c : Cell} {kids rest : Forest Cell} (s : Siblings D P vs ns row end (tree c kids rest)) where
     -- the first one is a value, and its name has its hash
-    pub siblings-value : ValueAt D P vs ns row c kids
-    siblings-value =
-        record { rest = rest; held = s .left .held; keyed = keyed-kids (s .keyed); fits = all-first (s .limited); limited = all-kids (s .limited) }
+    pub siblings-value : NodeHeld D P vs ns row c kids
+    siblings-value = record { rest = rest; held = s .left .held; label = all-first (s .sound) .label; sound = all-kids (s .sound) }
 
     pub siblings-name : getD ns row 0 ≡ c .name
     siblings-name = name-here (s .left .held)
 
     pub siblings-hashed : Hashed D P (getD ns row 0)
-    siblings-hashed = rw siblings-name (keyed-first (s .keyed))
+    siblings-hashed = rw siblings-name (all-first (s .sound) .title .hashed)
 
     pub siblings-next : (next : ℕ) → next ≡ endOf vs row → Siblings D P vs ns next end rest
-    siblings-next next e = record { left = remaining-next next e (s .left); keyed = keyed-rest (s .keyed); limited = all-rest (s .limited) }
+    siblings-next next e = record { left = remaining-next next e (s .left); sound = all-rest (s .sound) }
 
   -- ---- a member found among them by its name
   module _ {start end : ℕ} {f : Forest Cell} (s : Siblings D P vs ns start end f) where
     pub siblings-asked : Asked D P vs ns start end f
-    siblings-asked = record { held = s .left .held; ends = s .left .ends; keyed = s .keyed }
+    siblings-asked = record { held = s .left .held; ends = s .left .ends; sound = s .sound }
 
     pub member-found : {C : Type 0} {name : Text} {row : ℕ} → Found D P start f name (At row)
-        → ((c : Cell) (kids after : Forest Cell) → partner true name (members D P f) ≡ members D P (tree c kids after) → ValueAt D P vs ns row c kids → C)
+        → ((c : Cell) (kids after : Forest Cell) → partner true name (members D P f) ≡ members D P (tree c kids after) → NodeHeld D P vs ns row c kids → C)
         → C
     unfolding _⧺_
     member-found {name = name} (found k row e few place) then-it =

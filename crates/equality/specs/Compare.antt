@@ -5,14 +5,14 @@ use mathlib.Core.Bool.{Bool, true, false}
 use mathlib.Core.List.{List}
 use lib.ListN.{getD}
 use Rattle.spec.specs.Bytes.{Bytes}
-use Rattle.spec.specs.Forest.{Forest, tree}
+use Rattle.spec.specs.Forest.{Forest}
 use Rattle.spec.specs.Value.{Label, depth}
 use Rattle.spec.specs.Equality.{sameLabel, equal}
 use Rattle.tape.specs.Layout.{objectKind}
 use Rattle.tape.specs.Packing.{kindOf, payloadOf}
-use Rattle.tape.specs.Cell.{Cell, Held}
-use Rattle.table.specs.Meaning.{labelOf, meant, Keyed}
-use Rattle.table.specs.Numbers.{NumberFits, CellFits, Limited}
+use Rattle.tape.specs.Cell.{Cell}
+use Rattle.table.specs.Meaning.{labelOf, meant}
+use Rattle.table.specs.Sound.{NumberFits, NodeHeld}
 use Rattle.table.specs.Find.{FindIs}
 use Rattle.table.specs.declared.find.Member.{Member}
 use Rattle.table.specs.declared.find.Member.the-variants.{At}
@@ -37,17 +37,9 @@ pub record PartnerIs (document patch : Bytes) (values names : List ℕ) (object 
   pub element : object ≡ false → r ≡ At next
 
 -- ---- two values
--- the columns hold a value in a row: the names in it have their hashes, and its numbers are within the limits
-pub record ValueAt (document patch : Bytes) (values names : List ℕ) (row : ℕ) (c : Cell) (kids : Forest Cell) : Type 0 where
-  pub rest : Forest Cell
-  pub held : Held values names row (tree c kids rest)
-  pub keyed : Keyed document patch kids
-  pub fits : CellFits document patch c
-  pub limited : Limited document patch kids
-
 -- whether the values are equal that the columns hold in two rows, whatever they are, if the first nests at most so many containers
 abbrev pub EqualIs : Bytes → Bytes → List ℕ → List ℕ → ℕ → ℕ → ℕ → Bool → Type 0
 EqualIs document patch values names at other levels r =
     (c : Cell) (kids : Forest Cell) (e : Cell) (below : Forest Cell)
-    → ValueAt document patch values names at c kids → ValueAt document patch values names other e below
+    → NodeHeld document patch values names at c kids → NodeHeld document patch values names other e below
     → depth (meant document patch c kids) ≤ levels → r ≡ equal (meant document patch c kids) (meant document patch e below)

@@ -27,10 +27,11 @@ use Rattle.tape.proofs.Cells.{formed-fit}
 use Rattle.tape.proofs.Rows.{kind-here}
 use Rattle.tape.proofs.Held.{held-node}
 use Rattle.table.specs.Meaning.{partOf, spelled, meant}
+use Rattle.table.specs.Sound.{NodeHeld}
 use Rattle.table.proofs.MeaningLaws.{isObject-label}
 use Rattle.table.specs.declared.find.Member.{Member}
 use Rattle.table.specs.declared.find.Member.the-variants as Member
-use Rattle.shape.specs.Members.{NodeHeld, Sought, textOutcome, TextIs}
+use Rattle.shape.specs.Members.{Sought, textOutcome, TextIs}
 use Rattle.shape.specs.Operation.{Answers, right, wrong, kindOf}
 use Rattle.shape.specs.declared.members.Spelled.{Spelled}
 use Rattle.shape.specs.declared.members.Spelled.the-variants as Spelled

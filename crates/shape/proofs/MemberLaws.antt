@@ -8,7 +8,7 @@ use borrow.Author.Tests.{lt-ltb, le-ltb, ne-eqb}
 use Rattle.spec.specs.Outcome.{Outcome, ok, refused, _>>=_}
 use Rattle.spec.specs.Refusal.{wrong-shape}
 use Rattle.spec.specs.Bytes.{Bytes, Text}
-use Rattle.spec.specs.Forest.{Forest, none, tree, Tree, count, from, nth, _⧺_}
+use Rattle.spec.specs.Forest.{Forest, none, tree, Tree, count, from, nth}
 use Rattle.spec.specs.Value as Value
 use Rattle.spec.specs.Value.{Label, leaf, named, valueOf, find, isString, tag, content}
 use Rattle.spec.specs.Pointer.{child}
@@ -18,19 +18,19 @@ use Rattle.tape.specs.Packing.{kindOf, payloadOf}
 use Rattle.tape.specs.Cell.{Cell}
 use Rattle.tape.specs.Rows.{endOf, childRow}
 use Rattle.tape.specs.Map.{mapForest, mapTree}
-use Rattle.tape.proofs.Forests.{from-nth}
 use Rattle.tape.proofs.Cells.{formed-fit}
 use Rattle.tape.proofs.Rows.{kind-here, payload-here, end-here}
 use Rattle.tape.proofs.Held.{held-node, held-kids, held-child}
 use Rattle.tape.proofs.Map.{count-map, map-nth}
-use Rattle.table.specs.Meaning.{partOf, spelled, labelOf, entryOf, members, meant, Keyed}
+use Rattle.table.specs.Meaning.{partOf, spelled, labelOf, entryOf, members, meant}
+use Rattle.table.specs.Sound.{NodeHeld}
 use Rattle.table.specs.Find as Find
 use Rattle.table.specs.Find.{Asked, Found}
 use Rattle.table.specs.declared.find.Member.{Member}
 use Rattle.table.specs.declared.find.Member.the-variants as Member
 use Rattle.table.proofs.AllLaws.{all-first, all-kids, all-nth}
-use Rattle.table.proofs.MeaningLaws.{keyed-kids, keyed-from, isString-label}
-use Rattle.shape.specs.Members.{NodeHeld, Sought, found, missing, textOutcome, TextIs}
+use Rattle.table.proofs.MeaningLaws.{isString-label}
+use Rattle.shape.specs.Members.{Sought, found, missing, textOutcome, TextIs}
 use Rattle.shape.specs.declared.members.Spelled.the-variants as Spelled
 
 -- any tree
@@ -41,7 +41,7 @@ blank = record { root = record { kind = 0; payload = 0; name = 0 }; kids = none 
 module _ {D P : Bytes} {values names : List ℕ} {row : ℕ} {c : Cell} {kids : Forest Cell} (n : NodeHeld D P values names row c kids) where
   -- where the members stand
   pub members-asked : (end : ℕ) → end ≡ endOf values row → Asked D P values names (row + 1) end kids
-  members-asked end e = record { held = held-kids (n .held); ends = sym (e ∙ end-here (held-node (n .held))); keyed = n .keyed }
+  members-asked end e = record { held = held-kids (n .held); ends = sym (e ∙ end-here (held-node (n .held))); sound = n .sound }
 
   blank-means : mapTree (entryOf D P) blank ≡ named [] (leaf Label.null-literal)
   unfolding spelled textOf textFrom labelOf mapForest
@@ -53,14 +53,9 @@ module _ {D P : Bytes} {values names : List ℕ} {row : ℕ} {c : Cell} {kids : 
 
   module _ (k : ℕ) (l : k < count kids) where
     held-member : NodeHeld D P values names (childRow row k kids) (nth blank k kids .root) (nth blank k kids .kids)
-    unfolding _⧺_
     held-member =
-        record {
-          rest = from (suc k) kids;
-          held = held-child (n .held) blank k l;
-          keyed = keyed-kids (subst (Keyed D P) (from-nth blank k kids l) (keyed-from k (n .keyed)));
-          strings = all-nth blank k l (all-kids (n .strings));
-        }
+        let sound = all-nth blank k l (n .sound) in
+        record { rest = from (suc k) kids; held = held-child (n .held) blank k l; label = all-first sound .label; sound = all-kids sound }
 
     member-there : (name : Text) → find name (members D P kids) ≡ k → member name (meant D P c kids) ≡ ok (meant D P (nth blank k kids .root) (nth blank k kids .kids))
     unfolding member
@@ -139,6 +134,6 @@ module _ {D P : Bytes} {values names : List ℕ} {name : Text} {v : Value.Value}
           let node = held-node (n .held) in
           let k : e .kind ≡ 4 = sym (kind-here node) ∙ sym kind-is ∙ four in
           let p : spelling ≡ e .payload = payload-is ∙ payload-here node in
-          let bounds = all-first (n .strings) .form k in
+          let bounds = n .label .string .form k in
           let text : stringMember name v ≡ ok (spelled D P (e .payload)) = string-of name v (meant D P e below) m ∙ string-label D P (e .kind) (e .payload) k in
           record { text = rw p (sym text); decoded = rw p (sym (text ∙ ap ok (form-decodes _ (partOf D P (e .payload)) (bounds .0) (bounds .1)))) }

@@ -21,11 +21,10 @@ use Rattle.tape.proofs.Cells.{formed-fit}
 use Rattle.tape.proofs.Rows.{kind-here, inside-here, end-here}
 use Rattle.tape.proofs.Held.{Remaining, remaining-next, held-node, held-kids}
 use Rattle.tape.proofs.Map.{count-map}
-use Rattle.table.specs.All.{all-none, all-tree}
 use Rattle.table.specs.Meaning.{entryOf, members, meant}
+use Rattle.table.specs.Sound.{NodeHeld}
 use Rattle.table.proofs.AllLaws.{all-first, all-kids, all-rest}
-use Rattle.table.proofs.MeaningLaws.{keyed-kids, keyed-rest, isArray-label}
-use Rattle.shape.specs.Members.{NodeHeld}
+use Rattle.table.proofs.MeaningLaws.{isArray-label}
 use Rattle.shape.specs.Operation.{OperationIs}
 use Rattle.shape.specs.Patch.{ShapeIs, right, wrong, RowsHeld, ElementsAre}
 use Rattle.shape.specs.declared.patch.Shape.{Shape}
@@ -36,8 +35,7 @@ use Rattle.shape.proofs.AnswerLaws.{answers-ok, answers-refused}
 module _ {D P : Bytes} {values names : List ℕ} where
   pub rows-children : {row : ℕ} {c : Cell} {kids : Forest Cell} (end : ℕ) → end ≡ endOf values row → NodeHeld D P values names row c kids
       → RowsHeld D P values names (row + 1) end kids
-  rows-children end e n =
-      record { held = held-kids (n .held); ends = sym (e ∙ end-here (held-node (n .held))); keyed = n .keyed; strings = all-kids (n .strings) }
+  rows-children end e n = record { held = held-kids (n .held); ends = sym (e ∙ end-here (held-node (n .held))); sound = n .sound }
 
   rows-first : {C : Type 0} {row end : ℕ} {f : Forest Cell} → RowsHeld D P values names row end f → row < end
       → ((c : Cell) (kids rest : Forest Cell) → f ≡ tree c kids rest → RowsHeld D P values names row end (tree c kids rest) → C) → C
@@ -46,12 +44,12 @@ module _ {D P : Bytes} {values names : List ℕ} where
 
   module _ {row end : ℕ} {c : Cell} {kids rest : Forest Cell} (h : RowsHeld D P values names row end (tree c kids rest)) where
     first-node : NodeHeld D P values names row c kids
-    first-node = record { rest = rest; held = h .held; keyed = keyed-kids (h .keyed); strings = all-tree (all-first (h .strings)) (all-kids (h .strings)) all-none }
+    first-node = record { rest = rest; held = h .held; label = all-first (h .sound) .label; sound = all-kids (h .sound) }
 
     rows-next : (next : ℕ) → next ≡ endOf values row → RowsHeld D P values names next end rest
     rows-next next e =
         let r : Remaining values names next end rest = remaining-next next e (record { held = h .held; ends = h .ends }) in
-        record { held = r .held; ends = r .ends; keyed = keyed-rest (h .keyed); strings = all-rest (h .strings) }
+        record { held = r .held; ends = r .ends; sound = all-rest (h .sound) }
 
 -- ---- the first of the operations
 module _ (D P : Bytes) (op : ℕ) (c : Cell) (kids rest : Forest Cell) where

@@ -1,38 +1,25 @@
 -- What a search for a member of an operation answers.
-use Prim.Native.Nat.{ℕ, _≤_}
+use Prim.Native.Nat.{ℕ}
 use mathlib.Core.Path.{_≡_}
 use mathlib.Core.List.{List}
 use Rattle.spec.specs.Outcome.{Outcome, ok, refused}
 use Rattle.spec.specs.Refusal.{wrong-shape}
 use Rattle.spec.specs.Bytes.{Bytes, Text}
-use Rattle.spec.specs.Forest.{Forest, none, tree}
+use Rattle.spec.specs.Forest.{Forest}
 use Rattle.spec.specs.Value as Value
 use Rattle.spec.specs.Patch.{member, stringMember}
 use Rattle.text.specs.Decode.{decode}
-use Rattle.tape.specs.Layout.{stringKind, plainString, escapedString}
-use Rattle.tape.specs.Packing.{formOf}
-use Rattle.tape.specs.Cell.{Cell, Held}
-use Rattle.table.specs.All.{All}
-use Rattle.table.specs.Meaning.{partOf, spelled, meant, Keyed}
+use Rattle.tape.specs.Cell.{Cell}
+use Rattle.table.specs.Meaning.{partOf, spelled, meant}
+use Rattle.table.specs.Sound.{NodeHeld, ForHeld}
 use Rattle.table.specs.declared.find.Member.{Member}
 use Rattle.table.specs.declared.find.Member.the-variants as Member
 use Rattle.shape.specs.declared.members.Spelled.{Spelled}
 use Rattle.shape.specs.declared.members.Spelled.the-variants as Spelled
 
--- a string's text stands between quotation marks, so it can be read as a pointer where it stands
-pub record StringFits (c : Cell) : Type 0 where
-  pub form : c .kind ≡ stringKind → (plainString ≤ formOf (c .payload)) × (formOf (c .payload) ≤ escapedString)
-
--- a node of both columns: the names below it have their hashes, and its strings fit
-pub record NodeHeld (D P : Bytes) (values names : List ℕ) (row : ℕ) (c : Cell) (kids : Forest Cell) : Type 0 where
-  pub rest : Forest Cell
-  pub held : Held values names row (tree c kids rest)
-  pub keyed : Keyed D P kids
-  pub strings : All StringFits (tree c kids none)
-
 -- what holds of the value of whatever node the columns hold in a row
 abbrev pub ForNode : Bytes → Bytes → List ℕ → List ℕ → ℕ → (Value.Value → Type 0) → Type 0
-ForNode D P values names row Q = (c : Cell) (kids : Forest Cell) → NodeHeld D P values names row c kids → Q (meant D P c kids)
+ForNode D P values names row Q = ForHeld D P values names row λ c kids. Q (meant D P c kids)
 
 -- the member of a name: the node in a row, or the refusal of the definition
 pub data Sought (D P : Bytes) (values names : List ℕ) (name : Text) (v : Value.Value) : Member → Type 0 where
@@ -48,7 +35,7 @@ unfoldable pub textOutcome : (ℕ → Text) → Spelled → Outcome Text
 textOutcome text (Spelled.As spelling) = ok (text spelling)
 textOutcome text Spelled.Not = refused wrong-shape 0
 
--- a text, both by its spelling and decoded as a string
+-- a text, both by its spelling and decoded as a string, so that it can be read as a pointer where it stands
 pub record TextIs (D P : Bytes) (t : Outcome Text) (r : Spelled) : Type 0 where
   pub text : textOutcome (spelled D P) r ≡ t
   pub decoded : textOutcome (λ s. decode (partOf D P s)) r ≡ t

@@ -7,9 +7,9 @@ use Rattle.spec.specs.Forest.{Forest, size}
 use Rattle.spec.specs.Operation as Operation
 use Rattle.spec.specs.Patch.{Run, finished, stopped, operations, shape}
 use Rattle.tape.specs.Cell.{Cell, Held}
-use Rattle.table.specs.All.{All}
-use Rattle.table.specs.Meaning.{members, Keyed}
-use Rattle.shape.specs.Members.{StringFits, ForNode}
+use Rattle.table.specs.Meaning.{members}
+use Rattle.table.specs.Sound.{Sound}
+use Rattle.shape.specs.Members.{ForNode}
 use Rattle.shape.specs.declared.patch.Shape.{Shape}
 use Rattle.shape.specs.declared.patch.Shape.the-variants as Shape
 
@@ -22,8 +22,7 @@ pub data ShapeIs : Run (List Operation.Operation) → Shape → Type 0 where
 pub record RowsHeld (D P : Bytes) (values names : List ℕ) (row end : ℕ) (f : Forest Cell) : Type 0 where
   pub held : Held values names row f
   pub ends : row + size f ≡ end
-  pub keyed : Keyed D P f
-  pub strings : All StringFits f
+  pub sound : Sound D P f
 
 abbrev pub ElementsAre : Bytes → Bytes → List ℕ → List ℕ → ℕ → ℕ → Shape → Type 0
 ElementsAre D P values names start end r =
