@@ -94,7 +94,7 @@ module _ (k : Operation.Kind) (v : Value.Value) where
   unfolding valueFor
   value-unused e = rw e (right _)
 
-  module _ {D P : Bytes} {values names : List ℕ} {r : Member} (used : usesValue k ≡ true) (s : Sought D P values names (ascii "value") v r) where
+  module _ {D P : Bytes} {values names : List ℕ} {row : ℕ} {r : Member} (used : usesValue k ≡ true) (s : Sought D P values names row (ascii "value") v r) where
     value-is : valueFor k v ≡ member (ascii "value") v
     unfolding valueFor
     value-is = rw used

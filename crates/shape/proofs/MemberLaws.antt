@@ -66,10 +66,10 @@ module _ {D P : Bytes} {values names : List ℕ} {row : ℕ} {c : Cell} {kids : 
   member-missing name is = rw (is, count-map (entryOf D P) kids, le-ltb (count kids) (count kids) (omega arith))
 
   -- what the search answers is the member
-  pub member-sought : {name : Text} {r : Member} → Found D P (row + 1) kids name r → Sought D P values names name (meant D P c kids) r
+  pub member-sought : {name : Text} {r : Member} → Found D P (row + 1) kids name r → Sought D P values names row name (meant D P c kids) r
   unfolding childRow
   member-sought {name} (Find.found k at is l place) =
-      found (subst (λ a. NodeHeld D P values names a (nth blank k kids .root) (nth blank k kids .kids)) (sym place) (held-member k l)) (member-there k l name is)
+      found {at = at} (omega (arith, place)) (subst (λ a. NodeHeld D P values names a (nth blank k kids .root) (nth blank k kids .kids)) (sym place) (held-member k l)) (member-there k l name is)
   member-sought {name} (Find.missing is) = missing (member-missing name is)
 
 -- ---- a string
@@ -105,17 +105,17 @@ unfolding textOutcome
 text-not e = record { text = sym e; decoded = sym e }
 
 -- what an answer of the search tells, once it is known
-module _ {D P : Bytes} {values names : List ℕ} {name : Text} {v : Value.Value} where
-  pub sought-missing : {r : Member} → r ≡ Member.Missing → Sought D P values names name v r → member name v ≡ refused wrong-shape 0
-  sought-missing is (found n e) = absurd (let z : _≡_ {A = ℕ} 0 1 = cc in omega arith)
+module _ {D P : Bytes} {values names : List ℕ} {row : ℕ} {name : Text} {v : Value.Value} where
+  pub sought-missing : {r : Member} → r ≡ Member.Missing → Sought D P values names row name v r → member name v ≡ refused wrong-shape 0
+  sought-missing is (found l n e) = absurd (let z : _≡_ {A = ℕ} 0 1 = cc in omega arith)
   sought-missing is (missing e) = e
 
-  pub sought-at : {r : Member} (at : ℕ) → r ≡ Member.At at → Sought D P values names name v r
+  pub sought-at : {r : Member} (at : ℕ) → r ≡ Member.At at → Sought D P values names row name v r
       → (e : Cell) × (below : Forest Cell) × (NodeHeld D P values names at e below) × (member name v ≡ ok (meant D P e below))
-  sought-at at is (found {row} {e} {below} n m) = let same : row ≡ at = cc in (e, below, subst (λ a. NodeHeld D P values names a e below) same n, m)
+  sought-at at is (found {at = b} {e} {below} l n m) = let same : b ≡ at = cc in (e, below, subst (λ a. NodeHeld D P values names a e below) same n, m)
   sought-at at is (missing m) = absurd (let z : _≡_ {A = ℕ} 0 1 = cc in omega arith)
 
-  module _ {r : Member} (s : Sought D P values names name v r) where
+  module _ {r : Member} (s : Sought D P values names row name v r) where
     pub string-missing : r ≡ Member.Missing → TextIs D P (stringMember name v) Spelled.Not
     string-missing is = text-not (string-none name v (sought-missing is s))
 

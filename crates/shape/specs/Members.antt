@@ -1,5 +1,5 @@
 -- What a search for a member of an operation answers.
-use Prim.Native.Nat.{ℕ}
+use Prim.Native.Nat.{ℕ, _<_}
 use mathlib.Core.Path.{_≡_}
 use mathlib.Core.List.{List}
 use Rattle.spec.specs.Outcome.{Outcome, ok, refused}
@@ -21,14 +21,14 @@ use Rattle.shape.specs.declared.members.Spelled.the-variants as Spelled
 abbrev pub ForNode : Bytes → Bytes → List ℕ → List ℕ → ℕ → (Value.Value → Type 0) → Type 0
 ForNode D P values names row Q = ForHeld D P values names row λ c kids. Q (meant D P c kids)
 
--- the member of a name: the node in a row, or the refusal of the definition
-pub data Sought (D P : Bytes) (values names : List ℕ) (name : Text) (v : Value.Value) : Member → Type 0 where
-  found : {row : ℕ} {e : Cell} {below : Forest Cell} → NodeHeld D P values names row e below → member name v ≡ ok (meant D P e below)
-      → Sought D P values names name v (Member.At row)
-  missing : member name v ≡ refused wrong-shape 0 → Sought D P values names name v Member.Missing
+-- the member of a name, of the object in a row: the node in a row behind it, or the refusal of the definition
+pub data Sought (D P : Bytes) (values names : List ℕ) (row : ℕ) (name : Text) (v : Value.Value) : Member → Type 0 where
+  found : {at : ℕ} {e : Cell} {below : Forest Cell} → row < at → NodeHeld D P values names at e below → member name v ≡ ok (meant D P e below)
+      → Sought D P values names row name v (Member.At at)
+  missing : member name v ≡ refused wrong-shape 0 → Sought D P values names row name v Member.Missing
 
 abbrev pub MemberIs : Bytes → Bytes → List ℕ → List ℕ → ℕ → Text → Member → Type 0
-MemberIs D P values names row name r = ForNode D P values names row λ v. Sought D P values names name v r
+MemberIs D P values names row name r = ForNode D P values names row λ v. Sought D P values names row name v r
 
 -- a string by where it stands, given what stands there
 unfoldable pub textOutcome : (ℕ → Text) → Spelled → Outcome Text
