@@ -19,10 +19,10 @@ use Rattle.tape.specs.Packing.{formOf, sourceOf, startOf, lengthOf, spellingOf}
 use Rattle.tape.specs.Cell.{Cell, Fit, Formed, formed-tree}
 use Rattle.tape.proofs.Cells.{formed-fit, formed-kids}
 use Rattle.table.specs.Meaning.{sourceText, partOf, members, meant}
-use Rattle.writer.specs.Verbatim.{Verbatim, AllVerbatim, verbatim-tree}
+use Rattle.table.specs.All.{all-tree}
+use Rattle.table.specs.Sound.{Verbatim, Sound}
 use Rattle.writer.specs.Pieces.{stringBytes, literalBytes, scalarBytes, nameBytes, prefixBytes}
 use Rattle.writer.specs.Writing.{Writable, lengthLimit}
-use Rattle.writer.proofs.VerbatimLaws.{verbatim-payload, verbatim-kids}
 use Rattle.writer.proofs.PieceLaws.{name-member, write-scalar, write-container, items-tree, items-none}
 
 -- ---- pieces
@@ -104,18 +104,18 @@ module _ (D P : Bytes) where
       go (yes h) = omega (arith, ap length (write-scalar D P c kids fit h v), scalar-short (c .kind) (c .payload))
       go (no h) = omega (arith, container-length c kids fit (omega arith), below (eqb (c .kind) objectKind))
 
-  items-short : (object first : Bool) (f : Forest Cell) → Formed f → AllVerbatim D P f → length (writeItems object first (members D P f)) ≤ 131_080 * size f
+  items-short : (object first : Bool) (f : Forest Cell) → Formed f → Sound D P f → length (writeItems object first (members D P f)) ≤ 131_080 * size f
   unfolding size
-  items-short object first none o v = omega (arith, ap length (items-none D P object first))
-  items-short object first (tree c kids rest) (formed-tree fit k r) (verbatim-tree n p vk vr) =
-      let value = value-short c kids fit p (λ b. items-short b true kids k vk) in
-      let others = items-short object false rest r vr in
-      let split = ap length (items-tree D P object first c kids rest n) in
+  items-short object first none o s = omega (arith, ap length (items-none D P object first))
+  items-short object first (tree c kids rest) (formed-tree fit k r) (all-tree fits sk sr) =
+      let value = value-short c kids fit (fits .label .verbatim) (λ b. items-short b true kids k sk) in
+      let others = items-short object false rest r sr in
+      let split = ap length (items-tree D P object first c kids rest (fits .title .verbatim)) in
       let long = length-append (prefixBytes D P object first (c .name) ++ write (meant D P c kids)) (writeItems object false (members D P rest)) in
       let both = length-append (prefixBytes D P object first (c .name)) (write (meant D P c kids)) in
       omega (arith, prefix-short object first (c .name))
 
   pub writable-short : {vs ns : List ℕ} {at levels : ℕ} (c : Cell) (kids : Forest Cell) → Writable D P vs ns at levels c kids → length (write (meant D P c kids)) < lengthLimit
   writable-short c kids w =
-      let o = w .held .formed in
-      omega (arith, value-short c kids (formed-fit o) (verbatim-payload (w .verbatim)) (λ b. items-short b true kids (formed-kids o) (verbatim-kids (w .verbatim))), formed-fit o .small)
+      let o = w .node .held .formed in
+      omega (arith, value-short c kids (formed-fit o) (w .node .label .verbatim) (λ b. items-short b true kids (formed-kids o) (w .node .sound)), formed-fit o .small)

@@ -1,6 +1,6 @@
-pub mod VerbatimLaws
 pub mod PlacedLaws
 pub mod PieceLaws
 pub mod LengthLaws
 pub mod ProgressLaws
 pub mod ValueLaws
+pub mod CallerLaws

@@ -18,8 +18,8 @@ use Rattle.tape.specs.Packing.{formOf, spellingOf}
 use Rattle.tape.specs.Cell.{Cell, Fit}
 use Rattle.tape.specs.Map.{mapForest}
 use Rattle.table.specs.Meaning.{partOf, spelled, labelOf, nameText, members, meant}
+use Rattle.table.specs.Sound.{Verbatim}
 use Rattle.table.proofs.MeaningLaws.{isObject-label}
-use Rattle.writer.specs.Verbatim.{Verbatim}
 use Rattle.writer.specs.Pieces.{stringBytes, literalBytes, scalarBytes, openingBracket, closingBracket, nameBytes, prefixBytes}
 
 -- ---- the pieces, as the code tells them apart

@@ -14,10 +14,10 @@ use Rattle.tape.specs.Rows.{endOf}
 use Rattle.tape.proofs.Depth.{level-container}
 use Rattle.tape.proofs.Held.{name-here, Remaining, remaining-all, remaining-next, remaining-none, remaining-first}
 use Rattle.table.specs.Meaning.{members, meant}
-use Rattle.writer.specs.Verbatim.{AllVerbatim}
+use Rattle.table.specs.Sound.{Sound, NodeHeld}
+use Rattle.table.proofs.AllLaws.{all-first, all-kids, all-rest}
 use Rattle.writer.specs.Pieces.{prefixBytes}
 use Rattle.writer.specs.Writing.{Writable}
-use Rattle.writer.proofs.VerbatimLaws.{verbatim-name, verbatim-kids, verbatim-rest}
 use Rattle.writer.proofs.PieceLaws.{items-tree, items-none}
 
 -- `R text` is what the code knows of the text so far: that it is laid down, or how long it is
@@ -26,7 +26,7 @@ pub record Progress (D P : Bytes) (vs ns : List ℕ) (object : Bool) (levels : �
   pub so-far : R text
   pub left : Forest Cell
   pub remaining : Remaining vs ns row end left
-  pub verbatim : AllVerbatim D P left
+  pub sound : Sound D P left
   pub nested : deep left ≤ levels
   pub whole : writeItems object true (members D P kids) ≡ text ++ writeItems object first (members D P left)
 
@@ -39,8 +39,8 @@ module _ {D P : Bytes} {vs ns : List ℕ} where
         text = [];
         so-far = r;
         left = kids;
-        remaining = remaining-all end e (w .held);
-        verbatim = verbatim-kids (w .verbatim);
+        remaining = remaining-all end e (w .node .held);
+        sound = w .node .sound;
         nested = omega (arith, w .nested, level-container c (deep kids) h);
         whole = refl;
       }
@@ -53,9 +53,10 @@ module _ {D P : Bytes} {vs ns : List ℕ} where
     unfolding deep
     progress-next more next n step =
         remaining-first (p .remaining) more λ c ks rest e r.
-        let v : AllVerbatim D P (tree c ks rest) = subst (AllVerbatim D P) e (p .verbatim) in
+        let s : Sound D P (tree c ks rest) = subst (Sound D P) e (p .sound) in
         let d : deep (tree c ks rest) ≤ levels = subst (λ f. deep f ≤ levels) e (p .nested) in
-        let w : Writable D P vs ns row levels c ks = record { rest = rest; held = r .held; verbatim = v; nested = omega arith } in
+        let node : NodeHeld D P vs ns row c ks = record { rest = rest; held = r .held; label = all-first s .label; sound = all-kids s } in
+        let w : Writable D P vs ns row levels c ks = record { node = node; nested = omega arith } in
         let name : getD ns row 0 ≡ c .name = name-here (r .held) in
         let before : Bytes = prefixBytes D P object first (c .name) in
         let value : Bytes = write (meant D P c ks) in
@@ -64,12 +65,12 @@ module _ {D P : Bytes} {vs ns : List ℕ} where
           so-far = rw name at (step c ks w (p .text) (p .so-far));
           left = rest;
           remaining = remaining-next next n r;
-          verbatim = verbatim-rest v;
+          sound = all-rest s;
           nested = omega arith;
           whole =
               p .whole
               ∙ ap (λ f. p .text ++ writeItems object first (members D P f)) e
-              ∙ ap (_++_ (p .text)) (items-tree D P object first c ks rest (verbatim-name v))
+              ∙ ap (_++_ (p .text)) (items-tree D P object first c ks rest (all-first s .title .verbatim))
               ∙ simp append-assoc;
         }
 

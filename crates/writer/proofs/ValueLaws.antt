@@ -21,21 +21,20 @@ use Rattle.table.specs.Meaning.{members, meant}
 use Rattle.writer.specs.Pieces.{scalarBytes, openingBracket, closingBracket, prefixBytes}
 use Rattle.writer.specs.Writing.{Placed, Writable, MeasureIs, WriteIs, lengthLimit}
 use Rattle.writer.proofs.PlacedLaws.{lent, back, placed-as, placed-none, placed-on, placed-then}
-use Rattle.writer.proofs.VerbatimLaws.{verbatim-payload}
 use Rattle.writer.proofs.PieceLaws.{write-scalar, write-container}
 use Rattle.writer.proofs.LengthLaws.{writable-short}
 use Rattle.writer.proofs.ProgressLaws.{Progress, progress-all, progress-next, progress-none}
 
 module _ {D P : Bytes} {vs ns : List ℕ} {at levels : ℕ} {c : Cell} {kids : Forest Cell} (w : Writable D P vs ns at levels c kids) where
   fit : Fit c kids
-  fit = formed-fit (w .held .formed)
+  fit = formed-fit (w .node .held .formed)
 
   kind-is : (tag : ℕ) → tag ≡ kindOf (getD vs at 0) → tag ≡ c .kind
-  kind-is tag e = e ∙ kind-here (held-node (w .held))
+  kind-is tag e = e ∙ kind-here (held-node (w .node .held))
 
   -- no node stands behind the column, and with no levels left there is no container
   pub none-there : {C : Type 0} → length vs ≤ at → C
-  none-there h = absurd (omega (arith, inside-here (held-node (w .held))))
+  none-there h = absurd (omega (arith, inside-here (held-node (w .node .held))))
 
   pub none-nested : {C : Type 0} (tag : ℕ) → tag ≡ kindOf (getD vs at 0) → arrayKind ≤ tag → levels ≡ 0 → C
   none-nested tag e h z = absurd (omega (arith, w .nested, level-container c (deep kids) (omega (arith, kind-is tag e))))
@@ -43,7 +42,7 @@ module _ {D P : Bytes} {vs ns : List ℕ} {at levels : ℕ} {c : Cell} {kids : F
   pub scalar-text : (tag payload : ℕ) → tag ≡ kindOf (getD vs at 0) → payload ≡ payloadOf (getD vs at 0) → tag < arrayKind → write (meant D P c kids) ≡ scalarBytes D P tag payload
   scalar-text tag payload e f h =
       let k = kind-is tag e in
-      write-scalar D P c kids fit (omega arith) (verbatim-payload (w .verbatim)) ∙ sym (ap₂ (scalarBytes D P) k (f ∙ payload-here (held-node (w .held))))
+      write-scalar D P c kids fit (omega arith) (w .node .label .verbatim) ∙ sym (ap₂ (scalarBytes D P) k (f ∙ payload-here (held-node (w .node .held))))
 
   module _ (tag : ℕ) (tag-is : tag ≡ kindOf (getD vs at 0)) (container : arrayKind ≤ tag) where
     abbrev items : Bytes

@@ -1,3 +1,2 @@
-pub mod Verbatim
 pub mod Pieces
 pub mod Writing

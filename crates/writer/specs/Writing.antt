@@ -5,12 +5,12 @@ use mathlib.Core.List.{List}
 use lib.ListN.{length}
 use lib.Seq.{sets}
 use Rattle.spec.specs.Bytes.{Bytes}
-use Rattle.spec.specs.Forest.{Forest, tree}
+use Rattle.spec.specs.Forest.{Forest}
 use Rattle.spec.specs.Value as Value
 use Rattle.spec.specs.Write.{write}
-use Rattle.tape.specs.Cell.{Cell, Held, level, deep}
+use Rattle.tape.specs.Cell.{Cell, level, deep}
 use Rattle.table.specs.Meaning.{meant}
-use Rattle.writer.specs.Verbatim.{AllVerbatim}
+use Rattle.table.specs.Sound.{NodeHeld}
 
 -- Bytes laid down from a place of an output on, as many as there is room for: the place behind them, and the output afterwards. Where there is
 -- room for all they stand there, and the output is else as it was (`placed-whole` in proofs/PlacedLaws).
@@ -18,11 +18,9 @@ pub record Placed (bytes : Bytes) (at : ℕ) (before after : Bytes) (next : ℕ)
   pub next-is : next ≡ min (at + length bytes) (length before)
   pub after-is : after ≡ sets before at bytes
 
--- a node that can be written: both columns hold it in a row, its strings are verbatim, and it nests at most so many containers
+-- a node that can be written: both columns hold it in a row, and it nests at most so many containers
 pub record Writable (document patch : Bytes) (values names : List ℕ) (at levels : ℕ) (c : Cell) (kids : Forest Cell) : Type 0 where
-  pub rest : Forest Cell
-  pub held : Held values names at (tree c kids rest)
-  pub verbatim : AllVerbatim document patch (tree c kids rest)
+  pub node : NodeHeld document patch values names at c kids
   pub nested : level c (deep kids) ≤ levels
 
 -- what holds of the value of whatever such node there is in a row

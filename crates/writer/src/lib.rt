@@ -1,8 +1,8 @@
 // A tree of the node table written as text: document 01, "Writing". `measure` says how long the text is before a byte of it is written, and
 // `write` lays it down in the output, one value after another. Both call themselves on nested values, with the levels falling.
 //
-// What is proved: of a tree that both columns hold, that nests at most `levels` containers and whose strings are verbatim, `measure` answers the
-// length of the text of the definitions, and `write` lays that text down; behind it the output is as it was.
+// What is proved: of a node that both columns hold (`NodeHeld` of table) and that nests at most `levels` containers, `measure` answers the length
+// of the text of the definitions, and `write` lays that text down; behind it the output is as it was. proofs/CallerLaws has it in these words.
 //
 // What a caller should know: both are total. Where the output is too short, `write` fills it with the text's first bytes; so measure first.
 

@@ -1,4 +1,5 @@
 -- `string_member` meets its contract, by the member and its kind.
+use native.Mathlib.Omega.{arith}
 use mathlib.Core.Path.{_∙_, ap}
 use borrow.Author.Needs.{needs}
 use Rattle.tape.specs.Packing.{kindOf, payloadOf}
@@ -23,8 +24,8 @@ string-member-spec =
     -- kind-requires
     (λ c κs. search needs)
     -- returns-2
-    (λ c e kids n. string-other (c .before .before .before .before .before .before .member .ensures e kids n) _ (c .before .before .before .before .at .given .1) _ (c .before .kind .ensures ∙ ap kindOf (c .before .before .load .ensures)) (c .if1 .taken))
+    (λ c e kids n. string-other (c .before .before .before .before .before .before .member .ensures e kids n) _ (c .before .before .before .before .at .given .1) _ (c .before .kind .ensures ∙ ap kindOf (c .before .before .load .ensures)) (λ string. omega arith))
     -- payload-requires
     (λ c κs. search needs)
     -- returns-3
-    (λ c e kids n. string-found (c .before .before .before .before .before .before .before .member .ensures e kids n) _ (c .before .before .before .before .before .at .given .1) _ (c .before .before .kind .ensures ∙ ap kindOf (c .before .before .before .load .ensures)) _ (c .before .if1 .left) (c .payload .ensures ∙ ap payloadOf (c .before .before .before .load .ensures))))
+    (λ c e kids n. string-found (c .before .before .before .before .before .before .before .member .ensures e kids n) _ (c .before .before .before .before .before .at .given .1) _ (c .before .before .kind .ensures ∙ ap kindOf (c .before .before .before .load .ensures)) _ (omega arith) (c .payload .ensures ∙ ap payloadOf (c .before .before .before .load .ensures))))

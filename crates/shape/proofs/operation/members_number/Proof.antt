@@ -1,4 +1,5 @@
 -- `members_number` meets its contract, member by member.
+use native.Mathlib.Omega.{arith}
 use borrow.Author.Needs.{needs}
 use Rattle.spec.specs.Bytes.{ascii}
 use Rattle.shape.proofs.AnswerLaws.{text-refused, text-decoded, path-missing, value-refused, from-missing, members-there}
@@ -23,7 +24,7 @@ members-number-spec =
     -- value-number-requires
     (λ c κs. search needs)
     -- returns-2
-    (λ c k known e kids n. value-refused k _ (text-decoded (c .before .before .before .before .before .string-member .ensures e kids n) _ (c .before .before .before .path .given .1)) (c .before .value-number .ensures k known e kids n) (c .if1 .taken))
+    (λ c k known e kids n. value-refused k _ (text-decoded (c .before .before .before .before .before .string-member .ensures e kids n) _ (c .before .before .before .path .given .1)) (c .before .value-number .ensures k known e kids n) (λ zero. omega arith))
     -- from-of-requires
     (λ c κs. search needs)
     -- enum-known-from
@@ -31,8 +32,8 @@ members-number-spec =
     -- enum-told-2
     (λ c. search needs)
     -- returns-3
-    (λ c k known e kids n. from-missing k _ (text-decoded (c .before .before .before .before .before .before .before .before .string-member .ensures e kids n) _ (c .before .before .before .before .before .before .path .given .1)) (c .before .before .before .before .value-number .ensures k known e kids n) (c .before .before .before .if1 .left) (text-refused (c .before .before .from-of .ensures k known e kids n) (c .enum-told2 .given .1)))
+    (λ c k known e kids n. from-missing k _ (text-decoded (c .before .before .before .before .before .before .before .before .string-member .ensures e kids n) _ (c .before .before .before .before .before .before .path .given .1)) (c .before .before .before .before .value-number .ensures k known e kids n) (omega arith) (text-refused (c .before .before .from-of .ensures k known e kids n) (c .enum-told2 .given .1)))
     -- pointers-number-requires
     (λ c κs. search needs)
     -- returns-4
-    (λ c k known e kids n. members-there k _ (text-decoded (c .before .before .before .before .before .before .before .before .before .before .string-member .ensures e kids n) _ (c .before .before .before .before .before .before .before .before .path .given .1)) (c .before .before .before .before .before .before .value-number .ensures k known e kids n) (c .before .before .before .before .before .if1 .left) (text-decoded (c .before .before .before .before .from-of .ensures k known e kids n) _ (c .before .before .from .given .1)) (c .pointers-number .ensures k known)))
+    (λ c k known e kids n. members-there k _ (text-decoded (c .before .before .before .before .before .before .before .before .before .before .string-member .ensures e kids n) _ (c .before .before .before .before .before .before .before .before .path .given .1)) (c .before .before .before .before .before .before .value-number .ensures k known e kids n) (omega arith) (text-decoded (c .before .before .before .before .from-of .ensures k known e kids n) _ (c .before .before .from .given .1)) (c .pointers-number .ensures k known)))

@@ -1,0 +1,32 @@
+-- What a caller may rely on, said of a node and the value that it is.
+use Prim.Native.Nat.{ℕ, _≤_}
+use mathlib.Core.Path.{_≡_, subst}
+use mathlib.Core.List.{List, _++_}
+use lib.ListN.{length, drop}
+use Rattle.spec.specs.Bytes.{Bytes}
+use Rattle.spec.specs.Forest.{Forest}
+use Rattle.spec.specs.Value.{depth}
+use Rattle.spec.specs.Write.{write}
+use Rattle.tape.specs.Cell.{Cell}
+use Rattle.tape.proofs.Cells.{formed-fit, formed-kids}
+use Rattle.table.specs.Meaning.{meant}
+use Rattle.table.specs.Sound.{NodeHeld}
+use Rattle.table.proofs.MeaningLaws.{depth-meant}
+use Rattle.writer.specs.Writing.{Writable, MeasureIs, WriteIs}
+use Rattle.writer.proofs.PlacedLaws.{placed-whole}
+
+module _ {D P : Bytes} {vs ns : List ℕ} {at levels : ℕ} {c : Cell} {kids : Forest Cell} (n : NodeHeld D P vs ns at c kids)
+    (low : depth (meant D P c kids) ≤ levels) where
+  writable : Writable D P vs ns at levels c kids
+  writable =
+      let o = n .held .formed in
+      record { node = n; nested = subst (λ d. d ≤ levels) (depth-meant D P c kids (formed-fit o .kind) (formed-kids o)) low }
+
+  -- `measure` answers how long the value's text is
+  pub measured : {r : ℕ} → MeasureIs D P vs ns at levels r → r ≡ length (write (meant D P c kids))
+  measured is = is c kids writable
+
+  -- `write` lays that text down where there is room for it, and behind it the output is as it was
+  pub written-whole : {before after : Bytes} {r : ℕ} → WriteIs D P vs ns at levels before after r → length (write (meant D P c kids)) ≤ length before
+      → (r ≡ length (write (meant D P c kids))) × (after ≡ write (meant D P c kids) ++ drop (length (write (meant D P c kids))) before)
+  written-whole is room = placed-whole (is c kids writable) room
