@@ -38,6 +38,7 @@ pub character-refused : (place : ℕ) {r : Character} {d : Outcome (ℕ × ℕ)}
 unfolding characterOutcome
 character-refused place e t = sym e ∙ ap characterOutcome t
 
+-- the same, by the place that is handed on
 pub character-refused-at : (p : ℕ) {place : ℕ} {r : Character} {d : Outcome (ℕ × ℕ)} → characterOutcome r ≡ d → r ≡ Character.Refused place →
     p ≡ refusedAt r → d ≡ refused not-json p
 unfolding characterOutcome refusedAt
