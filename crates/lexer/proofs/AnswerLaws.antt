@@ -15,7 +15,7 @@ use Rattle.lexer.specs.declared.cursor.Scan.{Scan}
 use Rattle.lexer.specs.declared.cursor.Scan.the-variants as Scan
 use Rattle.lexer.specs.declared.characters.Character.{Character}
 use Rattle.lexer.specs.declared.characters.Character.the-variants as Character
-use Rattle.lexer.specs.Answers.{boundedOutcome, characterOutcome, scanOutcome, endOf}
+use Rattle.lexer.specs.Answers.{boundedOutcome, characterOutcome, refusedAt, scanOutcome, endOf}
 use Rattle.lexer.proofs.Tests.{within-bounds, below-within, above-within}
 use Rattle.lexer.proofs.ByteLaws.{inside}
 
@@ -37,6 +37,12 @@ pub character-refused : (place : ℕ) {r : Character} {d : Outcome (ℕ × ℕ)}
     d ≡ refused not-json place
 unfolding characterOutcome
 character-refused place e t = sym e ∙ ap characterOutcome t
+
+-- the same, by the place that is handed on
+pub character-refused-at : (p : ℕ) {place : ℕ} {r : Character} {d : Outcome (ℕ × ℕ)} → characterOutcome r ≡ d → r ≡ Character.Refused place →
+    p ≡ refusedAt r → d ≡ refused not-json p
+unfolding characterOutcome refusedAt
+character-refused-at p e t q = sym e ∙ ap characterOutcome t ∙ ap (refused not-json) (sym (q ∙ ap refusedAt t))
 
 pub to-ok : (next : Cursor) {r : Scan} {d : Outcome ℕ} → scanOutcome r ≡ d → r ≡ Scan.To next → d ≡ ok (next .at)
 unfolding scanOutcome

@@ -22,6 +22,11 @@ unfoldable pub characterOutcome : Character → Outcome (ℕ × ℕ)
 characterOutcome (Character.Scalar c next) = ok (c, next .at)
 characterOutcome (Character.Refused place) = refused not-json place
 
+-- the place of a refused character, and 0 of one that was read
+unfoldable pub refusedAt : Character → ℕ
+refusedAt (Character.Scalar c next) = 0
+refusedAt (Character.Refused place) = place
+
 unfoldable pub scanOutcome : Scan → Outcome ℕ
 scanOutcome (Scan.To next) = ok (next .at)
 scanOutcome (Scan.Refused number place) = refused number place

@@ -53,10 +53,11 @@ fn digits(s: &[u8], start: usize, first: usize) -> Scan
 {
     let mut at = first;
     while is_digit(peek(s, at)) {
-        match counted(start, at) {
-            Scan::To(next) => at = next.at,
-            Scan::Refused(number, place) => return Scan::Refused(number, place),
-        }
+        let digit = counted(start, at);
+        let Scan::To(next) = digit else {
+            return digit;
+        };
+        at = next.at;
     }
     Scan::To(Cursor { at })
 }
@@ -126,10 +127,11 @@ fn exponent_digits(s: &[u8], start: usize, first: usize) -> Scan
         if MAX_EXPONENT < size {
             return Scan::Refused(NUMBER_OVER_LIMIT, at);
         }
-        match counted(start, at) {
-            Scan::To(next) => at = next.at,
-            Scan::Refused(number, place) => return Scan::Refused(number, place),
-        }
+        let digit = counted(start, at);
+        let Scan::To(next) = digit else {
+            return digit;
+        };
+        at = next.at;
     }
 }
 

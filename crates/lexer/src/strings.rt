@@ -6,7 +6,7 @@ ghost use lib.ListN.{length};
 ghost use lib.Dec.{eqb};
 ghost use Rattle.spec.specs.Strings.{characters, string};
 ghost use Rattle.lexer.specs.Names.{standsForItself, keptOf};
-ghost use Rattle.lexer.specs.Answers.{scanOutcome, endOf, nameOutcome};
+ghost use Rattle.lexer.specs.Answers.{scanOutcome, endOf, nameOutcome, refusedAt};
 use crate::characters::Character;
 use crate::cursor::Bounded;
 use crate::cursor::Cursor;
@@ -43,6 +43,16 @@ pub fn stands_for_itself(b: u8) -> bool
     b != b'\\'
 }
 
+// The place of a refused character, and 0 of one that was read.
+fn refused_at(read: Character) -> usize
+    ensures { λ r. ⌜ r ≡ refusedAt read ⌝ }
+{
+    match read {
+        Character::Scalar(_, _) => 0,
+        Character::Refused(place) => place,
+    }
+}
+
 // The characters from a place to the closing quotation mark.
 fn characters(s: &[u8], start: usize) -> Scan
     ensures { λ r. ⌜ scanOutcome r ≡ endOf (characters (length (now (s .entry))) (now (s .entry)) start) ⌝ }
@@ -57,10 +67,11 @@ fn characters(s: &[u8], start: usize) -> Scan
         if b == b'"' {
             return Scan::To(Cursor { at: at + 1 });
         }
-        match (Cursor { at }).character(s) {
-            Character::Scalar(_, next) => at = next.at,
-            Character::Refused(place) => return Scan::Refused(NOT_JSON, place),
-        }
+        let read = (Cursor { at }).character(s);
+        let Character::Scalar(_, next) = read else {
+            return Scan::Refused(NOT_JSON, refused_at(read));
+        };
+        at = next.at;
     }
 }
 
@@ -95,14 +106,13 @@ fn name_characters(s: &[u8], start: usize) -> Name
                 plain,
             };
         }
-        match (Cursor { at }).character(s) {
-            Character::Scalar(c, next) => {
-                hash = mix(hash, c);
-                plain = still_plain(plain, b);
-                at = next.at;
-            }
-            Character::Refused(place) => return Name::Refused(place),
-        }
+        let read = (Cursor { at }).character(s);
+        let Character::Scalar(c, next) = read else {
+            return Name::Refused(refused_at(read));
+        };
+        hash = mix(hash, c);
+        plain = still_plain(plain, b);
+        at = next.at;
     }
 }
 

@@ -1,6 +1,6 @@
 -- The digits that are left end at the same place.
 use Prim.Native.Nat.{_-_, _<_}
-use mathlib.Core.Path.{_≡_}
+use mathlib.Core.Path.{_≡_, _∙_, ap}
 use mathlib.Core.Bool.{true}
 use native.Mathlib.Omega.{arith}
 use lib.ListN.{length}
@@ -40,16 +40,20 @@ digits-spec =
     (λ c κs. tt)
     (λ c κs. search auto)
     (λ c. search auto)
-    (λ c.
-    let e = counted-next _ _ _ (to-ok _ (c .before .before .before .counted .ensures) (c .before .next .given .1)) in
-    omega (arith, within (c .before .before .before .before)))
-    (λ c.
-    let t = c .before .before .before .before in
-    let e = to-ok _ (c .before .before .before .counted .ensures) (c .before .next .given .1) in
-    goes-on _ _ (within t) (omega (arith, counted-next _ _ _ e)) (digits-more _ _ _ _ (digit t) e) (t .before .before .before .loop .inv))
     (λ c. search auto)
     (λ c.
-    let t = c .before .before .before .before in
-    let e = scan-refused _ _ (c .before .before .before .counted .ensures) (c .before .number .given .1) in
+    let t = c .before .before .before in
+    let refusal = c .enum-told .given .1 in
+    let e = scan-refused _ _ (c .before .before .counted .ensures) refusal in
+    ap scanOutcome refusal ∙
     ends (λ l. absurd (omega (arith, within t))) (digits-stopped _ _ _ _ _ (digit t) e) (t .before .before .before .loop .inv))
+    (λ c.
+    let counts = c .before .before .before in
+    let e = counted-next _ _ _ (to-ok _ (counts .counted .ensures) (c .before .digit .given .1)) in
+    omega (arith, within (counts .before)))
+    (λ c.
+    let counts = c .before .before .before in
+    let t = counts .before in
+    let e = to-ok _ (counts .counted .ensures) (c .before .digit .given .1) in
+    goes-on _ _ (within t) (omega (arith, counted-next _ _ _ e)) (digits-more _ _ _ _ (digit t) e) (t .before .before .before .loop .inv))
     (λ c. ends (λ _. digits-none _ _ _) (digits-end _ _ _ (cc)) (c .before .before .before .loop .inv)))

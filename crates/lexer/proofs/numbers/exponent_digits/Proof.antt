@@ -1,6 +1,6 @@
 -- The digits that are left, with the exponent's size so far, end at the same place.
 use Prim.Native.Nat.{_+_, _-_, _*_, _<_, _≤_}
-use mathlib.Core.Path.{_≡_}
+use mathlib.Core.Path.{_≡_, _∙_, ap}
 use mathlib.Core.Bool.{true}
 use native.Mathlib.Omega.{arith}
 use borrow.Author.Tests.{le-leb, lt-leb, not-true, not-false}
@@ -70,23 +70,27 @@ exponent-digits-spec =
     (t .before .before .before .loop .inv .1))
     (λ c κs. search auto)
     (λ c. search auto)
+    (λ c. search auto)
     (λ c.
-    let e = counted-next _ _ _ (to-ok _ (c .before .before .before .counted .ensures) (c .before .next .given .1)) in
-    omega (arith, within (c .before .before .before .before .before)))
-    (λ c.
-    let l = c .before .before .before .before in
+    let l = c .before .before .before in
     let t = l .before in
-    let e = to-ok _ (c .before .before .before .counted .ensures) (c .before .next .given .1) in (
+    let refusal = c .enum-told .given .1 in
+    let e = scan-refused _ _ (c .before .before .counted .ensures) refusal in
+    ap scanOutcome refusal ∙
+    ends (λ l. absurd (omega (arith, within t)))
+    (exponent-stopped _ _ _ _ _ _ (digit-here t) (small l) e)
+    (t .before .before .before .loop .inv .1))
+    (λ c.
+    let counts = c .before .before .before in
+    let e = counted-next _ _ _ (to-ok _ (counts .counted .ensures) (c .before .digit .given .1)) in
+    omega (arith, within (counts .before .before)))
+    (λ c.
+    let counts = c .before .before .before in
+    let l = counts .before in
+    let t = l .before in
+    let e = to-ok _ (counts .counted .ensures) (c .before .digit .given .1) in (
       l .if2 .left,
       goes-on _ _ (within t) (omega (arith, counted-next _ _ _ e))
           (rw (← t .before .before .peek .ensures) at (exponent-more _ _ _ _ _ (digit-here t) (small l) e))
           (t .before .before .before .loop .inv .1),
-    ))
-    (λ c. search auto)
-    (λ c.
-    let l = c .before .before .before .before in
-    let t = l .before in
-    let e = scan-refused _ _ (c .before .before .before .counted .ensures) (c .before .number .given .1) in
-    ends (λ l. absurd (omega (arith, within t)))
-    (exponent-stopped _ _ _ _ _ _ (digit-here t) (small l) e)
-    (t .before .before .before .loop .inv .1)))
+    )))

@@ -11,7 +11,7 @@ use Rattle.lexer.specs.Answers.{scanOutcome, endOf}
 use Rattle.lexer.specs.Names.{standsForItself}
 use Rattle.lexer.proofs.Fuel.{Runs, starts}
 use Rattle.lexer.proofs.ByteLaws.{here}
-use Rattle.lexer.proofs.AnswerLaws.{scalar-ok, character-refused}
+use Rattle.lexer.proofs.AnswerLaws.{scalar-ok, character-refused-at}
 use Rattle.lexer.proofs.StringLaws.{character-ok-past}
 use Rattle.lexer.proofs.StringLoop.{self-no-quote, self-character, self-inside, turn-character, turn-quote, turn-refused, end-cons}
 use Rattle.lexer.proofs.Auto.{auto}
@@ -56,17 +56,19 @@ characters-spec =
     turn-quote endOf _ _ (sym (peeked .peek .ensures) ∙ c .if2 .taken) (peeked .before .loop .inv))
     (λ c κs. search auto)
     (λ c. search auto)
+    (λ c. search auto)
+    (λ c κs. search auto)
+    (λ c.
+    let told = c .before in
+    let read = told .before .before in
+    let loop = read .before .before .before .before .before in
+    turn-refused endOf _ _ _ _ (no-quote (read .before))
+    (character-refused-at _ (read .character .ensures) (told .enum-told .given .1) (c .refused-at .ensures)) (loop .loop .inv))
     (λ c.
     let read = c .before .before .before in
-    omega (arith, character-ok-past _ _ _ (scalar-ok _ _ (read .character .ensures) (c .before .next .given .1))))
+    omega (arith, character-ok-past _ _ _ (scalar-ok _ _ (read .character .ensures) (c .before .read .given .1))))
     (λ c.
     let read = c .before .before .before in
     let loop = read .before .before .before .before .before in
     turn-character endOf _ _ endOf _ (end-cons _) (no-quote (read .before))
-    (scalar-ok _ _ (read .character .ensures) (c .before .next .given .1)) (loop .loop .inv))
-    (λ c. search auto)
-    (λ c.
-    let read = c .before .before .before in
-    let loop = read .before .before .before .before .before in
-    turn-refused endOf _ _ _ _ (no-quote (read .before))
-    (character-refused _ (read .character .ensures) (c .before .place .given .1)) (loop .loop .inv)))
+    (scalar-ok _ _ (read .character .ensures) (c .before .read .given .1)) (loop .loop .inv)))

@@ -9,7 +9,7 @@ use Rattle.spec.specs.Strings.{characters}
 use Rattle.lexer.specs.Answers.{nameOutcome}
 use Rattle.lexer.specs.Names.{standsForItself, keptOf}
 use Rattle.lexer.proofs.ByteLaws.{here}
-use Rattle.lexer.proofs.AnswerLaws.{scalar-ok, character-refused}
+use Rattle.lexer.proofs.AnswerLaws.{scalar-ok, character-refused-at}
 use Rattle.lexer.proofs.StringLaws.{character-ok-past}
 use Rattle.lexer.proofs.StringLoop.{self-inside}
 use Rattle.lexer.proofs.NameLaws.{Keeping, keeping-starts, keeping-self, keeping-more, keeping-quote, keeping-refused}
@@ -57,19 +57,22 @@ name-characters-spec =
     keeping-quote (sym (peeked .peek .ensures) ∙ c .if2 .taken) (peeked .before .loop .inv))
     (λ c κs. search auto)
     (λ c. search auto)
+    (λ c. search auto)
+    (λ c κs. search auto)
+    (λ c.
+    let told = c .before in
+    let read = told .before .before in
+    let loop = read .before .before .before .before .before in
+    keeping-refused _ _ (no-quote (read .before))
+    (character-refused-at _ (read .character .ensures) (told .enum-told .given .1) (c .refused-at .ensures)) (loop .loop .inv))
     (λ c κs. search auto)
     (λ c κs. search auto)
     (λ c.
     let taken = c .before .before .before in
-    omega (arith, character-ok-past _ _ _ (scalar-ok _ _ (taken .before .before .character .ensures) (taken .c .given .1))))
+    omega (arith, character-ok-past _ _ _ (scalar-ok _ _ (taken .before .before .character .ensures) (taken .read .given .1))))
     (λ c.
     let taken = c .before .before .before in
     let read = taken .before .before in
     let peeked = read .before .before .before .before in
-    keeping-more _ (no-quote (read .before)) (scalar-ok _ _ (read .character .ensures) (taken .c .given .1)) (c .before .mix2 .ensures)
-    (rw (← peeked .peek .ensures) (c .still-plain .ensures)) (peeked .before .loop .inv))
-    (λ c. search auto)
-    (λ c.
-    let read = c .before .before .before in
-    let loop = read .before .before .before .before .before in
-    keeping-refused _ _ (no-quote (read .before)) (character-refused _ (read .character .ensures) (c .before .place .given .1)) (loop .loop .inv)))
+    keeping-more _ (no-quote (read .before)) (scalar-ok _ _ (read .character .ensures) (taken .read .given .1)) (c .before .mix2 .ensures)
+    (rw (← peeked .peek .ensures) (c .still-plain .ensures)) (peeked .before .loop .inv)))
