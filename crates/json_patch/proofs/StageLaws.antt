@@ -1,0 +1,1 @@
+-- Laws of the stages of the call.
