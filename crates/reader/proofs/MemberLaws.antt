@@ -36,7 +36,7 @@ use Rattle.reader.specs.declared.words.Word.{Word}
 use Rattle.reader.specs.declared.words.Word.the-variants.{Read, Refused}
 use Rattle.reader.specs.declared.items.Item.the-variants as Item
 use Rattle.reader.specs.declared.items.Item.the-variants.{Begins, Closed}
-use Rattle.reader.proofs.WordLaws.{NameRead, no-titles}
+use Rattle.reader.proofs.WordLaws.{NameRead, Handed, no-titles}
 use Rattle.reader.proofs.FilledLaws.{one-text, filled-held, filled-size}
 
 -- ---- by the filter
@@ -120,10 +120,15 @@ module _ (s : Bytes) (all : Members) (at : ℕ) where
     unfolding nameFor fresh afterColon _>>=_
     name-new h = rw (reads, h) (sym (>>=-assoc (byteIn s (blanks s next) (code ":") (code ":")) (λ _. ok (blanks s (blanks s next + 1))) (λ p. ok (text, p))))
 
+-- ---- a refusal that is handed on
+name-handed-on : {source : ℕ} {s : Bytes} {object : Bool} {row : ℕ} {vs' : List ℕ} {A : Type 0} {d : Outcome A} {o : Outcome (Text × ℕ)} {w : Word} (h : Handed d w) → o ≡ refused (h .number) (h .place)
+    → NameIs source s object row vs' o w
+name-handed-on h e = rw (h .word) (name-refused (h .number) (h .place) e)
+
 -- ---- each way out of `member_name`
 module _ (source : ℕ) (s : Bytes) (row end : ℕ) (vs ns : List ℕ) (at : ℕ) where
-  pub member-no-string : (vs' : List ℕ) (place : ℕ) → string s at ≡ refused not-json place → Having source s true row end vs ns (λ all. NameIs source s true row vs' (nameFor true s all at) (Refused not-json place))
-  member-no-string vs' place e all f m = name-refused not-json place (name-no-string s all at not-json place e)
+  pub member-no-string : (vs' : List ℕ) {w : Word} → Handed (string s at) w → Having source s true row end vs ns (λ all. NameIs source s true row vs' (nameFor true s all at) w)
+  member-no-string vs' h all f m = name-handed-on h (name-no-string s all at (h .number) (h .place) (h .gives))
 
   module _ {next h : ℕ} {plain : Bool} (read : NameRead s at next h plain) (key name : ℕ) (key-is : key ≡ keyOf row h) (titles : Titles source s (read .text) name) where
     key-of : key ≡ keyOf row (hash (read .text))
@@ -136,9 +141,9 @@ module _ (source : ℕ) (s : Bytes) (row end : ℕ) (vs ns : List ℕ) (at : ℕ
       new : (all : Members) → Filled source s (row + 1) end all vs ns → (true ≡ true → Marked vs row all) → nameFor true s all at ≡ (afterColon s next >>= λ p. ok (read .text, p))
       new all f m = name-new s all at (read .text) next (read .reads) (sym (r source all (read .text) f (m refl) titles key-of))
 
-      pub member-no-colon : (n place : ℕ) → afterColon s next ≡ refused n place → Having source s true row end vs ns (λ all. NameIs source s true row vs' (nameFor true s all at) (Refused n place))
+      pub member-no-colon : {w : Word} → Handed (afterColon s next) w → Having source s true row end vs ns (λ all. NameIs source s true row vs' (nameFor true s all at) w)
       unfolding _>>=_
-      member-no-colon n place e all f m = name-refused n place (new all f m ∙ rw e)
+      member-no-colon h all f m = name-handed-on h (new all f m ∙ rw (h .gives))
 
       pub member-read : (first : Cursor) → afterColon s next ≡ ok (first .at) → found vs' scratchRow key ≡ true → Having source s true row end vs ns (λ all. NameIs source s true row vs' (nameFor true s all at) (Read first name))
       unfolding _>>=_
