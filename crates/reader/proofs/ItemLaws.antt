@@ -18,7 +18,7 @@ use Rattle.spec.proofs.OutcomeLaws.{>>=-assoc}
 use Rattle.lexer.proofs.Tests.{within-bounds, between-within}
 use Rattle.tape.proofs.Forests.{count-⧺}
 use Rattle.reader.specs.Names.{afterColon}
-use Rattle.reader.specs.Items.{Next, closed, begins, afterComma, begun, nextItem}
+use Rattle.reader.specs.Items.{Next, closed, begins, afterComma, nextName, begun, nextItem}
 
 -- ---- the byte that separates
 byte-one : (s : Bytes) (at b : ℕ) → byte s at ≡ b → byteIn s at b b ≡ ok b
@@ -93,7 +93,7 @@ module _ (value : ℕ → ℕ → Outcome (Value.Value × ℕ)) (object : Bool) 
       (sym (>>=-assoc (byteIn s end (code ",") (code ",")) (λ _. ok (blanks s (end + 1))) (items fuel value object s nodes all))))
 
   pub rest-step : (fuel : ℕ) (so-far : Members) (at : ℕ) → rest (suc fuel) so-far at ≡ (nextItem object s so-far at >>= after fuel so-far)
-  unfolding rest after nextItem items begun _>>=_
+  unfolding rest after nextItem nextName items begun _>>=_
   rest-step fuel so-far at = go (eqb (byte s (blanks s at)) (closingBracket object)) (afterComma s (eqb (count so-far) 0) (blanks s at))
     where
       valued : (name : Text) (o : Outcome (Value.Value × ℕ)) → (o >>= behind fuel so-far name) ≡ (o >>= λ (v, next). rest fuel (so-far ⧺ single (named name v)) next)
@@ -105,7 +105,7 @@ module _ (value : ℕ → ℕ → Outcome (Value.Value × ℕ)) (object : Bool) 
       titled (refused number place) = refl
 
       go : (close : Bool) (comma : Outcome ℕ) → (if close then ok (so-far, blanks s at + 1) else (comma >>= items (suc fuel) value object s nodes so-far))
-          ≡ ((if close then ok (closed (blanks s at + 1)) else (comma >>= λ first. nameFor object s so-far first >>= begun)) >>= after fuel so-far)
+          ≡ ((if close then ok (closed (blanks s at + 1)) else ((comma >>= nameFor object s so-far) >>= begun)) >>= after fuel so-far)
       go true comma = refl
       go false (refused number place) = refl
       go false (ok first) = titled (nameFor object s so-far first)

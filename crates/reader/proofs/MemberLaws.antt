@@ -31,12 +31,12 @@ use Rattle.table.specs.declared.find.Member.the-variants.{At, Missing}
 use Rattle.reader.specs.Words.{InText, Titles}
 use Rattle.reader.specs.Filled.{Added, Filled, keyOf, Marked, marked-none, marked-tree}
 use Rattle.reader.specs.Names.{afterColon, RepeatedIs, NameIs, name-read, name-refused, Having}
-use Rattle.reader.specs.Items.{afterComma, begun, nextItem, ItemIs, item-begins, item-closed, item-refused}
+use Rattle.reader.specs.Items.{afterComma, nextName, begun, itemOf, nextItem, ItemIs, item-begins, item-closed, item-refused}
 use Rattle.reader.specs.declared.words.Word.{Word}
 use Rattle.reader.specs.declared.words.Word.the-variants.{Read, Refused}
-use Rattle.reader.specs.declared.items.Item.the-variants as Item
-use Rattle.reader.specs.declared.items.Item.the-variants.{Begins, Closed}
-use Rattle.reader.proofs.WordLaws.{NameRead, no-titles}
+use Rattle.reader.specs.declared.items.Item.{Item}
+use Rattle.reader.specs.declared.items.Item.the-variants.{Closed}
+use Rattle.reader.proofs.WordLaws.{NameRead, Handed, no-titles}
 use Rattle.reader.proofs.FilledLaws.{one-text, filled-held, filled-size}
 
 -- ---- by the filter
@@ -120,10 +120,15 @@ module _ (s : Bytes) (all : Members) (at : ℕ) where
     unfolding nameFor fresh afterColon _>>=_
     name-new h = rw (reads, h) (sym (>>=-assoc (byteIn s (blanks s next) (code ":") (code ":")) (λ _. ok (blanks s (blanks s next + 1))) (λ p. ok (text, p))))
 
+-- ---- a refusal that is handed on
+name-handed-on : {source : ℕ} {s : Bytes} {object : Bool} {row : ℕ} {vs' : List ℕ} {A : Type 0} {d : Outcome A} {o : Outcome (Text × ℕ)} {w : Word} (h : Handed d w) → o ≡ refused (h .number) (h .place)
+    → NameIs source s object row vs' o w
+name-handed-on h e = rw (h .word) (name-refused (h .number) (h .place) e)
+
 -- ---- each way out of `member_name`
 module _ (source : ℕ) (s : Bytes) (row end : ℕ) (vs ns : List ℕ) (at : ℕ) where
-  pub member-no-string : (vs' : List ℕ) (place : ℕ) → string s at ≡ refused not-json place → Having source s true row end vs ns (λ all. NameIs source s true row vs' (nameFor true s all at) (Refused not-json place))
-  member-no-string vs' place e all f m = name-refused not-json place (name-no-string s all at not-json place e)
+  pub member-no-string : (vs' : List ℕ) {w : Word} → Handed (string s at) w → Having source s true row end vs ns (λ all. NameIs source s true row vs' (nameFor true s all at) w)
+  member-no-string vs' h all f m = name-handed-on h (name-no-string s all at (h .number) (h .place) (h .gives))
 
   module _ {next h : ℕ} {plain : Bool} (read : NameRead s at next h plain) (key name : ℕ) (key-is : key ≡ keyOf row h) (titles : Titles source s (read .text) name) where
     key-of : key ≡ keyOf row (hash (read .text))
@@ -136,9 +141,9 @@ module _ (source : ℕ) (s : Bytes) (row end : ℕ) (vs ns : List ℕ) (at : ℕ
       new : (all : Members) → Filled source s (row + 1) end all vs ns → (true ≡ true → Marked vs row all) → nameFor true s all at ≡ (afterColon s next >>= λ p. ok (read .text, p))
       new all f m = name-new s all at (read .text) next (read .reads) (sym (r source all (read .text) f (m refl) titles key-of))
 
-      pub member-no-colon : (n place : ℕ) → afterColon s next ≡ refused n place → Having source s true row end vs ns (λ all. NameIs source s true row vs' (nameFor true s all at) (Refused n place))
+      pub member-no-colon : {w : Word} → Handed (afterColon s next) w → Having source s true row end vs ns (λ all. NameIs source s true row vs' (nameFor true s all at) w)
       unfolding _>>=_
-      member-no-colon n place e all f m = name-refused n place (new all f m ∙ rw e)
+      member-no-colon h all f m = name-handed-on h (new all f m ∙ rw (h .gives))
 
       pub member-read : (first : Cursor) → afterColon s next ≡ ok (first .at) → found vs' scratchRow key ≡ true → Having source s true row end vs ns (λ all. NameIs source s true row vs' (nameFor true s all at) (Read first name))
       unfolding _>>=_
@@ -156,6 +161,27 @@ unfolding nameFor
 item-nameless {source} {s} {object = false} vs' at e all f m = name-read [] at 0 refl (no-titles source s) (λ t. absurd (true≢false (sym t)))
 item-nameless {object = true} vs' at e all f m = absurd (true≢false e)
 
+-- ---- each way out of `next_name`
+module _ (source : ℕ) (s : Bytes) (object : Bool) (row end : ℕ) (vs ns : List ℕ) (at : ℕ) (first : Bool) (first-is : first ≡ eqb end (row + 1)) where
+  -- the code knows the first item by the rows
+  counted : (all : Members) → Filled source s (row + 1) end all vs ns → eqb (count all) 0 ≡ first
+  unfolding count size
+  counted none f = sym (first-is ∙ eq-eqb end (row + 1) (omega (arith, filled-size f)))
+  counted (tree e kids rest) f = ne-eqb (suc (count rest)) 0 (λ z. omega arith) ∙ sym (first-is ∙ ne-eqb end (row + 1) (λ q. omega (arith, filled-size f)))
+
+  by-comma : (all : Members) → Filled source s (row + 1) end all vs ns → nextName object s all at ≡ (afterComma s first at >>= nameFor object s all)
+  unfolding nextName
+  by-comma all f = rw (counted all f)
+
+  pub next-no-comma : (vs' : List ℕ) {w : Word} → Handed (afterComma s first at) w → Having source s object row end vs ns (λ all. NameIs source s object row vs' (nextName object s all at) w)
+  unfolding _>>=_
+  next-no-comma vs' h all f m = name-handed-on h (by-comma all f ∙ rw (h .gives))
+
+  pub next-named : {vs' : List ℕ} {p : ℕ} {w : Word} → afterComma s first at ≡ ok p → Having source s object row end vs ns (λ all. NameIs source s object row vs' (nameFor object s all p) w)
+      → Having source s object row end vs ns (λ all. NameIs source s object row vs' (nextName object s all at) w)
+  unfolding _>>=_
+  next-named comma h all f m = rw (by-comma all f, comma) (h all f m)
+
 -- ---- each way out of `next_item`
 module _ (source : ℕ) (s : Bytes) (object : Bool) (row end : ℕ) (vs ns : List ℕ) (at place : ℕ) (place-is : place ≡ blanks s at) where
   pub item-close : (vs' : List ℕ) → byte s place ≡ closingBracket object
@@ -163,44 +189,14 @@ module _ (source : ℕ) (s : Bytes) (object : Bool) (row end : ℕ) (vs ns : Lis
   unfolding nextItem
   item-close vs' e all f m = item-closed (record { at = place + 1 }) (rw (← place-is, eq-eqb (byte s place) (closingBracket object) e))
 
-  module _ (another : byte s place ≡ closingBracket object → ⊥) (first : Bool) (first-is : first ≡ eqb end (row + 1)) where
-    -- the code knows the first item by the rows
-    counted : (all : Members) → Filled source s (row + 1) end all vs ns → eqb (count all) 0 ≡ first
-    unfolding count size
-    counted none f = sym (first-is ∙ eq-eqb end (row + 1) (omega (arith, filled-size f)))
-    counted (tree e kids rest) f = ne-eqb (suc (count rest)) 0 (λ z. omega arith) ∙ sym (first-is ∙ ne-eqb end (row + 1) (λ q. omega (arith, filled-size f)))
+  pub item-next : {vs' : List ℕ} {w : Word} {i : Item} → (byte s place ≡ closingBracket object → ⊥) → Having source s object row end vs ns (λ all. NameIs source s object row vs' (nextName object s all place) w) → i ≡ itemOf w
+      → Having source s object row end vs ns (λ all. ItemIs source s object row vs' (nextItem object s all at) i)
+  unfolding nextItem itemOf begun _>>=_
+  item-next {vs'} {w} another h is all f m = rw is (go w (h all f m))
+    where
+      by-name : nextItem object s all at ≡ (nextName object s all place >>= begun)
+      by-name = rw (← place-is, ne-eqb (byte s place) (closingBracket object) another)
 
-    by-comma : (all : Members) → Filled source s (row + 1) end all vs ns → nextItem object s all at ≡ (afterComma s first place >>= λ p. nameFor object s all p >>= begun)
-    unfolding nextItem
-    by-comma all f = rw (← place-is, ne-eqb (byte s place) (closingBracket object) another, counted all f)
-
-    pub item-no-comma : (vs' : List ℕ) (n p : ℕ) → afterComma s first place ≡ refused n p → Having source s object row end vs ns (λ all. ItemIs source s object row vs' (nextItem object s all at) (Item.Refused n p))
-    unfolding _>>=_
-    item-no-comma vs' n p e all f m = item-refused n p (by-comma all f ∙ rw e)
-
-    module _ {vs' : List ℕ} {p : ℕ} {w : Word} (comma : afterComma s first place ≡ ok p) (h : Having source s object row end vs ns (λ all. NameIs source s object row vs' (nameFor object s all p) w)) where
-      by-name : (all : Members) → Filled source s (row + 1) end all vs ns → nextItem object s all at ≡ (nameFor object s all p >>= begun)
-      unfolding _>>=_
-      by-name all f = by-comma all f ∙ rw comma
-
-      pub item-no-name : (n q : ℕ) → w ≡ Refused n q → Having source s object row end vs ns (λ all. ItemIs source s object row vs' (nextItem object s all at) (Item.Refused n q))
-      unfolding _>>=_
-      item-no-name n q e all f m = go w (h all f m) e
-        where
-          go : (w : Word) → NameIs source s object row vs' (nameFor object s all p) w → w ≡ Refused n q → ItemIs source s object row vs' (nextItem object s all at) (Item.Refused n q)
-          go w (name-read text next name r t k) e = absurd (let z : _≡_ {A = ℕ} 0 1 = cc in omega arith)
-          go w (name-refused n' q' r) e =
-              let a : n' ≡ n = cc in
-              let b : q' ≡ q = cc in
-              item-refused n q (by-name all f ∙ rw (r, a, b))
-
-      pub item-begin : (next : Cursor) (name : ℕ) → w ≡ Read next name → Having source s object row end vs ns (λ all. ItemIs source s object row vs' (nextItem object s all at) (Begins next name))
-      unfolding begun _>>=_
-      item-begin next name e all f m = go w (h all f m) e
-        where
-          go : (w : Word) → NameIs source s object row vs' (nameFor object s all p) w → w ≡ Read next name → ItemIs source s object row vs' (nextItem object s all at) (Begins next name)
-          go w (name-read text next' name' r t k) e =
-              let a : next' ≡ next = cc in
-              let b : name' ≡ name = cc in
-              item-begins text next name (by-name all f ∙ rw (r, a)) (rw b at t) k
-          go w (name-refused n' q' r) e = absurd (let z : _≡_ {A = ℕ} 0 1 = cc in omega arith)
+      go : (w : Word) → NameIs source s object row vs' (nextName object s all place) w → ItemIs source s object row vs' (nextItem object s all at) (itemOf w)
+      go w (name-read text next name r t k) = item-begins text next name (by-name ∙ rw r) t k
+      go w (name-refused n q r) = item-refused n q (by-name ∙ rw r)

@@ -24,7 +24,7 @@ use Rattle.lexer.proofs.StringLaws.{string-ok-closed}
 use Rattle.lexer.proofs.NumberLaws.{number-ok-past}
 use Rattle.tape.specs.Layout.{stringKind, numberKind, nullKind, trueKind}
 use Rattle.reader.specs.Begins.{scalarOf}
-use Rattle.reader.specs.Items.{Next, closed, begins, afterComma, begun, nextItem}
+use Rattle.reader.specs.Items.{Next, closed, begins, afterComma, nextName, begun, nextItem}
 
 -- ---- scalars
 abbrev Past : Bytes → ℕ → Value.Value × ℕ → Type 0
@@ -90,6 +90,13 @@ unfolding closingBracket
 bracket-here false s at e = here s at (code "]") e (omega arith)
 bracket-here true s at e = here s at (code "}") e (omega arith)
 
+next-name-past : (object : Bool) (s : Bytes) (so-far : Members) (at : ℕ) → at ≤ length s → Always (λ t. (at ≤ t .1) × (t .1 ≤ length s)) (nextName object s so-far at)
+unfolding nextName
+next-name-past object s so-far at h =
+    next (afterComma s (eqb (count so-far) 0) at) λ first e.
+    let n : (at ≤ first) × (first ≤ length s) = result (rw e at (comma-past s (eqb (count so-far) 0) at h)) in
+    weaken (λ t k. omega arith) (name-past object s so-far first (n .1))
+
 item-past : (object : Bool) (s : Bytes) (so-far : Members) (at : ℕ) → at ≤ length s → Always (Beyond s at) (nextItem object s so-far at)
 unfolding nextItem begun
 item-past object s so-far at h =
@@ -97,10 +104,8 @@ item-past object s so-far at h =
     let l = blanks-past s at in
     let m = blanks-within s at h in
     either (eqb (byte s place) (closingBracket object)) (λ e. let k = bracket-here object s place (eqb-true _ _ e) in gives (closed (place + 1)) (omega arith)) (λ _.
-    next (afterComma s (eqb (count so-far) 0) place) λ first e.
-    let n : (place ≤ first) × (first ≤ length s) = result (rw e at (comma-past s (eqb (count so-far) 0) place m)) in
-    next (nameFor object s so-far first) λ t f.
-    let k : (first ≤ t .1) × (t .1 ≤ length s) = result (rw f at (name-past object s so-far first (n .1))) in
+    next (nextName object s so-far place) λ t e.
+    let k : (place ≤ t .1) × (t .1 ≤ length s) = result (rw e at (next-name-past object s so-far place m)) in
     gives (begins (t .0) (t .1)) (omega arith))
 
 pub item-ok-past : (object : Bool) (s : Bytes) (so-far : Members) (at : ℕ) (n : Next) → at ≤ length s → nextItem object s so-far at ≡ ok n → Beyond s at n

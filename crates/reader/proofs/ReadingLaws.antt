@@ -25,7 +25,7 @@ use Rattle.reader.specs.Words.{Labels, Titles, ScalarIs, scalar-read, sc
 use Rattle.reader.specs.Filled.{Noted, Changed, Filled, keyOf, Marked, marked-none}
 use Rattle.reader.specs.Items.{Next, closed, begins, nextItem, ItemIs, item-begins, item-closed, item-refused}
 use Rattle.reader.specs.Names.{Having}
-use Rattle.reader.specs.Taken.{Ahead, Taken, taken, refusal, ForTitle}
+use Rattle.reader.specs.Taken.{readTo, Ahead, Taken, taken, refusal, ForTitle}
 use Rattle.reader.specs.declared.words.Word.{Word}
 use Rattle.reader.specs.declared.words.Word.the-variants as Word
 use Rattle.reader.specs.declared.items.Item.{Item}
@@ -60,12 +60,13 @@ module _ {source : ℕ} {s : Bytes} {at kind : ℕ} {w : Word} (inside : at < le
           (filled-tree kind payload name _ label text (rw b at l) titles (omega arith) (λ h. refl) (omega arith) long-vs (omega arith) (rw span) (filled-none (row + 1) vs ns))
           (changed-set row _ name (omega arith) (omega arith) room))
 
-  pub scalar-refusal : {vs ns : List ℕ} {row name : ℕ} (n place : ℕ) → w ≡ Word.Refused n place → ForTitle source s name (λ text. Taken source s at text row (row + 1) vs ns vs ns (scalarOf kind s at) (Read.Refused n place))
-  scalar-refusal {vs} {ns} {row} n place e text titles = go w told e
+  pub scalar-refusal : {vs ns : List ℕ} {row name : ℕ} {r : Read} (n place end : ℕ) → w ≡ Word.Refused n place → r ≡ readTo w end → ForTitle source s name (λ text. Taken source s at text row (row + 1) vs ns vs ns (scalarOf kind s at) r)
+  unfolding readTo
+  scalar-refusal {vs} {ns} {row} n place end e is text titles = rw is (go w told e)
     where
-      go : (w : Word) → ScalarIs source s kind (scalarOf kind s at) w → w ≡ Word.Refused n place → Taken source s at text row (row + 1) vs ns vs ns (scalarOf kind s at) (Read.Refused n place)
+      go : (w : Word) → ScalarIs source s kind (scalarOf kind s at) w → w ≡ Word.Refused n place → Taken source s at text row (row + 1) vs ns vs ns (scalarOf kind s at) (readTo w end)
       go w (scalar-read label next payload q l) e = absurd (let z : _≡_ {A = ℕ} 0 1 = cc in omega arith)
-      go w (scalar-refused n' place' q) e = let a : n' ≡ n = cc in let b : place' ≡ place = cc in refusal n place (q ∙ ap₂ refused a b) changed-none
+      go w (scalar-refused n' place' q) e = refusal n' place' q changed-none
 
 -- ---- the loop over a container's items
 module _ (source : ℕ) (s : Bytes) (start levels kind base row : ℕ) where
@@ -296,10 +297,10 @@ module _ {s : Bytes} {at levels base row kind : ℕ} (b : Begun s at levels base
         ∙ ap (λ o. o >>= whole (eqb kind objectKind)) e
 
     -- a refusal among its items
-    pub value-way-items : {source name : ℕ} {vs ns vs' ns' : List ℕ} (n place end : ℕ) → end ≤ base + maxNodes → allItems source s (at + 1) levels kind base row ≡ refused n place → Changed (row + 1) end vs ns vs' ns'
-        → ForTitle source s name (λ text. Taken source s at text row (base + maxNodes) vs ns vs' ns' (value levels s at (row - base)) (Read.Refused n place))
+    pub value-way-items : {source name : ℕ} {vs ns vs' ns' : List ℕ} {r : Read} (n place end : ℕ) → r ≡ Read.Refused n place → end ≤ base + maxNodes → allItems source s (at + 1) levels kind base row ≡ refused n place
+        → Changed (row + 1) end vs ns vs' ns' → ForTitle source s name (λ text. Taken source s at text row (base + maxNodes) vs ns vs' ns' (value levels s at (row - base)) r)
     unfolding _>>=_
-    value-way-items {source} n place end room e c text titles = refusal n place (by-items source (refused n place) e) (changed-wider row (base + maxNodes) (omega arith) room c)
+    value-way-items {source} n place end is room e c text titles = rw is (refusal n place (by-items source (refused n place) e) (changed-wider row (base + maxNodes) (omega arith) room c))
 
     -- its closing bracket, and its own words stored
     pub value-way-closed : {source name : ℕ} {vs ns vs' ns' vs3 ns3 : List ℕ} {so-far : Members} (last : Cursor) (end : ℕ) → allItems source s (at + 1) levels kind base row ≡ ok (so-far, last .at)

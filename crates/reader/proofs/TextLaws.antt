@@ -82,12 +82,12 @@ module _ {source : ℕ} {s : Bytes} (first base : ℕ) {vs ns vs' ns' : List ℕ
   root : Taken source s first [] base (base + maxNodes) vs ns vs' ns' (value maxDepth s first (base - base)) r
   root = told [] (no-titles source s)
 
-  pub text-unread : (n place : ℕ) → r ≡ Read.Refused n place → TextIs source s base vs ns vs' ns' (read s) (Read.Refused n place)
+  pub text-unread : (n place : ℕ) → r ≡ Read.Refused n place → TextIs source s base vs ns vs' ns' (read s) r
   text-unread n place e = go r root e
     where
-      go : (r : Read) → Taken source s first [] base (base + maxNodes) vs ns vs' ns' (value maxDepth s first (base - base)) r → r ≡ Read.Refused n place → TextIs source s base vs ns vs' ns' (read s) (Read.Refused n place)
+      go : (r : Read) → Taken source s first [] base (base + maxNodes) vs ns vs' ns' (value maxDepth s first (base - base)) r → r ≡ Read.Refused n place → TextIs source s base vs ns vs' ns' (read s) r
       go r (taken v next end q a f c) e = absurd (let z : _≡_ {A = ℕ} 0 1 = cc in omega arith)
-      go r (refusal n' place' q c) e = let a : n' ≡ n = cc in let b : place' ≡ place = cc in text-refused n place (read-refused s n place (sym same ∙ q ∙ ap₂ refused a b)) c
+      go r (refusal n' place' q c) e = text-refused n' place' (read-refused s n' place' (sym same ∙ q)) c
 
   module _ (next : Cursor) (end last : ℕ) (is : r ≡ Read.Value next end) (last-is : last ≡ blanks s (next .at)) where
     pub text-more : (last ≡ length s → ⊥) → TextIs source s base vs ns vs' ns' (read s) (Read.Refused not-json last)

@@ -23,6 +23,7 @@ use Rattle.lexer.specs.declared.cursor.Scan.{Scan}
 use Rattle.lexer.specs.declared.cursor.Scan.the-variants as Scan
 use Rattle.lexer.specs.declared.strings.Name.{Name}
 use Rattle.lexer.specs.declared.strings.Name.the-variants as Name
+use Rattle.lexer.proofs.AnswerLaws.{scan-refused}
 use Rattle.lexer.proofs.NameLaws.{mix-bound}
 use Rattle.lexer.proofs.StringLaws.{Closed, string-ok-closed}
 use Rattle.lexer.proofs.NumberLaws.{number-ok-past}
@@ -35,7 +36,7 @@ use Rattle.tape.proofs.Packing.{form-spelling, source-spelling, start-spelling,
 use Rattle.table.specs.Meaning.{sourceText, partOf, spelled, labelOf, nameText}
 use Rattle.table.specs.Sound.{Verbatim, StringFits}
 use Rattle.table.proofs.NumberLaws.{number-fits, other-fits}
-use Rattle.reader.specs.Words.{InText, stringForm, Spells, Labels, Titles, literalWord, ScalarIs, scalar-read, scalar-refused}
+use Rattle.reader.specs.Words.{InText, stringForm, Spells, Labels, Titles, unspelled, unspelledName, ScalarIs, scalar-read, scalar-refused}
 use Rattle.reader.specs.declared.words.Word.{Word}
 use Rattle.reader.specs.declared.words.Word.the-variants.{Read, Refused}
 
@@ -62,13 +63,28 @@ name-told s at next h plain e t = go (string s at) refl (ap nameOutcome (sym t) 
         }
     go (refused number place) e f = absurd (refused≢ok (sym f))
 
-pub name-untold : (s : Bytes) (at place : ℕ) {r : Name} → nameOutcome r ≡ keptOf s (at + 1) (string s at) → r ≡ Name.Refused place → string s at ≡ refused not-json place
+name-untold : (s : Bytes) (at place : ℕ) {r : Name} → nameOutcome r ≡ keptOf s (at + 1) (string s at) → r ≡ Name.Refused place → string s at ≡ refused not-json place
 unfolding nameOutcome keptOf _>>=_
 name-untold s at place e t = go (string s at) (ap nameOutcome (sym t) ∙ e)
   where
     go : (o : Outcome (Text × ℕ)) → refused not-json place ≡ keptOf s (at + 1) o → o ≡ refused not-json place
     go (ok v) f = absurd (refused≢ok f)
     go (refused n p) f = let a : n ≡ not-json = cc in let b : p ≡ place = cc in ap₂ refused a b
+
+-- ---- a refusal of the definition's, handed on as a word
+pub record Handed {A : Type 0} (o : Outcome A) (w : Word) : Type 0 where
+  pub number : ℕ
+  pub place : ℕ
+  pub gives : o ≡ refused number place
+  pub word : w ≡ Refused number place
+
+pub scan-handed : {o : Outcome ℕ} {r : Scan} {w : Word} (number place : ℕ) → scanOutcome r ≡ o → r ≡ Scan.Refused number place → w ≡ unspelled r → Handed o w
+unfolding unspelled
+scan-handed number place e t is = record { number = number; place = place; gives = scan-refused number place e t; word = is ∙ ap unspelled t }
+
+pub name-handed : (s : Bytes) (at place : ℕ) {r : Name} {w : Word} → nameOutcome r ≡ keptOf s (at + 1) (string s at) → r ≡ Name.Refused place → w ≡ unspelledName r → Handed (string s at) w
+unfolding unspelledName
+name-handed s at place e t is = record { number = not-json; place = place; gives = name-untold s at place e t; word = is ∙ ap unspelledName t }
 
 -- where the name ends
 pub name-closed : {s : Bytes} {at next h : ℕ} {plain : Bool} → NameRead s at next h plain → Closed s (at + 1) next
@@ -244,9 +260,9 @@ module _ (source : ℕ) (s : Bytes) (at : ℕ) where
       let same : w ≡ spelling numeral source at (next .at - at) = is ∙ spelling-fits numeral source at (next .at - at) (omega arith) source< (omega arith) (omega arith) in
       scalar-read (Label.number (take (next .at - at) (drop at s))) next w (rw e) (rw same (number-labels s at (next .at) e source source< short))
 
-  pub number-refused : (n place : ℕ) → number s at ≡ refused n place → ScalarIs source s numberKind (numberValue s at) (Refused n place)
+  pub number-refused : {w : Word} → Handed (number s at) w → ScalarIs source s numberKind (numberValue s at) w
   unfolding numberValue _>>=_
-  number-refused n place e = scalar-refused n place (rw e)
+  number-refused h = rw (h .word) (scalar-refused (h .number) (h .place) (rw (h .gives)))
 
   pub string-read : (next : Cursor) (h : ℕ) (plain : Bool) (w : ℕ) → source < sources → length s < places → NameRead s at (next .at) h plain → w ≡ spelling (stringForm plain) source (at + 1) (next .at - 1 - (at + 1))
       → ScalarIs source s stringKind (stringValue s at) (Read next w)
@@ -254,12 +270,12 @@ module _ (source : ℕ) (s : Bytes) (at : ℕ) where
   string-read next h plain w source< short r is =
       scalar-read (Label.string (r .text)) next w (rw (r .reads)) (rw is (string-labels s at (r .text) (next .at) (r .reads) source source< short plain (r .plain-is)))
 
-  pub string-refused : (n place : ℕ) → string s at ≡ refused n place → ScalarIs source s stringKind (stringValue s at) (Refused n place)
+  pub string-refused : {w : Word} → Handed (string s at) w → ScalarIs source s stringKind (stringValue s at) w
   unfolding stringValue _>>=_
-  string-refused n place e = scalar-refused n place (rw e)
+  string-refused h = rw (h .word) (scalar-refused (h .number) (h .place) (rw (h .gives)))
 
-  pub literal-read : (kind : ℕ) (label : Label) (rest : Bytes) (r : Scan) (w : Word) → kind < numberKind → scanOutcome r ≡ Definition.spelled rest s (at + 1) → w ≡ literalWord r → ((document patch : Bytes) → labelOf document patch kind 0 ≡ label)
+  pub literal-read : (kind : ℕ) (label : Label) (rest : Bytes) (r : Scan) (w : Word) → kind < numberKind → scanOutcome r ≡ Definition.spelled rest s (at + 1) → w ≡ unspelled r → ((document patch : Bytes) → labelOf document patch kind 0 ≡ label)
       → ScalarIs source s kind (literalValue label rest s at) w
-  unfolding literalValue literalWord scanOutcome _>>=_
+  unfolding literalValue unspelled scanOutcome _>>=_
   literal-read kind label rest (Scan.To next) w k e is says = rw is (scalar-read label next 0 (rw (← e)) (textless-labels source s kind label (λ h. omega arith) (λ h. omega arith) says))
   literal-read kind label rest (Scan.Refused n place) w k e is says = rw is (scalar-refused n place (rw (← e)))

@@ -16,6 +16,8 @@ use Rattle.filter.specs.Filter.{found}
 use Rattle.tape.specs.Layout.{scratchRow}
 use Rattle.reader.specs.Words.{Titles}
 use Rattle.reader.specs.Filled.{keyOf}
+use Rattle.reader.specs.declared.words.Word.{Word}
+use Rattle.reader.specs.declared.words.Word.the-variants as Word
 use Rattle.reader.specs.declared.items.Item.{Item}
 use Rattle.reader.specs.declared.items.Item.the-variants.{Begins, Closed, Refused}
 
@@ -28,15 +30,23 @@ pub data Next : Type 0 where
 unfoldable pub afterComma : Bytes → Bool → ℕ → Outcome ℕ
 afterComma s first at = if first then ok at else (byteIn s at (code ",") (code ",") >>= λ _. ok (blanks s (at + 1)))
 
+-- its name; `so-far` are the items before
+unfoldable pub nextName : Bool → Bytes → Members → ℕ → Outcome (Text × ℕ)
+nextName object s so-far at = afterComma s (eqb (count so-far) 0) at >>= nameFor object s so-far
+
 unfoldable pub begun : Text × ℕ → Outcome Next
 begun (name, at) = ok (begins name at)
 
--- from the place after the opening bracket, or after a value, on; `so-far` are the items before
+-- from the place after the opening bracket, or after a value, on
 unfoldable pub nextItem : Bool → Bytes → Members → ℕ → Outcome Next
 nextItem object s so-far at =
     let place = blanks s at in
-    if eqb (byte s place) (closingBracket object) then ok (closed (place + 1)) else
-    (afterComma s (eqb (count so-far) 0) place >>= λ first. nameFor object s so-far first >>= begun)
+    if eqb (byte s place) (closingBracket object) then ok (closed (place + 1)) else (nextName object s so-far place >>= begun)
+
+-- the code's answer of a name, as one of an item
+unfoldable pub itemOf : Word → Item
+itemOf (Word.Read first name) = Begins first name
+itemOf (Word.Refused number place) = Refused number place
 
 -- what the code answers
 pub data ItemIs (source : ℕ) (s : Bytes) (object : Bool) (row : ℕ) (values' : List ℕ) (o : Outcome Next) : Item → Type 0 where

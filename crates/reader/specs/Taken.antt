@@ -11,8 +11,15 @@ use Rattle.spec.specs.Value.{named}
 use Rattle.lexer.specs.declared.cursor.Cursor.{Cursor}
 use Rattle.reader.specs.Words.{Titles}
 use Rattle.reader.specs.Filled.{Changed, Filled}
+use Rattle.reader.specs.declared.words.Word.{Word}
+use Rattle.reader.specs.declared.words.Word.the-variants as Word
 use Rattle.reader.specs.declared.values.Read as Declared
 use Rattle.reader.specs.declared.values.Read.the-variants as Read
+
+-- what was read of a scalar, as a value in the rows up to `end`
+unfoldable pub readTo : Word → ℕ → Declared.Read
+readTo (Word.Read next payload) end = Read.Value next end
+readTo (Word.Refused number place) end = Read.Refused number place
 
 -- the text is read forward, and the rows are filled forward
 pub record Ahead (s : Bytes) (at next row end limit : ℕ) : Type 0 where

@@ -5,12 +5,15 @@ use mathlib.Core.Bool.{Bool}
 use mathlib.Core.List.{List}
 use lib.ListN.{length}
 use Rattle.spec.specs.Outcome.{Outcome, ok, refused, if_then_else_}
+use Rattle.spec.specs.Refusal.{not-json}
 use Rattle.spec.specs.Bytes.{Bytes, Text}
 use Rattle.spec.specs.Value as Value
 use Rattle.spec.specs.Value.{Label, leaf}
 use Rattle.lexer.specs.declared.cursor.Cursor.{Cursor}
 use Rattle.lexer.specs.declared.cursor.Scan.{Scan}
 use Rattle.lexer.specs.declared.cursor.Scan.the-variants as Scan
+use Rattle.lexer.specs.declared.strings.Name.{Name}
+use Rattle.lexer.specs.declared.strings.Name.the-variants as Name
 use Rattle.tape.specs.Layout.{sources, places, spellings, plainString, escapedString, scratchRow}
 use Rattle.table.specs.Meaning.{sourceText, spelled, labelOf, nameText}
 use Rattle.table.specs.Sound.{Verbatim, NameFits, LabelFits}
@@ -49,10 +52,14 @@ pub record Titles (source : ℕ) (s : Bytes) (text : Text) (name : ℕ) : Type 0
   pub says : InText source s (λ document patch. nameText document patch name ≡ text)
   pub fits : InText source s (λ document patch. NameFits document patch name)
 
--- a literal has no text
-unfoldable pub literalWord : Scan → Word
-literalWord (Scan.To next) = Read next 0
-literalWord (Scan.Refused number place) = Refused number place
+-- the word 0 spells nothing: of a literal, and of a refusal that is handed on
+unfoldable pub unspelled : Scan → Word
+unspelled (Scan.To next) = Read next 0
+unspelled (Scan.Refused number place) = Refused number place
+
+unfoldable pub unspelledName : Name → Word
+unspelledName (Name.Read next hash plain) = Read next 0
+unspelledName (Name.Refused place) = Refused not-json place
 
 -- what a scalar's reader answers
 pub data ScalarIs (source : ℕ) (s : Bytes) (kind : ℕ) (o : Outcome (Value.Value × ℕ)) : Word → Type 0 where

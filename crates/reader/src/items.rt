@@ -8,9 +8,10 @@ ghost use Rattle.tape.specs.Layout.{scratchRow};
 ghost use Rattle.reader.specs.Words.{Lent};
 ghost use Rattle.reader.specs.Filled.{Noted};
 ghost use Rattle.reader.specs.Names.{NameIs, Having};
-ghost use Rattle.reader.specs.Items.{afterComma, nextItem, ItemIs};
+ghost use Rattle.reader.specs.Items.{afterComma, nextName, itemOf, nextItem, ItemIs};
 use crate::names::member_name;
 use crate::words::Word;
+use crate::words::unspelled;
 use lexer::Cursor;
 use lexer::Scan;
 use lexer::peek;
@@ -64,6 +65,39 @@ fn item_name(
     Word::Read(at, 0)
 }
 
+// The name of the next item, after the comma before it.
+fn next_name(
+    s: &[u8],
+    at: Cursor,
+    object: bool,
+    source: u64,
+    row: usize,
+    end: usize,
+    values: &mut [u64],
+    names: &[u64],
+) -> Word
+    requires { ⌜ Lent source (now s) (now values) (now names) ⌝ }
+    requires { ⌜ (row < end) × (end ≤ scratchRow) ⌝ }
+    ensures { λ r. ⌜ Having source (now (s .entry)) object row end (now (values .entry)) (now (names .entry)) (λ all. NameIs source (now (s .entry)) object row (now (values .exit)) (nextName object (now (s .entry)) all (at .at)) r) ⌝ }
+    ensures { λ r. ⌜ Noted (now (values .entry)) (now (values .exit)) ⌝ }
+{
+    let scan = comma(s, at, end == row + 1);
+    let Scan::To(first) = scan else {
+        return unspelled(scan);
+    };
+    item_name(s, first, object, source, row, end, values, names)
+}
+
+// An item begins behind its name.
+fn item_of(name: Word) -> Item
+    ensures { λ r. ⌜ r ≡ itemOf name ⌝ }
+{
+    match name {
+        Word::Read(first, word) => Item::Begins(first, word),
+        Word::Refused(number, place) => Item::Refused(number, place),
+    }
+}
+
 // The next item of the container in a row, whose items so far stand in the rows up to `end`: from after its opening bracket, or after a value, on.
 pub fn next_item(
     s: &[u8],
@@ -84,11 +118,5 @@ pub fn next_item(
     if peek(s, place.at) == closing_bracket(object) {
         return Item::Closed(Cursor { at: place.at + 1 });
     }
-    match comma(s, place, end == row + 1) {
-        Scan::To(first) => match item_name(s, first, object, source, row, end, values, names) {
-            Word::Read(next, word) => Item::Begins(next, word),
-            Word::Refused(number, refused) => Item::Refused(number, refused),
-        },
-        Scan::Refused(number, refused) => Item::Refused(number, refused),
-    }
+    item_of(next_name(s, place, object, source, row, end, values, names))
 }

@@ -11,6 +11,8 @@ ghost use Rattle.reader.specs.Filled.{Noted, keyOf};
 ghost use Rattle.reader.specs.Names.{afterColon, RepeatedIs, NameIs, Having};
 use crate::words::Word;
 use crate::words::spell_string;
+use crate::words::unspelled;
+use crate::words::unspelled_name;
 use filter::contains;
 use filter::insert;
 use lexer::Cursor;
@@ -79,19 +81,19 @@ pub fn member_name(
     ensures { λ r. ⌜ Having source (now (s .entry)) true row end (now (values .entry)) (now (names .entry)) (λ all. NameIs source (now (s .entry)) true row (now (values .exit)) (nameFor true (now (s .entry)) all (at .at)) r) ⌝ }
     ensures { λ r. ⌜ Noted (now (values .entry)) (now (values .exit)) ⌝ }
 {
-    match at.name(s) {
-        Name::Read { next, hash, plain } => {
-            let word = name(spell_string(plain, source, at.at + 1, next.at), hash);
-            let key = key(row, hash);
-            if repeated(s, values, names, row, end, key, word) {
-                return Word::Refused(4, next.at - 1);
-            }
-            insert(values, SCRATCH, key);
-            match colon(s, next) {
-                Scan::To(first) => Word::Read(first, word),
-                Scan::Refused(number, place) => Word::Refused(number, place),
-            }
-        }
-        Name::Refused(place) => Word::Refused(3, place),
+    let read = at.name(s);
+    let Name::Read { next, hash, plain } = read else {
+        return unspelled_name(read);
+    };
+    let word = name(spell_string(plain, source, at.at + 1, next.at), hash);
+    let key = key(row, hash);
+    if repeated(s, values, names, row, end, key, word) {
+        return Word::Refused(4, next.at - 1);
     }
+    insert(values, SCRATCH, key);
+    let scan = colon(s, next);
+    let Scan::To(first) = scan else {
+        return unspelled(scan);
+    };
+    Word::Read(first, word)
 }

@@ -29,16 +29,15 @@ fn read(s: &[u8], source: u64, base: usize, values: &mut [u64], names: &mut [u64
     ensures { λ r. ⌜ TextIs source (now (s .entry)) base (now (values .entry)) (now (names .entry)) (now (values .exit)) (now (names .exit)) (read (now (s .entry))) r ⌝ }
 {
     let first = (Cursor { at: 0 }).blanks(s);
-    match value(s, first, MAX_DEPTH, source, 0, base, base, values, names) {
-        Read::Value(next, end) => {
-            let last = next.blanks(s);
-            if last.at == s.len() {
-                return Read::Value(last, end);
-            }
-            Read::Refused(3, last.at)
-        }
-        Read::Refused(number, place) => Read::Refused(number, place),
+    let r = value(s, first, MAX_DEPTH, source, 0, base, base, values, names);
+    let Read::Value(next, end) = r else {
+        return r;
+    };
+    let last = next.blanks(s);
+    if last.at == s.len() {
+        return Read::Value(last, end);
     }
+    Read::Refused(3, last.at)
 }
 
 // The number of the refusal before a text is read, and 0 for none: a column too short, or the text too long.

@@ -8,7 +8,7 @@ ghost use Rattle.tape.specs.Layout.{kinds, spans, spellings, arrayKind, scratch
 ghost use Rattle.tape.specs.Packing.{packed};
 ghost use Rattle.reader.specs.Begins.{scalarOf};
 ghost use Rattle.reader.specs.Words.{Lent};
-ghost use Rattle.reader.specs.Taken.{Taken, ForTitle};
+ghost use Rattle.reader.specs.Taken.{readTo, Taken, ForTitle};
 use crate::begins::beginning;
 use crate::begins::refusal;
 use crate::items::Item;
@@ -45,7 +45,17 @@ fn put(
     store(names, row, name);
 }
 
-// A scalar of a kind, in a row below `limit`.
+// What was read of a scalar, as a value in the rows up to `end`.
+fn read_to(word: Word, end: usize) -> Read
+    ensures { λ r. ⌜ r ≡ readTo word end ⌝ }
+{
+    match word {
+        Word::Read(next, _) => Read::Value(next, end),
+        Word::Refused(number, place) => Read::Refused(number, place),
+    }
+}
+
+// A scalar of a kind is stored in a row, under a name.
 fn scalar_value(
     s: &[u8],
     at: Cursor,
@@ -60,13 +70,12 @@ fn scalar_value(
     requires { ⌜ (at .at < length (now s)) × (kind < arrayKind) × (row < scratchRow) ⌝ }
     ensures { λ r. ⌜ ForTitle source (now (s .entry)) name (λ text. Taken source (now (s .entry)) (at .at) text row (row + 1) (now (values .entry)) (now (names .entry)) (now (values .exit)) (now (names .exit)) (scalarOf kind (now (s .entry)) (at .at)) r) ⌝ }
 {
-    match scalar(s, at, kind, source) {
-        Word::Read(next, payload) => {
-            put(row, kind, 0, payload, name, values, names);
-            Read::Value(next, row + 1)
-        }
-        Word::Refused(number, place) => Read::Refused(number, place),
-    }
+    let word = scalar(s, at, kind, source);
+    let Word::Read(next, payload) = word else {
+        return read_to(word, row);
+    };
+    put(row, kind, 0, payload, name, values, names);
+    Read::Value(next, row + 1)
 }
 
 // The value at a cursor is stored from `row` on, under a name. The text's rows begin at `base`, so that so many values have begun before as there
@@ -99,7 +108,7 @@ pub fn value(
     loop {
         match next_item(s, next, kind == OBJECT, source, row, end, values, names) {
             Item::Begins(first, title) => {
-                match value(
+                let r = value(
                     s,
                     first,
                     levels - 1,
@@ -109,13 +118,12 @@ pub fn value(
                     end,
                     values,
                     names,
-                ) {
-                    Read::Value(after, free) => {
-                        next = after;
-                        end = free;
-                    }
-                    Read::Refused(number, place) => return Read::Refused(number, place),
-                }
+                );
+                let Read::Value(after, free) = r else {
+                    return r;
+                };
+                next = after;
+                end = free;
             }
             Item::Closed(after) => {
                 put(row, kind, end - row - 1, 0, name, values, names);

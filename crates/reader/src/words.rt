@@ -6,7 +6,7 @@ ghost use Rattle.spec.specs.Read.{numberValue, stringValue};
 ghost use Rattle.tape.specs.Layout.{sources, places, numberKind, stringKind, arrayKind};
 ghost use Rattle.tape.specs.Packing.{spelling};
 ghost use Rattle.reader.specs.Begins.{scalarOf};
-ghost use Rattle.reader.specs.Words.{stringForm, literalWord, ScalarIs};
+ghost use Rattle.reader.specs.Words.{stringForm, unspelled, unspelledName, ScalarIs};
 use lexer::Cursor;
 use lexer::Name;
 use lexer::Scan;
@@ -39,13 +39,27 @@ pub fn spell_string(plain: bool, source: u64, start: usize, next: usize) -> u64
     spell(string_form(plain), source, start, next - 1 - start)
 }
 
-// A literal, which has no text.
-fn literal(read: Scan) -> Word
-    ensures { λ r. ⌜ r ≡ literalWord read ⌝ }
+// What was scanned, with the word 0, which spells nothing: a literal, or a refusal that is handed on.
+pub fn unspelled(scan: Scan) -> Word
+    ensures { λ r. ⌜ r ≡ unspelled scan ⌝ }
 {
-    match read {
+    match scan {
         Scan::To(next) => Word::Read(next, 0),
         Scan::Refused(number, place) => Word::Refused(number, place),
+    }
+}
+
+// The same of a name.
+pub fn unspelled_name(name: Name) -> Word
+    ensures { λ r. ⌜ r ≡ unspelledName name ⌝ }
+{
+    match name {
+        Name::Read {
+            next,
+            hash: _,
+            plain: _,
+        } => Word::Read(next, 0),
+        Name::Refused(place) => Word::Refused(3, place),
     }
 }
 
@@ -53,24 +67,27 @@ fn number(s: &[u8], at: Cursor, source: u64) -> Word
     requires { ⌜ (source < sources) × (length (now s) < places) ⌝ }
     ensures { λ r. ⌜ ScalarIs source (now (s .entry)) numberKind (numberValue (now (s .entry)) (at .at)) r ⌝ }
 {
-    match at.number(s) {
-        Scan::To(next) => Word::Read(next, spell(NUMERAL, source, at.at, next.at - at.at)),
-        Scan::Refused(number, place) => Word::Refused(number, place),
-    }
+    let scan = at.number(s);
+    let Scan::To(next) = scan else {
+        return unspelled(scan);
+    };
+    Word::Read(next, spell(NUMERAL, source, at.at, next.at - at.at))
 }
 
 fn string(s: &[u8], at: Cursor, source: u64) -> Word
     requires { ⌜ (source < sources) × (length (now s) < places) ⌝ }
     ensures { λ r. ⌜ ScalarIs source (now (s .entry)) stringKind (stringValue (now (s .entry)) (at .at)) r ⌝ }
 {
-    match at.name(s) {
-        Name::Read {
-            next,
-            hash: _,
-            plain,
-        } => Word::Read(next, spell_string(plain, source, at.at + 1, next.at)),
-        Name::Refused(place) => Word::Refused(3, place),
-    }
+    let name = at.name(s);
+    let Name::Read {
+        next,
+        hash: _,
+        plain,
+    } = name
+    else {
+        return unspelled_name(name);
+    };
+    Word::Read(next, spell_string(plain, source, at.at + 1, next.at))
 }
 
 // The scalar of a kind at a cursor.
@@ -86,10 +103,10 @@ pub fn scalar(s: &[u8], at: Cursor, kind: u64, source: u64) -> Word
     }
     let rest = Cursor { at: at.at + 1 };
     if kind == NULL {
-        return literal(rest.null_literal(s));
+        return unspelled(rest.null_literal(s));
     }
     if kind == TRUE {
-        return literal(rest.true_literal(s));
+        return unspelled(rest.true_literal(s));
     }
-    literal(rest.false_literal(s))
+    unspelled(rest.false_literal(s))
 }

@@ -1,9 +1,8 @@
 use Rattle.lexer.proofs.Auto.{auto}
-use borrow.Author.Needs.{needs}
 use native.Mathlib.Omega.{arith}
-use Rattle.reader.proofs.WordLaws.{name-told, name-untold, name-closed, read-titles}
+use Rattle.reader.proofs.WordLaws.{scan-handed, name-told, name-handed, name-closed, read-titles}
 use mathlib.Core.Path.{subst}
-use Rattle.lexer.proofs.AnswerLaws.{to-ok, scan-refused}
+use Rattle.lexer.proofs.AnswerLaws.{to-ok}
 use Rattle.reader.specs.Names.{RepeatedIs}
 use Rattle.reader.proofs.FilledLaws.{noted-none, noted-key}
 use Rattle.reader.proofs.MemberLaws.{member-repeated, member-read, member-no-colon, member-no-string}
@@ -16,41 +15,62 @@ member-name-spec =
     (tie.spec
     -- name-requires
     (λ c κs. search auto)
-    -- enum-known-next
+    -- enum-known-read
     (λ c. search auto)
+    -- enum-told
+    (λ c. search auto)
+    -- unspelled-name-requires
+    (λ c κs. search auto)
+    -- returns
+    (λ c. (member-no-string _ _ _ _ _ _ _ _ (name-handed _ _ _ (c .before .before .before .name .ensures) (c .before .enum-told .given .1) (c .unspelled-name .ensures)), noted-none _))
     -- add-spell-string
-    (λ c. omega (arith, name-closed (name-told _ _ _ _ _ (c .before .before .before .before .name .ensures) (c .before .before .next .given .1))))
+    (λ c. omega (arith, name-closed (name-told _ _ _ _ _ (c .before .before .before .before .name .ensures) (c .before .before .read .given .1))))
     -- spell-string-requires
-    (λ c κs. let k = name-closed (name-told _ _ _ _ _ (c .before .before .before .before .name .ensures) (c .before .before .next .given .1)) in (omega arith, omega arith, omega arith))
+    (λ c κs. let k = name-closed (name-told _ _ _ _ _ (c .before .before .before .before .name .ensures) (c .before .before .read .given .1)) in (omega arith, omega arith, omega arith))
     -- name-requires-2
     (λ c κs. search auto)
     -- key-requires
     (λ c κs. search auto)
     -- repeated-requires
     (λ c κs. search auto)
-    -- sub-t24
-    (λ c. omega (arith, name-closed (name-told _ _ _ _ _ (c .before .before .before .before .before .before .before .before .before .before .before .name .ensures) (c .before .before .before .before .before .before .before .before .before .next .given .1))))
+    -- sub-t21
+    (λ c. let asked = c .before .before in omega (arith, name-closed (name-told _ _ _ _ _ (asked .before .before .before .before .before .before .before .before .before .name .ensures) (asked .before .before .before .before .before .before .before .read .given .1))))
     -- same-length
     (λ c. search auto)
-    -- returns
-    (λ c. let lent = c .before .before .before .before .before .before .before .before .before .before .before .before .before .before .before .pre .0 in let r = name-told _ _ _ _ _ (c .before .before .before .before .before .before .before .before .before .before .before .name .ensures) (c .before .before .before .before .before .before .before .before .before .next .given .1) in let t = read-titles _ _ _ (lent .source<) (lent .short) r (c .before .before .before .before .before .before .spell-string .ensures) (c .before .before .before .before .before .name2 .ensures) in (member-repeated _ _ _ _ _ _ _ r _ _ (c .before .before .before .before .key .ensures) t _ (subst (RepeatedIs _ _ _ _ _ _ _) (c .before .if1 .taken) (c .before .before .repeated .ensures)), noted-none _))
+    -- returns-2
+    (λ c.
+    let asked = c .before .before in
+    let lent = asked .before .before .before .before .before .before .before .before .before .before .before .before .before .pre .0 in
+    let r = name-told _ _ _ _ _ (asked .before .before .before .before .before .before .before .before .before .name .ensures) (asked .before .before .before .before .before .before .before .read .given .1) in
+    let t = read-titles _ _ _ (lent .source<) (lent .short) r (asked .before .before .before .before .spell-string .ensures) (asked .before .before .before .name2 .ensures) in
+    (member-repeated _ _ _ _ _ _ _ r _ _ (asked .before .before .key .ensures) t _ (subst (RepeatedIs _ _ _ _ _ _ _) (c .before .if1 .taken) (asked .repeated .ensures)), noted-none _))
     -- insert-requires
     (λ c κs. search auto)
     -- colon-requires
     (λ c κs. search auto)
-    -- enum-known-first
+    -- enum-known-scan
     (λ c. search auto)
-    -- enum-known-number
+    -- enum-told-2
     (λ c. search auto)
-    -- enum-known-place
-    (λ c. search auto)
+    -- unspelled-requires
+    (λ c κs. search auto)
     -- same-length-2
     (λ c. search auto)
-    -- returns-2
-    (λ c. let lent = c .before .before .before .before .before .before .before .before .before .before .before .before .before .before .before .before .before .before .before .before .before .before .pre .0 in let r = name-told _ _ _ _ _ (c .before .before .before .before .before .before .before .before .before .before .before .before .before .before .before .before .before .before .name .ensures) (c .before .before .before .before .before .before .before .before .before .before .before .before .before .before .before .before .next .given .1) in let t = read-titles _ _ _ (lent .source<) (lent .short) r (c .before .before .before .before .before .before .before .before .before .before .before .before .before .spell-string .ensures) (c .before .before .before .before .before .before .before .before .before .before .before .before .name2 .ensures) in (member-read _ _ _ _ _ _ _ r _ _ (c .before .before .before .before .before .before .before .before .before .before .before .key .ensures) t _ (subst (RepeatedIs _ _ _ _ _ _ _) (c .before .before .before .before .before .before .before .before .if1 .left) (c .before .before .before .before .before .before .before .before .before .repeated .ensures)) _ (to-ok _ (c .before .before .before .colon .ensures) (c .before .first .given .1)) (c .before .before .before .before .before .before .insert .ensures .here (omega (arith, lent .values-long))), noted-key (c .before .before .before .before .before .before .insert .ensures)))
+    -- returns-3
+    (λ c.
+    let asked = c .before .before .before .before .before .before .before .before .before in
+    let lent = asked .before .before .before .before .before .before .before .before .before .before .before .before .before .pre .0 in
+    let r = name-told _ _ _ _ _ (asked .before .before .before .before .before .before .before .before .before .name .ensures) (asked .before .before .before .before .before .before .before .read .given .1) in
+    let t = read-titles _ _ _ (lent .source<) (lent .short) r (asked .before .before .before .before .spell-string .ensures) (asked .before .before .before .name2 .ensures) in
+    let new = subst (RepeatedIs _ _ _ _ _ _ _) (c .before .before .before .before .before .before .before .before .if1 .left) (asked .repeated .ensures) in
+    (member-no-colon _ _ _ _ _ _ _ r _ _ (asked .before .before .key .ensures) t _ new (scan-handed _ _ (c .before .before .before .colon .ensures) (c .before .enum-told2 .given .1) (c .unspelled .ensures)), noted-key (c .before .before .before .before .before .before .insert .ensures)))
     -- same-length-3
     (λ c. search auto)
-    -- returns-3
-    (λ c. let lent = c .before .before .before .before .before .before .before .before .before .before .before .before .before .before .before .before .before .before .before .before .before .before .pre .0 in let r = name-told _ _ _ _ _ (c .before .before .before .before .before .before .before .before .before .before .before .before .before .before .before .before .before .before .name .ensures) (c .before .before .before .before .before .before .before .before .before .before .before .before .before .before .before .before .next .given .1) in let t = read-titles _ _ _ (lent .source<) (lent .short) r (c .before .before .before .before .before .before .before .before .before .before .before .before .before .spell-string .ensures) (c .before .before .before .before .before .before .before .before .before .before .before .before .name2 .ensures) in (member-no-colon _ _ _ _ _ _ _ r _ _ (c .before .before .before .before .before .before .before .before .before .before .before .key .ensures) t _ (subst (RepeatedIs _ _ _ _ _ _ _) (c .before .before .before .before .before .before .before .before .if1 .left) (c .before .before .before .before .before .before .before .before .before .repeated .ensures)) _ _ (scan-refused _ _ (c .before .before .before .colon .ensures) (c .before .number .given .1)), noted-key (c .before .before .before .before .before .before .insert .ensures)))
     -- returns-4
-    (λ c. (member-no-string _ _ _ _ _ _ _ _ _ (name-untold _ _ _ (c .before .before .before .name .ensures) (c .before .place .given .1)), noted-none _)))
+    (λ c.
+    let asked = c .before .before .before .before .before .before .before .before .before in
+    let lent = asked .before .before .before .before .before .before .before .before .before .before .before .before .before .pre .0 in
+    let r = name-told _ _ _ _ _ (asked .before .before .before .before .before .before .before .before .before .name .ensures) (asked .before .before .before .before .before .before .before .read .given .1) in
+    let t = read-titles _ _ _ (lent .source<) (lent .short) r (asked .before .before .before .before .spell-string .ensures) (asked .before .before .before .name2 .ensures) in
+    let new = subst (RepeatedIs _ _ _ _ _ _ _) (c .before .before .before .before .before .before .before .before .if1 .left) (asked .repeated .ensures) in
+    (member-read _ _ _ _ _ _ _ r _ _ (asked .before .before .key .ensures) t _ new _ (to-ok _ (c .before .before .before .colon .ensures) (c .before .scan .given .1)) (c .before .before .before .before .before .before .insert .ensures .here (omega (arith, lent .values-long))), noted-key (c .before .before .before .before .before .before .insert .ensures))))

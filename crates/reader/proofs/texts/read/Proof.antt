@@ -14,27 +14,37 @@ read-spec =
     (λ c κs. search auto)
     -- value-requires
     (λ c κs. let p = c .before .before .before .before .before .before .pre in (p .0, (rw (c .before .before .blanks .ensures) (blanks-within _ 0 (omega arith)), omega arith, omega arith, p .1)))
-    -- enum-known-next
+    -- enum-known-r
     (λ c. search auto)
-    -- blanks-requires-2
-    (λ c κs. search auto)
+    -- enum-told
+    (λ c. search auto)
     -- same-length
     (λ c. search auto)
     -- same-length-2
     (λ c. search auto)
     -- returns
-    (λ c. let p = c .before .before .before .before .before .before .before .before .before .before .before .before .before .before .before .before .before .pre in text-whole _ _ (c .before .before .before .before .before .before .before .before .before .before .before .before .before .blanks .ensures) (c .before .before .before .before .before .before .before .before .before .before .value .ensures) _ _ _ (c .before .before .before .before .next .given .1) (c .before .before .blanks2 .ensures) _ refl (c .if1 .taken) (p .1) (omega (arith, p .0 .values-long, c .before .before .before .before .before .before .before .before .before .before .value .kept .1 .1 .1 .1 .1 .1 .1 .0)) (omega (arith, p .0 .names-long, c .before .before .before .before .before .before .before .before .before .before .value .kept .1 .1 .1 .1 .1 .1 .1 .1 .0)))
-    -- enum-known-number
-    (λ c. search auto)
+    (λ c.
+    let call = c .before .before .before .before .before .before in
+    text-unread _ _ (call .before .before .before .blanks .ensures) (call .value .ensures) _ _ (c .enum-told .given .1))
+    -- blanks-requires-2
+    (λ c κs. search auto)
     -- same-length-3
     (λ c. search auto)
     -- same-length-4
     (λ c. search auto)
     -- returns-2
-    (λ c. text-more _ _ (c .before .before .before .before .before .before .before .before .before .before .before .before .before .blanks .ensures) (c .before .before .before .before .before .before .before .before .before .before .value .ensures) _ _ _ (c .before .before .before .before .next .given .1) (c .before .before .blanks2 .ensures) (c .if1 .left))
+    (λ c.
+    let taken = c .before .before .before .before in
+    let call = taken .before .before .before .before .before .before in
+    let p = call .before .before .before .before .before .before .before .pre in
+    text-whole _ _ (call .before .before .before .blanks .ensures) (call .value .ensures) _ _ _ (taken .r .given .1) (c .before .before .blanks2 .ensures) _ refl (c .if1 .taken) (p .1)
+    (omega (arith, p .0 .values-long, call .value .kept .1 .1 .1 .1 .1 .1 .1 .0)) (omega (arith, p .0 .names-long, call .value .kept .1 .1 .1 .1 .1 .1 .1 .1 .0)))
     -- same-length-5
     (λ c. search auto)
     -- same-length-6
     (λ c. search auto)
     -- returns-3
-    (λ c. text-unread _ _ (c .before .before .before .before .before .before .before .before .before .before .blanks .ensures) (c .before .before .before .before .before .before .before .value .ensures) _ _ (c .before .number .given .1)))
+    (λ c.
+    let taken = c .before .before .before .before in
+    let call = taken .before .before .before .before .before .before in
+    text-more _ _ (call .before .before .before .blanks .ensures) (call .value .ensures) _ _ _ (taken .r .given .1) (c .before .before .blanks2 .ensures) (c .if1 .left)))

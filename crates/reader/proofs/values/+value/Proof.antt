@@ -1,7 +1,7 @@
 -- `value` meets its contract: a container's items so far stand in the rows behind its own, and the measure of the loop is what is left of the text.
 use Prim.Native.Nat.{ℕ, _+_, _-_, _<_, _≤_}
 use native.Mathlib.Omega.{arith}
-use mathlib.Core.Path.{_≡_, refl, sym, ap, _∙_}
+use mathlib.Core.Path.{_≡_, refl, ap, _∙_}
 use lib.ListN.{length}
 use borrow.Author.Needs.{needs}
 use borrow.Fn.Kinds.{In}
@@ -69,42 +69,96 @@ pub +value-spec : {M : Type 1} → statement M
     -- returns
     (λ c. value-way-refused _ _ _ _ (c .before .before .beginning .ensures ∙ ap beginning (c .before .before .before .peek .ensures)) (c .before .refusal .ensures) (c .if1 .taken))
     -- scalar-value-requires
-    (λ c κs. let p = c .before .before .before .before .before .before .before .before .before .before .pre .1 in let b = begun _ _ _ _ _ _ _ (c .before .before .before .before .before .beginning .ensures ∙ ap beginning (c .before .before .before .before .before .before .peek .ensures)) (c .before .before .before .before .refusal .ensures) (p .1 .1) (c .before .before .before .if1 .left) in (p .0, (value-starts b, c .before .before .if2 .taken, omega (arith, value-fits b, p .1))))
+    (λ c κs.
+    let passed = c .before .before .before in
+    let p = passed .before .before .before .before .before .before .before .pre .1 in
+    let b = begun _ _ _ _ _ _ _ (passed .before .before .beginning .ensures ∙ ap beginning (passed .before .before .before .peek .ensures)) (passed .before .refusal .ensures) (p .1 .1) (passed .if1 .left) in
+    (p .0, (value-starts b, c .before .before .if2 .taken, omega (arith, value-fits b, p .1))))
     -- same-length
     (λ c. search needs)
     -- same-length-2
     (λ c. search needs)
     -- returns-2
-    (λ c. let p = c .before .before .before .before .before .before .before .before .before .before .before .before .before .before .before .pre .1 in let b = begun _ _ _ _ _ _ _ (c .before .before .before .before .before .before .before .before .before .before .beginning .ensures ∙ ap beginning (c .before .before .before .before .before .before .before .before .before .before .before .peek .ensures)) (c .before .before .before .before .before .before .before .before .before .refusal .ensures) (p .1 .1) (c .before .before .before .before .before .before .before .before .if1 .left) in value-way-scalar b (c .before .before .before .before .before .before .before .if2 .taken) (c .before .before .before .before .scalar-value .ensures))
-    -- add-t29
-    (λ c. let p = c .before .before .before .before .before .before .before .before .before .pre .1 in let b = begun _ _ _ _ _ _ _ (c .before .before .before .before .beginning .ensures ∙ ap beginning (c .before .before .before .before .before .peek .ensures)) (c .before .before .before .refusal .ensures) (p .1 .1) (c .before .before .if1 .left) in omega (arith, value-starts b))
+    (λ c.
+    let passed = c .before .before .before .before .before .before .before .before in
+    let p = passed .before .before .before .before .before .before .before .pre .1 in
+    let b = begun _ _ _ _ _ _ _ (passed .before .before .beginning .ensures ∙ ap beginning (passed .before .before .before .peek .ensures)) (passed .before .refusal .ensures) (p .1 .1) (passed .if1 .left) in
+    value-way-scalar b (c .before .before .before .before .before .before .before .if2 .taken) (c .before .before .before .before .scalar-value .ensures))
+    -- add-t28
+    (λ c.
+    let passed = c .before .before in
+    let p = passed .before .before .before .before .before .before .before .pre .1 in
+    let b = begun _ _ _ _ _ _ _ (passed .before .before .beginning .ensures ∙ ap beginning (passed .before .before .before .peek .ensures)) (passed .before .refusal .ensures) (p .1 .1) (passed .if1 .left) in
+    omega (arith, value-starts b))
     -- add-end
     (λ c. search needs)
     -- loop-holds
-    (λ c. let p = c .before .before .before .before .before .before .before .before .before .pre .1 in let b = begun _ _ _ _ _ _ _ (c .before .before .before .before .beginning .ensures ∙ ap beginning (c .before .before .before .before .before .peek .ensures)) (c .before .before .before .refusal .ensures) (p .1 .1) (c .before .before .if1 .left) in let l = value-starts b in let m = value-fits b in (omega arith, omega arith, omega arith, omega arith, refl, refl, filling-none _ _ _ _ _ _ _ _ _ (omega arith) (omega arith)))
+    (λ c.
+    let passed = c .before .before in
+    let p = passed .before .before .before .before .before .before .before .pre .1 in
+    let b = begun _ _ _ _ _ _ _ (passed .before .before .beginning .ensures ∙ ap beginning (passed .before .before .before .peek .ensures)) (passed .before .refusal .ensures) (p .1 .1) (passed .if1 .left) in
+    let l = value-starts b in
+    let m = value-fits b in
+    (omega arith, omega arith, omega arith, omega arith, refl, refl, filling-none _ _ _ _ _ _ _ _ _ (omega arith) (omega arith)))
     -- next-item-requires
-    (λ c κs. let p = c .before .before .before .before .before .before .before .before .before .before .before .before .pre .1 in let i = c .before .before .loop .inv in (record { source< = p .0 .source<; short = p .0 .short; values-long = omega (arith, p .0 .values-long, i); names-long = omega (arith, p .0 .names-long, i) }, (omega (arith, i), omega (arith, i, p .1))))
+    (λ c κs.
+    let p = c .before .before .before .before .before .before .before .before .before .before .before .before .pre .1 in
+    let i = c .before .before .loop .inv in
+    (record { source< = p .0 .source<; short = p .0 .short; values-long = omega (arith, p .0 .values-long, i); names-long = omega (arith, p .0 .names-long, i) }, (omega (arith, i), omega (arith, i, p .1))))
     -- enum-known-first
     (λ c. search needs)
     -- sub-value
-    (λ c. let p = c .before .before .before .before .before .before .before .before .before .before .before .before .before .before .before .before .before .before .pre .1 in let b = begun _ _ _ _ _ _ _ (c .before .before .before .before .before .before .before .before .before .before .before .before .before .beginning .ensures ∙ ap beginning (c .before .before .before .before .before .before .before .before .before .before .before .before .before .before .peek .ensures)) (c .before .before .before .before .before .before .before .before .before .before .before .before .refusal .ensures) (p .1 .1) (c .before .before .before .before .before .before .before .before .before .before .before .if1 .left) in omega (arith, value-levels b (c .before .before .before .before .before .before .before .before .before .before .if2 .left)))
+    (λ c.
+    let passed = c .before .before .before .before .before .before .before .before .before .before .before in
+    let p = passed .before .before .before .before .before .before .before .pre .1 in
+    let b = begun _ _ _ _ _ _ _ (passed .before .before .beginning .ensures ∙ ap beginning (passed .before .before .before .peek .ensures)) (passed .before .refusal .ensures) (p .1 .1) (passed .if1 .left) in
+    omega (arith, value-levels b (c .before .before .before .before .before .before .before .before .before .before .if2 .left)))
     -- value-requires
-    (λ c κs. let p = c .before .before .before .before .before .before .before .before .before .before .before .before .before .before .before .before .before .before .before .before .pre .1 in let b = begun _ _ _ _ _ _ _ (c .before .before .before .before .before .before .before .before .before .before .before .before .before .before .before .beginning .ensures ∙ ap beginning (c .before .before .before .before .before .before .before .before .before .before .before .before .before .before .before .before .peek .ensures)) (c .before .before .before .before .before .before .before .before .before .before .before .before .before .before .refusal .ensures) (p .1 .1) (c .before .before .before .before .before .before .before .before .before .before .before .before .before .if1 .left) in let i = c .before .before .before .before .before .before .before .before .before .before .loop .inv in let f = filling-begins _ _ _ _ _ _ _ (i .6) (i .1) (p .1 .1) (c .before .before .before .before .before .before .before .next-item .ensures .0) (c .before .before .before .before .before .before .before .next-item .ensures .1) _ _ (c .before .before .before .first .given .1) in (omega (arith, c .before .before .before .before .before .before .before .before .before .before .before .before .before .before .before .before .before .before .before .before .pre .0, value-levels b (c .before .before .before .before .before .before .before .before .before .before .before .before .if2 .left)), (record { source< = p .0 .source<; short = p .0 .short; values-long = omega (arith, p .0 .values-long, i .4, c .before .before .before .before .before .before .before .next-item .kept .1 .1 .1 .1 .1 .1 .0); names-long = omega (arith, p .0 .names-long, i .5) }, (f .1, omega (arith, i .2, p .1 .1), i .3, p .1 .3))))
-    -- enum-known-after
+    (λ c κs.
+    let turn = c .before .before .before .before .before .before .before in
+    let passed = turn .before .before .before .before .before .before in
+    let p = passed .before .before .before .before .before .before .before .pre .1 in
+    let b = begun _ _ _ _ _ _ _ (passed .before .before .beginning .ensures ∙ ap beginning (passed .before .before .before .peek .ensures)) (passed .before .refusal .ensures) (p .1 .1) (passed .if1 .left) in
+    let i = turn .before .before .before .loop .inv in
+    let f = filling-begins _ _ _ _ _ _ _ (i .6) (i .1) (p .1 .1) (turn .next-item .ensures .0) (turn .next-item .ensures .1) _ _ (c .before .before .before .first .given .1) in
+    (omega (arith, passed .before .before .before .before .before .before .before .pre .0, value-levels b (turn .before .before .before .before .before .if2 .left)), (record { source< = p .0 .source<; short = p .0 .short; values-long = omega (arith, p .0 .values-long, i .4, turn .next-item .kept .1 .1 .1 .1 .1 .1 .0); names-long = omega (arith, p .0 .names-long, i .5) }, (f .1, omega (arith, i .2, p .1 .1), i .3, p .1 .3))))
+    -- enum-known-r
     (λ c. search needs)
-    -- loop-less
-    (λ c. let p = c .before .before .before .before .before .before .before .before .before .before .before .before .before .before .before .before .before .before .before .before .before .before .before .before .before .before .before .before .pre .1 in let b = begun _ _ _ _ _ _ _ (c .before .before .before .before .before .before .before .before .before .before .before .before .before .before .before .before .before .before .before .before .before .before .before .beginning .ensures ∙ ap beginning (c .before .before .before .before .before .before .before .before .before .before .before .before .before .before .before .before .before .before .before .before .before .before .before .before .peek .ensures)) (c .before .before .before .before .before .before .before .before .before .before .before .before .before .before .before .before .before .before .before .before .before .before .refusal .ensures) (p .1 .1) (c .before .before .before .before .before .before .before .before .before .before .before .before .before .before .before .before .before .before .before .before .before .if1 .left) in let i = c .before .before .before .before .before .before .before .before .before .before .before .before .before .before .before .before .before .before .loop .inv in let n = filling-next _ _ _ _ _ _ _ (i .6) (i .1) (p .1 .1) (c .before .before .before .before .before .before .before .before .before .before .before .before .before .before .before .next-item .ensures .0) (c .before .before .before .before .before .before .before .before .before .before .before .before .before .before .before .next-item .ensures .1) _ _ (c .before .before .before .before .before .before .before .before .before .before .before .first .given .1) (c .before .before .before .before .before .before .before .value .ensures) _ _ (c .before .after .given .1) in let f = filling-begins _ _ _ _ _ _ _ (i .6) (i .1) (p .1 .1) (c .before .before .before .before .before .before .before .before .before .before .before .before .before .before .before .next-item .ensures .0) (c .before .before .before .before .before .before .before .before .before .before .before .before .before .before .before .next-item .ensures .1) _ _ (c .before .before .before .before .before .before .before .before .before .before .before .first .given .1) in omega (arith, n .0, f))
-    -- loop-again
-    (λ c. let p = c .before .before .before .before .before .before .before .before .before .before .before .before .before .before .before .before .before .before .before .before .before .before .before .before .before .before .before .before .pre .1 in let b = begun _ _ _ _ _ _ _ (c .before .before .before .before .before .before .before .before .before .before .before .before .before .before .before .before .before .before .before .before .before .before .before .beginning .ensures ∙ ap beginning (c .before .before .before .before .before .before .before .before .before .before .before .before .before .before .before .before .before .before .before .before .before .before .before .before .peek .ensures)) (c .before .before .before .before .before .before .before .before .before .before .before .before .before .before .before .before .before .before .before .before .before .before .refusal .ensures) (p .1 .1) (c .before .before .before .before .before .before .before .before .before .before .before .before .before .before .before .before .before .before .before .before .before .if1 .left) in let i = c .before .before .before .before .before .before .before .before .before .before .before .before .before .before .before .before .before .before .loop .inv in let n = filling-next _ _ _ _ _ _ _ (i .6) (i .1) (p .1 .1) (c .before .before .before .before .before .before .before .before .before .before .before .before .before .before .before .next-item .ensures .0) (c .before .before .before .before .before .before .before .before .before .before .before .before .before .before .before .next-item .ensures .1) _ _ (c .before .before .before .before .before .before .before .before .before .before .before .first .given .1) (c .before .before .before .before .before .before .before .value .ensures) _ _ (c .before .after .given .1) in let f = filling-begins _ _ _ _ _ _ _ (i .6) (i .1) (p .1 .1) (c .before .before .before .before .before .before .before .before .before .before .before .before .before .before .before .next-item .ensures .0) (c .before .before .before .before .before .before .before .before .before .before .before .before .before .before .before .next-item .ensures .1) _ _ (c .before .before .before .before .before .before .before .before .before .before .before .first .given .1) in (omega (arith, n .0, f, i .0), n .0 .inside, omega (arith, n .0, i .2), n .0 .room, c .before .before .before .before .before .before .before .value .kept .1 .1 .1 .1 .1 .1 .1 .0 ∙ c .before .before .before .before .before .before .before .before .before .before .before .before .before .before .before .next-item .kept .1 .1 .1 .1 .1 .1 .0 ∙ i .4, c .before .before .before .before .before .before .before .value .kept .1 .1 .1 .1 .1 .1 .1 .1 .0 ∙ i .5, n .1))
-    -- enum-known-number
+    -- enum-told
     (λ c. search needs)
     -- same-length-3
     (λ c. search needs)
     -- same-length-4
     (λ c. search needs)
     -- returns-3
-    (λ c. let p = c .before .before .before .before .before .before .before .before .before .before .before .before .before .before .before .before .before .before .before .before .before .before .before .before .before .before .before .before .pre .1 in let b = begun _ _ _ _ _ _ _ (c .before .before .before .before .before .before .before .before .before .before .before .before .before .before .before .before .before .before .before .before .before .before .before .beginning .ensures ∙ ap beginning (c .before .before .before .before .before .before .before .before .before .before .before .before .before .before .before .before .before .before .before .before .before .before .before .before .peek .ensures)) (c .before .before .before .before .before .before .before .before .before .before .before .before .before .before .before .before .before .before .before .before .before .before .refusal .ensures) (p .1 .1) (c .before .before .before .before .before .before .before .before .before .before .before .before .before .before .before .before .before .before .before .before .before .if1 .left) in let i = c .before .before .before .before .before .before .before .before .before .before .before .before .before .before .before .before .before .before .loop .inv in let r = filling-refused _ _ _ _ _ _ _ (i .6) (i .1) (p .1 .1) (c .before .before .before .before .before .before .before .before .before .before .before .before .before .before .before .next-item .ensures .0) (c .before .before .before .before .before .before .before .before .before .before .before .before .before .before .before .next-item .ensures .1) _ _ (c .before .before .before .before .before .before .before .before .before .before .before .first .given .1) (c .before .before .before .before .before .before .before .value .ensures) _ _ (c .before .number .given .1) (i .3) in value-way-items b (c .before .before .before .before .before .before .before .before .before .before .before .before .before .before .before .before .before .before .before .before .if2 .left) _ _ _ (omega arith) (r .0) (r .1))
-    -- enum-known-after-2
+    (λ c.
+    let call = c .before .before .before .before .before .before in
+    let turn = call .before .before .before .before .before .before .before .before in
+    let passed = turn .before .before .before .before .before .before in
+    let p = passed .before .before .before .before .before .before .before .pre .1 in
+    let b = begun _ _ _ _ _ _ _ (passed .before .before .beginning .ensures ∙ ap beginning (passed .before .before .before .peek .ensures)) (passed .before .refusal .ensures) (p .1 .1) (passed .if1 .left) in
+    let i = turn .before .before .before .loop .inv in
+    let r = filling-refused _ _ _ _ _ _ _ (i .6) (i .1) (p .1 .1) (turn .next-item .ensures .0) (turn .next-item .ensures .1) _ _ (call .before .before .before .before .first .given .1) (call .value .ensures) _ _ (c .enum-told .given .1) (i .3) in
+    value-way-items b (turn .before .before .before .before .before .if2 .left) _ _ _ (c .enum-told .given .1) (omega arith) (r .0) (r .1))
+    -- loop-less
+    (λ c.
+    let call = c .before .before .before .before .before .before .before in
+    let turn = call .before .before .before .before .before .before .before .before in
+    let p = turn .before .before .before .before .before .before .before .before .before .before .before .before .before .pre .1 in
+    let i = turn .before .before .before .loop .inv in
+    let n = filling-next _ _ _ _ _ _ _ (i .6) (i .1) (p .1 .1) (turn .next-item .ensures .0) (turn .next-item .ensures .1) _ _ (call .before .before .before .before .first .given .1) (call .value .ensures) _ _ (c .before .r .given .1) in
+    let f = filling-begins _ _ _ _ _ _ _ (i .6) (i .1) (p .1 .1) (turn .next-item .ensures .0) (turn .next-item .ensures .1) _ _ (call .before .before .before .before .first .given .1) in
+    omega (arith, n .0, f))
+    -- loop-again
+    (λ c.
+    let call = c .before .before .before .before .before .before .before in
+    let turn = call .before .before .before .before .before .before .before .before in
+    let p = turn .before .before .before .before .before .before .before .before .before .before .before .before .before .pre .1 in
+    let i = turn .before .before .before .loop .inv in
+    let n = filling-next _ _ _ _ _ _ _ (i .6) (i .1) (p .1 .1) (turn .next-item .ensures .0) (turn .next-item .ensures .1) _ _ (call .before .before .before .before .first .given .1) (call .value .ensures) _ _ (c .before .r .given .1) in
+    let f = filling-begins _ _ _ _ _ _ _ (i .6) (i .1) (p .1 .1) (turn .next-item .ensures .0) (turn .next-item .ensures .1) _ _ (call .before .before .before .before .first .given .1) in
+    (omega (arith, n .0, f, i .0), n .0 .inside, omega (arith, n .0, i .2), n .0 .room, call .value .kept .1 .1 .1 .1 .1 .1 .1 .0 ∙ turn .next-item .kept .1 .1 .1 .1 .1 .1 .0 ∙ i .4, call .value .kept .1 .1 .1 .1 .1 .1 .1 .1 .0 ∙ i .5, n .1))
+    -- enum-known-after
     (λ c. search needs)
     -- sub-put
     (λ c. search needs)
@@ -117,12 +171,31 @@ pub +value-spec : {M : Type 1} → statement M
     -- same-length-6
     (λ c. search needs)
     -- returns-4
-    (λ c. let p = c .before .before .before .before .before .before .before .before .before .before .before .before .before .before .before .before .before .before .before .before .before .before .before .before .before .pre .1 in let b = begun _ _ _ _ _ _ _ (c .before .before .before .before .before .before .before .before .before .before .before .before .before .before .before .before .before .before .before .before .beginning .ensures ∙ ap beginning (c .before .before .before .before .before .before .before .before .before .before .before .before .before .before .before .before .before .before .before .before .before .peek .ensures)) (c .before .before .before .before .before .before .before .before .before .before .before .before .before .before .before .before .before .before .before .refusal .ensures) (p .1 .1) (c .before .before .before .before .before .before .before .before .before .before .before .before .before .before .before .before .before .before .if1 .left) in let i = c .before .before .before .before .before .before .before .before .before .before .before .before .before .before .before .loop .inv in let z = filling-closed _ _ _ _ _ _ _ (i .6) (i .1) (p .1 .1) (c .before .before .before .before .before .before .before .before .before .before .before .before .next-item .ensures .0) (c .before .before .before .before .before .before .before .before .before .before .before .before .next-item .ensures .1) _ (c .before .before .before .before .before .before .before .before .after2 .given .1) in value-way-closed b (c .before .before .before .before .before .before .before .before .before .before .before .before .before .before .before .before .before .if2 .left) _ _ (z .0) (record { past = omega (arith, z, i .0); inside = z .2; grows = i .2; room = i .3 }) (p .1 .3) (omega (arith, p .0 .values-long, i .4, c .before .before .before .before .before .before .before .before .before .before .before .before .next-item .kept .1 .1 .1 .1 .1 .1 .0)) (omega (arith, p .0 .names-long, i .5)) (filled-so-far _ _ _ _ _ _ _ (i .6) (i .1) (p .1 .1) (c .before .before .before .before .before .before .before .before .before .before .before .before .next-item .ensures .0) (c .before .before .before .before .before .before .before .before .before .before .before .before .next-item .ensures .1)) (changed-so-far _ _ _ _ _ _ _ (i .6) (i .1) (p .1 .1) (c .before .before .before .before .before .before .before .before .before .before .before .before .next-item .ensures .0) (c .before .before .before .before .before .before .before .before .before .before .before .before .next-item .ensures .1)) (c .before .before .before .before .put .ensures .0) (c .before .before .before .before .put .ensures .1))
-    -- enum-known-number-2
+    (λ c.
+    let turn = c .before .before .before .before .before .before .before .before .before .before .before .before in
+    let passed = turn .before .before .before .before .before .before in
+    let p = passed .before .before .before .before .before .before .before .pre .1 in
+    let b = begun _ _ _ _ _ _ _ (passed .before .before .beginning .ensures ∙ ap beginning (passed .before .before .before .peek .ensures)) (passed .before .refusal .ensures) (p .1 .1) (passed .if1 .left) in
+    let i = turn .before .before .before .loop .inv in
+    let z = filling-closed _ _ _ _ _ _ _ (i .6) (i .1) (p .1 .1) (turn .next-item .ensures .0) (turn .next-item .ensures .1) _ (c .before .before .before .before .before .before .before .before .after .given .1) in
+    value-way-closed b (turn .before .before .before .before .before .if2 .left) _ _ (z .0) (record { past = omega (arith, z, i .0); inside = z .2; grows = i .2; room = i .3 }) (p .1 .3)
+    (omega (arith, p .0 .values-long, i .4, turn .next-item .kept .1 .1 .1 .1 .1 .1 .0)) (omega (arith, p .0 .names-long, i .5))
+    (filled-so-far _ _ _ _ _ _ _ (i .6) (i .1) (p .1 .1) (turn .next-item .ensures .0) (turn .next-item .ensures .1))
+    (changed-so-far _ _ _ _ _ _ _ (i .6) (i .1) (p .1 .1) (turn .next-item .ensures .0) (turn .next-item .ensures .1))
+    (c .before .before .before .before .put .ensures .0) (c .before .before .before .before .put .ensures .1))
+    -- enum-known-number
     (λ c. search needs)
     -- same-length-7
     (λ c. search needs)
     -- same-length-8
     (λ c. search needs)
     -- returns-5
-    (λ c. let p = c .before .before .before .before .before .before .before .before .before .before .before .before .before .before .before .before .before .before .pre .1 in let b = begun _ _ _ _ _ _ _ (c .before .before .before .before .before .before .before .before .before .before .before .before .before .beginning .ensures ∙ ap beginning (c .before .before .before .before .before .before .before .before .before .before .before .before .before .before .peek .ensures)) (c .before .before .before .before .before .before .before .before .before .before .before .before .refusal .ensures) (p .1 .1) (c .before .before .before .before .before .before .before .before .before .before .before .if1 .left) in let i = c .before .before .before .before .before .before .before .before .loop .inv in value-way-items b (c .before .before .before .before .before .before .before .before .before .before .if2 .left) _ _ _ (i .3) (filling-unread _ _ _ _ _ _ _ (i .6) (i .1) (p .1 .1) (c .before .before .before .before .before .next-item .ensures .0) (c .before .before .before .before .before .next-item .ensures .1) _ _ (c .before .number2 .given .1)) (changed-so-far _ _ _ _ _ _ _ (i .6) (i .1) (p .1 .1) (c .before .before .before .before .before .next-item .ensures .0) (c .before .before .before .before .before .next-item .ensures .1)))
+    (λ c.
+    let turn = c .before .before .before .before .before in
+    let passed = turn .before .before .before .before .before .before in
+    let p = passed .before .before .before .before .before .before .before .pre .1 in
+    let b = begun _ _ _ _ _ _ _ (passed .before .before .beginning .ensures ∙ ap beginning (passed .before .before .before .peek .ensures)) (passed .before .refusal .ensures) (p .1 .1) (passed .if1 .left) in
+    let i = turn .before .before .before .loop .inv in
+    value-way-items b (turn .before .before .before .before .before .if2 .left) _ _ _ refl (i .3)
+    (filling-unread _ _ _ _ _ _ _ (i .6) (i .1) (p .1 .1) (turn .next-item .ensures .0) (turn .next-item .ensures .1) _ _ (c .before .number .given .1))
+    (changed-so-far _ _ _ _ _ _ _ (i .6) (i .1) (p .1 .1) (turn .next-item .ensures .0) (turn .next-item .ensures .1)))

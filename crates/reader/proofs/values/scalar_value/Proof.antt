@@ -1,5 +1,4 @@
 use Rattle.lexer.proofs.Auto.{auto}
-use borrow.Author.Needs.{needs}
 use native.Mathlib.Omega.{arith}
 use Rattle.reader.proofs.ReadingLaws.{scalar-taken, scalar-refusal}
 use Rattle.reader.proofs.values.scalar_value.Statement.{statement}
@@ -11,19 +10,23 @@ scalar-value-spec =
     (tie.spec
     -- scalar-requires
     (λ c κs. search auto)
-    -- enum-known-next
+    -- enum-known-word
     (λ c. search auto)
+    -- enum-told
+    (λ c. search auto)
+    -- read-to-requires
+    (λ c κs. search auto)
+    -- returns
+    (λ c. scalar-refusal (omega arith) (omega arith) (c .before .before .before .scalar .ensures) _ _ _ (c .before .enum-told .given .1) (c .read-to .ensures))
     -- put-requires
     (λ c κs. search auto)
-    -- add-t20
-    (λ c. search auto)
-    -- enum-known-number
+    -- add-t17
     (λ c. search auto)
     -- same-length
     (λ c. search auto)
     -- same-length-2
     (λ c. search auto)
-    -- returns
-    (λ c. scalar-taken (omega arith) (omega arith) (c .before .before .before .before .before .before .before .before .before .before .scalar .ensures) _ _ (c .before .before .before .before .before .before .before .before .next .given .1) (omega arith) (omega arith) (omega arith) (c .before .before .before .before .put .ensures .0) (c .before .before .before .before .put .ensures .1))
     -- returns-2
-    (λ c. scalar-refusal (omega arith) (omega arith) (c .before .before .before .scalar .ensures) _ _ (c .before .number .given .1)))
+    (λ c.
+    let taken = c .before .before .before .before .before .before .before .before in
+    scalar-taken (omega arith) (omega arith) (taken .before .before .scalar .ensures) _ _ (taken .word .given .1) (omega arith) (omega arith) (omega arith) (c .before .before .before .before .put .ensures .0) (c .before .before .before .before .put .ensures .1)))
