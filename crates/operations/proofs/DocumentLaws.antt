@@ -1,0 +1,1 @@
+-- Laws of the document in the table, and of a change at a location.
