@@ -65,7 +65,7 @@ segments-some (c ∷ t) = go (eqb c (code "/")) (segments-some t)
     go true (a, l, e) = ([], segments t, refl)
     go false (a, l, e) = (c ∷ a, l, ap (prepend c) e)
 
-some-token : {C : Type 0} (s : Bytes) (at : ℕ) (ts : Tokens) → tokensFrom s at ≡ ok ts → ((t : Text) (us : Tokens) → ts ≡ t ∷ us → C) → C
+pub some-token : {C : Type 0} (s : Bytes) (at : ℕ) (ts : Tokens) → tokensFrom s at ≡ ok ts → ((t : Text) (us : Tokens) → ts ≡ t ∷ us → C) → C
 unfolding tokensFrom
 some-token s at ts h then-it =
     let (a, l, e) = segments-some (decodeFrom s at) in

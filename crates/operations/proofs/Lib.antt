@@ -5,3 +5,7 @@ pub mod PutLaws
 pub mod MeantLaws
 pub mod ChangeLaws
 pub mod AlterLaws
+pub mod DocumentLaws
+pub mod TransferLaws
+pub mod PerformLaws
+pub mod RunLaws

@@ -1,0 +1,1 @@
+-- Laws of one operation of the patch.

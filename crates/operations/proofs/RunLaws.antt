@@ -1,0 +1,1 @@
+-- Laws of the operations of a patch, one after another.

@@ -1,0 +1,1 @@
+-- Laws of a value that is set aside and added at another location.
