@@ -1,4 +1,48 @@
+use borrow.Author.Needs.{needs}
 use Rattle.operations.proofs.perform.with_from.Statement.{statement}
+use Rattle.operations.proofs.perform.with_from.Tie as tie
 
 pub with-from-spec : {M : Type 1} → statement M
-with-from-spec = ?later
+with-from-spec =
+    tie.close
+    (tie.spec
+    -- enum-told
+    (λ c. search needs)
+    -- returns
+    (λ c. ?returns)
+    -- enum-told-2
+    (λ c. search needs)
+    -- returns-2
+    (λ c. ?returns-2)
+    -- enum-told-3
+    (λ c. search needs)
+    -- returns-3
+    (λ c. ?returns-3)
+    -- enum-told-4
+    (λ c. search needs)
+    -- move-to-requires
+    (λ c κs. search needs)
+    -- same-length
+    (λ c. search needs)
+    -- same-length-2
+    (λ c. search needs)
+    -- returns-4
+    (λ c. ?returns-4)
+    -- enum-told-5
+    (λ c. search needs)
+    -- copy-requires
+    (λ c κs. search needs)
+    -- same-length-3
+    (λ c. search needs)
+    -- same-length-4
+    (λ c. search needs)
+    -- returns-5
+    (λ c. ?returns-5)
+    -- enum-told-6
+    (λ c. search needs)
+    -- returns-6
+    (λ c. ?returns-6)
+    -- enum-told-7
+    (λ c. search needs)
+    -- returns-7
+    (λ c. ?returns-7))
