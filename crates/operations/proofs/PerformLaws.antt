@@ -11,7 +11,7 @@ use Rattle.spec.specs.Limits.{maxDepth, maxNodes}
 use Rattle.spec.specs.Bytes.{Bytes, Text, ascii}
 use Rattle.spec.specs.Forest.{Forest, size}
 use Rattle.spec.specs.Value as Value
-use Rattle.spec.specs.Value.{depth, isObject}
+use Rattle.spec.specs.Value.{depth, nodes, isObject}
 use Rattle.spec.specs.Equality.{equal}
 use Rattle.spec.specs.Pointer.{Tokens, tokens, walk}
 use Rattle.spec.specs.Operation as Operation
@@ -135,3 +135,144 @@ told v o e =
       from-there = λ uses. from-used k v (ms .from) (ap usesFrom same ∙ uses);
       from-is = ps .from;
     }
+
+-- ---- what an operation keeps
+pub patch-same : {xs : List ℕ} → SamePatch xs xs
+patch-same = record { patch = refl; long = refl }
+
+behind-patch : {xs ys : List ℕ} → rows ≤ length xs → rows ≤ length ys → SameBehind xs ys → SamePatch xs ys
+behind-patch h k b = record { patch = ap (take maxNodes) (b .is); long = omega (arith, simp length-drop at (ap length (b .is))) }
+
+module _ {D P : Bytes} {values names values' names' : List ℕ} where
+  same-performed : {o q : Outcome Value.Value} {r : Altered} → o ≡ q → Performed D P values names values' names' q r → Performed D P values names values' names' o r
+  same-performed e (performed f document v n) = performed (e ∙ f) document v n
+  same-performed e (failed f) = failed (e ∙ f)
+
+  -- a change of the document is within its rows
+  changed-performed : {o : Outcome Value.Value} {r : Altered} {used : ℕ} {v : Value.Value} → Document D P values names used v
+      → Results D P values names values' names' o r → Performed D P values names values' names' o r
+  changed-performed d (results e w b t) = performed e w (behind-patch (d .long) (w .long) b) (behind-patch (d .titlesLong) (w .titlesLong) t)
+  changed-performed d (refusal e) = failed e
+
+-- ---- a test
+-- the document is within the limits
+judged-document : {D P : Bytes} {values names : List ℕ} {used : ℕ} {v : Value.Value} → Document D P values names used v → judged (ok v) ≡ ok v
+judged-document {D} {P} {v = v} d =
+    let count : nodes v ≡ suc (size (d .kids)) = ap nodes (sym (d .means)) ∙ nodes-meant D P (d .c) (d .kids) in
+    sym (limited-whole (ok v)) ∙ limited-fits maxDepth maxNodes v (d .shallow) (omega (arith, d .ends, d .few))
+
+-- what a walk leads to nests no deeper than the value where it begins
+depth-walk : (ts : Tokens) (v w : Value.Value) → walk ts v ≡ ok w → depth w ≤ depth v
+depth-walk ts v w e = omega (arith, depth-plant ts v w e w, ap depth (plant-walk ts v w e))
+
+module _ {D P : Bytes} {values names : List ℕ} {row span : ℕ} {o : Outcome Value.Value} where
+  walk-lost : {s : Child} {number : ℕ} → s ≡ Child.Refused number → Walked D P values names row span o s → o ≡ refused number 0
+  walk-lost e (reached f n low high) = absurd (let z : _≡_ {A = ℕ} 0 1 = cc in omega arith)
+  walk-lost {number = number} e (lost {number = n} f) = let same : n ≡ number = cc in f ∙ ap (λ m. refused m 0) same
+
+  walk-reached : {C : Type 0} {s : Child} {at : ℕ} → s ≡ Child.At at → Walked D P values names row span o s
+      → ((c : Cell) (kids : Forest Cell) → NodeHeld D P values names at c kids → o ≡ ok (meant D P c kids) → C) → C
+  walk-reached {at = at} e (reached {at = b} {c} {kids} f n low high) then-it =
+      let same : b ≡ at = cc in then-it c kids (subst (λ a. NodeHeld D P values names a c kids) same n) f
+  walk-reached e (lost f) then-it = absurd (let z : _≡_ {A = ℕ} 0 1 = cc in omega arith)
+
+module _ {D P : Bytes} {values names : List ℕ} {path : ℕ} {s : Child} (walked : WalkIs D P values names documentRow path s) where
+  walk-document : {used : ℕ} {v : Value.Value} (d : Document D P values names used v) → Short D P → (ts : Tokens) → PathIs D P path ts
+      → Walked D P values names documentRow (size (d .kids)) (walk ts v) s
+  walk-document d short ts p =
+      subst (λ v. Walked D P values names documentRow (size (d .kids)) (walk ts v) s) (d .means) (walked ts short p (d .c) (d .kids) (d .held))
+
+  pub test-lost : {used value : ℕ} (number : ℕ) → s ≡ Child.Refused number → TestIs D P values names used path value (Refused number)
+  unfolding testAt _>>=_
+  test-lost number e v d short ts p x kids held = failed {number = number} (rw (walk-lost e (walk-document d short ts p)))
+
+  module _ (at : ℕ) (e : s ≡ Child.At at) {value : ℕ} {same : Bool} (compared : EqualIs D P values names at value maxDepth same) where
+    test-found : {used : ℕ} {v : Value.Value} → Document D P values names used v → Short D P → (ts : Tokens) → PathIs D P path ts
+        → (x : Cell) (kids : Forest Cell) → NodeHeld D P values names value x kids
+        → testAt ts (meant D P x kids) v ≡ (if same then ok v else refused test-differs 0)
+    unfolding testAt _>>=_
+    test-found {v = v} d short ts p x kids held =
+        walk-reached e (walk-document d short ts p) λ c below n f.
+        let shallow : depth (meant D P c below) ≤ maxDepth = omega (arith, depth-walk ts v (meant D P c below) f, d .shallow) in
+        rw (f, ← compared c below x kids n held shallow)
+
+    pub test-equal : {used : ℕ} → same ≡ true → TestIs D P values names used path value (Done used)
+    test-equal is v d short ts p x kids held =
+        performed {w = v} (rw (test-found d short ts p x kids held, is) (judged-document d)) d patch-same patch-same
+
+    pub test-unequal : {used : ℕ} → same ≡ false → TestIs D P values names used path value (Refused test-differs)
+    unfolding _>>=_
+    test-unequal is v d short ts p x kids held = failed {number = test-differs} (rw (test-found d short ts p x kids held, is))
+
+-- ---- an operation by its kind
+-- each kind is its own function, judged
+module _ (o : Operation.Operation) (v : Value.Value) where
+  add-is : o .kind ≡ Operation.add → limited o v ≡ judged (addAt (o .path) (o .value) v)
+  unfolding limited perform
+  add-is e = rw e
+
+  remove-is : o .kind ≡ Operation.remove → limited o v ≡ judged (removeAtPath (o .path) v)
+  unfolding limited perform
+  remove-is e = rw e
+
+  replace-is : o .kind ≡ Operation.replace → limited o v ≡ judged (replaceAtPath (o .path) (o .value) v)
+  unfolding limited perform
+  replace-is e = rw e
+
+  move-is : o .kind ≡ Operation.move → limited o v ≡ judged (moveTo (o .from) (o .path) v)
+  unfolding limited perform
+  move-is e = rw e
+
+  copy-is : o .kind ≡ Operation.copy → limited o v ≡ judged (copyTo (o .from) (o .path) v)
+  unfolding limited perform
+  copy-is e = rw e
+
+  test-is : o .kind ≡ Operation.test → limited o v ≡ judged (testAt (o .path) (o .value) v)
+  unfolding limited perform
+  test-is e = rw e
+
+-- the kind that the code has is the operation's
+the-kind : {kind : Kind} {k : Operation.Kind} (j : Operation.Kind) → kindOutcome kind ≡ ok j → Knows kind k → k ≡ j
+the-kind j e known = let f = known .is in cc
+
+-- what a kind is not asked for
+unused : (q : Operation.Kind → Bool) {kind : Kind} {k : Operation.Kind} → asks q kind ≡ false → Knows kind k → q k ≡ true → ⊥
+unused q {kind} e known uses = true≢false (sym uses ∙ sym (asks-known q kind (known .is) (sym e)))
+
+-- ---- with a value
+module _ {D P : Bytes} {values names values' names' : List ℕ} {used path value : ℕ} {r : Altered} {kind : Kind} where
+  pub with-add : kindOutcome kind ≡ ok Operation.add → ChangeAtIs D P values names values' names' used path (Add value) r
+      → WithValueIs D P values names values' names' used kind path value r
+  with-add e is v d short o known p uses x kids offered means =
+      same-performed (add-is o v (the-kind Operation.add e known) ∙ ap (λ w. judged (addAt (o .path) w v)) (sym means))
+      (changed-performed d (is v d short (o .path) p (λ ts v. addAt ts (meant D P x kids) v) (adds-at value x kids offered)))
+
+  pub with-replace : kindOutcome kind ≡ ok Operation.replace → ChangeAtIs D P values names values' names' used path (Replace value) r
+      → WithValueIs D P values names values' names' used kind path value r
+  with-replace e is v d short o known p uses x kids offered means =
+      same-performed (replace-is o v (the-kind Operation.replace e known) ∙ ap (λ w. judged (replaceAtPath (o .path) w v)) (sym means))
+      (changed-performed d (is v d short (o .path) p (λ ts v. replaceAtPath ts (meant D P x kids) v) (replaces-at value x kids offered)))
+
+  pub with-no-value : asks usesValue kind ≡ false → WithValueIs D P values names values' names' used kind path value r
+  with-no-value e v d short o known p uses x kids offered means = absurd (unused usesValue e known uses)
+
+pub with-test : {D P : Bytes} {values names : List ℕ} {used path value : ℕ} {r : Altered} {kind : Kind} → kindOutcome kind ≡ ok Operation.test
+    → TestIs D P values names used path value r → WithValueIs D P values names values names used kind path value r
+with-test e is v d short o known p uses x kids offered means =
+    same-performed (test-is o v (the-kind Operation.test e known) ∙ ap (λ w. judged (testAt (o .path) w v)) (sym means))
+    (is v d short (o .path) p x kids (offered .held))
+
+-- ---- with `from`
+module _ {D P : Bytes} {values names values' names' : List ℕ} {used from path : ℕ} {r : Altered} {kind : Kind} where
+  pub with-move : kindOutcome kind ≡ ok Operation.move → MoveIs D P values names values' names' used from path r
+      → WithFromIs D P values names values' names' used kind from path r
+  with-move e is v d short o known p uses f =
+      same-performed (move-is o v (the-kind Operation.move e known)) (is v d short (o .from) f (o .path) p)
+
+  pub with-copy : kindOutcome kind ≡ ok Operation.copy → CopyIs D P values names values' names' used from path r
+      → WithFromIs D P values names values' names' used kind from path r
+  with-copy e is v d short o known p uses f =
+      same-performed (copy-is o v (the-kind Operation.copy e known)) (is v d short (o .from) f (o .path) p)
+
+  pub with-no-from : asks usesFrom kind ≡ false → WithFromIs D P values names values' names' used kind from path r
+  with-no-from e v d short o known p uses f = absurd (unused usesFrom e known uses)

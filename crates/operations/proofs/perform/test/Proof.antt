@@ -1,3 +1,5 @@
+-- `test` meets its contract, by the walk and the comparison.
+use Rattle.operations.proofs.PerformLaws.{test-equal, test-unequal, test-lost}
 use borrow.Author.Needs.{needs}
 use Rattle.operations.proofs.perform.test.Statement.{statement}
 use Rattle.operations.proofs.perform.test.Tie as tie
@@ -13,10 +15,10 @@ test-spec =
     -- equal-requires
     (λ c κs. search needs)
     -- returns
-    (λ c. ?returns)
+    (λ c. test-equal (c .before .before .before .before .before .walk .ensures) _ (c .before .before .before .row .given .1) (c .before .equal .ensures) (c .if1 .taken))
     -- returns-2
-    (λ c. ?returns-2)
+    (λ c. test-unequal (c .before .before .before .before .before .walk .ensures) _ (c .before .before .before .row .given .1) (c .before .equal .ensures) (c .if1 .left))
     -- enum-known-number
     (λ c. search needs)
     -- returns-3
-    (λ c. ?returns-3))
+    (λ c. test-lost (c .before .before .before .walk .ensures) _ (c .before .number .given .1)))
