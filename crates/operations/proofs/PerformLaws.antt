@@ -1,22 +1,21 @@
 -- Laws of one operation of the patch.
-use Prim.Native.Nat.{ℕ, suc, _+_, _≤_, _<_}
+use Prim.Native.Nat.{ℕ, suc, _≤_}
 use native.Mathlib.Omega.{arith}
 use mathlib.Core.Path.{_≡_, refl, ap, sym, _∙_, subst}
 use mathlib.Core.Bool.{Bool, true, false, not, _&&_, true≢false}
-use mathlib.Core.List.{List, []}
-use lib.ListN.{length, take, drop, length-drop}
+use mathlib.Core.List.{List}
+use lib.ListN.{length, take, length-drop}
 use Rattle.spec.specs.Outcome.{Outcome, ok, refused, _>>=_, if_then_else_, require}
-use Rattle.spec.specs.Refusal.{wrong-shape, move-into-child, test-differs}
+use Rattle.spec.specs.Refusal.{move-into-child, test-differs}
 use Rattle.spec.specs.Limits.{maxDepth, maxNodes}
 use Rattle.spec.specs.Bytes.{Bytes, Text, ascii}
 use Rattle.spec.specs.Forest.{Forest, size}
 use Rattle.spec.specs.Value as Value
-use Rattle.spec.specs.Value.{depth, nodes, isObject}
-use Rattle.spec.specs.Equality.{equal}
+use Rattle.spec.specs.Value.{depth, nodes}
 use Rattle.spec.specs.Pointer.{Tokens, tokens, walk}
 use Rattle.spec.specs.Operation as Operation
-use Rattle.spec.specs.Operation.{addAt, removeAtPath, replaceAtPath, moveTo, copyTo, testAt, perform, notTooDeep, notTooLarge, limited}
-use Rattle.spec.specs.Patch.{member, stringMember, kindNamed, usesValue, usesFrom, isMove, Members-of-operation, valueFor, fromFor, membersFor, operationMembers, properPrefix, withPointers, operation}
+use Rattle.spec.specs.Operation.{addAt, removeAtPath, replaceAtPath, moveTo, copyTo, testAt, perform, limited}
+use Rattle.spec.specs.Patch.{member, stringMember, usesValue, usesFrom, isMove, Members-of-operation, valueFor, fromFor, membersFor, operationMembers, properPrefix, withPointers, operation}
 use Rattle.spec.proofs.OutcomeLaws.{refused≢ok, >>=-assoc, both-ok}
 use Rattle.spec.proofs.PlaceLaws.{plant-walk, depth-plant}
 use Rattle.text.specs.Decode.{decode}
@@ -36,14 +35,14 @@ use Rattle.shape.specs.Kinds.{kindOutcome, asks}
 use Rattle.shape.specs.Members.{Sought, found, missing, TextIs, MemberIs, StringIs}
 use Rattle.shape.specs.Operation.{kindOf, KindIs, Knows}
 use Rattle.shape.specs.declared.kinds.Kind.{Kind}
-use Rattle.shape.specs.declared.kinds.Kind.the-variants as Kind
 use Rattle.shape.specs.declared.members.Spelled.{Spelled}
 use Rattle.shape.specs.declared.members.Spelled.the-variants as Spelled
 use Rattle.shape.proofs.KindLaws.{asks-known}
+use Rattle.shape.proofs.MemberLaws.{sought-missing}
 use Rattle.shape.proofs.AnswerLaws.{text-refused, text-decoded}
 use Rattle.operations.specs.Site.{Offered, SameBehind}
-use Rattle.operations.specs.Document.{Document, judged, Results, results, refusal, MakesAt, adds-at, removes-at, replaces-at, ChangeAtIs}
-use Rattle.operations.specs.Perform.{SamePatch, Performed, performed, failed, CopyIs, MoveIs, TestIs, Listed, WithValueIs, WithFromIs, OfKindIs, PerformIs}
+use Rattle.operations.specs.Document.{Document, judged, Results, results, refusal, adds-at, removes-at, replaces-at, ChangeAtIs}
+use Rattle.operations.specs.Perform.{SamePatch, Performed, performed, failed, CopyIs, MoveIs, TestIs, WithValueIs, WithFromIs, OfKindIs, PerformIs}
 use Rattle.operations.specs.declared.answers.Change.the-variants.{Add, Remove, Replace}
 use Rattle.operations.specs.declared.answers.Altered.{Altered}
 use Rattle.operations.specs.declared.answers.Altered.the-variants.{Done, Refused}
@@ -137,7 +136,7 @@ told v o e =
     }
 
 -- ---- what an operation keeps
-pub patch-same : {xs : List ℕ} → SamePatch xs xs
+patch-same : {xs : List ℕ} → SamePatch xs xs
 patch-same = record { patch = refl; long = refl }
 
 behind-patch : {xs ys : List ℕ} → rows ≤ length xs → rows ≤ length ys → SameBehind xs ys → SamePatch xs ys
@@ -235,9 +234,13 @@ module _ (o : Operation.Operation) (v : Value.Value) where
 the-kind : {kind : Kind} {k : Operation.Kind} (j : Operation.Kind) → kindOutcome kind ≡ ok j → Knows kind k → k ≡ j
 the-kind j e known = let f = known .is in cc
 
--- what a kind is not asked for
+-- an answer about the kind is one about the operation
+asked : (q : Operation.Kind → Bool) {kind : Kind} {k : Operation.Kind} {a b : Bool} → Knows kind k → a ≡ asks q kind → a ≡ b → q k ≡ b
+asked q {kind} known is e = sym (asks-known q kind (known .is) is) ∙ e
+
+-- a kind is not given what it does not use
 unused : (q : Operation.Kind → Bool) {kind : Kind} {k : Operation.Kind} → asks q kind ≡ false → Knows kind k → q k ≡ true → ⊥
-unused q {kind} e known uses = true≢false (sym uses ∙ sym (asks-known q kind (known .is) (sym e)))
+unused q e known uses = true≢false (sym uses ∙ asked q known refl e)
 
 -- ---- with a value
 module _ {D P : Bytes} {values names values' names' : List ℕ} {used path value : ℕ} {r : Altered} {kind : Kind} where
@@ -276,3 +279,79 @@ module _ {D P : Bytes} {values names values' names' : List ℕ} {used from path 
 
   pub with-no-from : asks usesFrom kind ≡ false → WithFromIs D P values names values' names' used kind from path r
   with-no-from e v d short o known p uses f = absurd (unused usesFrom e known uses)
+
+-- ---- in a row of the patch
+-- a member stands behind its object, and so behind the document
+member-offered : {C : Type 0} {D P : Bytes} {values names : List ℕ} {row at : ℕ} {name : Text} {v : Value.Value} {m : Member} → m ≡ Member.At at → patchRow ≤ row
+    → Sought D P values names row name v m → ((x : Cell) (kids : Forest Cell) → Offered D P values names at x kids → member name v ≡ ok (meant D P x kids) → C) → C
+member-offered {D = D} {P} {values} {names} {at = at} e behind (found {at = b} {e = x} {below = kids} l n is) then-it =
+    let same : b ≡ at = cc in
+    then-it x kids (record { behind = omega arith; held = subst (λ a. NodeHeld D P values names a x kids) same n }) is
+member-offered e behind (missing is) then-it = absurd (let z : _≡_ {A = ℕ} 0 1 = cc in omega arith)
+
+-- a string that spells a pointer
+module _ {D P : Bytes} {o : Outcome Text} {s : Spelled} {t : Text} (is : TextIs D P o s) (there : o ≡ ok t) where
+  spelled-not : s ≡ Spelled.Not → ⊥
+  spelled-not e = refused≢ok (sym (text-refused is e) ∙ there)
+
+  spelled-path : {path : ℕ} {ts : Tokens} → s ≡ Spelled.As path → tokens t ≡ ok ts → PathIs D P path ts
+  spelled-path {path} e f =
+      let g = text-decoded is path e in
+      let same : decode (partOf D P path) ≡ t = cc in
+      record { is = ap tokens same ∙ f }
+
+-- remove uses no other member than its path
+neither : (k : Operation.Kind) → usesValue k ≡ false → usesFrom k ≡ false → k ≡ Operation.remove
+unfolding usesValue usesFrom
+neither Operation.add e f = absurd (true≢false e)
+neither Operation.remove e f = refl
+neither Operation.replace e f = absurd (true≢false e)
+neither Operation.move e f = absurd (true≢false f)
+neither Operation.copy e f = absurd (true≢false f)
+neither Operation.test e f = absurd (true≢false e)
+
+module _ {D P : Bytes} {values names values' names' : List ℕ} {used row path : ℕ} {r : Altered} {kind : Kind} where
+  module _ {a : Bool} {m : Member} (is-asked : a ≡ asks usesValue kind) (uses : a ≡ true) (sought : MemberIs D P values names row (ascii "value") m) where
+    pub value-missing : m ≡ Member.Missing → OfKindIs D P values names values' names' used row kind path r
+    value-missing e v d short o l known p =
+        let none = sought-missing e (sought (l .c) (l .kids) (l .held)) in
+        absurd (refused≢ok (sym none ∙ told _ o (l .is) .value (asked usesValue known is-asked uses)))
+
+    pub value-found : (at : ℕ) → m ≡ Member.At at → WithValueIs D P values names values' names' used kind path at r
+        → OfKindIs D P values names values' names' used row kind path r
+    value-found at e with v d short o l known p =
+        let used-here = asked usesValue known is-asked uses in
+        member-offered e (l .behind) (sought (l .c) (l .kids) (l .held)) λ x kids offered is.
+        let value-is = told _ o (l .is) .value used-here in
+        let same : meant D P x kids ≡ o .value = cc in
+        with v d short o known p used-here x kids offered same
+
+  module _ {a : Bool} {s : Spelled} (is-asked : a ≡ asks usesFrom kind) (uses : a ≡ true) (string : StringIs D P values names row (ascii "from") s) where
+    pub from-missing : s ≡ Spelled.Not → OfKindIs D P values names values' names' used row kind path r
+    from-missing e v d short o l known p =
+        absurd (spelled-not (string (l .c) (l .kids) (l .held)) (told _ o (l .is) .from-there (asked usesFrom known is-asked uses)) e)
+
+    pub from-found : (from : ℕ) → s ≡ Spelled.As from → WithFromIs D P values names values' names' used kind from path r
+        → OfKindIs D P values names values' names' used row kind path r
+    from-found from e with v d short o l known p =
+        let t = told _ o (l .is) in
+        let used-here = asked usesFrom known is-asked uses in
+        with v d short o known p used-here (spelled-path (string (l .c) (l .kids) (l .held)) (t .from-there used-here) e (t .from-is))
+
+  pub with-remove : {a b : Bool} → a ≡ asks usesValue kind → a ≡ false → b ≡ asks usesFrom kind → b ≡ false
+      → ChangeAtIs D P values names values' names' used path Remove r → OfKindIs D P values names values' names' used row kind path r
+  with-remove a-asked no-value b-asked no-from is v d short o l known p =
+      let kind-is = neither (o .kind) (asked usesValue known a-asked no-value) (asked usesFrom known b-asked no-from) in
+      same-performed (remove-is o v kind-is) (changed-performed d (is v d short (o .path) p removeAtPath removes-at))
+
+-- the path, and the kind, which every operation has
+module _ {D P : Bytes} {values names values' names' : List ℕ} {used row : ℕ} {r : Altered} {s : Spelled} (string : StringIs D P values names row (ascii "path") s) where
+  pub path-missing : s ≡ Spelled.Not → PerformIs D P values names values' names' used row r
+  path-missing e v d short o l = absurd (spelled-not (string (l .c) (l .kids) (l .held)) (told _ o (l .is) .path-there) e)
+
+  pub path-found : {kind : Kind} (path : ℕ) → s ≡ Spelled.As path → KindIs D P values names row kind
+      → OfKindIs D P values names values' names' used row kind path r → PerformIs D P values names values' names' used row r
+  path-found path e kind-is of-kind v d short o l =
+      let t = told _ o (l .is) in
+      of-kind v d short o l (record { is = kind-is (l .c) (l .kids) (l .held) ∙ t .kind })
+      (spelled-path (string (l .c) (l .kids) (l .held)) (t .path-there) e (t .path-is))
