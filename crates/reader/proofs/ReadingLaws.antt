@@ -1,8 +1,8 @@
 -- Laws of reading a value: each way out of `scalar_value`, and the loop over a container's items in `value`.
 use Prim.Native.Nat.{ℕ, zero, suc, _+_, _-_, _≤_, _<_, _%_}
 use native.Mathlib.Omega.{arith}
-use mathlib.Core.Path.{_≡_, refl, sym, ap, ap₂, _∙_, subst}
-use mathlib.Core.Bool.{Bool, true, false}
+use mathlib.Core.Path.{_≡_, refl, sym, ap, ap₂, _∙_}
+use mathlib.Core.Bool.{Bool, true}
 use mathlib.Core.List.{List}
 use native.Mathlib.Decide.{ℕ-discrete}
 use lib.Dec.{eqb}
@@ -12,7 +12,7 @@ use Rattle.spec.specs.Limits.{maxNodes}
 use Rattle.spec.specs.Bytes.{Bytes, Text, byte}
 use Rattle.spec.specs.Forest.{none, single, size, _⧺_}
 use Rattle.spec.specs.Value as Value
-use Rattle.spec.specs.Value.{Label, Members, leaf, named}
+use Rattle.spec.specs.Value.{Members, leaf, named}
 use Rattle.spec.specs.Read.{containerLabel, contents, value}
 use Rattle.lexer.specs.declared.cursor.Cursor.{Cursor}
 use Rattle.lexer.specs.Hash.{hash}
@@ -21,7 +21,7 @@ use Rattle.tape.specs.Layout.{kinds, spans, spellings, arrayKind, objectKind, s
 use Rattle.tape.specs.Packing.{packed}
 use Rattle.table.specs.Meaning.{labelOf}
 use Rattle.reader.specs.Begins.{beginning, refusalFor, scalarOf}
-use Rattle.reader.specs.Words.{Labels, Titles, ScalarIs, scalar-read, scalar-refused}
+use Rattle.reader.specs.Words.{Titles, ScalarIs, scalar-read, scalar-refused}
 use Rattle.reader.specs.Filled.{Noted, Changed, Filled, keyOf, Marked, marked-none}
 use Rattle.reader.specs.Items.{Next, closed, begins, nextItem, ItemIs, item-begins, item-closed, item-refused}
 use Rattle.reader.specs.Names.{Having}
@@ -33,9 +33,8 @@ use Rattle.reader.specs.declared.items.Item.the-variants as Item
 use Rattle.reader.specs.declared.values.Read.{Read}
 use Rattle.reader.specs.declared.values.Read.the-variants as Read
 use Rattle.reader.proofs.ValueLaws.{whole, value-refused, value-room, value-inside, value-kind, value-scalar, value-level, value-container}
-use Rattle.reader.proofs.ItemLaws as ItemLaws
 use Rattle.reader.proofs.ItemLaws.{rest, after, contents-rest, rest-step}
-use Rattle.reader.proofs.PastLaws.{scalar-ok-past, Beyond, item-ok-past}
+use Rattle.reader.proofs.PastLaws.{scalar-ok-past, item-ok-past}
 use Rattle.reader.proofs.WordLaws.{textless-labels}
 use Rattle.reader.proofs.FilledLaws.{changed-none, changed-then, changed-wider, changed-set, changed-noted, filled-none, filled-kept, filled-join, filled-tree, filled-size}
 use Rattle.reader.proofs.MemberLaws.{marked-kept, marked-more}
