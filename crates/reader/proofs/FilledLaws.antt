@@ -1,34 +1,33 @@
 -- Laws of rows that are filled: another item behind those so far, and a node's own words before those of its children.
-use Prim.Native.Nat.{ℕ, suc, _+_, _-_, _≤_, _<_, _%_}
+use Prim.Native.Nat.{ℕ, _+_, _-_, _≤_, _<_, _%_}
 use native.Mathlib.Omega.{arith}
 use mathlib.Core.Path.{_≡_, refl, sym, ap, ap₂, _∙_}
 use mathlib.Core.Bool.{Bool, true, false}
-use mathlib.Core.List.{List, [], _∷_, _++_, append-nil}
+use mathlib.Core.List.{List, _∷_, _++_, append-nil}
 use native.Mathlib.Nat.{add-zero}
-use lib.ListN.{length, take, drop, getD, set, length-take}
+use lib.ListN.{length, take, drop, set}
 use lib.Dec.{eqb}
 use lib.Seq.{take-take, take-set-lt, drop-set-lt, getD-set-other, length-take-le}
 use Rattle.spec.specs.Outcome.{if_then_else_}
 use Rattle.spec.specs.Bytes.{Bytes, Text}
-use Rattle.spec.specs.Forest.{Forest, none, tree, Tree, single, size, _⧺_}
-use Rattle.spec.specs.Value as Value
-use Rattle.spec.specs.Value.{Label, Members, named, Entry}
+use Rattle.spec.specs.Forest.{none, tree, single, size, _⧺_}
+use Rattle.spec.specs.Value.{Label, Members, named}
 use Rattle.filter.specs.Filter.{found, wordOf}
 use Rattle.filter.specs.Filter as Filter
 use Rattle.tape.specs.Layout.{kinds, spans, spellings, arrayKind, objectKind, scratchRow}
 use Rattle.tape.specs.Packing.{packed}
-use Rattle.tape.specs.Tape.{tape, Holds}
-use Rattle.tape.specs.Cell.{Cell, word, nameWord, Fit, Formed, formed-none, formed-tree, Held}
+use Rattle.tape.specs.Tape.{tape}
+use Rattle.tape.specs.Cell.{Cell, word, nameWord, Fit, formed-none, formed-tree, Held}
 use Rattle.tape.specs.Map.{mapForest}
 use Rattle.tape.proofs.Forests.{size-⧺, size-none}
 use Rattle.tape.proofs.Tape.{tape-⧺}
 use Rattle.tape.proofs.Cells.{formed-⧺, packed-word}
 use Rattle.tape.proofs.Map.{map-⧺, size-map}
-use Rattle.table.specs.Meaning.{sourceText, entryOf, members}
+use Rattle.table.specs.Meaning.{sourceText, entryOf}
 use Rattle.table.specs.All.{all-none, all-tree}
 use Rattle.table.proofs.AllLaws.{all-⧺}
-use Rattle.reader.specs.Words.{InText, Labels, Titles}
-use Rattle.reader.specs.Filled.{nodeRows, Between, Added, Noted, Changed, Filled}
+use Rattle.reader.specs.Words.{Labels, Titles}
+use Rattle.reader.specs.Filled.{nodeRows, Added, Noted, Changed, Filled}
 use Rattle.reader.proofs.ColumnLaws.{between, between-none, between-join, between-set, from-between, unchanged, change-then, change-wider, change-set, between-kept}
 
 -- ---- behind the nodes

@@ -1,20 +1,19 @@
 -- Laws of an object's members: whether a name is among them, by the filter and by a search.
-use Prim.Native.Nat.{ℕ, suc, _+_, _-_, _≤_, _<_}
+use Prim.Native.Nat.{ℕ, suc, _+_, _-_, _≤_}
 use Prim.Native.Char.{code}
 use native.Mathlib.Omega.{arith}
 use mathlib.Core.Path.{_≡_, refl, sym, ap, ap₂, _∙_}
 use mathlib.Core.Bool.{Bool, true, false, true≢false}
 use mathlib.Core.List.{List, []}
-use lib.Dec.{eqb, ltb}
+use lib.Dec.{eqb}
 use lib.ListN.{length}
 use borrow.Author.Tests.{eq-eqb, ne-eqb, lt-ltb, le-ltb}
 use Rattle.spec.specs.Outcome.{Outcome, ok, refused, _>>=_, if_then_else_}
-use Rattle.spec.specs.Refusal.{not-json, repeated-name}
+use Rattle.spec.specs.Refusal.{repeated-name}
 use Rattle.spec.specs.Bytes.{Bytes, Text, byte, byteIn}
 use Rattle.spec.specs.Strings.{string}
 use Rattle.spec.specs.Forest.{none, tree, Tree, single, size, count, _⧺_}
-use Rattle.spec.specs.Value as Value
-use Rattle.spec.specs.Value.{Members, Entry, named, sameText, find, has}
+use Rattle.spec.specs.Value.{Members, Entry, sameText, find, has}
 use Rattle.spec.specs.Read.{blanks, fresh, nameFor, closingBracket}
 use Rattle.spec.proofs.OutcomeLaws.{>>=-assoc}
 use Rattle.spec.proofs.TextLaws.{sameText-true}
@@ -28,7 +27,7 @@ use Rattle.table.specs.Find as Find
 use Rattle.table.specs.Find.{Found, FindIs, Asked}
 use Rattle.table.specs.declared.find.Member.{Member}
 use Rattle.table.specs.declared.find.Member.the-variants.{At, Missing}
-use Rattle.reader.specs.Words.{InText, Titles}
+use Rattle.reader.specs.Words.{Titles}
 use Rattle.reader.specs.Filled.{Added, Filled, keyOf, Marked, marked-none, marked-tree}
 use Rattle.reader.specs.Names.{afterColon, RepeatedIs, NameIs, name-read, name-refused, Having}
 use Rattle.reader.specs.Items.{afterComma, nextName, begun, itemOf, nextItem, ItemIs, item-begins, item-closed, item-refused}

@@ -1,14 +1,14 @@
 -- Where scalars, names and items end: past their place, and within the text.
-use Prim.Native.Nat.{ℕ, suc, _+_, _-_, _≤_, _<_}
+use Prim.Native.Nat.{ℕ, _+_, _-_, _≤_, _<_}
 use Prim.Native.Char.{code}
-use mathlib.Core.Path.{_≡_, refl, sym, _∙_}
+use mathlib.Core.Path.{_≡_}
 use mathlib.Core.Bool.{Bool, true, false}
 use mathlib.Core.List.{[]}
 use native.Mathlib.Omega.{arith}
 use lib.ListN.{length}
 use lib.Dec.{eqb}
 use borrow.Author.Tests.{eqb-true}
-use Rattle.spec.specs.Outcome.{Outcome, ok, refused, _>>=_, if_then_else_}
+use Rattle.spec.specs.Outcome.{ok, _>>=_}
 use Rattle.spec.specs.Bytes.{Bytes, Text, ascii, byte, byteIn}
 use Rattle.spec.specs.Strings.{string}
 use Rattle.spec.specs.Numbers.{number}
@@ -16,7 +16,7 @@ use Rattle.spec.specs.Forest.{count}
 use Rattle.spec.specs.Value as Value
 use Rattle.spec.specs.Value.{Label, Members}
 use Rattle.spec.specs.Read.{blanks, spelled, literalValue, numberValue, stringValue, fresh, nameFor, closingBracket}
-use Rattle.lexer.proofs.Always.{Always, refuses, gives, result, either, next, weaken}
+use Rattle.lexer.proofs.Always.{Always, gives, result, either, next, weaken}
 use Rattle.lexer.proofs.AnswerLaws.{byte-taken}
 use Rattle.lexer.proofs.ByteLaws.{here}
 use Rattle.lexer.proofs.BlankLaws.{blanks-past, blanks-within}

@@ -1,8 +1,8 @@
 -- Laws of reading a value: each way out of `scalar_value`, and the loop over a container's items in `value`.
 use Prim.Native.Nat.{ℕ, zero, suc, _+_, _-_, _≤_, _<_, _%_}
 use native.Mathlib.Omega.{arith}
-use mathlib.Core.Path.{_≡_, refl, sym, ap, ap₂, _∙_, subst}
-use mathlib.Core.Bool.{Bool, true, false}
+use mathlib.Core.Path.{_≡_, refl, sym, ap, ap₂, _∙_}
+use mathlib.Core.Bool.{Bool, true}
 use mathlib.Core.List.{List}
 use native.Mathlib.Decide.{ℕ-discrete}
 use lib.Dec.{eqb}
@@ -12,7 +12,7 @@ use Rattle.spec.specs.Limits.{maxNodes}
 use Rattle.spec.specs.Bytes.{Bytes, Text, byte}
 use Rattle.spec.specs.Forest.{none, single, size, _⧺_}
 use Rattle.spec.specs.Value as Value
-use Rattle.spec.specs.Value.{Label, Members, leaf, named}
+use Rattle.spec.specs.Value.{Members, leaf, named}
 use Rattle.spec.specs.Read.{containerLabel, contents, value}
 use Rattle.lexer.specs.declared.cursor.Cursor.{Cursor}
 use Rattle.lexer.specs.Hash.{hash}
@@ -21,7 +21,7 @@ use Rattle.tape.specs.Layout.{kinds, spans, spellings, arrayKind, objectKind, s
 use Rattle.tape.specs.Packing.{packed}
 use Rattle.table.specs.Meaning.{labelOf}
 use Rattle.reader.specs.Begins.{beginning, refusalFor, scalarOf}
-use Rattle.reader.specs.Words.{Labels, Titles, ScalarIs, scalar-read, scalar-refused}
+use Rattle.reader.specs.Words.{Titles, ScalarIs, scalar-read, scalar-refused}
 use Rattle.reader.specs.Filled.{Noted, Changed, Filled, keyOf, Marked, marked-none}
 use Rattle.reader.specs.Items.{Next, closed, begins, nextItem, ItemIs, item-begins, item-closed, item-refused}
 use Rattle.reader.specs.Names.{Having}
@@ -33,9 +33,8 @@ use Rattle.reader.specs.declared.items.Item.the-variants as Item
 use Rattle.reader.specs.declared.values.Read.{Read}
 use Rattle.reader.specs.declared.values.Read.the-variants as Read
 use Rattle.reader.proofs.ValueLaws.{whole, value-refused, value-room, value-inside, value-kind, value-scalar, value-level, value-container}
-use Rattle.reader.proofs.ItemLaws as ItemLaws
 use Rattle.reader.proofs.ItemLaws.{rest, after, contents-rest, rest-step}
-use Rattle.reader.proofs.PastLaws.{scalar-ok-past, Beyond, item-ok-past}
+use Rattle.reader.proofs.PastLaws.{scalar-ok-past, item-ok-past}
 use Rattle.reader.proofs.WordLaws.{textless-labels}
 use Rattle.reader.proofs.FilledLaws.{changed-none, changed-then, changed-wider, changed-set, changed-noted, filled-none, filled-kept, filled-join, filled-tree, filled-size}
 use Rattle.reader.proofs.MemberLaws.{marked-kept, marked-more}
@@ -92,9 +91,14 @@ module _ (source : ℕ) (s : Bytes) (start levels kind base row : ℕ) where
     pub filled : Filled source s (row + 1) end so-far vs' ns'
     pub marked : object ≡ true → Marked vs' row so-far
     pub changed : Changed (row + 1) end vs ns vs' ns'
+    pub forward : start ≤ next
+    pub within : next ≤ length s
+    pub room : end ≤ base + maxNodes
+    pub values-length : length vs' ≡ length vs
+    pub names-length : length ns' ≡ length ns
 
-  pub filling-none : (vs ns : List ℕ) → 0 < start → start ≤ length s → Filling vs ns vs ns start (row + 1)
-  filling-none vs ns h l = go (length s) refl
+  pub filling-none : (vs ns : List ℕ) → 0 < start → start ≤ length s → row < base + maxNodes → Filling vs ns vs ns start (row + 1)
+  filling-none vs ns h l m = go (length s) refl
     where
       go : (n : ℕ) → length s ≡ n → Filling vs ns vs ns start (row + 1)
       go zero e = absurd (omega arith)
@@ -107,134 +111,173 @@ module _ (source : ℕ) (s : Bytes) (start levels kind base row : ℕ) where
             filled = filled-none (row + 1) vs ns;
             marked = λ _. marked-none;
             changed = changed-none;
+            forward = omega arith;
+            within = l;
+            room = omega arith;
+            values-length = refl;
+            names-length = refl;
           }
 
-  module _ {vs ns vs' ns' : List ℕ} {next end : ℕ} (g : Filling vs ns vs' ns' next end) (within : next ≤ length s) (from-base : base ≤ row) where
+  -- a turn of the loop: the next item is asked for, and the column of values has its key
+  pub record Turn (vs ns vs' ns' vs'' : List ℕ) (next end : ℕ) (i : Item) : Type 0 where
+    pub filling : Filling vs ns vs' ns' next end
+    pub from-base : base ≤ row
+    pub told : Having source s object row end vs' ns' (λ all. ItemIs source s object row vs'' (nextItem object s all next) i)
+    pub noted : Noted vs' vs''
+    pub same-length : length vs'' ≡ length vs'
+
+-- ---- what a turn comes to
+module _ {source : ℕ} {s : Bytes} {start levels kind base row : ℕ} {vs ns vs' ns' vs'' : List ℕ} {next end : ℕ} {i : Item} where
+  pub turn : Filling source s start levels kind base row vs ns vs' ns' next end → base ≤ row
+      → Having source s (eqb kind objectKind) row end vs' ns' (λ all. ItemIs source s (eqb kind objectKind) row vs'' (nextItem (eqb kind objectKind) s all next) i) → Noted vs' vs'' → length vs'' ≡ length vs'
+      → Turn source s start levels kind base row vs ns vs' ns' vs'' next end i
+  turn g l told noted e = record { filling = g; from-base = l; told = told; noted = noted; same-length = e }
+
+  module _ (t : Turn source s start levels kind base row vs ns vs' ns' vs'' next end i) where
+    abbrev is-object : Bool
+    is-object = eqb kind objectKind
+
+    abbrev items : Outcome (Members × ℕ)
+    items = allItems source s start levels kind base row
+
+    abbrev remaining : ℕ → Members → ℕ → Outcome (Members × ℕ)
+    remaining = left source s start levels kind base row
+
+    abbrev g : Filling source s start levels kind base row vs ns vs' ns' next end
+    g = t .filling
+
+    abbrev item-of : Outcome Next
+    item-of = nextItem is-object s (g .so-far) next
+
     -- one step of the definition
-    step : (o : Outcome Next) → nextItem object s (g .so-far) next ≡ o → allItems ≡ (o >>= behind (g .fuel) (g .so-far))
-    step o e = g .same ∙ rest-step (value (levels - 1) s) object s (row - base + 1) (g .fuel) (g .so-far) next ∙ ap (λ o. o >>= behind (g .fuel) (g .so-far)) e
+    step : (o : Outcome Next) → item-of ≡ o → items ≡ (o >>= behind source s start levels kind base row (g .fuel) (g .so-far))
+    step o e = g .same ∙ rest-step (value (levels - 1) s) is-object s (row - base + 1) (g .fuel) (g .so-far) next ∙ ap (λ o. o >>= behind source s start levels kind base row (g .fuel) (g .so-far)) e
 
     -- so many values have begun before the next
     nodes-before : row - base + 1 + size (g .so-far) ≡ end - base
     nodes-before = omega (arith, filled-size (g .filled))
 
-    module _ {vs'' : List ℕ} {i : Item} (told : Having source s object row end vs' ns' (λ all. ItemIs source s object row vs'' (nextItem object s all next) i)) (noted : Noted vs' vs'') where
-      item : ItemIs source s object row vs'' (nextItem object s (g .so-far) next) i
-      item = told (g .so-far) (g .filled) (g .marked)
+    item : ItemIs source s is-object row vs'' item-of i
+    item = t .told (g .so-far) (g .filled) (g .marked)
 
-      -- the columns after the key
-      pub changed-so-far : Changed (row + 1) end vs ns vs'' ns'
-      changed-so-far = changed-then (g .changed) (changed-noted noted)
+    -- the columns after the key
+    pub changed-so-far : Changed (row + 1) end vs ns vs'' ns'
+    changed-so-far = changed-then (g .changed) (changed-noted (t .noted))
 
-      pub filled-so-far : Filled source s (row + 1) end (g .so-far) vs'' ns'
-      filled-so-far = filled-kept {end' = end} (changed-noted noted) (g .filled)
+    pub filled-so-far : Filled source s (row + 1) end (g .so-far) vs'' ns'
+    filled-so-far = filled-kept {end' = end} (changed-noted (t .noted)) (g .filled)
 
-      pub filling-unread : (n place : ℕ) → i ≡ Item.Refused n place → allItems ≡ refused n place
-      unfolding _>>=_
-      filling-unread n place e = go i item e
-        where
-          go : (i : Item) → ItemIs source s object row vs'' (nextItem object s (g .so-far) next) i → i ≡ Item.Refused n place → allItems ≡ refused n place
-          go i (item-begins text first name q t k) e = absurd (let z : _≡_ {A = ℕ} 0 1 = cc in omega arith)
-          go i (item-closed after q) e = absurd (let z : _≡_ {A = ℕ} 0 1 = cc in omega arith)
-          go i (item-refused n' place' q) e = let a : n' ≡ n = cc in let b : place' ≡ place = cc in step _ q ∙ ap₂ refused a b
+    pub turn-unread : (n place : ℕ) → i ≡ Item.Refused n place → items ≡ refused n place
+    unfolding _>>=_
+    turn-unread n place e = go i item e
+      where
+        go : (i : Item) → ItemIs source s is-object row vs'' item-of i → i ≡ Item.Refused n place → items ≡ refused n place
+        go i (item-begins text first name q w k) e = absurd (let z : _≡_ {A = ℕ} 0 1 = cc in omega arith)
+        go i (item-closed after q) e = absurd (let z : _≡_ {A = ℕ} 0 1 = cc in omega arith)
+        go i (item-refused n' place' q) e = let a : n' ≡ n = cc in let b : place' ≡ place = cc in step _ q ∙ ap₂ refused a b
 
-      pub filling-closed : (last : Cursor) → i ≡ Item.Closed last → (allItems ≡ ok (g .so-far, last .at)) × (next < last .at) × (last .at ≤ length s)
+    pub turn-closed : (last : Cursor) → i ≡ Item.Closed last → (items ≡ ok (g .so-far, last .at)) × (next < last .at) × (last .at ≤ length s)
+    unfolding after _>>=_
+    turn-closed last e = go i item e
+      where
+        go : (i : Item) → ItemIs source s is-object row vs'' item-of i → i ≡ Item.Closed last → (items ≡ ok (g .so-far, last .at)) × (next < last .at) × (last .at ≤ length s)
+        go i (item-begins text first name q w k) e = absurd (let z : _≡_ {A = ℕ} 0 1 = cc in omega arith)
+        go i (item-closed last' q) e =
+            let a : last' ≡ last = cc in
+            let o : item-of ≡ ok (closed (last .at)) = q ∙ ap (λ c. ok (closed (c .at))) a in
+            let p = item-ok-past is-object s (g .so-far) next (closed (last .at)) (g .within) o in
+            (step _ o, p .0, p .1)
+        go i (item-refused n' place' q) e = absurd (let z : _≡_ {A = ℕ} 0 1 = cc in omega arith)
+
+    -- an item's value is read from here, under this name
+    record Entered (first : Cursor) (name : ℕ) : Type 0 where
+      pub text : Text
+      pub here : item-of ≡ ok (begins text (first .at))
+      pub titles : Titles source s text name
+      pub key : is-object ≡ true → found vs'' scratchRow (keyOf row (hash text)) ≡ true
+
+    entered : (first : Cursor) (name : ℕ) → i ≡ Item.Begins first name → Entered first name
+    entered first name e = go i item e
+      where
+        go : (i : Item) → ItemIs source s is-object row vs'' item-of i → i ≡ Item.Begins first name → Entered first name
+        go i (item-begins text first' name' q w k) e =
+            let a : first' ≡ first = cc in
+            let b : name' ≡ name = cc in
+            record { text = text; here = q ∙ ap (λ c. ok (begins text (c .at))) a; titles = rw b at w; key = k }
+        go i (item-closed last q) e = absurd (let z : _≡_ {A = ℕ} 0 1 = cc in omega arith)
+        go i (item-refused n' place' q) e = absurd (let z : _≡_ {A = ℕ} 0 1 = cc in omega arith)
+
+    pub turn-begins : (first : Cursor) (name : ℕ) → i ≡ Item.Begins first name → (next ≤ first .at) × (first .at ≤ length s)
+    turn-begins first name e = let n = entered first name e in item-ok-past is-object s (g .so-far) next (begins (n .text) (first .at)) (g .within) (n .here)
+
+    module _ {vs3 ns3 : List ℕ} {r : Read} (first : Cursor) (name : ℕ) (is : i ≡ Item.Begins first name)
+        (read : ForTitle source s name (λ text. Taken source s (first .at) text end (base + maxNodes) vs'' ns' vs3 ns3 (value (levels - 1) s (first .at) (end - base)) r)) where
+      -- by the definition, after the item's name
+      by-value : (text : Text) (o : Outcome (Value.Value × ℕ)) → item-of ≡ ok (begins text (first .at)) → value (levels - 1) s (first .at) (end - base) ≡ o
+          → items ≡ (o >>= λ (v, p). remaining (g .fuel) (g .so-far ⧺ single (named text v)) p)
       unfolding after _>>=_
-      filling-closed last e = go i item e
+      by-value text o q e =
+          step _ q ∙ ap (λ n. value (levels - 1) s (first .at) n >>= λ (v, p). remaining (g .fuel) (g .so-far ⧺ single (named text v)) p) nodes-before
+          ∙ ap (λ o. o >>= λ (v, p). remaining (g .fuel) (g .so-far ⧺ single (named text v)) p) e
+
+      pub turn-next : (last : Cursor) (free : ℕ) → r ≡ Read.Value last free → length vs3 ≡ length vs'' → length ns3 ≡ length ns'
+          → (next < last .at) × Filling source s start levels kind base row vs ns vs3 ns3 (last .at) free
+      unfolding _>>=_
+      turn-next last free e same-vs same-ns = go r (read (n .text) (n .titles)) e
         where
-          go : (i : Item) → ItemIs source s object row vs'' (nextItem object s (g .so-far) next) i → i ≡ Item.Closed last → (allItems ≡ ok (g .so-far, last .at)) × (next < last .at) × (last .at ≤ length s)
-          go i (item-begins text first name q t k) e = absurd (let z : _≡_ {A = ℕ} 0 1 = cc in omega arith)
-          go i (item-closed last' q) e =
+          n : Entered first name
+          n = entered first name is
+
+          from-next : (next ≤ first .at) × (first .at ≤ length s)
+          from-next = turn-begins first name is
+
+          -- another item behind those so far
+          more : (v : Value.Value) (fuel : ℕ) → g .fuel ≡ fuel → value (levels - 1) s (first .at) (end - base) ≡ ok (v, last .at) → Ahead s (first .at) (last .at) end free (base + maxNodes)
+              → Filled source s end free (single (named (n .text) v)) vs3 ns3 → Changed end free vs'' ns' vs3 ns3 → Filling source s start levels kind base row vs ns vs3 ns3 (last .at) free
+          more v zero some o ahead f c = absurd (omega (arith, g .enough, from-next))
+          more v (suc fuel) some o ahead f c =
+              record {
+                so-far = g .so-far ⧺ single (named (n .text) v);
+                fuel = fuel;
+                enough = omega (arith, g .enough, from-next);
+                same = by-value (n .text) (ok (v, last .at)) (n .here) o ∙ ap (λ k. remaining k (g .so-far ⧺ single (named (n .text) v)) (last .at)) some;
+                filled = filled-join (filled-kept c filled-so-far) f;
+                marked = λ e. marked-more (named (n .text) v) (c .filter .kept _ (n .key e)) (marked-kept (c .filter) (marked-kept (t .noted .filter) (g .marked e)));
+                changed =
+                    changed-then (changed-wider (row + 1) free (omega arith) (omega (arith, ahead .grows)) changed-so-far)
+                    (changed-wider (row + 1) free (omega (arith, filled-so-far .ends)) (omega arith) c);
+                forward = omega (arith, g .forward, from-next, ahead .past);
+                within = ahead .inside;
+                room = ahead .room;
+                values-length = same-vs ∙ t .same-length ∙ g .values-length;
+                names-length = same-ns ∙ g .names-length;
+              }
+
+          go : (r : Read) → Taken source s (first .at) (n .text) end (base + maxNodes) vs'' ns' vs3 ns3 (value (levels - 1) s (first .at) (end - base)) r → r ≡ Read.Value last free
+              → (next < last .at) × Filling source s start levels kind base row vs ns vs3 ns3 (last .at) free
+          go r (refusal number place q c) e = absurd (let z : _≡_ {A = ℕ} 0 1 = cc in omega arith)
+          go r (taken v last' free' q ahead f c) e =
               let a : last' ≡ last = cc in
-              let o : nextItem object s (g .so-far) next ≡ ok (closed (last .at)) = q ∙ ap (λ c. ok (closed (c .at))) a in
-              let p = item-ok-past object s (g .so-far) next (closed (last .at)) within o in
-              (step _ o, p .0, p .1)
-          go i (item-refused n' place' q) e = absurd (let z : _≡_ {A = ℕ} 0 1 = cc in omega arith)
+              let b : free' ≡ free = cc in
+              let ahead' : Ahead s (first .at) (last .at) end free (base + maxNodes) = rw (a, b) at ahead in
+              (omega (arith, from-next, ahead' .past), more v (g .fuel) refl (q ∙ ap (λ c. ok (v, c .at)) a) ahead' (rw b at f) (rw b at c))
 
-      -- an item's value is read from here, under this name
-      record Entered (first : Cursor) (name : ℕ) : Type 0 where
-        pub text : Text
-        pub here : nextItem object s (g .so-far) next ≡ ok (begins text (first .at))
-        pub titles : Titles source s text name
-        pub key : object ≡ true → found vs'' scratchRow (keyOf row (hash text)) ≡ true
-
-      entered : (first : Cursor) (name : ℕ) → i ≡ Item.Begins first name → Entered first name
-      entered first name e = go i item e
+      pub turn-refused : (p place : ℕ) → r ≡ Read.Refused p place → (items ≡ refused p place) × Changed (row + 1) (base + maxNodes) vs ns vs3 ns3
+      unfolding _>>=_
+      turn-refused p place e = go r (read (n .text) (n .titles)) e
         where
-          go : (i : Item) → ItemIs source s object row vs'' (nextItem object s (g .so-far) next) i → i ≡ Item.Begins first name → Entered first name
-          go i (item-begins text first' name' q t k) e =
-              let a : first' ≡ first = cc in
-              let b : name' ≡ name = cc in
-              record { text = text; here = q ∙ ap (λ c. ok (begins text (c .at))) a; titles = rw b at t; key = k }
-          go i (item-closed last q) e = absurd (let z : _≡_ {A = ℕ} 0 1 = cc in omega arith)
-          go i (item-refused n' place' q) e = absurd (let z : _≡_ {A = ℕ} 0 1 = cc in omega arith)
+          n : Entered first name
+          n = entered first name is
 
-      pub filling-begins : (first : Cursor) (name : ℕ) → i ≡ Item.Begins first name → (next ≤ first .at) × (first .at ≤ length s)
-      filling-begins first name e = let n = entered first name e in item-ok-past object s (g .so-far) next (begins (n .text) (first .at)) within (n .here)
-
-      module _ {limit : ℕ} {vs3 ns3 : List ℕ} {r : Read} (first : Cursor) (name : ℕ) (is : i ≡ Item.Begins first name)
-          (read : ForTitle source s name (λ text. Taken source s (first .at) text end limit vs'' ns' vs3 ns3 (value (levels - 1) s (first .at) (end - base)) r)) where
-        -- by the definition, after the item's name
-        by-value : (text : Text) (o : Outcome (Value.Value × ℕ)) → nextItem object s (g .so-far) next ≡ ok (begins text (first .at)) → value (levels - 1) s (first .at) (end - base) ≡ o
-            → allItems ≡ (o >>= λ (v, p). left (g .fuel) (g .so-far ⧺ single (named text v)) p)
-        unfolding after _>>=_
-        by-value text o q e = step _ q ∙ ap (λ n. value (levels - 1) s (first .at) n >>= λ (v, p). left (g .fuel) (g .so-far ⧺ single (named text v)) p) nodes-before ∙ ap (λ o. o >>= λ (v, p). left (g .fuel) (g .so-far ⧺ single (named text v)) p) e
-
-        -- another item behind those so far
-        more : (text : Text) (v : Value.Value) (last : Cursor) (free fuel : ℕ) → nextItem object s (g .so-far) next ≡ ok (begins text (first .at)) → value (levels - 1) s (first .at) (end - base) ≡ ok (v, last .at)
-            → (object ≡ true → found vs'' scratchRow (keyOf row (hash text)) ≡ true) → g .fuel ≡ suc fuel → next < last .at → end ≤ free → Filled source s end free (single (named text v)) vs3 ns3
-            → Changed end free vs'' ns' vs3 ns3 → Filling vs ns vs3 ns3 (last .at) free
-        unfolding _>>=_
-        more text v last free fuel q o key some past grows f c =
-            record {
-              so-far = g .so-far ⧺ single (named text v);
-              fuel = fuel;
-              enough = omega (arith, g .enough);
-              same = by-value text (ok (v, last .at)) q o ∙ ap (λ n. left n (g .so-far ⧺ single (named text v)) (last .at)) some;
-              filled = filled-join (filled-kept c filled-so-far) f;
-              marked = λ e. marked-more (named text v) (c .filter .kept _ (key e)) (marked-kept (c .filter) (marked-kept (noted .filter) (g .marked e)));
-              changed = changed-then (changed-wider (row + 1) free (omega arith) grows changed-so-far) (changed-wider (row + 1) free (omega (arith, filled-so-far .ends)) (omega arith) c);
-            }
-
-        pub filling-next : (last : Cursor) (free : ℕ) → r ≡ Read.Value last free → Ahead s (first .at) (last .at) end free limit × Filling vs ns vs3 ns3 (last .at) free
-        filling-next last free e = go r (read (n .text) (n .titles)) e
-          where
-            n : Entered first name
-            n = entered first name is
-
-            from-next : (next ≤ first .at) × (first .at ≤ length s)
-            from-next = filling-begins first name is
-
-            fuelled : (v : Value.Value) (fuel : ℕ) → g .fuel ≡ fuel → value (levels - 1) s (first .at) (end - base) ≡ ok (v, last .at) → Ahead s (first .at) (last .at) end free limit
-                → Filled source s end free (single (named (n .text) v)) vs3 ns3 → Changed end free vs'' ns' vs3 ns3 → Filling vs ns vs3 ns3 (last .at) free
-            fuelled v zero some o ahead f c = absurd (omega (arith, g .enough, from-next))
-            fuelled v (suc fuel) some o ahead f c = more (n .text) v last free fuel (n .here) o (n .key) some (omega (arith, from-next)) (omega arith) f c
-
-            go : (r : Read) → Taken source s (first .at) (n .text) end limit vs'' ns' vs3 ns3 (value (levels - 1) s (first .at) (end - base)) r → r ≡ Read.Value last free
-                → Ahead s (first .at) (last .at) end free limit × Filling vs ns vs3 ns3 (last .at) free
-            go r (refusal number place q c) e = absurd (let z : _≡_ {A = ℕ} 0 1 = cc in omega arith)
-            go r (taken v last' free' q ahead f c) e =
-                let a : last' ≡ last = cc in
-                let b : free' ≡ free = cc in
-                let ahead' : Ahead s (first .at) (last .at) end free limit = rw (a, b) at ahead in
-                (ahead', fuelled v (g .fuel) refl (q ∙ ap (λ c. ok (v, c .at)) a) ahead' (rw b at f) (rw b at c))
-
-        pub filling-refused : (p place : ℕ) → r ≡ Read.Refused p place → end ≤ limit → (allItems ≡ refused p place) × Changed (row + 1) limit vs ns vs3 ns3
-        unfolding _>>=_
-        filling-refused p place e room = go r (read (n .text) (n .titles)) e
-          where
-            n : Entered first name
-            n = entered first name is
-
-            go : (r : Read) → Taken source s (first .at) (n .text) end limit vs'' ns' vs3 ns3 (value (levels - 1) s (first .at) (end - base)) r → r ≡ Read.Refused p place
-                → (allItems ≡ refused p place) × Changed (row + 1) limit vs ns vs3 ns3
-            go r (taken v last free q ahead f c) e = absurd (let z : _≡_ {A = ℕ} 0 1 = cc in omega arith)
-            go r (refusal p' place' q c) e =
-                let a : p' ≡ p = cc in
-                let b : place' ≡ place = cc in (
-                  by-value (n .text) (refused p' place') (n .here) q ∙ ap₂ refused a b,
-                  changed-then (changed-wider (row + 1) limit (omega arith) room changed-so-far) (changed-wider (row + 1) limit (omega (arith, filled-so-far .ends)) (omega arith) c),
-                )
+          go : (r : Read) → Taken source s (first .at) (n .text) end (base + maxNodes) vs'' ns' vs3 ns3 (value (levels - 1) s (first .at) (end - base)) r → r ≡ Read.Refused p place
+              → (items ≡ refused p place) × Changed (row + 1) (base + maxNodes) vs ns vs3 ns3
+          go r (taken v last free q ahead f c) e = absurd (let z : _≡_ {A = ℕ} 0 1 = cc in omega arith)
+          go r (refusal p' place' q c) e =
+              let a : p' ≡ p = cc in
+              let b : place' ≡ place = cc in (
+                by-value (n .text) (refused p' place') (n .here) q ∙ ap₂ refused a b,
+                changed-then (changed-wider (row + 1) (base + maxNodes) (omega arith) (g .room) changed-so-far) (changed-wider (row + 1) (base + maxNodes) (omega (arith, filled-so-far .ends)) (omega arith) c),
+              )
 
 -- ---- each way out of `value`
 taken-wider : {source : ℕ} {s : Bytes} {at : ℕ} {text : Text} {row limit : ℕ} {vs ns vs' ns' : List ℕ} {o o' : Outcome (Value.Value × ℕ)} {r : Read} (limit' : ℕ) → limit ≤ limit' → o' ≡ o
@@ -297,23 +340,43 @@ module _ {s : Bytes} {at levels base row kind : ℕ} (b : Begun s at levels base
         ∙ ap (λ o. o >>= whole (eqb kind objectKind)) e
 
     -- a refusal among its items
-    pub value-way-items : {source name : ℕ} {vs ns vs' ns' : List ℕ} {r : Read} (n place end : ℕ) → r ≡ Read.Refused n place → end ≤ base + maxNodes → allItems source s (at + 1) levels kind base row ≡ refused n place
-        → Changed (row + 1) end vs ns vs' ns' → ForTitle source s name (λ text. Taken source s at text row (base + maxNodes) vs ns vs' ns' (value levels s at (row - base)) r)
+    items-refused : {source name : ℕ} {vs ns vs' ns' : List ℕ} (n place end : ℕ) → end ≤ base + maxNodes → allItems source s (at + 1) levels kind base row ≡ refused n place → Changed (row + 1) end vs ns vs' ns'
+        → ForTitle source s name (λ text. Taken source s at text row (base + maxNodes) vs ns vs' ns' (value levels s at (row - base)) (Read.Refused n place))
     unfolding _>>=_
-    value-way-items {source} n place end is room e c text titles = rw is (refusal n place (by-items source (refused n place) e) (changed-wider row (base + maxNodes) (omega arith) room c))
+    items-refused {source} n place end room e c text titles = refusal n place (by-items source (refused n place) e) (changed-wider row (base + maxNodes) (omega arith) room c)
 
-    -- its closing bracket, and its own words stored
-    pub value-way-closed : {source name : ℕ} {vs ns vs' ns' vs3 ns3 : List ℕ} {so-far : Members} (last : Cursor) (end : ℕ) → allItems source s (at + 1) levels kind base row ≡ ok (so-far, last .at)
-        → Ahead s at (last .at) row end (base + maxNodes) → base + maxNodes ≤ scratchRow → scratchRow ≤ length vs' → scratchRow ≤ length ns' → Filled source s (row + 1) end so-far vs' ns' → Changed (row + 1) end vs ns vs' ns'
-        → vs3 ≡ set vs' row (packed (kind % kinds) ((end - row - 1) % spans) (0 % spellings)) → ns3 ≡ set ns' row name
-        → ForTitle source s name (λ text. Taken source s at text row (base + maxNodes) vs ns vs3 ns3 (value levels s at (row - base)) (Read.Value last end))
-    unfolding whole _>>=_
-    value-way-closed {source} {name} {vs' = vs'} {ns'} {so-far = so-far} last end e ahead room long-vs long-ns f c v n text titles =
-        let k = value-kind s at (row - base) levels begins-here in
-        let m : kind ≤ objectKind = omega (arith, b .kind-is) in
-        let label = containerLabel (eqb kind objectKind) in
-        let labels = textless-labels source s kind label (λ h. omega arith) (λ h. omega arith) (λ D P. container-says D P kind container m) in
-        rw (v, n)
-        (taken (record { label = label; kids = so-far }) last end (by-items source (ok (so-far, last .at)) e) ahead
-        (filled-tree kind 0 name _ label text labels titles m (λ h. absurd (omega arith)) (omega (arith, ahead .room)) long-vs (omega (arith, ahead .room)) refl f)
-        (changed-then (changed-wider row end (omega arith) (omega arith) c) (changed-set row _ name (omega arith) (ahead .grows) (omega (arith, ahead .grows, ahead .room)))))
+    module _ {source name : ℕ} {vs ns vs' ns' vs'' : List ℕ} {next end : ℕ} {i : Item} (t : Turn source s (at + 1) levels kind base row vs ns vs' ns' vs'' next end i) where
+      -- no next item
+      pub value-way-unread : (n place : ℕ) → i ≡ Item.Refused n place
+          → ForTitle source s name (λ text. Taken source s at text row (base + maxNodes) vs ns vs'' ns' (value levels s at (row - base)) (Read.Refused n place))
+      value-way-unread n place e = items-refused n place end (t .filling .room) (turn-unread t n place e) (changed-so-far t)
+
+      -- an item's value is refused, and the refusal handed on
+      pub value-way-handed : {vs3 ns3 : List ℕ} {r : Read} (first : Cursor) (title : ℕ) → i ≡ Item.Begins first title
+          → ForTitle source s title (λ text. Taken source s (first .at) text end (base + maxNodes) vs'' ns' vs3 ns3 (value (levels - 1) s (first .at) (end - base)) r) → (n place : ℕ) → r ≡ Read.Refused n place
+          → ForTitle source s name (λ text. Taken source s at text row (base + maxNodes) vs ns vs3 ns3 (value levels s at (row - base)) r)
+      value-way-handed first title is read n place e =
+          let c = turn-refused t first title is read n place e in
+          rw e (items-refused n place (base + maxNodes) (omega arith) (c .0) (c .1))
+
+      -- its closing bracket, and its own words stored
+      pub value-way-closed : {vs3 ns3 : List ℕ} (last : Cursor) → i ≡ Item.Closed last → base + maxNodes ≤ scratchRow → scratchRow ≤ length vs → scratchRow ≤ length ns
+          → vs3 ≡ set vs'' row (packed (kind % kinds) ((end - row - 1) % spans) (0 % spellings)) → ns3 ≡ set ns' row name
+          → ForTitle source s name (λ text. Taken source s at text row (base + maxNodes) vs ns vs3 ns3 (value levels s at (row - base)) (Read.Value last end))
+      unfolding whole _>>=_
+      value-way-closed last is room long-vs long-ns v n text titles =
+          let z = turn-closed t last is in
+          let k = value-kind s at (row - base) levels begins-here in
+          let m : kind ≤ objectKind = omega (arith, b .kind-is) in
+          let label = containerLabel (eqb kind objectKind) in
+          let labels = textless-labels source s kind label (λ h. omega arith) (λ h. omega arith) (λ D P. container-says D P kind container m) in
+          let f = filled-so-far t in
+          let grows : row < end = omega (arith, f .ends) in
+          let fits : end ≤ base + maxNodes = t .filling .room in
+          let long : scratchRow ≤ length vs'' = omega (arith, t .same-length, t .filling .values-length) in
+          let long' : scratchRow ≤ length ns' = omega (arith, t .filling .names-length) in
+          rw (v, n)
+          (taken (record { label = label; kids = t .filling .so-far }) last end (by-items source (ok (t .filling .so-far, last .at)) (z .0))
+          (record { past = omega (arith, z .1, t .filling .forward); inside = z .2; grows = grows; room = fits })
+          (filled-tree kind 0 name _ label text labels titles m (λ h. absurd (omega arith)) (omega arith) long (omega arith) refl f)
+          (changed-then (changed-wider row end (omega arith) (omega arith) (changed-so-far t)) (changed-set row _ name (omega arith) grows (omega arith))))

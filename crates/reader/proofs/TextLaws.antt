@@ -1,28 +1,28 @@
 -- Laws of reading a whole text.
-use Prim.Native.Nat.{ℕ, suc, _+_, _-_, _≤_, _<_}
+use Prim.Native.Nat.{ℕ, _+_, _-_, _≤_, _<_}
 use native.Mathlib.Omega.{arith}
 use mathlib.Core.Path.{_≡_, refl, sym, ap, ap₂, _∙_}
 use mathlib.Core.Bool.{Bool, true, false}
 use mathlib.Core.List.{List, []}
-use lib.Dec.{eqb, ltb}
+use lib.Dec.{ltb}
 use lib.ListN.{length}
-use borrow.Author.Tests.{eq-eqb, ne-eqb, ltb-true, ltb-false}
-use Rattle.spec.specs.Outcome.{Outcome, ok, refused, _>>=_, if_then_else_}
+use borrow.Author.Tests.{eq-eqb, ne-eqb, ltb-false}
+use Rattle.spec.specs.Outcome.{ok, refused, _>>=_, if_then_else_}
 use Rattle.spec.specs.Refusal.{not-json, work-too-short, input-too-long}
 use Rattle.spec.specs.Limits.{maxBytes, maxDepth, maxNodes, workWords}
-use Rattle.spec.specs.Bytes.{Bytes, Text}
+use Rattle.spec.specs.Bytes.{Bytes}
 use Rattle.spec.specs.Forest.{Forest, none, tree, single, size}
 use Rattle.spec.specs.Value as Value
-use Rattle.spec.specs.Value.{Entry, named}
+use Rattle.spec.specs.Value.{named}
 use Rattle.spec.specs.Read.{blanks, value, read}
 use Rattle.lexer.specs.declared.cursor.Cursor.{Cursor}
 use Rattle.tape.specs.Layout.{sources, scratchRow}
 use Rattle.tape.specs.Cell.{Cell, Held}
 use Rattle.tape.specs.Map.{mapForest}
-use Rattle.table.specs.Meaning.{nameText, entryOf, members, meant}
+use Rattle.table.specs.Meaning.{entryOf, members, meant}
 use Rattle.table.specs.Sound.{Sound}
 use Rattle.reader.specs.Words.{InText, Lent}
-use Rattle.reader.specs.Filled.{Changed, Filled}
+use Rattle.reader.specs.Filled.{Filled}
 use Rattle.reader.specs.Taken.{Taken, taken, refusal, ForTitle}
 use Rattle.reader.specs.Texts.{reading, refusalBefore, Rooted, TextIs, text-read, text-refused}
 use Rattle.reader.specs.declared.values.Read.{Read}

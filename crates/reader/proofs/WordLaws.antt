@@ -2,7 +2,7 @@
 use Prim.Native.Nat.{ℕ, _+_, _-_, _≤_, _<_, _%_}
 use mathlib.Core.Path.{_≡_, refl, sym, _∙_, ap, ap₂}
 use mathlib.Core.Bool.{Bool, true, false}
-use mathlib.Core.List.{List, [], _∷_}
+use mathlib.Core.List.{[], _∷_}
 use native.Mathlib.Omega.{arith}
 use lib.ListN.{length, take, drop}
 use Rattle.spec.specs.Outcome.{Outcome, ok, refused, _>>=_}
@@ -10,7 +10,6 @@ use Rattle.spec.specs.Refusal.{not-json}
 use Rattle.spec.specs.Bytes.{Bytes, Text}
 use Rattle.spec.specs.Numbers.{number}
 use Rattle.spec.specs.Strings.{string}
-use Rattle.spec.specs.Value as Value
 use Rattle.spec.specs.Value.{Label}
 use Rattle.spec.specs.Read as Definition
 use Rattle.spec.specs.Read.{literalValue, numberValue, stringValue}
@@ -27,13 +26,13 @@ use Rattle.lexer.proofs.AnswerLaws.{scan-refused}
 use Rattle.lexer.proofs.NameLaws.{mix-bound}
 use Rattle.lexer.proofs.StringLaws.{Closed, string-ok-closed}
 use Rattle.lexer.proofs.NumberLaws.{number-ok-past}
-use Rattle.text.specs.Decode.{decodeFrom, decode, textFrom, textOf}
+use Rattle.text.specs.Decode.{decode, textFrom, textOf}
 use Rattle.text.proofs.DecodeLaws.{decode-string}
 use Rattle.text.proofs.PlainLaws.{string-same}
-use Rattle.tape.specs.Layout.{forms, sources, places, spellings, hashes, noText, plainString, escapedString, numeral, numberKind, stringKind}
-use Rattle.tape.specs.Packing.{spelling, formOf, sourceOf, startOf, lengthOf, nameOf, spellingOf, hashOf}
+use Rattle.tape.specs.Layout.{forms, sources, places, spellings, hashes, plainString, escapedString, numeral, numberKind, stringKind}
+use Rattle.tape.specs.Packing.{spelling, nameOf, spellingOf, hashOf}
 use Rattle.tape.proofs.Packing.{form-spelling, source-spelling, start-spelling, length-spelling, spelling<, spelling-fits, spelling-name, hash-name, name-fits}
-use Rattle.table.specs.Meaning.{sourceText, partOf, spelled, labelOf, nameText}
+use Rattle.table.specs.Meaning.{partOf, spelled, labelOf, nameText}
 use Rattle.table.specs.Sound.{Verbatim, StringFits}
 use Rattle.table.proofs.NumberLaws.{number-fits, other-fits}
 use Rattle.reader.specs.Words.{InText, stringForm, Spells, Labels, Titles, unspelled, unspelledName, ScalarIs, scalar-read, scalar-refused}

@@ -1,7 +1,6 @@
 // The next item of a container.
 ghost use mathlib.Core.Path.{_≡_};
 ghost use Prim.Native.Nat.{_<_, _≤_};
-ghost use lib.ListN.{length};
 ghost use Rattle.spec.specs.Read.{closingBracket, nameFor};
 ghost use Rattle.lexer.specs.Answers.{scanOutcome};
 ghost use Rattle.tape.specs.Layout.{scratchRow};

@@ -1,7 +1,6 @@
 // A whole text.
 ghost use mathlib.Core.Path.{_≡_};
 ghost use Prim.Native.Nat.{_+_, _≤_};
-ghost use lib.ListN.{length};
 ghost use Rattle.spec.specs.Limits.{maxNodes};
 ghost use Rattle.spec.specs.Read.{read};
 ghost use Rattle.tape.specs.Layout.{inDocument, inPatch, documentRow, patchRow, scratchRow};

@@ -1,5 +1,4 @@
 use Rattle.lexer.proofs.Auto.{auto}
-use borrow.Author.Needs.{needs}
 use Rattle.reader.proofs.FilledLaws.{noted-none}
 use Rattle.reader.proofs.MemberLaws.{item-named, item-nameless}
 use Rattle.reader.proofs.items.item_name.Statement.{statement}

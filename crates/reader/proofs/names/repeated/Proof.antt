@@ -1,5 +1,4 @@
 use Rattle.lexer.proofs.Auto.{auto}
-use borrow.Author.Needs.{needs}
 use native.Mathlib.Omega.{arith}
 use mathlib.Core.Path.{sym, _∙_, subst}
 use borrow.Author.Tests.{not-true}

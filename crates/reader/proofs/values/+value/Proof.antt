@@ -1,14 +1,13 @@
 -- `value` meets its contract: a container's items so far stand in the rows behind its own, and the measure of the loop is what is left of the text.
-use Prim.Native.Nat.{ℕ, _+_, _-_, _<_, _≤_}
+use Prim.Native.Nat.{ℕ, _-_, _<_}
 use native.Mathlib.Omega.{arith}
-use mathlib.Core.Path.{_≡_, refl, ap, _∙_}
+use mathlib.Core.Path.{ap, _∙_}
 use lib.ListN.{length}
 use borrow.Author.Needs.{needs}
 use borrow.Fn.Kinds.{In}
 use borrow.Fn.PlainCycle.{Measures, is, falls, and}
-use Rattle.spec.specs.Limits.{maxNodes}
 use Rattle.reader.specs.Begins.{beginning}
-use Rattle.reader.proofs.ReadingLaws.{Filling, filling-none, filled-so-far, changed-so-far, filling-unread, filling-closed, filling-begins, filling-next, filling-refused, value-way-refused, begun, value-starts, value-fits, value-way-scalar, value-levels, value-way-items, value-way-closed}
+use Rattle.reader.proofs.ReadingLaws.{Filling, filling-none, turn, turn-begins, turn-next, value-way-refused, begun, value-starts, value-fits, value-way-scalar, value-levels, value-way-unread, value-way-handed, value-way-closed}
 use Rattle.reader.proofs.values.value.Reads as value
 use Rattle.reader.proofs.values.value.Kinds as value-kinds
 use Rattle.reader.proofs.values.+value.Lts-value as value-lts
@@ -33,8 +32,7 @@ value-below t = and 3 value-kinds.ps (falls 3 value-kinds.ps _<_ μ-value t) val
 
 abbrev value-Inv-loop : value-lts.InvT-loop
 value-Inv-loop s levels source name base row values₀ names₀ kind number next₀ end₀ values names next end =
-    (next₀ .at ≤ next .at) × (next .at ≤ length s) × (row < end) × (end ≤ base + maxNodes) × (length values ≡ length values₀) × (length names ≡ length names₀)
-    × Filling source s (next₀ .at) levels kind base row values₀ names₀ values names (next .at) end
+    Filling source s (next₀ .at) levels kind base row values₀ names₀ values names (next .at) end
 
 abbrev value-μ-loop : value-lts.MeasureT-loop
 value-μ-loop s levels source name base row values₀ names₀ kind number next₀ end₀ values names next end = length s - next .at
@@ -98,13 +96,12 @@ pub +value-spec : {M : Type 1} → statement M
     let p = passed .before .before .before .before .before .before .before .pre .1 in
     let b = begun _ _ _ _ _ _ _ (passed .before .before .beginning .ensures ∙ ap beginning (passed .before .before .before .peek .ensures)) (passed .before .refusal .ensures) (p .1 .1) (passed .if1 .left) in
     let l = value-starts b in
-    let m = value-fits b in
-    (omega arith, omega arith, omega arith, omega arith, refl, refl, filling-none _ _ _ _ _ _ _ _ _ (omega arith) (omega arith)))
+    filling-none _ _ _ _ _ _ _ _ _ (omega arith) (omega arith) (value-fits b))
     -- next-item-requires
     (λ c κs.
     let p = c .before .before .before .before .before .before .before .before .before .before .before .before .pre .1 in
     let i = c .before .before .loop .inv in
-    (record { source< = p .0 .source<; short = p .0 .short; values-long = omega (arith, p .0 .values-long, i); names-long = omega (arith, p .0 .names-long, i) }, (omega (arith, i), omega (arith, i, p .1))))
+    (record { source< = p .0 .source<; short = p .0 .short; values-long = omega (arith, p .0 .values-long, i .values-length); names-long = omega (arith, p .0 .names-long, i .names-length) }, (omega (arith, i .filled .ends), omega (arith, i .room, p .1))))
     -- enum-known-first
     (λ c. search needs)
     -- sub-value
@@ -115,13 +112,14 @@ pub +value-spec : {M : Type 1} → statement M
     omega (arith, value-levels b (c .before .before .before .before .before .before .before .before .before .before .if2 .left)))
     -- value-requires
     (λ c κs.
-    let turn = c .before .before .before .before .before .before .before in
-    let passed = turn .before .before .before .before .before .before in
+    let asked = c .before .before .before .before .before .before .before in
+    let passed = asked .before .before .before .before .before .before in
     let p = passed .before .before .before .before .before .before .before .pre .1 in
     let b = begun _ _ _ _ _ _ _ (passed .before .before .beginning .ensures ∙ ap beginning (passed .before .before .before .peek .ensures)) (passed .before .refusal .ensures) (p .1 .1) (passed .if1 .left) in
-    let i = turn .before .before .before .loop .inv in
-    let f = filling-begins _ _ _ _ _ _ _ (i .6) (i .1) (p .1 .1) (turn .next-item .ensures .0) (turn .next-item .ensures .1) _ _ (c .before .before .before .first .given .1) in
-    (omega (arith, passed .before .before .before .before .before .before .before .pre .0, value-levels b (turn .before .before .before .before .before .if2 .left)), (record { source< = p .0 .source<; short = p .0 .short; values-long = omega (arith, p .0 .values-long, i .4, turn .next-item .kept .1 .1 .1 .1 .1 .1 .0); names-long = omega (arith, p .0 .names-long, i .5) }, (f .1, omega (arith, i .2, p .1 .1), i .3, p .1 .3))))
+    let i = asked .before .before .before .loop .inv in
+    let t = turn i (p .1 .1) (asked .next-item .ensures .0) (asked .next-item .ensures .1) (asked .next-item .kept .1 .1 .1 .1 .1 .1 .0) in
+    let f = turn-begins t _ _ (c .before .before .before .first .given .1) in
+    (omega (arith, passed .before .before .before .before .before .before .before .pre .0, value-levels b (asked .before .before .before .before .before .if2 .left)), (record { source< = p .0 .source<; short = p .0 .short; values-long = omega (arith, p .0 .values-long, i .values-length, t .same-length); names-long = omega (arith, p .0 .names-long, i .names-length) }, (f .1, omega (arith, i .filled .ends, p .1 .1), i .room, p .1 .3))))
     -- enum-known-r
     (λ c. search needs)
     -- enum-told
@@ -133,31 +131,27 @@ pub +value-spec : {M : Type 1} → statement M
     -- returns-3
     (λ c.
     let call = c .before .before .before .before .before .before in
-    let turn = call .before .before .before .before .before .before .before .before in
-    let passed = turn .before .before .before .before .before .before in
+    let asked = call .before .before .before .before .before .before .before .before in
+    let passed = asked .before .before .before .before .before .before in
     let p = passed .before .before .before .before .before .before .before .pre .1 in
     let b = begun _ _ _ _ _ _ _ (passed .before .before .beginning .ensures ∙ ap beginning (passed .before .before .before .peek .ensures)) (passed .before .refusal .ensures) (p .1 .1) (passed .if1 .left) in
-    let i = turn .before .before .before .loop .inv in
-    let r = filling-refused _ _ _ _ _ _ _ (i .6) (i .1) (p .1 .1) (turn .next-item .ensures .0) (turn .next-item .ensures .1) _ _ (call .before .before .before .before .first .given .1) (call .value .ensures) _ _ (c .enum-told .given .1) (i .3) in
-    value-way-items b (turn .before .before .before .before .before .if2 .left) _ _ _ (c .enum-told .given .1) (omega arith) (r .0) (r .1))
+    let t = turn (asked .before .before .before .loop .inv) (p .1 .1) (asked .next-item .ensures .0) (asked .next-item .ensures .1) (asked .next-item .kept .1 .1 .1 .1 .1 .1 .0) in
+    value-way-handed b (asked .before .before .before .before .before .if2 .left) t _ _ (call .before .before .before .before .first .given .1) (call .value .ensures) _ _ (c .enum-told .given .1))
     -- loop-less
     (λ c.
     let call = c .before .before .before .before .before .before .before in
-    let turn = call .before .before .before .before .before .before .before .before in
-    let p = turn .before .before .before .before .before .before .before .before .before .before .before .before .before .pre .1 in
-    let i = turn .before .before .before .loop .inv in
-    let n = filling-next _ _ _ _ _ _ _ (i .6) (i .1) (p .1 .1) (turn .next-item .ensures .0) (turn .next-item .ensures .1) _ _ (call .before .before .before .before .first .given .1) (call .value .ensures) _ _ (c .before .r .given .1) in
-    let f = filling-begins _ _ _ _ _ _ _ (i .6) (i .1) (p .1 .1) (turn .next-item .ensures .0) (turn .next-item .ensures .1) _ _ (call .before .before .before .before .first .given .1) in
-    omega (arith, n .0, f))
+    let asked = call .before .before .before .before .before .before .before .before in
+    let p = asked .before .before .before .before .before .before .before .before .before .before .before .before .before .pre .1 in
+    let t = turn (asked .before .before .before .loop .inv) (p .1 .1) (asked .next-item .ensures .0) (asked .next-item .ensures .1) (asked .next-item .kept .1 .1 .1 .1 .1 .1 .0) in
+    let n = turn-next t _ _ (call .before .before .before .before .first .given .1) (call .value .ensures) _ _ (c .before .r .given .1) (call .value .kept .1 .1 .1 .1 .1 .1 .1 .0) (call .value .kept .1 .1 .1 .1 .1 .1 .1 .1 .0) in
+    omega (arith, n .0, n .1 .within))
     -- loop-again
     (λ c.
     let call = c .before .before .before .before .before .before .before in
-    let turn = call .before .before .before .before .before .before .before .before in
-    let p = turn .before .before .before .before .before .before .before .before .before .before .before .before .before .pre .1 in
-    let i = turn .before .before .before .loop .inv in
-    let n = filling-next _ _ _ _ _ _ _ (i .6) (i .1) (p .1 .1) (turn .next-item .ensures .0) (turn .next-item .ensures .1) _ _ (call .before .before .before .before .first .given .1) (call .value .ensures) _ _ (c .before .r .given .1) in
-    let f = filling-begins _ _ _ _ _ _ _ (i .6) (i .1) (p .1 .1) (turn .next-item .ensures .0) (turn .next-item .ensures .1) _ _ (call .before .before .before .before .first .given .1) in
-    (omega (arith, n .0, f, i .0), n .0 .inside, omega (arith, n .0, i .2), n .0 .room, call .value .kept .1 .1 .1 .1 .1 .1 .1 .0 ∙ turn .next-item .kept .1 .1 .1 .1 .1 .1 .0 ∙ i .4, call .value .kept .1 .1 .1 .1 .1 .1 .1 .1 .0 ∙ i .5, n .1))
+    let asked = call .before .before .before .before .before .before .before .before in
+    let p = asked .before .before .before .before .before .before .before .before .before .before .before .before .before .pre .1 in
+    let t = turn (asked .before .before .before .loop .inv) (p .1 .1) (asked .next-item .ensures .0) (asked .next-item .ensures .1) (asked .next-item .kept .1 .1 .1 .1 .1 .1 .0) in
+    turn-next t _ _ (call .before .before .before .before .first .given .1) (call .value .ensures) _ _ (c .before .r .given .1) (call .value .kept .1 .1 .1 .1 .1 .1 .1 .0) (call .value .kept .1 .1 .1 .1 .1 .1 .1 .1 .0) .1)
     -- enum-known-after
     (λ c. search needs)
     -- sub-put
@@ -172,17 +166,12 @@ pub +value-spec : {M : Type 1} → statement M
     (λ c. search needs)
     -- returns-4
     (λ c.
-    let turn = c .before .before .before .before .before .before .before .before .before .before .before .before in
-    let passed = turn .before .before .before .before .before .before in
+    let asked = c .before .before .before .before .before .before .before .before .before .before .before .before in
+    let passed = asked .before .before .before .before .before .before in
     let p = passed .before .before .before .before .before .before .before .pre .1 in
     let b = begun _ _ _ _ _ _ _ (passed .before .before .beginning .ensures ∙ ap beginning (passed .before .before .before .peek .ensures)) (passed .before .refusal .ensures) (p .1 .1) (passed .if1 .left) in
-    let i = turn .before .before .before .loop .inv in
-    let z = filling-closed _ _ _ _ _ _ _ (i .6) (i .1) (p .1 .1) (turn .next-item .ensures .0) (turn .next-item .ensures .1) _ (c .before .before .before .before .before .before .before .before .after .given .1) in
-    value-way-closed b (turn .before .before .before .before .before .if2 .left) _ _ (z .0) (record { past = omega (arith, z, i .0); inside = z .2; grows = i .2; room = i .3 }) (p .1 .3)
-    (omega (arith, p .0 .values-long, i .4, turn .next-item .kept .1 .1 .1 .1 .1 .1 .0)) (omega (arith, p .0 .names-long, i .5))
-    (filled-so-far _ _ _ _ _ _ _ (i .6) (i .1) (p .1 .1) (turn .next-item .ensures .0) (turn .next-item .ensures .1))
-    (changed-so-far _ _ _ _ _ _ _ (i .6) (i .1) (p .1 .1) (turn .next-item .ensures .0) (turn .next-item .ensures .1))
-    (c .before .before .before .before .put .ensures .0) (c .before .before .before .before .put .ensures .1))
+    let t = turn (asked .before .before .before .loop .inv) (p .1 .1) (asked .next-item .ensures .0) (asked .next-item .ensures .1) (asked .next-item .kept .1 .1 .1 .1 .1 .1 .0) in
+    value-way-closed b (asked .before .before .before .before .before .if2 .left) t _ (c .before .before .before .before .before .before .before .before .after .given .1) (p .1 .3) (omega (arith, p .0 .values-long)) (p .0 .names-long) (c .before .before .before .before .put .ensures .0) (c .before .before .before .before .put .ensures .1))
     -- enum-known-number
     (λ c. search needs)
     -- same-length-7
@@ -191,11 +180,9 @@ pub +value-spec : {M : Type 1} → statement M
     (λ c. search needs)
     -- returns-5
     (λ c.
-    let turn = c .before .before .before .before .before in
-    let passed = turn .before .before .before .before .before .before in
+    let asked = c .before .before .before .before .before in
+    let passed = asked .before .before .before .before .before .before in
     let p = passed .before .before .before .before .before .before .before .pre .1 in
     let b = begun _ _ _ _ _ _ _ (passed .before .before .beginning .ensures ∙ ap beginning (passed .before .before .before .peek .ensures)) (passed .before .refusal .ensures) (p .1 .1) (passed .if1 .left) in
-    let i = turn .before .before .before .loop .inv in
-    value-way-items b (turn .before .before .before .before .before .if2 .left) _ _ _ refl (i .3)
-    (filling-unread _ _ _ _ _ _ _ (i .6) (i .1) (p .1 .1) (turn .next-item .ensures .0) (turn .next-item .ensures .1) _ _ (c .before .number .given .1))
-    (changed-so-far _ _ _ _ _ _ _ (i .6) (i .1) (p .1 .1) (turn .next-item .ensures .0) (turn .next-item .ensures .1)))
+    let t = turn (asked .before .before .before .loop .inv) (p .1 .1) (asked .next-item .ensures .0) (asked .next-item .ensures .1) (asked .next-item .kept .1 .1 .1 .1 .1 .1 .0) in
+    value-way-unread b (asked .before .before .before .before .before .if2 .left) t _ _ (c .before .number .given .1))

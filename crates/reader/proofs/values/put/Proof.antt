@@ -1,5 +1,4 @@
 use Rattle.lexer.proofs.Auto.{auto}
-use borrow.Author.Needs.{needs}
 use mathlib.Core.Path.{ap, _∙_}
 use lib.ListN.{set}
 use Rattle.reader.proofs.values.put.Statement.{statement}

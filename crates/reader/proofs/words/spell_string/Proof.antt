@@ -1,5 +1,4 @@
 use Rattle.lexer.proofs.Auto.{auto}
-use borrow.Author.Needs.{needs}
 use Prim.Native.Nat.{_-_, _%_}
 use native.Mathlib.Omega.{arith}
 use mathlib.Core.Path.{ap, _∙_}

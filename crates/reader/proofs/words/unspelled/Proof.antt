@@ -1,7 +1,6 @@
 use mathlib.Core.Path.{sym, ap}
 use Rattle.lexer.proofs.Auto.{auto}
 use Rattle.reader.specs.Words.{unspelled}
-use borrow.Author.Needs.{needs}
 use Rattle.reader.proofs.words.unspelled.Statement.{statement}
 use Rattle.reader.proofs.words.unspelled.Tie as tie
 
