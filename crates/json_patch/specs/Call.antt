@@ -16,7 +16,7 @@ pub record Answered (a : Spec.Answer) (before after : Bytes) (r : Answer) : Type
   pub text : r .text ≡ a .text
   pub op : r .op ≡ a .op
   pub place : r .place ≡ a .place
-  pub length : r .length ≡ length (a .written)
+  pub written : r .length ≡ length (a .written)
   pub output : after ≡ a .written ++ drop (length (a .written)) before
 
 -- a buffer of the work area afterwards: "After a 1, no buffer has changed. After any other answer the work area is all zero; where a work buffer
