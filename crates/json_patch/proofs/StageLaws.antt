@@ -1,19 +1,27 @@
 -- Laws of the stages of the call, each for one way out of a stage.
 use Prim.Native.Nat.{ℕ, _+_, _≤_, _<_}
 use native.Mathlib.Omega.{arith}
-use mathlib.Core.Path.{_≡_, subst, sym, ap, _∙_}
+use mathlib.Core.Path.{_≡_, refl, subst, sym, ap, ap₂, _∙_}
 use mathlib.Core.List.{List, _++_}
 use lib.ListN.{length, drop}
 use Rattle.spec.specs.Refusal.{output-too-short}
 use Rattle.spec.specs.Limits.{maxDepth}
 use Rattle.spec.specs.Bytes.{Bytes}
 use Rattle.spec.specs.Value as Value
+use Rattle.spec.specs.Operation as Operation
+use Rattle.spec.specs.Operation.{limited}
+use Rattle.spec.specs.Patch.{Run, finished, stopped, onFinish, shape, run}
 use Rattle.spec.specs.Write as Write
-use Rattle.spec.specs.Answer.{fitting}
-use Rattle.tape.specs.Layout.{documentRow}
+use Rattle.spec.specs.Answer.{fitting, answerOf, patched}
+use Rattle.tape.specs.Layout.{documentRow, patchRow}
+use Rattle.walk.specs.Names.{Short}
+use Rattle.shape.specs.Patch.{ShapeIs, right, wrong, PatchIs}
+use Rattle.shape.specs.declared.patch.Shape.{Shape}
+use Rattle.shape.specs.declared.patch.Shape.the-variants as Shape
 use Rattle.writer.specs.Writing.{MeasureIs, WriteIs}
 use Rattle.writer.proofs.CallerLaws.{measured, written-whole}
 use Rattle.json_patch.specs.Draft.{Document}
+use Rattle.json_patch.specs.Stages.{PatchHeld, RunOperationsIs}
 use Rattle.json_patch.specs.Call.{Answered, SuccessIs, RefusalIs}
 use Rattle.json_patch.specs.declared.answer.Answer.{Answer}
 use Rattle.json_patch.proofs.AnswerLaws.{answered-refusal, answered-success, answered-as, fitting-short, fitting-whole}
@@ -39,3 +47,37 @@ module _ {D P : Bytes} {values names : List ℕ} {used : ℕ} {v : Value.Value} 
         let long = text-measured measures in
         let room : length (Write.write v) ≤ length out = omega arith in
         answered-as (fitting-whole _ _ room) (answered-success (rw long at is) (text-laid writes room))
+
+-- ---- the operations run
+module _ {out : Bytes} {o : Run Value.Value} where
+  pub ran-finished : {out' : Bytes} {w : Value.Value} {r : Answer} → o ≡ finished w → Answered (fitting (length out) (Write.write w)) out out' r → Answered (answerOf (length out) o) out out' r
+  unfolding answerOf
+  ran-finished {out'} {w} e is = rw e is
+
+  pub ran-stopped : {number op : ℕ} {r : Answer} → o ≡ stopped number op → RefusalIs number 0 op 0 r → Answered (answerOf (length out) o) out out r
+  unfolding answerOf
+  ran-stopped e is = rw e (answered-refusal is)
+
+-- ---- the shape of the patch
+shape-right : {o : Run (List Operation.Operation)} {s : Shape} → ShapeIs o s → s ≡ Shape.Right → ((os : List Operation.Operation) × (o ≡ finished os))
+shape-right (right os) e = (os, refl)
+shape-right (wrong number op) e = absurd (let z : _≡_ {A = ℕ} 0 1 = cc in omega arith)
+
+shape-wrong : {o : Run (List Operation.Operation)} {s : Shape} {number op : ℕ} → ShapeIs o s → s ≡ Shape.Refused number op → o ≡ stopped number op
+shape-wrong (right os) e = absurd (let z : _≡_ {A = ℕ} 0 1 = cc in omega arith)
+shape-wrong (wrong n k) e = ap₂ stopped (cc) (cc)
+
+module _ {D P : Bytes} {values names : List ℕ} {p : Value.Value} {s : Shape} (held : PatchHeld D P values names p) (shaped : PatchIs D P values names patchRow s) where
+  shape-told : ShapeIs (shape p) s
+  shape-told = subst (λ w. ShapeIs (shape w) s) (held .means) (shaped (held .c) (held .kids) (held .held))
+
+  pub patch-right : {used : ℕ} {v : Value.Value} {out out' : Bytes} {r : Answer} → s ≡ Shape.Right → Document D P values names used v → Short D P
+      → RunOperationsIs D P out out' values names used r → Answered (patched (length out) v p) out out' r
+  unfolding patched onFinish
+  patch-right {v = v} e d short runs =
+      let told = shape-right shape-told e in
+      rw (told .1) (runs v p d held short (told .0) (told .1))
+
+  pub patch-wrong : (v : Value.Value) {out : Bytes} {number op : ℕ} {r : Answer} → s ≡ Shape.Refused number op → RefusalIs number 0 op 0 r → Answered (patched (length out) v p) out out r
+  unfolding patched onFinish answerOf
+  patch-wrong v e is = rw (shape-wrong shape-told e) (answered-refusal is)
