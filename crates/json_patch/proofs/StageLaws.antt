@@ -5,25 +5,33 @@ use mathlib.Core.Path.{_≡_, refl, subst, sym, ap, ap₂, _∙_}
 use mathlib.Core.List.{List, _++_}
 use lib.ListN.{length, drop}
 use Rattle.spec.specs.Refusal.{output-too-short}
-use Rattle.spec.specs.Limits.{maxDepth}
+use Rattle.spec.specs.Outcome.{Outcome, ok, refused}
+use Rattle.spec.specs.Limits.{maxDepth, maxBytes, maxNodes}
 use Rattle.spec.specs.Bytes.{Bytes}
 use Rattle.spec.specs.Value as Value
 use Rattle.spec.specs.Operation as Operation
 use Rattle.spec.specs.Operation.{limited}
 use Rattle.spec.specs.Patch.{Run, finished, stopped, onFinish, shape, run}
 use Rattle.spec.specs.Write as Write
-use Rattle.spec.specs.Answer.{fitting, answerOf, patched}
-use Rattle.tape.specs.Layout.{documentRow, patchRow}
+use Rattle.spec.specs.Read.{read}
+use Rattle.spec.specs.Answer.{fitting, answerOf, patched, onPatch}
+use Rattle.tape.specs.Layout.{inPatch, documentRow, patchRow}
 use Rattle.walk.specs.Names.{Short}
 use Rattle.shape.specs.Patch.{ShapeIs, right, wrong, PatchIs}
 use Rattle.shape.specs.declared.patch.Shape.{Shape}
 use Rattle.shape.specs.declared.patch.Shape.the-variants as Shape
+use Rattle.reader.specs.Filled.{Changed}
+use Rattle.reader.specs.Texts.{reading, Rooted, TextIs, text-read, text-refused}
+use Rattle.reader.specs.declared.values.Read.{Read}
+use Rattle.reader.specs.declared.values.Read.the-variants as Read
+use Rattle.lexer.specs.declared.cursor.Cursor.{Cursor}
 use Rattle.writer.specs.Writing.{MeasureIs, WriteIs}
 use Rattle.writer.proofs.CallerLaws.{measured, written-whole}
 use Rattle.json_patch.specs.Draft.{Document}
-use Rattle.json_patch.specs.Stages.{PatchHeld, RunOperationsIs}
+use Rattle.json_patch.specs.Stages.{PatchHeld, RunOperationsIs, RunPatchIs}
 use Rattle.json_patch.specs.Call.{Answered, SuccessIs, RefusalIs}
 use Rattle.json_patch.specs.declared.answer.Answer.{Answer}
+use Rattle.json_patch.proofs.TextLaws.{reading-whole, patch-held, document-kept}
 use Rattle.json_patch.proofs.AnswerLaws.{answered-refusal, answered-success, answered-as, fitting-short, fitting-whole}
 
 -- ---- the document written
@@ -81,3 +89,32 @@ module _ {D P : Bytes} {values names : List ℕ} {p : Value.Value} {s : Shape} (
   pub patch-wrong : (v : Value.Value) {out : Bytes} {number op : ℕ} {r : Answer} → s ≡ Shape.Refused number op → RefusalIs number 0 op 0 r → Answered (patched (length out) v p) out out r
   unfolding patched onFinish answerOf
   patch-wrong v e is = rw (shape-wrong shape-told e) (answered-refusal is)
+
+-- ---- a text read: its value, and the tree in the table; or its refusal
+module _ {source : ℕ} {s : Bytes} {base : ℕ} {vs ns vs' ns' : List ℕ} {o : Outcome Value.Value} where
+  text-value : {C : Type 0} {told : Read} {next : Cursor} {end : ℕ} → TextIs source s base vs ns vs' ns' o told → told ≡ Read.Value next end
+      → ((v : Value.Value) → o ≡ ok v → end ≤ base + maxNodes → Rooted source s base end v vs' ns' → Changed base end vs ns vs' ns' → C) → C
+  text-value {end = end} (text-read v n e is last short rooted changed) t then-it = let same : e ≡ end = cc in then-it v is (rw same at short) (rw same at rooted) (rw same at changed)
+  text-value (text-refused number place is changed) t then-it = absurd (let z : _≡_ {A = ℕ} 0 1 = cc in omega arith)
+
+  text-refusal : {told : Read} {number place : ℕ} → TextIs source s base vs ns vs' ns' o told → told ≡ Read.Refused number place → o ≡ refused number place
+  text-refusal (text-read v n e is last short rooted changed) t = absurd (let z : _≡_ {A = ℕ} 0 1 = cc in omega arith)
+  text-refusal (text-refused number place is changed) t = is ∙ ap₂ refused (cc) (cc)
+
+-- ---- the patch read
+module _ {D P : Bytes} {vs ns vs' ns' : List ℕ} {used : ℕ} {v : Value.Value} {told : Read} (d : Document D P vs ns used v) (short : length P ≤ maxBytes)
+    (reads : TextIs inPatch P patchRow vs ns vs' ns' (reading vs ns P) told) where
+  as-read : read P ≡ reading vs ns P
+  as-read = sym (reading-whole vs ns P (d .long) (d .titlesLong) short)
+
+  pub patch-read : {next : Cursor} {end : ℕ} {out out' : Bytes} {r : Answer} → told ≡ Read.Value next end → length D ≤ maxBytes → length vs' ≡ length vs → length ns' ≡ length ns
+      → RunPatchIs D P out out' vs' ns' used r → Answered (onPatch (length out) v (read P)) out out' r
+  unfolding onPatch
+  patch-read t shortD same titles runs =
+      text-value reads t λ p is small rooted changed.
+      let kept = document-kept changed (omega (arith, d .long)) (omega (arith, d .titlesLong)) d in
+      rw (as-read ∙ is) (runs v p kept (patch-held D rooted small) (record { document = omega arith; patch = omega arith }))
+
+  pub patch-refused : {out : Bytes} {number place : ℕ} {r : Answer} → told ≡ Read.Refused number place → RefusalIs number 2 0 place r → Answered (onPatch (length out) v (read P)) out out r
+  unfolding onPatch
+  patch-refused t is = rw (as-read ∙ text-refusal reads t) (answered-refusal is)
