@@ -6,7 +6,7 @@ use mathlib.Core.List.{List, _++_}
 use lib.ListN.{length, drop}
 use Rattle.spec.specs.Refusal.{output-too-short}
 use Rattle.spec.specs.Outcome.{Outcome, ok, refused}
-use Rattle.spec.specs.Limits.{maxDepth, maxBytes, maxNodes}
+use Rattle.spec.specs.Limits.{maxDepth, maxBytes, maxNodes, workWords}
 use Rattle.spec.specs.Bytes.{Bytes}
 use Rattle.spec.specs.Value as Value
 use Rattle.spec.specs.Operation as Operation
@@ -14,8 +14,9 @@ use Rattle.spec.specs.Operation.{limited}
 use Rattle.spec.specs.Patch.{Run, finished, stopped, onFinish, shape, run}
 use Rattle.spec.specs.Write as Write
 use Rattle.spec.specs.Read.{read}
-use Rattle.spec.specs.Answer.{fitting, answerOf, patched, onPatch}
-use Rattle.tape.specs.Layout.{inPatch, documentRow, patchRow}
+use Rattle.spec.proofs.ReadLaws.{read-depth}
+use Rattle.spec.specs.Answer.{fitting, answerOf, patched, onPatch, onDocument}
+use Rattle.tape.specs.Layout.{inDocument, inPatch, documentRow, patchRow}
 use Rattle.walk.specs.Names.{Short}
 use Rattle.shape.specs.Patch.{ShapeIs, right, wrong, PatchIs}
 use Rattle.shape.specs.declared.patch.Shape.{Shape}
@@ -28,10 +29,10 @@ use Rattle.lexer.specs.declared.cursor.Cursor.{Cursor}
 use Rattle.writer.specs.Writing.{MeasureIs, WriteIs}
 use Rattle.writer.proofs.CallerLaws.{measured, written-whole}
 use Rattle.json_patch.specs.Draft.{Document}
-use Rattle.json_patch.specs.Stages.{PatchHeld, RunOperationsIs, RunPatchIs}
+use Rattle.json_patch.specs.Stages.{PatchHeld, RunOperationsIs, RunPatchIs, WithPatchIs}
 use Rattle.json_patch.specs.Call.{Answered, SuccessIs, RefusalIs}
 use Rattle.json_patch.specs.declared.answer.Answer.{Answer}
-use Rattle.json_patch.proofs.TextLaws.{reading-whole, patch-held, document-kept}
+use Rattle.json_patch.proofs.TextLaws.{reading-whole, patch-held, document-held, document-kept}
 use Rattle.json_patch.proofs.AnswerLaws.{answered-refusal, answered-success, answered-as, fitting-short, fitting-whole}
 
 -- ---- the document written
@@ -118,3 +119,21 @@ module _ {D P : Bytes} {vs ns vs' ns' : List ℕ} {used : ℕ} {v : Value.Value}
   pub patch-refused : {out : Bytes} {number place : ℕ} {r : Answer} → told ≡ Read.Refused number place → RefusalIs number 2 0 place r → Answered (onPatch (length out) v (read P)) out out r
   unfolding onPatch
   patch-refused t is = rw (as-read ∙ text-refusal reads t) (answered-refusal is)
+
+-- ---- the document read
+module _ {D : Bytes} {vs ns vs' ns' : List ℕ} {told : Read} (long : workWords ≤ length vs) (titlesLong : workWords ≤ length ns) (short : length D ≤ maxBytes)
+    (reads : TextIs inDocument D documentRow vs ns vs' ns' (reading vs ns D) told) where
+  is-read : read D ≡ reading vs ns D
+  is-read = sym (reading-whole vs ns D long titlesLong short)
+
+  pub document-read : {P : Bytes} {next : Cursor} {end : ℕ} {out out' : Bytes} {r : Answer} → told ≡ Read.Value next end → length P ≤ maxBytes → length vs' ≡ length vs → length ns' ≡ length ns
+      → WithPatchIs D P out out' vs' ns' end r → Answered (onDocument (length out) (read D) P) out out' r
+  unfolding onDocument
+  document-read {P} t shortP same titles runs =
+      text-value reads t λ v is small rooted changed.
+      let d = document-held P rooted small (read-depth D v (is-read ∙ is)) (omega arith) (omega arith) in
+      rw (is-read ∙ is) (runs v d short shortP)
+
+  pub document-refused : (P : Bytes) {out : Bytes} {number place : ℕ} {r : Answer} → told ≡ Read.Refused number place → RefusalIs number 1 0 place r → Answered (onDocument (length out) (read D) P) out out r
+  unfolding onDocument
+  document-refused P t is = rw (is-read ∙ text-refusal reads t) (answered-refusal is)

@@ -6,12 +6,13 @@ use mathlib.Core.List.{List, _++_, _∷_}
 use lib.ListN.{length, take, drop, take-append-drop}
 use lib.Seq.{take-take}
 use borrow.Author.Tests.{le-ltb}
-use Rattle.spec.specs.Limits.{maxBytes, maxNodes, workWords}
+use Rattle.spec.specs.Limits.{maxBytes, maxDepth, maxNodes, workWords}
 use Rattle.spec.specs.Bytes.{Bytes}
 use Rattle.spec.specs.Forest.{Forest, none, tree, size}
 use Rattle.spec.specs.Value as Value
+use Rattle.spec.specs.Value.{depth}
 use Rattle.spec.specs.Read.{read}
-use Rattle.tape.specs.Layout.{inPatch, documentRow, patchRow, scratchRow, rows}
+use Rattle.tape.specs.Layout.{inDocument, inPatch, documentRow, patchRow, scratchRow, rows}
 use Rattle.tape.specs.Tape.{tape, Holds}
 use Rattle.tape.specs.Cell.{Cell, Formed, formed-none, formed-tree, Held}
 use Rattle.tape.proofs.Tape.{tape-single, holds-words}
@@ -41,6 +42,23 @@ pub patch-held : (D : Bytes) {P : Bytes} {end : ℕ} {p : Value.Value} {vs ns : 
 unfolding sourceText
 patch-held D {P} r short =
     record { c = r .root; kids = r .kids; held = rooted-node r refl; means = r .means D P refl; inside = omega (arith, r .ends) }
+
+-- the document
+pub document-held : {D : Bytes} (P : Bytes) {end : ℕ} {v : Value.Value} {vs ns : List ℕ} → Rooted inDocument D documentRow end v vs ns → end ≤ documentRow + maxNodes → depth v ≤ maxDepth
+    → rows ≤ length vs → rows ≤ length ns → Document D P vs ns end v
+unfolding sourceText
+document-held {D} P r short shallow long titlesLong =
+    record {
+      c = r .root;
+      kids = r .kids;
+      held = rooted-node r refl;
+      means = r .means D P refl;
+      ends = omega (arith, r .ends);
+      few = omega arith;
+      shallow = shallow;
+      long = long;
+      titlesLong = titlesLong;
+    }
 
 -- ---- a tree in the first rows stays where only rows behind it change
 holds-kept : {A W : Type 0} {w : A → Forest A → W} {xs ys : List W} {a : A} {kids rest : Forest A} {after : List W} (n start : ℕ) → n ≡ suc (size kids) → n ≤ start
