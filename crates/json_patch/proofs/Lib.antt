@@ -1,3 +1,4 @@
 pub mod AnswerLaws
 pub mod TextLaws
 pub mod StageLaws
+pub mod CallLaws
