@@ -1,1 +1,5 @@
+pub mod AnswerLaws
+pub mod TextLaws
 pub mod StageLaws
+pub mod CallLaws
+pub mod RegionTheorem

@@ -1,2 +1,4 @@
+pub mod Draft
 pub mod Call
 pub mod Stages
+pub mod Region

@@ -1,0 +1,73 @@
+-- Laws of answers: the two kinds of them, and what the definitions of the stages come to.
+use Prim.Native.Nat.{ℕ, _≤_, _<_}
+use mathlib.Core.Path.{_≡_, refl, subst, sym}
+use mathlib.Core.Bool.{true, false}
+use mathlib.Core.List.{_++_}
+use lib.ListN.{length, drop}
+use borrow.Author.Tests.{le-leb, lt-leb}
+use Rattle.spec.specs.Refusal.{work-too-short, input-too-long, output-too-short}
+use Rattle.spec.specs.Limits.{maxBytes, workWords}
+use Rattle.spec.specs.Bytes.{Bytes}
+use Rattle.spec.specs.Answer as Spec
+use Rattle.spec.specs.Answer.{Lent, workSuffices, fitting, onDocument, answer}
+use Rattle.spec.specs.Read.{read}
+use Rattle.json_patch.specs.Call.{Answered, SuccessIs, RefusalIs}
+use Rattle.json_patch.specs.declared.answer.Answer.{Answer}
+
+-- ---- a refusal leaves the output as it was; a success has the text in front
+pub answered-refusal : {number text op place : ℕ} {out : Bytes} {r : Answer} → RefusalIs number text op place r → Answered (Spec.refusal number text op place) out out r
+answered-refusal (n, t, o, p, l) = record { number = n; text = t; op = o; place = p; written = l; output = refl }
+
+pub answered-success : {t before after : Bytes} {r : Answer} → SuccessIs (length t) r → after ≡ t ++ drop (length t) before → Answered (Spec.success t) before after r
+answered-success (n, t, o, p, l) whole = record { number = n; text = t; op = o; place = p; written = l; output = whole }
+
+-- an answer by another name
+pub answered-as : {a b : Spec.Answer} {before after : Bytes} {r : Answer} → a ≡ b → Answered b before after r → Answered a before after r
+answered-as {before = before} {after} {r} e h = subst (λ a. Answered a before after r) (sym e) h
+
+-- ---- the room for the text
+module _ (room : ℕ) (t : Bytes) where
+  pub fitting-short : room < length t → fitting room t ≡ Spec.refusal output-too-short 0 0 0
+  unfolding fitting
+  fitting-short h = rw (lt-leb (length t) room h)
+
+  pub fitting-whole : length t ≤ room → fitting room t ≡ Spec.success t
+  unfolding fitting
+  fitting-whole h = rw (le-leb (length t) room h)
+
+-- ---- the checks before a byte is read
+module _ (lent : Lent) where
+  pub work-suffices : workWords ≤ lent .values → workWords ≤ lent .names → workSuffices lent ≡ true
+  unfolding workSuffices
+  work-suffices h i = rw (le-leb workWords (lent .values) h, le-leb workWords (lent .names) i)
+
+  pub values-short : lent .values < workWords → workSuffices lent ≡ false
+  unfolding workSuffices
+  values-short h = rw (lt-leb workWords (lent .values) h)
+
+  pub names-short : workWords ≤ lent .values → lent .names < workWords → workSuffices lent ≡ false
+  unfolding workSuffices
+  names-short h i = rw (le-leb workWords (lent .values) h, lt-leb workWords (lent .names) i)
+
+module _ (D P : Bytes) (lent : Lent) where
+  pub answer-work-short : workSuffices lent ≡ false → answer D P lent ≡ Spec.refusal work-too-short 0 0 0
+  unfolding answer
+  answer-work-short e = rw e
+
+  module _ (enough : workSuffices lent ≡ true) where
+    pub answer-document-long : maxBytes < length D → answer D P lent ≡ Spec.refusal input-too-long 1 0 0
+    unfolding answer
+    answer-document-long h = rw (enough, lt-leb (length D) maxBytes h)
+
+    pub answer-patch-long : length D ≤ maxBytes → maxBytes < length P → answer D P lent ≡ Spec.refusal input-too-long 2 0 0
+    unfolding answer
+    answer-patch-long h i = rw (enough, le-leb (length D) maxBytes h, lt-leb (length P) maxBytes i)
+
+    pub answer-read : length D ≤ maxBytes → length P ≤ maxBytes → answer D P lent ≡ onDocument (lent .output) (read D) P
+    unfolding answer
+    answer-read h i = rw (enough, le-leb (length D) maxBytes h, le-leb (length P) maxBytes i)
+
+-- only that the work area suffices, and the room for the text, make a difference
+pub answer-same : (D P : Bytes) (lent lent' : Lent) → workSuffices lent ≡ workSuffices lent' → lent .output ≡ lent' .output → answer D P lent ≡ answer D P lent'
+unfolding answer
+answer-same D P lent lent' e o = rw (e, o)

@@ -1,0 +1,105 @@
+-- Laws of the two texts in the table: what a text that is read gives, and that the document stays while the patch is read.
+use Prim.Native.Nat.{ℕ, suc, _+_, _≤_, _<_}
+use native.Mathlib.Omega.{arith}
+use mathlib.Core.Path.{_≡_, refl, sym, ap, _∙_}
+use mathlib.Core.List.{List, _++_, _∷_}
+use lib.ListN.{length, take, drop, take-append-drop}
+use lib.Seq.{take-take}
+use borrow.Author.Tests.{le-ltb}
+use Rattle.spec.specs.Limits.{maxBytes, maxDepth, maxNodes, workWords}
+use Rattle.spec.specs.Bytes.{Bytes}
+use Rattle.spec.specs.Forest.{Forest, none, tree, size}
+use Rattle.spec.specs.Value as Value
+use Rattle.spec.specs.Value.{depth}
+use Rattle.spec.specs.Read.{read}
+use Rattle.tape.specs.Layout.{inDocument, inPatch, documentRow, patchRow, scratchRow, rows}
+use Rattle.tape.specs.Tape.{tape, Holds}
+use Rattle.tape.specs.Cell.{Cell, Formed, formed-none, formed-tree, Held}
+use Rattle.tape.proofs.Tape.{tape-single, holds-words}
+use Rattle.tape.proofs.Cells.{formed-fit, formed-kids}
+use Rattle.table.specs.Meaning.{sourceText}
+use Rattle.table.specs.Sound.{NodeHeld}
+use Rattle.table.proofs.AllLaws.{all-first, all-kids}
+use Rattle.reader.specs.Filled.{Changed}
+use Rattle.reader.specs.Texts.{reading, Rooted}
+use Rattle.json_patch.specs.Draft.{Document}
+use Rattle.json_patch.specs.Stages.{PatchHeld}
+
+-- ---- what is read of a text that is not too long, into columns that are long enough, is what the definition reads
+pub reading-whole : (vs ns : List ℕ) (s : Bytes) → workWords ≤ length vs → workWords ≤ length ns → length s ≤ maxBytes → reading vs ns s ≡ read s
+unfolding reading
+reading-whole vs ns s h i j = rw (le-ltb (length vs) workWords h, le-ltb (length ns) workWords i, le-ltb maxBytes (length s) j)
+
+-- ---- the tree of a text that is read, as a node
+module _ {source : ℕ} {s : Bytes} {base end : ℕ} {v : Value.Value} {vs ns : List ℕ} (tree-read : Rooted source s base end v vs ns) where
+  pub rooted-node : {D P : Bytes} → sourceText D P source ≡ s → NodeHeld D P vs ns base (tree-read .root) (tree-read .kids)
+  rooted-node {D} {P} t =
+      let sound = tree-read .sound D P t in
+      record { rest = none; held = tree-read .held; label = all-first sound .label; sound = all-kids sound }
+
+-- the patch
+pub patch-held : (D : Bytes) {P : Bytes} {end : ℕ} {p : Value.Value} {vs ns : List ℕ} → Rooted inPatch P patchRow end p vs ns → end ≤ patchRow + maxNodes → PatchHeld D P vs ns p
+unfolding sourceText
+patch-held D {P} r short =
+    record { c = r .root; kids = r .kids; held = rooted-node r refl; means = r .means D P refl; inside = omega (arith, r .ends) }
+
+-- the document
+pub document-held : {D : Bytes} (P : Bytes) {end : ℕ} {v : Value.Value} {vs ns : List ℕ} → Rooted inDocument D documentRow end v vs ns → end ≤ documentRow + maxNodes → depth v ≤ maxDepth
+    → rows ≤ length vs → rows ≤ length ns → Document D P vs ns end v
+unfolding sourceText
+document-held {D} P r short shallow long titlesLong =
+    record {
+      c = r .root;
+      kids = r .kids;
+      held = rooted-node r refl;
+      means = r .means D P refl;
+      ends = omega (arith, r .ends);
+      few = omega arith;
+      shallow = shallow;
+      long = long;
+      titlesLong = titlesLong;
+    }
+
+-- ---- a tree in the first rows stays where only rows behind it change
+holds-kept : {A W : Type 0} {w : A → Forest A → W} {xs ys : List W} {a : A} {kids rest : Forest A} {after : List W} (n start : ℕ) → n ≡ suc (size kids) → n ≤ start
+    → take start ys ≡ take start xs → Holds w xs 0 (tree a kids rest) after → Holds w ys 0 (tree a kids none) (drop n ys)
+holds-kept {w = w} {xs} {ys} {a} {kids} n start e le same h =
+    let front : take n ys ≡ w a kids ∷ tape w kids = sym (take-take n start ys le) ∙ ap (take n) same ∙ take-take n start xs le ∙ holds-words n e h in
+    record { is = sym (take-append-drop n ys) ∙ ap (λ l. l ++ drop n ys) (front ∙ sym (tape-single w (record { root = a; kids = kids }))) }
+
+module _ {D P : Bytes} {vs ns vs' ns' : List ℕ} (start : ℕ) (same : take start vs' ≡ take start vs) (titles : take start ns' ≡ take start ns) where
+  node-kept : {c : Cell} {kids : Forest Cell} → suc (size kids) ≤ start → NodeHeld D P vs ns 0 c kids → NodeHeld D P vs' ns' 0 c kids
+  node-kept {kids = kids} inside n =
+      let h = n .held in
+      let m = suc (size kids) in
+      record {
+        rest = none;
+        held =
+            record {
+              after = drop m vs';
+              behind = drop m ns';
+              words = holds-kept m start refl inside same (h .words);
+              titles = holds-kept m start refl inside titles (h .titles);
+              formed = formed-tree (formed-fit (h .formed)) (formed-kids (h .formed)) formed-none;
+            };
+        label = n .label;
+        sound = n .sound;
+      }
+
+-- the document, while the patch is read into the rows behind it
+pub document-kept : {D P : Bytes} {end used : ℕ} {v : Value.Value} {vs ns vs' ns' : List ℕ} → Changed patchRow end vs ns vs' ns' → rows ≤ length vs' → rows ≤ length ns'
+    → Document D P vs ns used v → Document D P vs' ns' used v
+document-kept {vs = vs} {vs' = vs'} changed long titlesLong d =
+    let same : take patchRow vs' ≡ take patchRow vs =
+    sym (take-take patchRow scratchRow vs' (omega arith)) ∙ changed .nodes .before ∙ take-take patchRow scratchRow vs (omega arith) in
+    record {
+      c = d .c;
+      kids = d .kids;
+      held = node-kept patchRow same (changed .titles .before) (omega (arith, d .ends, d .few)) (d .held);
+      means = d .means;
+      ends = d .ends;
+      few = d .few;
+      shallow = d .shallow;
+      long = long;
+      titlesLong = titlesLong;
+    }

@@ -1,0 +1,48 @@
+-- Demand 3, said of the call itself: document 01, "The region statement in detail". What crate `spec` states of the definition `answer` on a
+-- shuffle, this states of whatever the call answers on it, and of the output that it leaves.
+use Prim.Native.Nat.{ℕ}
+use mathlib.Core.Path.{_≡_}
+use mathlib.Core.List.{List, _++_}
+use mathlib.Core.Option.{none, some}
+use lib.ListN.{length, drop}
+use Rattle.spec.specs.Refusal.{too-many-nodes}
+use Rattle.spec.specs.Bytes.{Bytes}
+use Rattle.spec.specs.Value as Value
+use Rattle.spec.specs.Pointer.{Tokens}
+use Rattle.spec.specs.Operation.{Operation}
+use Rattle.spec.specs.Patch.{stopped}
+use Rattle.spec.specs.Answer.{Lent}
+use Rattle.spec.specs.Region.{Situation, RegionStatement, SucceedsWith, bareRun, firstTooLarge}
+use Rattle.json_patch.specs.Call.{SuccessIs, RefusalIs, lentOf, ApplyIs}
+use Rattle.json_patch.specs.declared.answer.Answer.{Answer}
+
+-- the call answers this number with this op, and nothing else; the output is as it was
+pub record Refuses (number op : ℕ) (before after : Bytes) (r : Answer) : Type 0 where
+  pub answers : RefusalIs number 0 op 0 r
+  pub unchanged : after ≡ before
+
+-- the call answers 0 and writes this text: the output begins with it, and is else as it was
+pub record Writes (text before after : Bytes) (r : Answer) : Type 0 where
+  pub answers : SuccessIs (length text) r
+  pub laid : after ≡ text ++ drop (length text) before
+
+-- of an answer of the call on a shuffle, with the output before and after
+pub record CallStatement {D P Q Z : Bytes} {lent : Lent} {R S : Tokens} {document : Value.Value} {xs ys zs : List Operation}
+    (c : Situation D P Q Z lent R S document xs ys zs) (before after : Bytes) (r : Answer) : Type 0 where
+  -- the bare runs: "If both succeed alone, so does the shuffle's bare run, .. Otherwise it ends at the first operation in it at which ..": its
+  -- fields `both-succeed` and `otherwise`
+  pub runs : RegionStatement c
+  -- "If an operation of the shuffle's bare run leaves more than 2,048 nodes, the call on the shuffle answers 6 with the op of the first such one."
+  pub too-large : (op : ℕ) → firstTooLarge 1 zs document ≡ some op → Refuses too-many-nodes op before after r
+  -- "Otherwise it answers the bare run's number and op,
+  pub refused : (number op : ℕ) → firstTooLarge 1 zs document ≡ none → bareRun zs document ≡ stopped number op → Refuses number op before after r
+  -- or answers 0 and writes the run's text."
+  pub succeeds : (text : Bytes) → firstTooLarge 1 zs document ≡ none → SucceedsWith (bareRun zs document) text → Writes text before after r
+
+-- of every call: `Situation` says that the two patches are strictly inside regions apart, that Z is a shuffle of them, and that the buffers that
+-- this call is lent are enough
+abbrev pub CallInRegions : Type 0
+CallInRegions =
+    (D P Q Z output output' : Bytes) (values values' names names' : List ℕ) (R S : Tokens) (document : Value.Value) (xs ys zs : List Operation)
+    → (c : Situation D P Q Z (lentOf output values names) R S document xs ys zs)
+    → (r : Answer) → ApplyIs D Z output output' values values' names names' r → CallStatement c output output' r
