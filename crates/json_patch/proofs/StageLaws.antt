@@ -28,8 +28,11 @@ use Rattle.reader.specs.declared.values.Read.the-variants as Read
 use Rattle.lexer.specs.declared.cursor.Cursor.{Cursor}
 use Rattle.writer.specs.Writing.{MeasureIs, WriteIs}
 use Rattle.writer.proofs.CallerLaws.{measured, written-whole}
-use Rattle.json_patch.specs.Draft.{Document}
-use Rattle.json_patch.specs.Stages.{PatchHeld, RunOperationsIs, RunPatchIs, WithPatchIs}
+use Rattle.operations.specs.Document.{Document}
+use Rattle.operations.specs.Run.{RanTo, ran, halted, RunIs}
+use Rattle.operations.specs.declared.run.Ran.{Ran}
+use Rattle.operations.specs.declared.run.Ran.the-variants as Ran
+use Rattle.json_patch.specs.Stages.{PatchHeld, WriteOutIs, RunOperationsIs, RunPatchIs, WithPatchIs}
 use Rattle.json_patch.specs.Call.{Answered, SuccessIs, RefusalIs}
 use Rattle.json_patch.specs.declared.answer.Answer.{Answer}
 use Rattle.json_patch.proofs.TextLaws.{reading-whole, patch-held, document-held, document-kept}
@@ -66,6 +69,26 @@ module _ {out : Bytes} {o : Run Value.Value} where
   pub ran-stopped : {number op : ℕ} {r : Answer} → o ≡ stopped number op → RefusalIs number 0 op 0 r → Answered (answerOf (length out) o) out out r
   unfolding answerOf
   ran-stopped e is = rw e (answered-refusal is)
+
+ran-done : {C : Type 0} {D P : Bytes} {vs ns : List ℕ} {o : Run Value.Value} {s : Ran} {n : ℕ} → RanTo D P vs ns o s → s ≡ Ran.Done n
+    → ((w : Value.Value) → o ≡ finished w → Document D P vs ns n w → C) → C
+ran-done {D = D} {P} {vs} {ns} {n = n} (ran {used} {w} is d) e then-it = let same : used ≡ n = cc in then-it w is (subst (λ m. Document D P vs ns m w) same d)
+ran-done (halted is) e then-it = absurd (let z : _≡_ {A = ℕ} 0 1 = cc in omega arith)
+
+ran-halted : {D P : Bytes} {vs ns : List ℕ} {o : Run Value.Value} {s : Ran} {number op : ℕ} → RanTo D P vs ns o s → s ≡ Ran.Refused number op → o ≡ stopped number op
+ran-halted (ran is d) e = absurd (let z : _≡_ {A = ℕ} 0 1 = cc in omega arith)
+ran-halted (halted is) e = is ∙ ap₂ stopped (cc) (cc)
+
+module _ {D P : Bytes} {vs ns vs' ns' : List ℕ} {used : ℕ} {v p : Value.Value} {s : Ran} (d : Document D P vs ns used v) (held : PatchHeld D P vs ns p) (short : Short D P)
+    (os : List Operation.Operation) (right : shape p ≡ finished os) (runs : RunIs D P vs ns vs' ns' used s) where
+  run-told : RanTo D P vs' ns' (run limited 1 os v) s
+  run-told = runs v d short (held .c) (held .kids) (held .held) (held .inside) os (ap shape (held .means) ∙ right)
+
+  pub operations-done : {n : ℕ} {out out' : Bytes} {r : Answer} → s ≡ Ran.Done n → WriteOutIs D P out out' vs' ns' r → Answered (answerOf (length out) (run limited 1 os v)) out out' r
+  operations-done {n} e writes = ran-done run-told e λ w is after. ran-finished is (writes n w after)
+
+  pub operations-stopped : {number op : ℕ} {out : Bytes} {r : Answer} → s ≡ Ran.Refused number op → RefusalIs number 0 op 0 r → Answered (answerOf (length out) (run limited 1 os v)) out out r
+  operations-stopped e is = ran-stopped (ran-halted run-told e) is
 
 -- ---- the shape of the patch
 shape-right : {o : Run (List Operation.Operation)} {s : Shape} → ShapeIs o s → s ≡ Shape.Right → ((os : List Operation.Operation) × (o ≡ finished os))

@@ -22,7 +22,7 @@ use Rattle.table.specs.Sound.{NodeHeld}
 use Rattle.table.proofs.AllLaws.{all-first, all-kids}
 use Rattle.reader.specs.Filled.{Changed}
 use Rattle.reader.specs.Texts.{reading, Rooted}
-use Rattle.json_patch.specs.Draft.{Document}
+use Rattle.operations.specs.Document.{Document}
 use Rattle.json_patch.specs.Stages.{PatchHeld}
 
 -- ---- what is read of a text that is not too long, into columns that are long enough, is what the definition reads

@@ -1,4 +1,3 @@
-pub mod Draft
 pub mod Call
 pub mod Stages
 pub mod Region

@@ -3,6 +3,9 @@
 use crate::answer::Answer;
 use crate::answer::refusal;
 use crate::answer::success;
+use operations::paths::MAX_DEPTH;
+use operations::run::Ran;
+use operations::run::run;
 use reader::Read;
 use reader::read_document;
 use reader::read_patch;
@@ -15,8 +18,6 @@ use tape::moves::clear;
 use writer::measure;
 use writer::write;
 ghost use Rattle.json_patch.specs.Stages.{WriteOutIs, RunOperationsIs, RunPatchIs, WithPatchIs, WithDocumentIs, CheckedIs};
-
-const MAX_DEPTH: u32 = 32;
 
 // Bytes of a text.
 const MAX_BYTES: usize = 32_768;
@@ -53,7 +54,10 @@ fn run_operations<'a>(
 ) -> Answer
     ensures { λ r. ⌜ RunOperationsIs (now (document .entry)) (now (patch .entry)) (now (output .entry)) (now (output .exit)) (now (values .entry)) (now (names .entry)) used r ⌝ }
 {
-    write_out(document, patch, output, values, names)
+    match run(document, patch, values, names, used) {
+        Ran::Done(_) => return write_out(document, patch, output, values, names),
+        Ran::Refused(number, op) => return refusal(number, 0, op, 0),
+    }
 }
 
 // The shape of every operation, before any runs.

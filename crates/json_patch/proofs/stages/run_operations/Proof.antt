@@ -1,4 +1,34 @@
+-- `run_operations` meets its contract, by that of the run.
+use borrow.Author.Needs.{needs}
+use Rattle.json_patch.proofs.StageLaws.{operations-done, operations-stopped}
 use Rattle.json_patch.proofs.stages.run_operations.Statement.{statement}
+use Rattle.json_patch.proofs.stages.run_operations.Tie as tie
 
 pub run-operations-spec : {M : Type 1} → statement M
-run-operations-spec = ?later
+run-operations-spec =
+    tie.close
+    (tie.spec
+    -- run-requires
+    (λ c κs. search needs)
+    -- enum-told
+    (λ c. search needs)
+    -- write-out-requires
+    (λ c κs. search needs)
+    -- same-length
+    (λ c. search needs)
+    -- same-length-2
+    (λ c. search needs)
+    -- same-length-3
+    (λ c. search needs)
+    -- returns
+    (λ c v p d held short os right. operations-done d held short os right (c .before .before .before .before .before .before .before .before .before .before .before .before .run .ensures) (c .before .before .before .before .before .before .enum-told .given .1) (c .before .before .write-out .ensures))
+    -- enum-known-number
+    (λ c. search needs)
+    -- refusal-requires
+    (λ c κs. search needs)
+    -- same-length-4
+    (λ c. search needs)
+    -- same-length-5
+    (λ c. search needs)
+    -- returns-2
+    (λ c v p d held short os right. operations-stopped d held short os right (c .before .before .before .before .before .before .before .before .run .ensures) (c .before .before .number .given .1) (c .refusal .ensures)))
