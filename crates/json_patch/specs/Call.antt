@@ -2,7 +2,7 @@
 use Prim.Native.Nat.{ℕ}
 use mathlib.Core.Path.{_≡_}
 use mathlib.Core.Bool.{Bool, true, false}
-use mathlib.Core.List.{List, _++_}
+use mathlib.Core.List.{List, [], _∷_, _++_}
 use lib.ListN.{length, drop, replicate}
 use Rattle.spec.specs.Limits.{workWords}
 use Rattle.spec.specs.Bytes.{Bytes}
@@ -32,6 +32,13 @@ pub record ApplyIs (document patch output output' : Bytes) (values values' names
   pub answered : Answered (answer document patch (lentOf output values names)) output output' r
   pub values-after : values' ≡ wiped (workSuffices (lentOf output values names)) values
   pub names-after : names' ≡ wiped (workSuffices (lentOf output values names)) names
+
+-- the same for C: the answer's fields in their order, and its number
+pub record ExportIs (document patch output output' : Bytes) (values values' names names' fields : List ℕ) (number : ℕ) : Type 0 where
+  pub answer : Answer
+  pub applies : ApplyIs document patch output output' values values' names names' answer
+  pub fields-are : fields ≡ answer .number ∷ answer .text ∷ answer .op ∷ answer .place ∷ answer .length ∷ []
+  pub number-is : number ≡ answer .number
 
 -- ---- the two kinds of answers
 abbrev pub SuccessIs : ℕ → Answer → Type 0

@@ -6,6 +6,7 @@
 
 pub mod answer; // what the call answers
 pub mod call; // the call
+pub mod exports; // the call for C
 mod stages; // its stages: two texts read, the patch run, the result written
 
 pub use answer::Answer;
