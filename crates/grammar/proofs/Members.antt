@@ -42,7 +42,7 @@ sameText-true (a ∷ s) (b ∷ t) h =
     let q = and-eq-true-iff (eqb a b) (sameText s t) .0 h in
     ap₂ _∷_ (eqb-true a b (q .0)) (sameText-true s t (q .1))
 
-has-named : (n : Text) (f : Members) → has n f ≡ true → Named n f
+pub has-named : (n : Text) (f : Members) → has n f ≡ true → Named n f
 unfolding find count
 has-named n none h = absurd (omega (arith, ltb-true 0 0 h))
 has-named n (tree e kids rest) h = go (sameText (e .name) n) refl h (has-named n rest)
@@ -92,7 +92,7 @@ unfolding count
 named-counts (here h) = omega arith
 named-counts (later m) = omega arith
 
-no-one : {n : Text} → Named n none → ⊥
+pub no-one : {n : Text} → Named n none → ⊥
 unfolding count
 no-one m = let l = named-counts m in omega arith
 

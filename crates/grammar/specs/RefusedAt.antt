@@ -1,0 +1,81 @@
+-- Where a text is refused, and by which number: document 01, "Reading JSON", in terms of the grammar's productions. The place of a 3 is in
+-- Theorems. Proved in proofs/RefusedAt.
+use Prim.Native.Nat.{ℕ, _+_, _<_, _≤_}
+use Prim.Native.Char.{code}
+use mathlib.Core.Path.{_≡_}
+use mathlib.Core.List.{[], _∷_, _++_}
+use lib.ListN.{length}
+use lib.IntN.{natAbs}
+use Rattle.spec.specs.Outcome.{refused}
+use Rattle.spec.specs.Refusal.{repeated-name, too-deep, too-many-nodes, number-over-limit}
+use Rattle.spec.specs.Limits.{maxDepth, maxNodes, maxNumber, maxExponent}
+use Rattle.spec.specs.Bytes.{Bytes, Text}
+use Rattle.spec.specs.Worth.{exponent}
+use Rattle.spec.specs.Forest.{size}
+use Rattle.spec.specs.Value as Value
+use Rattle.spec.specs.Value.{Members}
+use Rattle.spec.specs.Read.{read}
+use Rattle.grammar.specs.Grammar.{ws, begin-array, begin-object, name-separator, value-separator, number, *char, string, quotation-mark, value, elements, members}
+use Rattle.grammar.specs.Limits.{Named}
+
+-- The bytes before a value of some JSON text: around the value so many containers are open, and so many values begin before it. Each
+-- container that is open has values before this one, or none.
+pub data BeforeValue : Bytes → ℕ → ℕ → Type 0 where
+  outermost : {w : Bytes} → ws w → BeforeValue w 0 0
+  first-element : {w b : Bytes} {levels values : ℕ} → BeforeValue w levels values → begin-array b → BeforeValue (w ++ b) (levels + 1) (values + 1)
+  next-element : {w b es c : Bytes} {f : Members} {levels values : ℕ} → BeforeValue w levels values → begin-array b → elements es f →
+      value-separator c → BeforeValue (w ++ (b ++ (es ++ c))) (levels + 1) (values + 1 + size f)
+  first-member : {w b n d : Bytes} {name : Text} {levels values : ℕ} → BeforeValue w levels values → begin-object b → string n name →
+      name-separator d → BeforeValue (w ++ (b ++ (n ++ d))) (levels + 1) (values + 1)
+  next-member : {w b ms c n d : Bytes} {f : Members} {name : Text} {levels values : ℕ} → BeforeValue w levels values → begin-object b →
+      members ms f → value-separator c → string n name → name-separator d →
+      BeforeValue (w ++ (b ++ (ms ++ (c ++ (n ++ d))))) (levels + 1) (values + 1 + size f)
+
+-- the byte at the place p of s is b, and w are the bytes before it
+pub record ByteAt (s : Bytes) (p : ℕ) (w : Bytes) (b : ℕ) : Type 0 where
+  pub after : Bytes
+  pub text : s ≡ w ++ (b ∷ after)
+  pub place : p ≡ length w
+
+-- "4: the closing quote of the second name. Names are compared after unescaping."
+pub data SecondName (s : Bytes) (p : ℕ) : Type 0 where
+  closing-quote : {w b ms c cs : Bytes} {f : Members} {name : Text} {levels values : ℕ} → BeforeValue w levels values → begin-object b →
+      members ms f → value-separator c → *char cs name → Named name f →
+      ByteAt s p (w ++ (b ++ (ms ++ (c ++ (quotation-mark ∷ cs))))) quotation-mark → SecondName s p
+
+abbrev pub PlaceOf4 : Type 0
+PlaceOf4 = (s : Bytes) (p : ℕ) → read s ≡ refused repeated-name p → SecondName s p
+
+-- an opening bracket
+pub data Opening : ℕ → Type 0 where
+  of-array : Opening (code "[")
+  of-object : Opening (code "{")
+
+-- "5: the bracket that opens level 33."
+pub data OpensLevel33 (s : Bytes) (p : ℕ) : Type 0 where
+  bracket : {w : Bytes} {b values : ℕ} → BeforeValue w maxDepth values → Opening b → ByteAt s p w b → OpensLevel33 s p
+
+abbrev pub PlaceOf5 : Type 0
+PlaceOf5 = (s : Bytes) (p : ℕ) → read s ≡ refused too-deep p → OpensLevel33 s p
+
+-- "6: the first byte of value 2,049." It is no bracket that opens level 33: "On the same byte the order is 3, 5, 6, 7."
+pub data BeginsValue2049 (s : Bytes) (p : ℕ) : Type 0 where
+  first-byte : {w more : Bytes} {b levels : ℕ} {v : Value.Value} → BeforeValue w levels maxNodes → value (b ∷ more) v →
+      (levels ≡ maxDepth → ¬ Opening b) → ByteAt s p w b → BeginsValue2049 s p
+
+abbrev pub PlaceOf6 : Type 0
+PlaceOf6 = (s : Bytes) (p : ℕ) → read s ≡ refused too-many-nodes p → BeginsValue2049 s p
+
+-- a byte after the bytes n of a number, with which the number has 129 bytes, or its exponent passes 9,999
+pub data PassesLimit (n : Bytes) (b : ℕ) : Type 0 where
+  byte-129 : (more : Bytes) → number (n ++ (b ∷ more)) → length n ≡ maxNumber → PassesLimit n b
+  exponent-digit : number n → natAbs (exponent n) ≤ maxExponent → number (n ++ (b ∷ [])) → maxExponent < natAbs (exponent (n ++ (b ∷ []))) →
+      PassesLimit n b
+
+-- "7: byte 129 of a number, or the exponent digit that passes 9,999."
+pub data NumberOverLimit (s : Bytes) (p : ℕ) : Type 0 where
+  passing-byte : {w n : Bytes} {b levels values : ℕ} → BeforeValue w levels values → PassesLimit n b → ByteAt s p (w ++ n) b →
+      NumberOverLimit s p
+
+abbrev pub PlaceOf7 : Type 0
+PlaceOf7 = (s : Bytes) (p : ℕ) → read s ≡ refused number-over-limit p → NumberOverLimit s p
