@@ -71,7 +71,7 @@ item-next {n = n} {x = x} {c = c'} (next-item {w} {b} is {c} f h o i q) p d q' =
 
 -- What the bytes before a value, and a value after them, begin.
 
-shorter : {w' : Bytes} → Begins w' → (w more : Bytes) → w' ≡ w ++ more → Begins w
+pub shorter : {w' : Bytes} → Begins w' → (w more : Bytes) → w' ≡ w ++ more → Begins w
 shorter b w more e =
     record {
       rest = more ++ b .rest;

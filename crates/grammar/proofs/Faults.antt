@@ -55,7 +55,7 @@ byte-at {s} {w} {p} b f l e =
     }
 
 -- an empty container
-empty : (isObject : Bool) → value (openingBracket isObject ∷ closingBracket isObject ∷ []) (containerOf isObject Forest.none)
+pub empty : (isObject : Bool) → value (openingBracket isObject ∷ closingBracket isObject ∷ []) (containerOf isObject Forest.none)
 unfolding containerLabel closingBracket
 empty false = value.of-array (array.no-elements (structural.around ws.none ws.none) (structural.around ws.none ws.none))
 empty true = value.of-object (object.no-members (structural.around ws.none ws.none) (structural.around ws.none ws.none))

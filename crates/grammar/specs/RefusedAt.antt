@@ -1,13 +1,13 @@
--- Where a text is refused, and by which number: document 01, "Reading JSON", in terms of the grammar's productions. The place of a 3 is in
--- Theorems. Proved in proofs/RefusedAt.
-use Prim.Native.Nat.{ℕ, _+_, _<_, _≤_}
+-- Where a text is refused, and by which number: document 01, "Reading JSON", in the grammar's productions. The place of a 3 is in Theorems.
+-- Proved in proofs/RefusedAt.
+use Prim.Native.Nat.{ℕ, suc, _+_, _<_, _≤_}
 use Prim.Native.Char.{code}
 use mathlib.Core.Path.{_≡_}
 use mathlib.Core.List.{[], _∷_, _++_}
-use lib.ListN.{length}
+use lib.ListN.{length, take}
 use lib.IntN.{natAbs}
-use Rattle.spec.specs.Outcome.{refused}
-use Rattle.spec.specs.Refusal.{repeated-name, too-deep, too-many-nodes, number-over-limit}
+use Rattle.spec.specs.Outcome.{ok, refused}
+use Rattle.spec.specs.Refusal.{not-json, repeated-name, too-deep, too-many-nodes, number-over-limit}
 use Rattle.spec.specs.Limits.{maxDepth, maxNodes, maxNumber, maxExponent}
 use Rattle.spec.specs.Bytes.{Bytes, Text}
 use Rattle.spec.specs.Worth.{exponent}
@@ -17,9 +17,24 @@ use Rattle.spec.specs.Value.{Members}
 use Rattle.spec.specs.Read.{read}
 use Rattle.grammar.specs.Grammar.{ws, begin-array, begin-object, name-separator, value-separator, number, *char, string, quotation-mark, value, elements, members}
 use Rattle.grammar.specs.Limits.{Named}
+use Rattle.grammar.specs.Theorems.{Begins}
 
--- The bytes before a value of some JSON text: around the value so many containers are open, and so many values begin before it. Each
--- container that is open has values before this one, or none.
+-- a text that is read, or refused for nothing but that it ends too soon
+pub data Unrefused (w : Bytes) : Type 0 where
+  read-whole : {v : Value.Value} → read w ≡ ok v → Unrefused w
+  cut-short : read w ≡ refused not-json (length w) → Unrefused w
+
+-- "The reader goes left to right and refuses at the first byte that causes it": nothing is refused before that byte, and whatever follows it,
+-- the refusal is the same.
+pub record FirstCause (s : Bytes) (number p : ℕ) : Type 0 where
+  pub before : (n : ℕ) → n ≤ p → Unrefused (take n s)
+  pub after : (rest : Bytes) → p < length s → read (take (suc p) s ++ rest) ≡ refused number p
+
+abbrev pub LeftToRight : Type 0
+LeftToRight = (s : Bytes) (number p : ℕ) → read s ≡ refused number p → FirstCause s number p
+
+-- The bytes before a value of some JSON text, with the number of containers that are open around it and of values that begin before it. An
+-- open container has its opening bracket, the values before this one with their separators, and in an object this one's name.
 pub data BeforeValue : Bytes → ℕ → ℕ → Type 0 where
   outermost : {w : Bytes} → ws w → BeforeValue w 0 0
   first-element : {w b : Bytes} {levels values : ℕ} → BeforeValue w levels values → begin-array b → BeforeValue (w ++ b) (levels + 1) (values + 1)
@@ -79,3 +94,7 @@ pub data NumberOverLimit (s : Bytes) (p : ℕ) : Type 0 where
 
 abbrev pub PlaceOf7 : Type 0
 PlaceOf7 = (s : Bytes) (p : ℕ) → read s ≡ refused number-over-limit p → NumberOverLimit s p
+
+-- "On the same byte the order is 3, 5, 6, 7": where another number than 3 is given, that byte and those before it begin some JSON text.
+abbrev pub After3 : Type 0
+After3 = (s : Bytes) (number p : ℕ) → read s ≡ refused number p → ¬ (number ≡ not-json) → Begins (take (suc p) s)
