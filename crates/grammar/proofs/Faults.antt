@@ -45,12 +45,12 @@ pub data Fault (s : Bytes) : ℕ → ℕ → Type 0 where
   by-6 : {p : ℕ} → BeginsValue2049 s p → Fault s too-many-nodes p
   by-7 : {p : ℕ} → NumberOverLimit s p → Fault s number-over-limit p
 
-byte-at : {s w : Bytes} {p : ℕ} (b : ℕ) → From s 0 w p → 0 < b → byte s p ≡ b → ByteAt s p w b
-byte-at {s} {w} {p} b f l e =
+byte-at : {s w : Bytes} {at p : ℕ} (b : ℕ) → From s 0 w at → 0 < b → byte s at ≡ b → p ≡ at → ByteAt s p w b
+byte-at {s} {w} {at} b f l e same =
     let far = f .far in
     record {
-      after = drop (p + 1) s;
-      text = f .rest ∙ ap (λ t. w ++ t) (one p (in-text s p (omega arith)) .rest ∙ ap (λ b. b ∷ drop (p + 1) s) e);
+      after = drop (at + 1) s;
+      text = f .rest ∙ ap (λ t. w ++ t) (one at (in-text s at (omega arith)) .rest ∙ ap (λ b. b ∷ drop (at + 1) s) e);
       place = omega arith;
     }
 
@@ -87,7 +87,7 @@ module _ (s : Bytes) where
           let m = ltb-false values maxNodes h in
           let few = a .few in
           let same : values ≡ maxNodes = omega arith in
-          refusal (by-6 (first-byte (subst (BeforeValue (a .text) levels) same (a .before)) d shallow (byte-at b (a .from) l e)))
+          refusal (by-6 {p = at} (first-byte (subst (BeforeValue (a .text) levels) same (a .before)) d shallow (byte-at b (a .from) l e (omega arith))))
 
   -- Scalars
 
@@ -114,7 +114,7 @@ module _ (s : Bytes) where
       over : (number p : ℕ) → NumberFault s at number p → Fault s number p
       over number p NumberFault.by-3 = by-3
       over number p (NumberFault.by-7 o) =
-          by-7 (passing-byte (a .before) (o .passes) (byte-at (byte s p) (join (a .from) (o .from)) (o .there) refl))
+          by-7 {p = p} (passing-byte (a .before) (o .passes) (byte-at (byte s p) (join (a .from) (o .from)) (o .there) refl (omega arith)))
 
   -- a digit, or a minus, is the first byte of a number
   digit-number : {b : ℕ} → DIGIT b → number (b ∷ [])
@@ -159,9 +159,8 @@ module _ (s : Bytes) where
   repeated {at = at} {next = next} {levels = levels} {values = values} {name = name} (next-item {w} {b} is {c} so-far h o i q) f (string.quoted {w = cs} ch) g m =
       let (before, quote) = split (0x22 ∷ cs) (0x22 ∷ []) g in
       let far = quote .far in
-      let place : at + length (0x22 ∷ cs) ≡ next - 1 = omega arith in
       let bytes : (w ++ (b ++ (is ++ c))) ++ (0x22 ∷ cs) ≡ w ++ (b ++ (is ++ (c ++ (0x22 ∷ cs)))) = simp append-assoc in
-      closing-quote h o i q ch m (rw (← place, ← bytes) (byte-at 0x22 (join f before) (omega arith) (first quote .0)))
+      closing-quote h o i q ch m (rw (← bytes) (byte-at 0x22 (join f before) (omega arith) (first quote .0) (omega arith)))
 
   fresh-then : {o : Outcome (Text × ℕ)} (name : Text) (so-far : Members) (p : ℕ) → (Named name so-far → SecondName s p) → Faults o →
       Faults (fresh name so-far p >>= λ _. o)
@@ -236,7 +235,7 @@ module _ (s : Bytes) where
 
   level-33 : {at levels values b : ℕ} → At at levels values → levels ≡ maxDepth → Opening b → byte s at ≡ b → OpensLevel33 s at
   level-33 {values = values} {b = b} a same o e =
-      bracket (subst (λ l. BeforeValue (a .text) l values) same (a .before)) o (byte-at b (a .from) (opening-byte o) e)
+      bracket (subst (λ l. BeforeValue (a .text) l values) same (a .before)) o (byte-at b (a .from) (opening-byte o) e (omega arith))
 
   value-faults : (left : ℕ) {levels : ℕ} (at values : ℕ) → left + levels ≡ maxDepth → At at levels values → Faults (Read.value left s at values)
   unfolding Read.value

@@ -137,4 +137,4 @@ not-yet s number p e n l = go (read (take n s)) refl
 
 pub left-to-right : LeftToRight
 left-to-right s number p e =
-    record { before = not-yet s number p e; after = λ rest l. refused-alike s number p e (suc p) (omega arith) (omega arith) rest }
+    record { before = λ n l. not-yet s number p e n (omega arith); after = λ rest l. refused-alike s number p e (suc p) (omega arith) (omega arith) rest }
