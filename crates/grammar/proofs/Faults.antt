@@ -54,6 +54,16 @@ byte-at {s} {w} {at} b f l e same =
       place = omega arith;
     }
 
+no-blank : {b : ℕ} → ws (b ∷ []) → 0x20 < b → ⊥
+no-blank (ws.space h) l = omega arith
+no-blank (ws.tab h) l = omega arith
+no-blank (ws.line-feed h) l = omega arith
+no-blank (ws.carriage-return h) l = omega arith
+
+opening-visible : (isObject : Bool) → 0x20 < openingBracket isObject
+opening-visible false = omega arith
+opening-visible true = omega arith
+
 -- an empty container
 pub empty : (isObject : Bool) → value (openingBracket isObject ∷ closingBracket isObject ∷ []) (containerOf isObject Forest.none)
 unfolding containerLabel closingBracket
@@ -75,7 +85,7 @@ module _ (s : Bytes) where
   only-3 r = weaken (λ number p e. subst (λ n. Fault s n p) (sym e) by-3) r
 
   -- the first byte of a value, which is value 2,049 or not
-  room-then : {X : Type 0} {o : Outcome X} {at levels values : ℕ} {more : Bytes} {v : Value.Value} (b : ℕ) → At at levels values → 0 < b →
+  room-then : {X : Type 0} {o : Outcome X} {at levels values : ℕ} {more : Bytes} {v : Value.Value} (b : ℕ) → At at levels values → 0x20 < b →
       byte s at ≡ b → value (b ∷ more) v → (levels ≡ maxDepth → ¬ Opening b) →
       (values < maxNodes → Faults o) → Faults (roomFor values at >>= λ _. o)
   unfolding roomFor _>>=_
@@ -87,7 +97,7 @@ module _ (s : Bytes) where
           let m = ltb-false values maxNodes h in
           let few = a .few in
           let same : values ≡ maxNodes = omega arith in
-          refusal (by-6 {p = at} (first-byte (subst (BeforeValue (a .text) levels) same (a .before)) d shallow (byte-at b (a .from) l e (omega arith))))
+          refusal (by-6 {p = at} (first-byte (subst (BeforeValue (a .text) levels) same (a .before)) d (λ blank. no-blank blank l) shallow (byte-at b (a .from) (omega arith) e (omega arith))))
 
   -- Scalars
 
@@ -140,7 +150,7 @@ module _ (s : Bytes) where
       choose (eqb (byte s at) (code "f")) (λ e. room (code "f") (omega arith) e value.false-literal (literal-faults Label.false-literal _ at)) λ _.
       refusal by-3
     where
-      room : {o : Outcome (Value.Value × ℕ)} {more : Bytes} {v : Value.Value} (b : ℕ) → 0 < b → eqb (byte s at) b ≡ true → value (b ∷ more) v → Faults o →
+      room : {o : Outcome (Value.Value × ℕ)} {more : Bytes} {v : Value.Value} (b : ℕ) → 0x20 < b → eqb (byte s at) b ≡ true → value (b ∷ more) v → Faults o →
           Faults (roomFor values at >>= λ _. o)
       room b l e d r = let same = eqb-true (byte s at) b e in room-then b a l same d (λ deep. subst (λ b. ¬ Opening b) same (shallow deep)) (λ _. r)
 
@@ -220,7 +230,7 @@ module _ (s : Bytes) where
         Faults (container reader isObject s at values)
     unfolding container contents size
     container-faults at a deep e =
-        room-then (openingBracket isObject) a (opening-positive isObject) e (empty isObject) (λ same _. omega arith) λ room.
+        room-then (openingBracket isObject) a (opening-visible isObject) e (empty isObject) (λ same _. omega arith) λ room.
         let b = blanks-sound s (at + 1) in
         andThen _ (choose (eqb (byte s (blanks s (at + 1))) (closingBracket isObject)) (λ _. result) λ _.
         items-faults (length s) Forest.none (blanks s (at + 1))

@@ -72,7 +72,7 @@ module _ {s : Bytes} {p : ℕ} where
   after-bracket (bracket h of-object at) = with-byte at (complete h (empty true)) _ refl
 
   after-first : BeginsValue2049 s p → Begins (take (suc p) s)
-  after-first (first-byte h d n at) = with-byte at (complete h d) _ refl
+  after-first (first-byte h d n o at) = with-byte at (complete h d) _ refl
 
   after-passing : NumberOverLimit s p → Begins (take (suc p) s)
   after-passing (passing-byte {w} {n} {b} h (byte-129 more d l) at) = with-byte at (complete h (value.of-number d)) more (sym (append-assoc w n (b ∷ more)))
@@ -98,7 +98,7 @@ place-inside : {s : Bytes} {number p : ℕ} → Fault s number p → read s ≡ 
 place-inside {s} {p = p} by-3 e = place-of-3 s p e .inside
 place-inside (by-4 (closing-quote h o i q ch m at)) e = let l = byte-inside at in omega arith
 place-inside (by-5 (bracket h o at)) e = let l = byte-inside at in omega arith
-place-inside (by-6 (first-byte h d k at)) e = let l = byte-inside at in omega arith
+place-inside (by-6 (first-byte h d n o at)) e = let l = byte-inside at in omega arith
 place-inside (by-7 (passing-byte h x at)) e = let l = byte-inside at in omega arith
 
 -- a text that is refused nowhere before its end is refused only because it ends there
@@ -109,7 +109,7 @@ ends-there {s} {p = p} by-3 e l =
     cut-short (e ∙ ap (refused not-json) same)
 ends-there (by-4 (closing-quote h o i q ch m at)) e l = let k = byte-inside at in absurd (omega arith)
 ends-there (by-5 (bracket h o at)) e l = let k = byte-inside at in absurd (omega arith)
-ends-there (by-6 (first-byte h d m at)) e l = let k = byte-inside at in absurd (omega arith)
+ends-there (by-6 (first-byte h d n o at)) e l = let k = byte-inside at in absurd (omega arith)
 ends-there (by-7 (passing-byte h x at)) e l = let k = byte-inside at in absurd (omega arith)
 
 not-yet : (s : Bytes) (number p : ℕ) → read s ≡ refused number p → (n : ℕ) → n ≤ p → Unrefused (take n s)

@@ -73,9 +73,10 @@ pub data OpensLevel33 (s : Bytes) (p : ℕ) : Type 0 where
 abbrev pub PlaceOf5 : Type 0
 PlaceOf5 = (s : Bytes) (p : ℕ) → read s ≡ refused too-deep p → OpensLevel33 s p
 
--- "6: the first byte of value 2,049." It is no bracket that opens level 33: "On the same byte the order is 3, 5, 6, 7."
+-- "6: the first byte of value 2,049." The blanks before a bracket are none of a value's bytes. It is no bracket that opens level 33: "On the
+-- same byte the order is 3, 5, 6, 7."
 pub data BeginsValue2049 (s : Bytes) (p : ℕ) : Type 0 where
-  first-byte : {w more : Bytes} {b levels : ℕ} {v : Value.Value} → BeforeValue w levels maxNodes → value (b ∷ more) v →
+  first-byte : {w more : Bytes} {b levels : ℕ} {v : Value.Value} → BeforeValue w levels maxNodes → value (b ∷ more) v → ¬ ws (b ∷ []) →
       (levels ≡ maxDepth → ¬ Opening b) → ByteAt s p w b → BeginsValue2049 s p
 
 abbrev pub PlaceOf6 : Type 0
