@@ -20,5 +20,7 @@ pub mod Refusing
 pub mod NumberFaults
 pub mod Before
 pub mod Faults
+pub mod Arrival
+pub mod Given
 pub mod RefusedAt
 pub mod Theorems

@@ -77,7 +77,7 @@ sameText-refl (a ∷ s) = rw (eq-eqb a a refl, sameText-refl s)
 has-test : (n : Text) (e : Entry) (rest : Members) → Bool → Bool
 has-test n e rest c = ltb (if c then 0 else suc (find n rest)) (suc (count rest))
 
-named-has : {n : Text} {f : Members} → Named n f → has n f ≡ true
+pub named-has : {n : Text} {f : Members} → Named n f → has n f ≡ true
 unfolding find count has-test
 named-has {n} (here {e = e} {rest = rest} h) =
     ap (has-test n e rest) (ap (sameText (e .name)) (sym h) ∙ sameText-refl (e .name)) ∙ lt-ltb 0 (suc (count rest)) (omega arith)

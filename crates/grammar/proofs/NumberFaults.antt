@@ -38,6 +38,7 @@ pub record OverLimit (s : Bytes) (start p : ℕ) : Type 0 where
   pub text : Bytes
   pub from : From s start text p
   pub there : 0 < byte s p
+  pub short : p ≤ start + maxNumber
   pub passes : PassesLimit text (byte s p)
 
 pub data NumberFault (s : Bytes) (start : ℕ) : ℕ → ℕ → Type 0 where
@@ -95,6 +96,7 @@ module _ (s : Bytes) (start : ℕ) where
         text = n;
         from = r .from;
         there = g .there;
+        short = short;
         passes = byte-129 (b .more) (subst number (append-assoc n (byte s at ∷ []) (b .more)) (b .derived)) (omega arith);
       })
 
@@ -195,7 +197,7 @@ module _ (s : Bytes) (start : ℕ) where
         exponentDigits-faults fuel {ds = ds ++ (byte s at ∷ [])} _ (at + 1) (all (digits-snoc h d)) (rw (e, decimal-snoc 0 ds (byte s at))) (leb-true _ _ j)
         (subst (λ w. Reached w (at + 1)) (append-assoc pre ds _) r'))
         (λ j. let over = leb-false (size * 10 + (byte s at - 0x30)) maxExponent j in
-        refusal (by-7 (record { text = pre ++ ds; from = r .from; there = omega arith; passes = passes at h d (omega arith) (omega arith) }))))
+        refusal (by-7 (record { text = pre ++ ds; from = r .from; there = omega arith; short = r .short; passes = passes at h d (omega arith) (omega arith) }))))
         (λ _. result)
 
   exp-faults : {m i f : Bytes} (at : ℕ) → optional minus m → int i → optional frac f → Reached (m ++ (i ++ f)) at → Faults (Numbers.exp s start at)

@@ -229,7 +229,7 @@ module _ {s t : Bytes} {m : ℕ} (agree : Agree s t m) where
       choose (test isE) (λ e. counted-then start at _ _ (signedDigits-local start (at + 1))) λ e.
       gives at (omega arith) (λ h. refl)
 
-  number-local : (start : ℕ) → Local m there start (Numbers.number s start) (Numbers.number t start)
+  pub number-local : (start : ℕ) → Local m there start (Numbers.number s start) (Numbers.number t start)
   unfolding Numbers.number Numbers.minus
   number-local start =
       under start (parts (if eqb (byte s start) (code "-") then start + 1 else start)) (omega arith)

@@ -190,7 +190,7 @@ parts-fit s start at {m} pm fm l =
     let far = from .far in
     subst NumberFits (sym (bytes from)) (record { short = omega arith; exponent-fits = rw same (x .1 .fits) })
 
-number-fits : (s : Bytes) (start : ℕ) → Yields (λ next. NumberFits (take (next - start) (drop start s))) (Numbers.number s start)
+pub number-fits : (s : Bytes) (start : ℕ) → Yields (λ next. NumberFits (take (next - start) (drop start s))) (Numbers.number s start)
 unfolding Numbers.number Numbers.minus
 number-fits s start = go (eqb (byte s start) 0x2D) refl
   where
@@ -263,7 +263,7 @@ kept-more {f = f} name v k new a =
       below = everywhere-⧺ (k .below) (Everywhere.one-more (a .fits) (a .below) Everywhere.none-left);
     }
 
-New : Bool → Members → Text × ℕ → Type 0
+abbrev pub New : Bool → Members → Text × ℕ → Type 0
 New isObject so-far x = isObject ≡ true → has (x .0) so-far ≡ false
 
 fresh-then : (so-far : Members) (name : Text) (p : ℕ) {o : Outcome (Text × ℕ)} → (has name so-far ≡ false → Yields (New true so-far) o) →
@@ -275,8 +275,8 @@ fresh-then so-far name p {o} f = go (has name so-far) refl
     go true h = refuses
     go false h = f h
 
-nameFor-new : (isObject : Bool) (s : Bytes) (so-far : Members) (at : ℕ) → Yields (New isObject so-far) (nameFor isObject s so-far at)
-unfolding nameFor New
+pub nameFor-new : (isObject : Bool) (s : Bytes) (so-far : Members) (at : ℕ) → Yields (New isObject so-far) (nameFor isObject s so-far at)
+unfolding nameFor
 nameFor-new false s so-far at = yields (λ h. absurd (true≢false (sym h)))
 nameFor-new true s so-far at =
     andThen _ (anything (Strings.string s at)) λ x _ _.
@@ -290,7 +290,7 @@ module _ (s : Bytes) (left : ℕ) (reader : ℕ → ℕ → Outcome (Value.Value
 
   items-within : (fuel : ℕ) (so-far : Members) (at : ℕ) → Kept isObject left before so-far →
       Yields KeptAll (items fuel reader isObject s before so-far at)
-  unfolding items KeptAll New
+  unfolding items KeptAll
   items-within zero so-far at k = refuses
   items-within (suc fuel) so-far at k =
       andThen _ (nameFor-new isObject s so-far at) λ x _ new.
