@@ -4,11 +4,11 @@ use Prim.Native.Nat.{ℕ, zero, suc, _+_, _<_, _≤_}
 use Prim.Native.Char.{code}
 use mathlib.Core.Path.{_≡_, refl, ap, subst, sym, _∙_}
 use mathlib.Core.Bool.{Bool, true, false}
-use mathlib.Core.List.{[], _∷_, _++_}
+use mathlib.Core.List.{[], _++_}
 use native.Mathlib.Omega.{arith}
 use lib.ListN.{length}
 use lib.Dec.{eqb, ltb}
-use borrow.Author.Tests.{eq-eqb, ne-eqb, ltb-true}
+use borrow.Author.Tests.{ne-eqb, ltb-true}
 use Rattle.spec.specs.Outcome.{Outcome, ok, refused, _>>=_, if_then_else_}
 use Rattle.spec.specs.Refusal.{not-json, too-deep, too-many-nodes}
 use Rattle.spec.specs.Limits.{maxDepth, maxNodes}
@@ -25,11 +25,11 @@ use Rattle.grammar.specs.RefusedAt.{BeforeValue, outermost, first-elemen
 use Rattle.grammar.proofs.Places.{From, split, first, inside}
 use Rattle.grammar.proofs.Containers.{openingBracket, comma-no-closing}
 use Rattle.grammar.proofs.Members.{⧺-assoc}
-use Rattle.grammar.proofs.Complete.{Reads, reads, exceeds, reads-ok, reads-it}
+use Rattle.grammar.proofs.Complete.{Reads, reads, exceeds, reads-it}
 use Rattle.grammar.proofs.Structural.{blanks-stay, blanks-skip, Marked, opening-marked, comma-marked, colon-marked}
 use Rattle.grammar.proofs.NumbersComplete.{Stops}
 use Rattle.grammar.proofs.StringsComplete.{byteIn-reads}
-use Rattle.grammar.proofs.ReadComplete.{Asked, ValueRead, ItemRead, string-plain, room-reads, value-deep, value-container, in-blanks, element-read, member-read, name-reads, value-reads}
+use Rattle.grammar.proofs.ReadComplete.{ItemRead, string-plain, room-reads, value-deep, value-container, in-blanks, element-read, member-read, name-reads, value-reads}
 use Rattle.grammar.proofs.Within.{Yields, yielded, Bounded, value-within, New, nameFor-new}
 
 -- a container that does not close at once

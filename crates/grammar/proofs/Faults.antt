@@ -97,7 +97,7 @@ module _ (s : Bytes) where
           let m = ltb-false values maxNodes h in
           let few = a .few in
           let same : values ≡ maxNodes = omega arith in
-          refusal (by-6 {p = at} (first-byte (subst (BeforeValue (a .text) levels) same (a .before)) d (λ blank. no-blank blank l) shallow (byte-at b (a .from) (omega arith) e (omega arith))))
+          refusal (by-6 {p = at} (first-byte (subst (BeforeValue (a .text) levels) same (a .before)) d (λ blank. no-blank blank l) (λ deep. shallow (omega arith)) (byte-at b (a .from) (omega arith) e (omega arith))))
 
   -- Scalars
 

@@ -2,27 +2,26 @@
 use Prim.Native.Nat.{ℕ, zero, suc, _+_, _-_, _<_, _≤_}
 use Prim.Native.Char.{code}
 use mathlib.Core.Path.{_≡_, refl, ap, subst, sym, _∙_}
-use mathlib.Core.Bool.{Bool, true, false, _||_}
+use mathlib.Core.Bool.{true, false}
 use mathlib.Core.List.{[], _∷_, _++_, append-assoc, append-nil}
 use native.Mathlib.Omega.{arith}
 use lib.ListN.{length, take, drop, length-append}
 use lib.Seq.{drop-length, drop-append-le}
-use lib.Dec.{eqb}
 use borrow.Author.Tests.{ne-eqb}
-use Rattle.spec.specs.Outcome.{Outcome, ok, refused, _>>=_, if_then_else_}
+use Rattle.spec.specs.Outcome.{Outcome, refused, _>>=_}
 use Rattle.spec.specs.Refusal.{not-json, repeated-name, too-deep, too-many-nodes, number-over-limit}
 use Rattle.spec.specs.Limits.{maxDepth, maxNodes, maxNumber}
 use Rattle.spec.specs.Bytes.{Bytes, Text, ascii, byte, within}
 use Rattle.spec.specs.Numbers as Numbers
 use Rattle.spec.specs.Numbers.{isDigit}
 use Rattle.spec.specs.Value as Value
-use Rattle.spec.specs.Value.{Members, has}
+use Rattle.spec.specs.Value.{Members}
 use Rattle.spec.specs.Read as Read
 use Rattle.spec.specs.Read.{isBlank, blanks, roomFor, numberValue, scalar, fresh, nameFor, closingBracket, container, read}
-use Rattle.grammar.specs.Grammar.{ws, structural, begin-object, value-separator, number, *char, string, value, object, members, array}
+use Rattle.grammar.specs.Grammar.{ws, structural, begin-object, value-separator, number, string, value, object, members, array}
 use Rattle.grammar.specs.Limits.{Named, NumberFits}
 use Rattle.grammar.specs.RefusedAt.{BeforeValue, Opening, of-array, of-object, PassesLimit, byte-129, exponent-digit}
-use Rattle.grammar.proofs.Places.{From, from-whole, bytes, join, inside, past-end, in-text}
+use Rattle.grammar.proofs.Places.{From, from-whole, bytes, inside, past-end, in-text}
 use Rattle.grammar.proofs.Members.{named-has}
 use Rattle.grammar.proofs.Structural.{nothing-blank, blanks-stay, nothing-stops}
 use Rattle.grammar.proofs.NumbersComplete.{Stops, NumberBegins, number-begins, number-reads}
@@ -35,7 +34,7 @@ use Rattle.grammar.proofs.ReadLocal.{number-local}
 use Rattle.grammar.proofs.NumbersSound.{there}
 use Rattle.grammar.proofs.StringsComplete.{string-reads}
 use Rattle.grammar.proofs.ReadComplete.{string-plain, number-plain, value-deep, value-container, value-scalar}
-use Rattle.grammar.proofs.Arrival.{Comes, first-step, same, On, split-on, GoesOn, opening-goes-on, Arrival, arrive, in-object, to-name, room-there}
+use Rattle.grammar.proofs.Arrival.{Comes, first-step, same, On, split-on, GoesOn, opening-goes-on, arrive, in-object, to-name, room-there}
 
 -- the first byte of a value, by its kind
 data First : ℕ → Type 0 where
@@ -257,8 +256,8 @@ module _ (c s : Bytes) (never : (number q : ℕ) → read c ≡ refused number q
       let at-s = refused-same start with-s (r .refuses) (omega arith) in
       let not-before : r .place < length c → ⊥ =
       λ before.
-          let wrong : number-over-limit ≡ not-json = never _ _ (k .cut ∙ ap (λ o. o >>= k .next) (refused-same start with-c (r .refuses) before)) in
-          omega arith in
+      let wrong : number-over-limit ≡ not-json = never _ _ (k .cut ∙ ap (λ o. o >>= k .next) (refused-same start with-c (r .refuses) before)) in
+      omega arith in
       let is : r .place ≡ length c = omega arith in
       k .full ∙ ap (λ o. o >>= k .next') (at-s ∙ ap (refused number-over-limit) is)
 
