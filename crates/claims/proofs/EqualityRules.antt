@@ -4,14 +4,13 @@ use mathlib.Core.Bool.{Bool, true, false, true≢false}
 use Prim.Native.Nat.{ℕ}
 use native.Mathlib.Omega.{arith}
 use lib.Dec.{eqb}
-use lib.ListN.{length}
-use Rattle.spec.specs.Outcome.{ok, if_then_else_}
+use Rattle.spec.specs.Outcome.{if_then_else_}
 use Rattle.spec.specs.Bytes.{Text}
-use Rattle.spec.specs.Numbers.{number}
 use Rattle.spec.specs.Worth.{worth}
 use Rattle.spec.specs.Forest.{count}
 use Rattle.spec.specs.Value.{Label, Entry, Members, tag, isNumber, isObject, content, has}
 use Rattle.spec.specs.Equality.{sameWorth}
+use Rattle.claims.specs.Numbers.{NumberText}
 use Rattle.claims.specs.Proper as Proper
 use Rattle.claims.specs.Proper.{Allows, ProperItems}
 use Rattle.claims.specs.Equality as Statement
@@ -48,7 +47,7 @@ label-again (Label.string t) = refl
 label-again Label.array = refl
 label-again Label.object = refl
 
-numeral : {l : Label} {kids : Members} → Allows l kids → tag l ≡ 3 → number (content l) 0 ≡ ok (length (content l))
+numeral : {l : Label} {kids : Members} → Allows l kids → tag l ≡ 3 → NumberText (content l)
 unfolding tag content
 numeral Proper.null-literal h = absurd (omega arith)
 numeral Proper.true-literal h = absurd (omega arith)

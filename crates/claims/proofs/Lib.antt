@@ -15,6 +15,7 @@ pub mod Rest
 pub mod CharacterBack
 pub mod StringBack
 pub mod NumberBack
+pub mod NumberText
 pub mod ScalarBack
 pub mod ValueBack
 pub mod CharacterScalar

@@ -1,7 +1,7 @@
 -- Digits without zeros at either end and a power of ten: each number has one such form, so two numbers are equal where their forms are.
 use mathlib.Core.Path.{_≡_, refl, ap, ap₂, sym, _∙_}
 use mathlib.Core.Logic.{_↔_, Iff·rfl, Iff·trans}
-use mathlib.Core.Bool.{Bool, true, false, true≢false}
+use mathlib.Core.Bool.{Bool, true, false, _||_, true≢false}
 use mathlib.Core.List.{[], _∷_, _++_, reverse, reverse-cons, reverse-append, reverse-reverse}
 use Prim.Native.Nat.{ℕ, zero, suc, _+_, _-_, _*_, _^_, _%_, _<_, _≤_}
 use native.Mathlib.Nat.{pow-succ', zero-mul, mul-pos}
@@ -12,18 +12,23 @@ use lib.IntN.{ℤ, pos, _+ℤ_, _-ℤ_, +ℤ-assoc}
 use borrow.Author.Tests.{eqb-true, eqb-false, leb-true, le-leb}
 use Rattle.spec.specs.Outcome.{if_then_else_}
 use Rattle.spec.specs.Bytes.{Bytes, within}
-use Rattle.spec.specs.Numbers.{isDigit}
+use Rattle.spec.specs.Numbers.{isDigit, isE}
 use Rattle.spec.specs.Worth.{decimal, dropZeros, trimmed, power}
 use Rattle.spec.specs.Pointer.{allDigits, isIndex}
 use Rattle.spec.proofs.TextLaws.{both-true, index-injective}
-use Rattle.claims.specs.Numbers.{positional, above}
+use Rattle.claims.specs.Numbers as Statement
+use Rattle.claims.specs.Numbers.{Digit, AllDigits, E, positional, above}
 use Rattle.claims.proofs.Scaling.{base-injective, over, unscaled, ten-positive, scale-twice, over-one-base}
 
--- Digits
+-- Digits, by the tests of the definitions and by the statement's ranges
 
-pub digit-bounds : (c : ℕ) → isDigit c ≡ true → (48 ≤ c) × (c ≤ 57)
+pub digit-bounds : (c : ℕ) → isDigit c ≡ true → Digit c
 unfolding isDigit within
 digit-bounds c h = let q = both-true (leb 48 c) (leb c 57) h in (leb-true 48 c (q .0), leb-true c 57 (q .1))
+
+pub is-digit : {c : ℕ} → Digit c → isDigit c ≡ true
+unfolding isDigit within
+is-digit {c} d = rw (le-leb 48 c (d .0), le-leb c 57 (d .1))
 
 pub digits-cons : (c : ℕ) (t : Bytes) → isDigit c ≡ true → allDigits t ≡ true → allDigits (c ∷ t) ≡ true
 unfolding allDigits
@@ -32,6 +37,29 @@ digits-cons c t h i = rw (h, i)
 pub digits-parts : (c : ℕ) (t : Bytes) → allDigits (c ∷ t) ≡ true → (isDigit c ≡ true) × (allDigits t ≡ true)
 unfolding allDigits
 digits-parts c t h = both-true (isDigit c) (allDigits t) h
+
+pub all-digits : {t : Bytes} → AllDigits t → allDigits t ≡ true
+unfolding allDigits
+all-digits Statement.none = refl
+all-digits (Statement.more {d} {ds} h ds-all) = digits-cons d ds (is-digit h) (all-digits ds-all)
+
+pub digits-all : (t : Bytes) → allDigits t ≡ true → AllDigits t
+digits-all [] h = Statement.none
+digits-all (c ∷ t) h = let q = digits-parts c t h in Statement.more (digit-bounds c (q .0)) (digits-all t (q .1))
+
+pub is-e : {c : ℕ} → E c → isE c ≡ true
+unfolding isE
+is-e Statement.lower-case = refl
+is-e Statement.upper-case = refl
+
+pub e-is : (c : ℕ) → isE c ≡ true → E c
+unfolding isE
+e-is c h = go (eqb c 101) refl (eqb c 69) refl h
+  where
+    go : (b : Bool) → eqb c 101 ≡ b → (d : Bool) → eqb c 69 ≡ d → (b || d) ≡ true → E c
+    go true q d r h = rw (eqb-true c 101 q) Statement.lower-case
+    go false q true r h = rw (eqb-true c 69 r) Statement.upper-case
+    go false q false r h = absurd (true≢false (sym h))
 
 pub digits-append : (s t : Bytes) → allDigits s ≡ true → allDigits t ≡ true → allDigits (s ++ t) ≡ true
 digits-append [] t h i = i

@@ -17,6 +17,7 @@ use Rattle.spec.proofs.OutcomeLaws.{refused≢ok, both-ok}
 use Rattle.spec.proofs.Tracking.{Ends, past-end}
 use Rattle.claims.specs.Numbers as Statement
 use Rattle.claims.specs.Numbers.{Exact, Writes, writes, nonzero}
+use Rattle.claims.proofs.Normal.{is-digit}
 use Rattle.claims.proofs.NumberRead.{counted-next, number-valued}
 use Rattle.claims.proofs.Rest.{Rest, byte-at}
 
@@ -224,7 +225,7 @@ written-first : {t : Bytes} {x : Exact} → Writes t x → (isDigit (byte t 0) |
 unfolding byte isDigit within
 written-first (writes m i f x negative fraction exponent Statement.minus j k e) = refl
 written-first (writes m i f x negative fraction exponent Statement.none Statement.zero k e) = refl
-written-first (writes m i f x negative fraction exponent Statement.none (nonzero d ds h n a) k e) = rw h
+written-first (writes m i f x negative fraction exponent Statement.none (nonzero d ds h n a) k e) = rw (is-digit h)
 
 pub written-some : {t : Bytes} {x : Exact} → Writes t x → 1 ≤ length t
 unfolding byte isDigit within

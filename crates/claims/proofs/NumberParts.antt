@@ -14,7 +14,7 @@ use Rattle.spec.specs.Worth.{decimal, mantissa, fractionDigits, signedExponent,
 use Rattle.spec.specs.Pointer.{allDigits}
 use Rattle.claims.specs.Numbers as Statement
 use Rattle.claims.specs.Numbers.{positional, Exact, Digits, Minus, Int, nonzero, Frac, point, Exp, plain, plus, Writes, writes}
-use Rattle.claims.proofs.Normal.{digit-bounds, digits-cons, digits-parts, digits-append, decimal-is-positional}
+use Rattle.claims.proofs.Normal.{digit-bounds, is-digit, is-e, digits-cons, digits-parts, all-digits, digits-append, decimal-is-positional}
 
 -- One byte: which tests it passes
 
@@ -58,7 +58,7 @@ signed-digits : (ds : Bytes) → Digits ds → signedExponent ds ≡ pos (positi
 unfolding signedExponent
 signed-digits [] d = absurd (omega (arith, d .some))
 signed-digits (c ∷ ds) d =
-    let b = digit-bounds c (digits-parts c ds (d .all) .0) in
+    let b = digit-bounds c (digits-parts c ds (all-digits (d .all)) .0) in
     rw (ne-eqb c 45 (omega arith), ne-eqb c 43 (omega arith)) (ap pos (decimal-is-positional (c ∷ ds)))
 
 record Tail (x : Bytes) (fraction : Bytes) (e : ℤ) : Type 0 where
@@ -69,10 +69,12 @@ record Tail (x : Bytes) (fraction : Bytes) (e : ℤ) : Type 0 where
 exp-tail : {x : Bytes} {e : ℤ} → Exp x e → Tail x [] e
 unfolding mantissa fractionDigits exponent signedExponent
 exp-tail Statement.none = record { digits = refl; after-point = refl; power = refl }
-exp-tail (plain e ds h d) = record { digits = rw h; after-point = rw (e-no-point e h, h); power = rw h (signed-digits ds d) }
-exp-tail (plus e ds h d) =
+exp-tail (plain e ds b d) = let h = is-e b in record { digits = rw h; after-point = rw (e-no-point e h, h); power = rw h (signed-digits ds d) }
+exp-tail (plus e ds b d) =
+    let h = is-e b in
     record { digits = rw h; after-point = rw (e-no-point e h, h); power = rw h (ap pos (decimal-is-positional ds)) }
-exp-tail (Statement.minus e ds h d) =
+exp-tail (Statement.minus e ds b d) =
+    let h = is-e b in
     record { digits = rw h; after-point = rw (e-no-point e h, h); power = rw h (ap (λ n. negℤ (pos n)) (decimal-is-positional ds)) }
 
 -- The fraction, the digits before it, and the sign
@@ -81,24 +83,24 @@ frac-tail : {f x fraction : Bytes} {e : ℤ} → Frac f fraction → Tail x [] e
 unfolding mantissa fractionDigits exponent isE isDigit within
 frac-tail Statement.none t = t
 frac-tail {x = x} (point ds d) t =
-    let all : mantissa (ds ++ x) ≡ ds = mantissa-digits ds x (d .all) ∙ ap (λ r. ds ++ r) (t .digits) ∙ append-nil ds in
-    record { digits = all; after-point = ap length all; power = exponent-digits ds x (d .all) ∙ t .power }
+    let all : mantissa (ds ++ x) ≡ ds = mantissa-digits ds x (all-digits (d .all)) ∙ ap (λ r. ds ++ r) (t .digits) ∙ append-nil ds in
+    record { digits = all; after-point = ap length all; power = exponent-digits ds x (all-digits (d .all)) ∙ t .power }
 
 frac-digits : {f fraction : Bytes} → Frac f fraction → allDigits fraction ≡ true
 unfolding allDigits
 frac-digits Statement.none = refl
-frac-digits (point ds d) = d .all
+frac-digits (point ds d) = all-digits (d .all)
 
 int-digits : {i : Bytes} → Int i → allDigits i ≡ true
 unfolding allDigits isDigit within
 int-digits Statement.zero = refl
-int-digits (nonzero d ds h n a) = digits-cons d ds h a
+int-digits (nonzero d ds h n a) = digits-cons d ds (is-digit h) (all-digits a)
 
 -- no digit is a minus
 int-positive : {i : Bytes} (r : Bytes) → Int i → isNegative (i ++ r) ≡ false
 unfolding isNegative
 int-positive r Statement.zero = refl
-int-positive r (nonzero d ds h n a) = let b = digit-bounds d h in ne-eqb d 45 (omega arith)
+int-positive r (nonzero d ds h n a) = ne-eqb d 45 (omega arith)
 
 -- what Worth finds in a number's text is its exact value
 pub record Found (t : Bytes) (x : Exact) : Type 0 where

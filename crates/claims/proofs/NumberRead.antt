@@ -20,7 +20,7 @@ use Rattle.spec.proofs.OutcomeLaws.{refused≢ok, both-ok, either-ok}
 use Rattle.spec.proofs.Tracking.{past-end}
 use Rattle.claims.specs.Numbers as Statement
 use Rattle.claims.specs.Numbers.{Exact, Digits, Minus, Int, nonzero, Frac, point, Exp, plain, plus, Writes, writes}
-use Rattle.claims.proofs.Normal.{digit-bounds, digits-cons}
+use Rattle.claims.proofs.Normal.{digit-bounds, digits-cons, digits-all, e-is}
 
 -- a piece of a text from one place to another, of which something holds
 pub record Spans (P : Bytes → Type 0) (s : Bytes) (at next : ℕ) : Type 0 where
@@ -62,26 +62,26 @@ one-more {s = s} {at} {next} c h f p =
 nothing : {P : Bytes → Type 0} (s : Bytes) (at : ℕ) → P [] → Spans P s at at
 nothing s at p = record { text = []; is = refl; place = omega arith; holds = p }
 
-abbrev AllDigits : Bytes → Type 0
-AllDigits t = allDigits t ≡ true
+abbrev Passing : Bytes → Type 0
+Passing t = allDigits t ≡ true
 
-no-digits : (s : Bytes) (at : ℕ) → Spans AllDigits s at at
+no-digits : (s : Bytes) (at : ℕ) → Spans Passing s at at
 unfolding allDigits
 no-digits s at = nothing s at refl
 
-digits-spans : (fuel : ℕ) (s : Bytes) (start at next : ℕ) → digits fuel s start at ≡ ok next → Spans AllDigits s at next
+digits-spans : (fuel : ℕ) (s : Bytes) (start at next : ℕ) → digits fuel s start at ≡ ok next → Spans Passing s at next
 unfolding digits
 digits-spans zero s start at next h = let same : at ≡ next = cc in rw (← same) (no-digits s at)
 digits-spans (suc fuel) s start at next h = go (isDigit (byte s at)) refl h (digits-spans fuel s start)
   where
     go : (b : Bool) → isDigit (byte s at) ≡ b → (if b then counted start at >>= digits fuel s start else ok at) ≡ ok next →
-        ((at next : ℕ) → digits fuel s start at ≡ ok next → Spans AllDigits s at next) → Spans AllDigits s at next
+        ((at next : ℕ) → digits fuel s start at ≡ ok next → Spans Passing s at next) → Spans Passing s at next
     go true q h ih =
         let (place, e, i) = both-ok (counted start at) (digits fuel s start) next h in
         one-more (byte s at) (digit-there s at q) (λ t. digits-cons (byte s at) t q) (ih (at + 1) next (rw (← counted-next start at place e) i))
     go false q h ih = let same : at ≡ next = cc in rw (← same) (no-digits s at)
 
-exponent-spans : (fuel : ℕ) (s : Bytes) (start size at next : ℕ) → exponentDigits fuel s start size at ≡ ok next → Spans AllDigits s at next
+exponent-spans : (fuel : ℕ) (s : Bytes) (start size at next : ℕ) → exponentDigits fuel s start size at ≡ ok next → Spans Passing s at next
 unfolding exponentDigits
 exponent-spans zero s start size at next h = let same : at ≡ next = cc in rw (← same) (no-digits s at)
 exponent-spans (suc fuel) s start size at next h = go (isDigit (byte s at)) refl h (exponent-spans fuel s start)
@@ -91,7 +91,7 @@ exponent-spans (suc fuel) s start size at next h = go (isDigit (byte s at)) refl
 
     go : (b : Bool) → isDigit (byte s at) ≡ b →
         (if b then (if leb more maxExponent then counted start at >>= exponentDigits fuel s start more else refused 7 at) else ok at) ≡ ok next →
-        ((size at next : ℕ) → exponentDigits fuel s start size at ≡ ok next → Spans AllDigits s at next) → Spans AllDigits s at next
+        ((size at next : ℕ) → exponentDigits fuel s start size at ≡ ok next → Spans Passing s at next) → Spans Passing s at next
     go true q h ih =
         either-ok (leb more maxExponent) h
         (λ i.
@@ -103,7 +103,7 @@ exponent-spans (suc fuel) s start size at next h = go (isDigit (byte s at)) refl
 -- 1*DIGIT: the first digit, and those after it
 record OneOrMore (s : Bytes) (at next : ℕ) : Type 0 where
   first : isDigit (byte s at) ≡ true
-  others : Spans AllDigits s (at + 1) next
+  others : Spans Passing s (at + 1) next
 
 first-digit : (s : Bytes) (at b : ℕ) → byteIn s at 48 57 ≡ ok b → isDigit (byte s at) ≡ true
 unfolding byteIn isDigit
@@ -121,14 +121,14 @@ some-fuel s at h = let b = digit-bounds (byte s at) h in go (length s) (byte-the
     go zero l = absurd (omega arith)
     go (suc n) l = (n, refl)
 
-after-digit : (fuel : ℕ) (s : Bytes) (start at next : ℕ) → isDigit (byte s at) ≡ true → digits (suc fuel) s start at ≡ ok next → Spans AllDigits s (at + 1) next
+after-digit : (fuel : ℕ) (s : Bytes) (start at next : ℕ) → isDigit (byte s at) ≡ true → digits (suc fuel) s start at ≡ ok next → Spans Passing s (at + 1) next
 unfolding digits
 after-digit fuel s start at next q h =
     let (place, e, i) = both-ok (counted start at) (digits fuel s start) next (rw q at h) in
     digits-spans fuel s start (at + 1) next (rw (← counted-next start at place e) i)
 
 after-exponent-digit : (fuel : ℕ) (s : Bytes) (start size at next : ℕ) → isDigit (byte s at) ≡ true →
-    exponentDigits (suc fuel) s start size at ≡ ok next → Spans AllDigits s (at + 1) next
+    exponentDigits (suc fuel) s start size at ≡ ok next → Spans Passing s (at + 1) next
 unfolding exponentDigits
 after-exponent-digit fuel s start size at next q h =
     either-ok (leb (size * 10 + (byte s at - 48)) maxExponent) (rw q at h)
@@ -147,7 +147,7 @@ some-digits s start at next h =
 
 one-or-more : {s : Bytes} {at next : ℕ} → OneOrMore s at next → Spans Digits s at next
 one-or-more {s} {at} o =
-    one-more (byte s at) (digit-there s at (o .first)) (λ t h. record { some = omega arith; all = digits-cons (byte s at) t (o .first) h }) (o .others)
+    one-more (byte s at) (digit-there s at (o .first)) (λ t h. record { some = omega arith; all = digits-all (byte s at ∷ t) (digits-cons (byte s at) t (o .first) h) }) (o .others)
 
 exponent-some : (s : Bytes) (start at next : ℕ) → isDigit (byte s at) ≡ true → exponentDigits (length s) s start 0 at ≡ ok next → Spans Digits s at next
 exponent-some s start at next d h =
@@ -165,7 +165,7 @@ int-spans s start at next h = go (eqb (byte s at) 48) refl h
         rw (counted-next start at next h) (record { text = 48 ∷ []; is = is-there s at 48 (λ z. omega arith) q; place = refl; holds = Statement.zero })
     go false q h =
         let o = some-digits s start at next h in
-        one-more (byte s at) (digit-there s at (o .first)) (λ t i. nonzero (byte s at) t (o .first) (eqb-false _ _ q) i) (o .others)
+        one-more (byte s at) (digit-there s at (o .first)) (λ t i. nonzero (byte s at) t (digit-bounds (byte s at) (o .first)) (eqb-false _ _ q) (digits-all t i)) (o .others)
 
 abbrev IsFrac : Bytes → Type 0
 IsFrac f = (fraction : Bytes) × Frac f fraction
@@ -198,13 +198,13 @@ signed-spans s start at next h =
     go : (p m : Bool) → eqb (byte s at) 43 ≡ p → eqb (byte s at) 45 ≡ m → (first : ℕ) → (if p || m then counted start at else ok at) ≡ ok first →
         Spans Digits s first next → Spans Signed s at next
     go true m q r first h o =
-        one-more 43 (is-there s at 43 (λ z. omega arith) q) (λ t d e i. (_, plus e t i d)) (rw (counted-next start at first h) at o)
+        one-more 43 (is-there s at 43 (λ z. omega arith) q) (λ t d e i. (_, plus e t (e-is e i) d)) (rw (counted-next start at first h) at o)
     go false true q r first h o =
-        one-more 45 (is-there s at 45 (λ z. omega arith) r) (λ t d e i. (_, Statement.minus e t i d)) (rw (counted-next start at first h) at o)
+        one-more 45 (is-there s at 45 (λ z. omega arith) r) (λ t d e i. (_, Statement.minus e t (e-is e i) d)) (rw (counted-next start at first h) at o)
     go false false q r first h o =
         let same : first ≡ at = cc in
         let p = rw same at o in
-        record { text = p .text; is = p .is; place = p .place; holds = λ e i. (_, plain e (p .text) i (p .holds)) }
+        record { text = p .text; is = p .is; place = p .place; holds = λ e i. (_, plain e (p .text) (e-is e i) (p .holds)) }
 
 e-there : (s : Bytes) (at : ℕ) → isE (byte s at) ≡ true → drop at s ≡ byte s at ∷ drop (at + 1) s
 unfolding isE

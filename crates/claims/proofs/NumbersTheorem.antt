@@ -10,6 +10,7 @@ use Rattle.claims.proofs.LabelLaws.{sameWorth-true, sameWorth-refl, wor
 use Rattle.claims.proofs.Normal.{Normal, normal, equal-value}
 use Rattle.claims.proofs.NumberParts.{Found, worth-finds}
 use Rattle.claims.proofs.NumberRead.{number-valued}
+use Rattle.claims.proofs.NumberText.{text-number}
 
 worth-normal : (t : Bytes) (x : Exact) → Found t x → Normal (x .significand) (x .power) (worth t .significand) (worth t .power)
 unfolding worth
@@ -38,7 +39,7 @@ by-value s t x y v w =
 pub numbers : NumbersStatement
 numbers =
     record {
-      valued = number-valued;
+      valued = λ t h. number-valued t (text-number t h);
       one-value = λ t x y v w. by-value t t x y v w .0 (sameWorth-refl (worth t));
       by-value = by-value;
     }

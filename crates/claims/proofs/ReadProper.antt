@@ -1,15 +1,12 @@
 -- What is read is proper, and within the limit on nodes.
-use mathlib.Core.Path.{_≡_, refl, ap, sym, subst, _∙_}
-use mathlib.Core.List.{[], _++_}
+use mathlib.Core.Path.{_≡_, refl, sym, subst}
+use mathlib.Core.List.{[]}
 use mathlib.Core.Bool.{Bool, true, false, _||_, true≢false}
 use Prim.Native.Nat.{ℕ, zero, suc, _+_, _-_, _≤_, _<_}
 use native.Mathlib.Omega.{arith}
-use native.Mathlib.Decide.{decLt}
-use lib.Dec.{eqb, ltb}
-use lib.ListN.{length, take, drop, getD, length-drop, List·getD-append}
-use lib.Seq.{getD-drop, drop-drop, drop-append-le, take-append-le, take-append-seam}
-use borrow.Author.Tests.{ltb-true}
-use Rattle.spec.specs.Outcome.{Outcome, ok, _>>=_}
+use lib.Dec.{eqb}
+use lib.ListN.{length}
+use Rattle.spec.specs.Outcome.{Outcome, ok}
 use Rattle.spec.specs.Limits.{maxDepth, maxNodes}
 use Rattle.spec.specs.Bytes.{Bytes, Text, byte, byteIn}
 use Rattle.spec.specs.Strings.{string}
@@ -17,66 +14,20 @@ use Rattle.spec.specs.Numbers.{isDigit, number}
 use Rattle.spec.specs.Forest.{none, tree, single, size, _⧺_}
 use Rattle.spec.specs.Value as Value
 use Rattle.spec.specs.Value.{Label, Entry, Members, leaf, named, isObject, tag, has, nodes}
-use Rattle.spec.specs.Read.{blanks, spelled, roomFor, literalValue, numberValue, stringValue, scalar, fresh, nameFor, containerLabel, closingBracket, items, contents, container, value, read}
+use Rattle.spec.specs.Read.{blanks, spelled, literalValue, numberValue, stringValue, scalar, fresh, nameFor, containerLabel, closingBracket, items, contents, container, value, read}
 use Rattle.spec.proofs.OutcomeLaws.{refused≢ok, both-ok, either-ok, first-ok}
-use Rattle.spec.proofs.Tracking.{Cut, nothing-ends, past-end}
-use Rattle.spec.proofs.ReadersTrack.{number-tracks}
 use Rattle.claims.specs.Proper as Proper
 use Rattle.claims.specs.Proper.{Proper, Allows, ScalarValues, ProperItems, element, member}
 use Rattle.claims.proofs.Found.{absent-parts, absent-cons}
-use Rattle.claims.proofs.NumberRead.{number-spans}
+use Rattle.claims.proofs.NumberText.{number-alone, number-text, room-there}
 use Rattle.claims.proofs.CharacterScalar.{string-scalar, if-ok}
 use Rattle.claims.proofs.ValueBack.{Item, size-append}
-
--- A number that is read is the number that its own bytes are.
-
-text-cut : (s t r : Bytes) (at : ℕ) → drop at s ≡ t ++ r → Cut s t at (length t)
-unfolding byte
-text-cut s t r at h =
-    record {
-      inside = λ p l. sym (List·getD-append t r 0 p l) ∙ ap (λ w. getD w p 0) (sym h) ∙ getD-drop at s p 0;
-      ends = rw (past-end t {at = length t} (omega arith)) nothing-ends;
-      whole = omega arith;
-      part = λ p q l. go p q l (decLt (length t) p);
-    }
-  where
-    go : (p q : ℕ) → q ≤ length t → Dec (length t < p) → take (q - p) (drop p t) ≡ take (q - p) (drop (at + p) s)
-    go p q l (yes m) = let nothing : q - p ≡ 0 = omega arith in rw nothing
-    go p q l (no m) =
-        sym (ap (take (q - p)) (sym (drop-drop p at s) ∙ ap (drop p) h ∙ drop-append-le p t r (omega arith)) ∙
-        take-append-le (q - p) (drop p t) r (omega (arith, length-drop p t)))
-
-text-part : (s t r : Bytes) (at next : ℕ) → drop at s ≡ t ++ r → next ≡ at + length t → take (next - at) (drop at s) ≡ t
-text-part s t r at next h p =
-    let many : next - at ≡ length t = omega arith in
-    rw (many, h) (take-append-seam t r)
-
-text-number : (s t r : Bytes) (at next : ℕ) → drop at s ≡ t ++ r → next ≡ at + length t → number s at ≡ ok next → number t 0 ≡ ok (length t)
-text-number s t r at next h p n =
-    let tracked = number-tracks true (text-cut s t r at h) {at = at} {p = 0} (record { is = omega arith }) .track next n in
-    let q = tracked .q in
-    let place : next ≡ at + q = tracked .is in
-    let same : q ≡ length t = omega arith in
-    tracked .gives (omega arith) ∙ ap ok same
-
-pub number-alone : (s : Bytes) (at next : ℕ) → number s at ≡ ok next →
-    number (take (next - at) (drop at s)) 0 ≡ ok (length (take (next - at) (drop at s)))
-number-alone s at next h =
-    let p = number-spans s at next h in
-    subst (λ t. number t 0 ≡ ok (length t)) (sym (text-part s (p .text) (drop next s) at next (p .is) (p .place)))
-    (text-number s (p .text) (drop next s) at next (p .is) (p .place) h)
 
 -- Scalars
 
 record Read (at-nodes : ℕ) (v : Value.Value) : Type 0 where
   proper : Proper v
   few : at-nodes + nodes v ≤ 2048
-
-room-there : {A : Type 0} (nodes at : ℕ) (o : Outcome A) {a : A} → (roomFor nodes at >>= λ _. o) ≡ ok a → (nodes < 2048) × (o ≡ ok a)
-unfolding roomFor
-room-there nodes at o h =
-    let (p, e, i) = both-ok (roomFor nodes at) _ _ h in
-    if-ok (ltb nodes 2048) e (λ t _. (ltb-true nodes 2048 t, i)) (λ _ j. absurd (refused≢ok j))
 
 leaf-read : (count : ℕ) (l : Label) → Allows l none → count < 2048 → Read count (leaf l)
 unfolding nodes size
@@ -101,7 +52,7 @@ scalar-read s at count v next h =
     (λ i.
     let (room, j) = room-there count at _ i in
     let (end, e, k) = both-ok (number s at) _ _ j in
-    subst (Read count) (first-ok k) (leaf-read count _ (Proper.number (number-alone s at end e)) room)) λ h.
+    subst (Read count) (first-ok k) (leaf-read count _ (Proper.number (number-text _ (number-alone s at end e))) room)) λ h.
     either-ok (eqb (byte s at) 110) h (λ i. let (room, j) = room-there count at _ i in literal-read count _ _ s at v next Proper.null-literal room j) λ h.
     either-ok (eqb (byte s at) 116) h (λ i. let (room, j) = room-there count at _ i in literal-read count _ _ s at v next Proper.true-literal room j) λ h.
     either-ok (eqb (byte s at) 102) h (λ i. let (room, j) = room-there count at _ i in literal-read count _ _ s at v next Proper.false-literal room j) λ h.

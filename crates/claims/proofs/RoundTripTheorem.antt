@@ -7,34 +7,29 @@ use native.Mathlib.Nat.{zero-add}
 use native.Mathlib.Omega.{arith}
 use lib.Dec.{leb}
 use lib.ListN.{length}
-use lib.Seq.{drop-append-seam}
 use borrow.Author.Tests.{eq-eqb, leb-true}
 use Rattle.spec.specs.Outcome.{Outcome, ok, refused, _>>=_, if_then_else_}
 use Rattle.spec.specs.Limits.{maxBytes}
-use Rattle.spec.specs.Bytes.{Bytes, byte}
+use Rattle.spec.specs.Bytes.{Bytes, Text, byte}
+use Rattle.spec.specs.Forest.{size}
 use Rattle.spec.specs.Value as Value
-use Rattle.spec.specs.Value.{depth, nodes}
-use Rattle.spec.specs.Strings.{character}
+use Rattle.spec.specs.Value.{Label, leaf, tag, isContainer, levels, depth, nodes}
 use Rattle.spec.specs.Read.{isBlank, read}
-use Rattle.spec.specs.Write.{writeCharacter, write}
+use Rattle.spec.specs.Write.{write}
 use Rattle.spec.specs.Operation.{Operation, limited}
 use Rattle.spec.specs.Patch.{Run, finished, stopped, onFinish, shape, run}
 use Rattle.spec.specs.Answer.{Answer, Lent, answer, success, refusal, workSuffices, fitting, answerOf, patched, onPatch, onDocument}
 use Rattle.spec.specs.Region.{WellFormed}
 use Rattle.spec.proofs.Tracking.{nothing-ends, past-end}
 use Rattle.spec.proofs.ReadLaws.{read-depth}
-use Rattle.claims.specs.Proper.{ScalarValue, Readable}
+use Rattle.claims.specs.Proper as Proper
+use Rattle.claims.specs.Proper.{ScalarValues, Readable}
 use Rattle.claims.specs.RoundTrip.{Patched, RoundTripStatement}
 use Rattle.claims.proofs.Rest.{Rest}
-use Rattle.claims.proofs.CharacterBack.{character-back}
-use Rattle.claims.proofs.ScalarBack.{blanks-none}
+use Rattle.claims.proofs.NumberText.{blanks-none}
 use Rattle.claims.proofs.ValueBack.{value-begins, value-back, items-back}
 use Rattle.claims.proofs.ReadProper.{read-proper}
 use Rattle.claims.proofs.ProperPatch.{shape-proper, run-readable, patch-stops, patch-finishes}
-
-character-anywhere : (c : ℕ) (before after : Bytes) → ScalarValue c →
-    character (before ++ (writeCharacter c ++ after)) (length before) ≡ ok (c, length before + length (writeCharacter c))
-character-anywhere c before after h = character-back c after h (record { is = drop-append-seam before (writeCharacter c ++ after) }) .reads
 
 read-back : (v : Value.Value) → Readable v → read (write v) ≡ ok v
 unfolding read depth nodes byte isBlank _>>=_
@@ -47,6 +42,12 @@ read-back v r =
     let reads = value-back 32 0 [] (items-back (write v) (v .kids)) (p .allows) (p .items) (r .shallow) (omega arith) nothing-ends text in
     let end = past-end (write v) {at = length (write v)} (omega arith) in
     rw (blanks-none s 0 (begins .no-blank), reads, zero-add (length (write v)), blanks-none s (length s) (ap isBlank end), eq-eqb (length s) (length s) refl)
+
+characters-back : (cs : Text) → ScalarValues cs → read (write (leaf (Label.string cs))) ≡ ok (leaf (Label.string cs))
+unfolding depth levels isContainer tag nodes size
+characters-back cs h =
+    read-back (leaf (Label.string cs))
+    (record { proper = record { allows = Proper.string h; items = Proper.empty }; shallow = omega arith; few = omega arith })
 
 one-text : (v w : Value.Value) → Readable v → Readable w → write v ≡ write w → v ≡ w
 one-text v w p q h =
@@ -123,7 +124,7 @@ written document patch text lent h =
 pub round-trip : RoundTripStatement
 round-trip =
     record {
-      character-back = character-anywhere;
+      characters-back = characters-back;
       read-back = read-back;
       one-text = one-text;
       readable = readable;

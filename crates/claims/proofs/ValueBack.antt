@@ -24,7 +24,8 @@ use Rattle.claims.proofs.Found.{absent-parts, absent-cons}
 use Rattle.claims.proofs.Rest.{Rest, byte-at, first-byte, rest-next, rest-more, rest-length, byteIn-ok}
 use Rattle.claims.proofs.StringBack.{string-back}
 use Rattle.claims.proofs.NumberBack.{number-some}
-use Rattle.claims.proofs.ScalarBack.{blanks-none, room, Begins, string-begins, opening-begins, null-back, true-back, false-back, text-back, numeral-back}
+use Rattle.claims.proofs.NumberText.{blanks-none, room, numeral-back, text-number}
+use Rattle.claims.proofs.ScalarBack.{Begins, string-begins, opening-begins, null-back, true-back, false-back, text-back}
 
 -- The text of a container, item by item
 
@@ -42,7 +43,7 @@ unfolding opening ascii writeString
 opening-some Proper.null-literal = omega arith
 opening-some Proper.true-literal = omega arith
 opening-some Proper.false-literal = omega arith
-opening-some (Proper.number {t} n) = number-some t n
+opening-some (Proper.number {t} n) = number-some t (text-number t n)
 opening-some (Proper.string c) = omega arith
 opening-some Proper.array = omega arith
 opening-some Proper.object = omega arith
@@ -245,7 +246,7 @@ module _ {s : Bytes} {at : ℕ} (left nodes : ℕ) (r : Bytes) where
   value-back back Proper.false-literal p d n e h = rw (write-leaf Label.false-literal refl) (false-back left nodes (omega arith) r (rw (write-leaf Label.false-literal refl) at h))
   value-back back (Proper.number {t} m) p d n e h =
       let text = rw (write-leaf (Label.number t) refl) at h in
-      rw (write-leaf (Label.number t) refl) (numeral-back left nodes (omega arith) r t m (rw (follows t r text) e) text)
+      rw (write-leaf (Label.number t) refl) (numeral-back left nodes (omega arith) r t (text-number t m) (rw (follows t r text) e) text)
   value-back back (Proper.string {cs} c) p d n e h =
       rw (write-leaf (Label.string cs) refl) (text-back left nodes (omega arith) r cs c (rw (write-leaf (Label.string cs) refl) at h))
   value-back back Proper.array p d n e h = array-back nodes r back left p d n h

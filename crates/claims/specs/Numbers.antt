@@ -11,10 +11,14 @@ use lib.ListN.{length}
 use lib.IntN.{ℤ, pos, negsuc, negℤ, _-ℤ_}
 use Rattle.spec.specs.Outcome.{ok}
 use Rattle.spec.specs.Bytes.{Bytes}
-use Rattle.spec.specs.Numbers.{isDigit, isE, number}
+use Rattle.spec.specs.Value.{Label, leaf}
+use Rattle.spec.specs.Read.{read}
 use Rattle.spec.specs.Worth.{worth}
-use Rattle.spec.specs.Pointer.{allDigits}
 use Rattle.spec.specs.Equality.{sameWorth}
+
+-- a text that is one number from its first byte to its last
+abbrev pub NumberText : Bytes → Type 0
+NumberText t = read t ≡ ok (leaf (Label.number t))
 
 -- an integer times a power of ten, with its sign, which a zero has too
 pub record Exact : Type 0 where
@@ -27,10 +31,19 @@ unfoldable pub positional : Bytes → ℕ
 positional [] = 0
 positional (d ∷ ds) = (d - code "0") * 10 ^ length ds + positional ds
 
+-- DIGIT = %x30-39
+abbrev pub Digit : ℕ → Type 0
+Digit d = (code "0" ≤ d) × (d ≤ code "9")
+
+-- *DIGIT
+pub data AllDigits : Bytes → Type 0 where
+  none : AllDigits []
+  more : {d : ℕ} {ds : Bytes} → Digit d → AllDigits ds → AllDigits (d ∷ ds)
+
 -- 1*DIGIT
 pub record Digits (ds : Bytes) : Type 0 where
   pub some : 1 ≤ length ds
-  pub all : allDigits ds ≡ true
+  pub all : AllDigits ds
 
 -- [ minus ], and whether it is there
 pub data Minus : Bytes → Bool → Type 0 where
@@ -40,19 +53,24 @@ pub data Minus : Bytes → Bool → Type 0 where
 -- int = zero / ( digit1-9 *DIGIT )
 pub data Int : Bytes → Type 0 where
   zero : Int (code "0" ∷ [])
-  nonzero : (d : ℕ) (ds : Bytes) → isDigit d ≡ true → (d ≡ code "0" → ⊥) → allDigits ds ≡ true → Int (d ∷ ds)
+  nonzero : (d : ℕ) (ds : Bytes) → Digit d → (d ≡ code "0" → ⊥) → AllDigits ds → Int (d ∷ ds)
 
 -- [ frac ], frac = decimal-point 1*DIGIT, and its digits
 pub data Frac : Bytes → Bytes → Type 0 where
   none : Frac [] []
   point : (ds : Bytes) → Digits ds → Frac (code "." ∷ ds) ds
 
+-- e = %x65 / %x45
+pub data E : ℕ → Type 0 where
+  lower-case : E (code "e")
+  upper-case : E (code "E")
+
 -- [ exp ], exp = e [ minus / plus ] 1*DIGIT, and the power of ten that it says
 pub data Exp : Bytes → ℤ → Type 0 where
   none : Exp [] (pos 0)
-  plain : (e : ℕ) (ds : Bytes) → isE e ≡ true → Digits ds → Exp (e ∷ ds) (pos (positional ds))
-  plus : (e : ℕ) (ds : Bytes) → isE e ≡ true → Digits ds → Exp (e ∷ code "+" ∷ ds) (pos (positional ds))
-  minus : (e : ℕ) (ds : Bytes) → isE e ≡ true → Digits ds → Exp (e ∷ code "-" ∷ ds) (negℤ (pos (positional ds)))
+  plain : (e : ℕ) (ds : Bytes) → E e → Digits ds → Exp (e ∷ ds) (pos (positional ds))
+  plus : (e : ℕ) (ds : Bytes) → E e → Digits ds → Exp (e ∷ code "+" ∷ ds) (pos (positional ds))
+  minus : (e : ℕ) (ds : Bytes) → E e → Digits ds → Exp (e ∷ code "-" ∷ ds) (negℤ (pos (positional ds)))
 
 -- number = [ minus ] int [ frac ] [ exp ], and its exact value: the integer of all the digits on either side of the point, times ten to the
 -- exponent less the number of digits after the point.
@@ -76,8 +94,8 @@ pub record SameNumber (x y : Exact) : Type 0 where
   pub value : x .significand * 10 ^ above (x .power) (y .power) ≡ y .significand * 10 ^ above (y .power) (x .power)
 
 pub record NumbersStatement : Type 0 where
-  -- a text that is one number from its first byte to its last has an exact value
-  pub valued : (t : Bytes) → number t 0 ≡ ok (length t) → (x : Exact) × Writes t x
+  -- a text that is one number has an exact value
+  pub valued : (t : Bytes) → NumberText t → (x : Exact) × Writes t x
   -- and only one, however the text is cut
   pub one-value : (t : Bytes) (x y : Exact) → Writes t x → Writes t y → SameNumber x y
   -- "Numbers by exact value. [..] A zero keeps its sign, so -0 and 0 differ."

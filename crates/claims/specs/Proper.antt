@@ -3,14 +3,12 @@ use mathlib.Core.Path.{_≡_}
 use Prim.Native.Nat.{ℕ, _≤_}
 use mathlib.Core.List.{[], _∷_}
 use mathlib.Core.Bool.{Bool, true, false}
-use lib.ListN.{length}
-use Rattle.spec.specs.Outcome.{ok}
 use Rattle.spec.specs.Limits.{maxDepth, maxNodes}
 use Rattle.spec.specs.Bytes.{Bytes, Text}
-use Rattle.spec.specs.Numbers as Numbers
 use Rattle.spec.specs.Forest.{none, tree}
 use Rattle.spec.specs.Value as Value
 use Rattle.spec.specs.Value.{Label, Entry, Members, isObject, has, depth, nodes}
+use Rattle.claims.specs.Numbers.{NumberText}
 
 -- a Unicode scalar value: any code point but the surrogates, D800 to DFFF
 pub data ScalarValue (c : ℕ) : Type 0 where
@@ -26,7 +24,7 @@ pub data Allows : Label → Members → Type 0 where
   null-literal : Allows Label.null-literal none
   true-literal : Allows Label.true-literal none
   false-literal : Allows Label.false-literal none
-  number : {t : Bytes} → Numbers.number t 0 ≡ ok (length t) → Allows (Label.number t) none
+  number : {t : Bytes} → NumberText t → Allows (Label.number t) none
   string : {cs : Text} → ScalarValues cs → Allows (Label.string cs) none
   array : {kids : Members} → Allows Label.array kids
   object : {kids : Members} → Allows Label.object kids

@@ -1,19 +1,17 @@
 -- What is written is read back: document 01, "Reading JSON" and "Writing".
 use mathlib.Core.Path.{_≡_}
-use Prim.Native.Nat.{ℕ, _+_}
-use mathlib.Core.List.{List, _++_}
-use lib.ListN.{length}
+use mathlib.Core.List.{List}
 use Rattle.spec.specs.Outcome.{ok}
-use Rattle.spec.specs.Bytes.{Bytes}
-use Rattle.spec.specs.Strings.{character}
+use Rattle.spec.specs.Bytes.{Bytes, Text}
 use Rattle.spec.specs.Value as Value
+use Rattle.spec.specs.Value.{Label, leaf}
 use Rattle.spec.specs.Read.{read}
-use Rattle.spec.specs.Write.{writeCharacter, write}
+use Rattle.spec.specs.Write.{write}
 use Rattle.spec.specs.Operation.{Operation, limited}
 use Rattle.spec.specs.Patch.{finished, run}
 use Rattle.spec.specs.Answer.{Lent, answer, success}
 use Rattle.spec.specs.Region.{Accepted, WellFormed}
-use Rattle.claims.specs.Proper.{ScalarValue, Readable}
+use Rattle.claims.specs.Proper.{ScalarValues, Readable}
 
 -- a text that is the document patched: the operations run from the one to the other, and the text is read as what they end with
 pub record Patched (document patch text : Bytes) : Type 0 where
@@ -27,9 +25,8 @@ pub record Patched (document patch text : Bytes) : Type 0 where
   pub reads : read text ≡ ok after
 
 pub record RoundTripStatement : Type 0 where
-  -- a character that is written anywhere in a text is read there, and no byte more
-  pub character-back : (c : ℕ) (before after : Bytes) → ScalarValue c →
-      character (before ++ (writeCharacter c ++ after)) (length before) ≡ ok (c, length before + length (writeCharacter c))
+  -- every Unicode character, wherever it stands in a string, is read back as it was written
+  pub characters-back : (cs : Text) → ScalarValues cs → read (write (leaf (Label.string cs))) ≡ ok (leaf (Label.string cs))
   -- a value that is written is read back, numbers by their source text and members in their order
   pub read-back : (v : Value.Value) → Readable v → read (write v) ≡ ok v
   -- so two values with one text are one value

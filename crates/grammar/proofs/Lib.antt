@@ -16,4 +16,11 @@ pub mod Unambiguous
 pub mod Local
 pub mod ReadLocal
 pub mod Within
+pub mod Refusing
+pub mod NumberFaults
+pub mod Before
+pub mod Faults
+pub mod Arrival
+pub mod Given
+pub mod RefusedAt
 pub mod Theorems

@@ -30,33 +30,27 @@ agree c a b =
     within-c : (d : Bytes) (p q : ℕ) → p ≤ q → q ≤ length c → take (q - p) (drop p (c ++ d)) ≡ take (q - p) (drop p c)
     within-c d p q l h = ap (take (q - p)) (drop-append-le p c d (omega arith)) ∙ take-append-le (q - p) (drop p c) d (omega (arith, length-drop p c))
 
--- An outcome on s and one on t. A result ends at its place, and a refusal by 3 has one, no earlier than low; where that is before m, t has the
--- same outcome.
+-- An outcome on s and one on t. A result ends at its place, and a refusal has one, no earlier than low; where that is before m, t has the same
+-- outcome.
 pub data Local (m : ℕ) {X : Type 0} (place : X → ℕ) (low : ℕ) : Outcome X → Outcome X → Type 0 where
   finds : {x : X} {o' : Outcome X} → low ≤ place x → (place x < m → o' ≡ ok x) → Local m place low (ok x) o'
-  stops : {p : ℕ} {o' : Outcome X} → low ≤ p → (p < m → o' ≡ refused not-json p) → Local m place low (refused not-json p) o'
-  other : {number p : ℕ} {o' : Outcome X} → (number ≡ not-json → ⊥) → Local m place low (refused number p) o'
+  stops : {number p : ℕ} {o' : Outcome X} → low ≤ p → (p < m → o' ≡ refused number p) → Local m place low (refused number p) o'
 
 module _ {m : ℕ} {X : Type 0} {place : X → ℕ} where
-  pub same-stop : {low p : ℕ} {o' : Outcome X} → Local m place low (refused not-json p) o' → p < m → o' ≡ refused not-json p
+  pub same-stop : {low number p : ℕ} {o' : Outcome X} → Local m place low (refused number p) o' → p < m → o' ≡ refused number p
   same-stop (stops l e) h = e h
-  same-stop (other n) h = absurd (n refl)
 
   pub gives : {low : ℕ} (x : X) {x' : X} → low ≤ place x → (place x < m → x' ≡ x) → Local m place low (ok x) (ok x')
   gives x l e = finds l (λ h. ap ok (e h))
 
-  pub refuses : {low : ℕ} (p : ℕ) → low ≤ p → Local m place low (refused not-json p) (refused not-json p)
+  pub refuses : {low number : ℕ} (p : ℕ) → low ≤ p → Local m place low (refused number p) (refused number p)
   refuses p l = stops l (λ h. refl)
-
-  pub exceeds : {low p : ℕ} {o' : Outcome X} (number : ℕ) → not-json < number → Local m place low (refused number p) o'
-  exceeds number l = other {number = number} (λ e. omega arith)
 
   -- what t has counts only where the place is before m
   pub under : {low : ℕ} (low' : ℕ) {o o' : Outcome X} (o'' : Outcome X) → low ≤ low' → (low' < m → o' ≡ o'') → Local m place low' o o'' →
       Local m place low o o'
   under low' o'' l e (finds {x} h f) = finds {x = x} (omega arith) (λ i. e (omega arith) ∙ f i)
-  under low' o'' l e (stops {p} h f) = stops {p = p} (omega arith) (λ i. e (omega arith) ∙ f i)
-  under low' o'' l e (other h) = other h
+  under low' o'' l e (stops {p = p} h f) = stops {p = p} (omega arith) (λ i. e (omega arith) ∙ f i)
 
   pub later : {low : ℕ} (low' : ℕ) {o o' : Outcome X} → low ≤ low' → Local m place low' o o' → Local m place low o o'
   later low' {o' = o'} l r = under low' o' l (λ h. refl) r
@@ -82,7 +76,6 @@ pub andThen : {m : ℕ} {X Y : Type 0} {place : X → ℕ} {place' : Y → ℕ} 
 unfolding _>>=_
 andThen {place = place} g g' (finds {x} l e) rest = under (place x) (g' x) l (λ h. ap (λ o. o >>= g') (e h)) (rest x refl l)
 andThen g g' (stops l e) rest = stops l (λ h. ap (λ o. o >>= g') (e h))
-andThen g g' (other h) rest = other h
 
 module _ {m : ℕ} {X : Type 0} {place : X → ℕ} where
   -- what is read at a place, between two bounds, and what comes after it

@@ -42,7 +42,7 @@ sameText-true (a ∷ s) (b ∷ t) h =
     let q = and-eq-true-iff (eqb a b) (sameText s t) .0 h in
     ap₂ _∷_ (eqb-true a b (q .0)) (sameText-true s t (q .1))
 
-has-named : (n : Text) (f : Members) → has n f ≡ true → Named n f
+pub has-named : (n : Text) (f : Members) → has n f ≡ true → Named n f
 unfolding find count
 has-named n none h = absurd (omega (arith, ltb-true 0 0 h))
 has-named n (tree e kids rest) h = go (sameText (e .name) n) refl h (has-named n rest)
@@ -77,7 +77,7 @@ sameText-refl (a ∷ s) = rw (eq-eqb a a refl, sameText-refl s)
 has-test : (n : Text) (e : Entry) (rest : Members) → Bool → Bool
 has-test n e rest c = ltb (if c then 0 else suc (find n rest)) (suc (count rest))
 
-named-has : {n : Text} {f : Members} → Named n f → has n f ≡ true
+pub named-has : {n : Text} {f : Members} → Named n f → has n f ≡ true
 unfolding find count has-test
 named-has {n} (here {e = e} {rest = rest} h) =
     ap (has-test n e rest) (ap (sameText (e .name)) (sym h) ∙ sameText-refl (e .name)) ∙ lt-ltb 0 (suc (count rest)) (omega arith)
@@ -92,7 +92,7 @@ unfolding count
 named-counts (here h) = omega arith
 named-counts (later m) = omega arith
 
-no-one : {n : Text} → Named n none → ⊥
+pub no-one : {n : Text} → Named n none → ⊥
 unfolding count
 no-one m = let l = named-counts m in omega arith
 

@@ -66,7 +66,7 @@ signed-size optional.absent (*DIGIT.more {d = b} d ds) = rw (ne-eqb b 0x2D (λ i
 signed-size (optional.present sign.minus-sign) d = natAbs-neg _
 signed-size (optional.present sign.plus-sign) d = refl
 
-exponent-size : {b : ℕ} {w ds : Bytes} → e b → optional sign w → 1*DIGIT ds → natAbs (exponent (b ∷ (w ++ ds))) ≡ decimal 0 ds
+pub exponent-size : {b : ℕ} {w ds : Bytes} → e b → optional sign w → 1*DIGIT ds → natAbs (exponent (b ∷ (w ++ ds))) ≡ decimal 0 ds
 unfolding exponent
 exponent-size x p (1*DIGIT.some d ds) = rw (is-e x) (signed-size p (*DIGIT.more d ds))
 

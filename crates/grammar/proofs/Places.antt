@@ -96,3 +96,17 @@ module _ {s : Bytes} where
 -- a text from its beginning to its end
 pub from-whole : (s : Bytes) → From s 0 s (length s)
 from-whole s = record { rest = sym (ap (λ x. s ++ x) (drop-length s) ∙ append-nil s); far = omega arith }
+
+-- bytes at the beginning of a text, at its end, and between
+pub from-first : (w more : Bytes) → From (w ++ more) 0 w (length w)
+from-first w more = record { rest = ap (λ t. w ++ t) (sym (drop-append-seam w more)); far = omega arith }
+
+pub from-rest : (w more : Bytes) → From (w ++ more) (length w) more (length (w ++ more))
+from-rest w more =
+    record {
+      rest = drop-append-seam w more ∙ sym (ap (λ t. more ++ t) (drop-length (w ++ more)) ∙ append-nil more);
+      far = length-append w more;
+    }
+
+pub from-middle : (w v more : Bytes) → From (w ++ (v ++ more)) (length w) v (length w + length v)
+from-middle w v more = split v more (from-rest w (v ++ more)) .0

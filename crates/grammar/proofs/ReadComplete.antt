@@ -47,7 +47,7 @@ pub record ValueRead (s : Bytes) (left before at next : ℕ) (v : Value.Value) :
   pub after : blanks s end ≡ blanks s next
   pub no-bracket : byte s (blanks s at) ≡ code "]" → ⊥
 
-room-reads : {asked : Type 0} (before at : ℕ) → (asked → before < maxNodes) → Reads at asked (roomFor before at)
+pub room-reads : {asked : Type 0} (before at : ℕ) → (asked → before < maxNodes) → Reads at asked (roomFor before at)
 unfolding roomFor
 room-reads {asked} before at few = go (ltb before maxNodes) refl
   where
@@ -59,7 +59,7 @@ room : (left before : ℕ) (v : Value.Value) → Asked left before v → before 
 unfolding nodes
 room left before v a = let l = a .few in omega arith
 
-value-scalar : (left : ℕ) (s : Bytes) (at before : ℕ) → eqb (byte s at) (code "[") ≡ false → eqb (byte s at) (code "{") ≡ false →
+pub value-scalar : (left : ℕ) (s : Bytes) (at before : ℕ) → eqb (byte s at) (code "[") ≡ false → eqb (byte s at) (code "{") ≡ false →
     Read.value left s at before ≡ scalar s at before
 unfolding Read.value
 value-scalar zero s at before e f = rw (e, f)
@@ -194,13 +194,13 @@ module _ {isObject : Bool} {left before : ℕ} {so-far : Members} (name : Text) 
   asked-name o = fresh-name (named name v .root) (v .kids) f so-far (a .distinct o)
 
 -- a value of a container with its name, from a place to the next
-record ItemRead (isObject : Bool) (s : Bytes) (left before : ℕ) (so-far : Members) (at next : ℕ) (name : Text) (v : Value.Value) : Type 0 where
-  mid : ℕ
-  end : ℕ
-  named-so : Reads (name, mid) (isObject ≡ true → has name so-far ≡ false) (nameFor isObject s so-far (blanks s at))
-  valued : Reads (v, end) (Asked left (before + size so-far) v) (Read.value left s mid (before + size so-far))
-  after : blanks s end ≡ blanks s next
-  no-bracket : byte s (blanks s at) ≡ closingBracket isObject → ⊥
+pub record ItemRead (isObject : Bool) (s : Bytes) (left before : ℕ) (so-far : Members) (at next : ℕ) (name : Text) (v : Value.Value) : Type 0 where
+  pub mid : ℕ
+  pub end : ℕ
+  pub named-so : Reads (name, mid) (isObject ≡ true → has name so-far ≡ false) (nameFor isObject s so-far (blanks s at))
+  pub valued : Reads (v, end) (Asked left (before + size so-far) v) (Read.value left s mid (before + size so-far))
+  pub after : blanks s end ≡ blanks s next
+  pub no-bracket : byte s (blanks s at) ≡ closingBracket isObject → ⊥
 
 module _ {isObject : Bool} {s : Bytes} {left before : ℕ} {so-far : Members} {at next : ℕ} {name : Text} {v : Value.Value} (fuel : ℕ) (r : ItemRead isObject s left before so-far at next name v) where
   items-last : byte s (blanks s next) ≡ closingBracket isObject →
@@ -245,12 +245,12 @@ asked-items true f a =
     let m = a .few in
     record { distinct = λ e. a .fits; shallow = omega arith; few = omega arith; below = a .below }
 
-value-deep : (isObject : Bool) (s : Bytes) (at before : ℕ) → byte s at ≡ openingBracket isObject → Read.value zero s at before ≡ refused too-deep at
+pub value-deep : (isObject : Bool) (s : Bytes) (at before : ℕ) → byte s at ≡ openingBracket isObject → Read.value zero s at before ≡ refused too-deep at
 unfolding Read.value
 value-deep false s at before e = rw e
 value-deep true s at before e = rw e
 
-value-container : (isObject : Bool) (left : ℕ) (s : Bytes) (at before : ℕ) → byte s at ≡ openingBracket isObject →
+pub value-container : (isObject : Bool) (left : ℕ) (s : Bytes) (at before : ℕ) → byte s at ≡ openingBracket isObject →
     Read.value (suc left) s at before ≡ container (Read.value left s) isObject s at before
 unfolding Read.value
 value-container false left s at before e = rw e
@@ -291,7 +291,7 @@ module _ (isObject : Bool) {s : Bytes} {at mid next : ℕ} (begin : Marked s at 
       (λ left before. rw (begin .after, ne-eqb (byte s (blanks s mid)) (closingBracket isObject) (r left before .no-bracket)) (r left before .outcome (length s) Forest.none (omega arith))) (m .after)
 
 -- the values one after another
-in-blanks : (s : Bytes) (at : ℕ) {c : ℕ} → byte s (blanks s at) ≡ c → 0 < c → at < length s
+pub in-blanks : (s : Bytes) (at : ℕ) {c : ℕ} → byte s (blanks s at) ≡ c → 0 < c → at < length s
 in-blanks s at e l = let far = blanks-sound s at .from .far in omega (arith, in-text s (blanks s at) (rw e l))
 
 module _ {isObject : Bool} {s : Bytes} {left before at next : ℕ} {name : Text} {v : Value.Value} (grows : at ≤ next) (r : (so-far : Members) → ItemRead isObject s left before so-far at next name v) where
@@ -318,7 +318,7 @@ module _ {isObject : Bool} {s : Bytes} {left before at next : ℕ} {name : Text}
           (items-more fuel (r so-far) (m .mark) (rw (m .after) others))
 
 -- an element, and a member
-element-read : {s : Bytes} {left before : ℕ} (so-far : Members) {at next : ℕ} {v : Value.Value} → ((before : ℕ) → ValueRead s left before at next v) →
+pub element-read : {s : Bytes} {left before : ℕ} (so-far : Members) {at next : ℕ} {v : Value.Value} → ((before : ℕ) → ValueRead s left before at next v) →
     ItemRead false s left before so-far at next [] v
 unfolding nameFor closingBracket
 element-read {s} {before = before} so-far {at} r =
@@ -333,25 +333,30 @@ fresh-reads name so-far p = go (has name so-far) refl
     go true e = exceeds {number = repeated-name} (λ i. omega arith) (λ a. true≢false (sym e ∙ a refl))
     go false e = reads
 
-member-read : {s n : Bytes} {name : Text} {left before : ℕ} (so-far : Members) {at p q next : ℕ} {v : Value.Value} → string n name → From s at n p →
+-- a name with its colon
+pub name-reads : {s n : Bytes} {name : Text} (so-far : Members) {at p q : ℕ} → string n name → From s at n p → Marked s p (code ":") q →
+    Reads (name, blanks s q) (true ≡ true → has name so-far ≡ false) (nameFor true s so-far (blanks s at))
+unfolding nameFor
+name-reads {s} {name = name} so-far {at} {p} d f m =
+    rw (blanks-stay s at (string-plain d f .1 .no-blank))
+    (reads-then _ (reads-ok _ (string-reads d f))
+    (reads-then _ (fresh-reads name so-far (p - 1))
+    (reads-then _ (reads-ok _ (byteIn-reads s (blanks s p) (code ":") (code ":") (m .mark) (omega arith) (omega arith))) (rw (m .after) reads))))
+
+pub member-read : {s n : Bytes} {name : Text} {left before : ℕ} (so-far : Members) {at p q next : ℕ} {v : Value.Value} → string n name → From s at n p →
     Marked s p (code ":") q →
     ((before : ℕ) → ValueRead s left before q next v) → ItemRead true s left before so-far at next name v
-unfolding nameFor closingBracket
+unfolding closingBracket
 member-read {s} {name = name} {before = before} so-far {at} {p} {q} d f m r =
     let (quote, plain) = string-plain d f in
-    let stay = blanks-stay s at (plain .no-blank) in
     let v = r (before + size so-far) in
     record {
       mid = blanks s q;
       end = v .end;
-      named-so =
-          rw stay
-          (reads-then _ (reads-ok _ (string-reads d f))
-          (reads-then _ (fresh-reads name so-far (p - 1))
-          (reads-then _ (reads-ok _ (byteIn-reads s (blanks s p) (code ":") (code ":") (m .mark) (omega arith) (omega arith))) (rw (m .after) reads))));
+      named-so = name-reads so-far d f m;
       valued = v .outcome;
       after = v .after;
-      no-bracket = rw (stay, quote) (λ i. omega arith);
+      no-bracket = rw (blanks-stay s at (plain .no-blank), quote) (λ i. omega arith);
     }
 
 -- The induction on derivations.

@@ -9,7 +9,7 @@ use lib.ListN.{length, take, drop}
 use lib.Dec.{eqb, ltb, leb}
 use borrow.Author.Tests.{eqb-true, eqb-false, ne-eqb}
 use Rattle.spec.specs.Outcome.{Outcome, ok, refused, _>>=_, if_then_else_}
-use Rattle.spec.specs.Refusal.{not-json, repeated-name, too-deep, too-many-nodes, number-over-limit}
+use Rattle.spec.specs.Refusal.{not-json, repeated-name, too-many-nodes, number-over-limit}
 use Rattle.spec.specs.Limits.{maxDepth, maxNodes, maxNumber, maxExponent}
 use Rattle.spec.specs.Bytes.{Bytes, Text, byte, within, byteIn}
 use Rattle.spec.specs.Numbers as Numbers
@@ -28,7 +28,7 @@ use Rattle.grammar.proofs.StringsSound.{Means, end, character-sound}
 use Rattle.grammar.proofs.StringsComplete.{char-reads}
 use Rattle.grammar.proofs.NumbersSound.{there}
 use Rattle.grammar.proofs.ReadSound.{blanksFrom-sound, blanks-sound}
-use Rattle.grammar.proofs.Local.{Agree, Local, finds, stops, gives, refuses, exceeds, under, later, choose, both, andThen, byteIn-then, hexIn-then}
+use Rattle.grammar.proofs.Local.{Agree, Local, finds, stops, gives, refuses, under, later, choose, both, andThen, byteIn-then, hexIn-then}
 
 module _ {s t : Bytes} {m : ℕ} (agree : Agree s t m) where
   test : {at : ℕ} (f : ℕ → Bool) → at < m → f (byte t at) ≡ f (byte s at)
@@ -98,9 +98,13 @@ module _ {s t : Bytes} {m : ℕ} (agree : Agree s t m) where
       let r = found (subst (Sound s end at (Means char)) e (character-sound s at (eqb-false (byte s at) 0x22 quote))) in
       char-reads (r .derived) (r .from) .grows
 
+  -- a string's closing quote is the last byte that its reader looks at
+  abbrev quote : Text × ℕ → ℕ
+  quote x = x .1 - 1
+
   characters-more : (fuel fuel' at : ℕ) → length s ≤ suc fuel + at → length t ≤ suc fuel' + at →
-      ((at : ℕ) → length s ≤ fuel + at → length t ≤ fuel' + at → Local m end at (characters fuel s at) (characters fuel' t at)) →
-      Local m end at (characters (suc fuel) s at) (characters (suc fuel') t at)
+      ((at : ℕ) → length s ≤ fuel + at → length t ≤ fuel' + at → Local m quote at (characters fuel s at) (characters fuel' t at)) →
+      Local m quote at (characters (suc fuel) s at) (characters (suc fuel') t at)
   unfolding characters
   characters-more fuel fuel' at l l' rest =
       choose (test (λ b. eqb b (code "\""))) (λ e. gives ([], at + 1) (omega arith) (λ h. refl)) λ e.
@@ -110,7 +114,7 @@ module _ {s t : Bytes} {m : ℕ} (agree : Agree s t m) where
       gives (x .0 ∷ y .0, y .1) (omega arith) (λ h. refl)
 
   characters-local : (fuel fuel' at : ℕ) → length s ≤ fuel + at → length t ≤ fuel' + at →
-      Local m end at (characters fuel s at) (characters fuel' t at)
+      Local m quote at (characters fuel s at) (characters fuel' t at)
   unfolding characters
   characters-local zero fuel' at l l' =
       let long = agree .long in
@@ -121,7 +125,7 @@ module _ {s t : Bytes} {m : ℕ} (agree : Agree s t m) where
       (characters-more fuel (length t) at l (omega arith) (characters-local fuel (length t)))
   characters-local (suc fuel) (suc fuel') at l l' = characters-more fuel fuel' at l l' (characters-local fuel fuel')
 
-  string-local : (at : ℕ) → Local m end at (Strings.string s at) (Strings.string t at)
+  string-local : (at : ℕ) → Local m quote at (Strings.string s at) (Strings.string t at)
   unfolding Strings.string
   string-local at =
       byteIn-then agree at (code "\"") (code "\"") (at + 1) _ _ (omega arith) λ b. characters-local (length s) (length t) (at + 1) (omega arith) (omega arith)
@@ -130,7 +134,7 @@ module _ {s t : Bytes} {m : ℕ} (agree : Agree s t m) where
 
   counted-local : (start at : ℕ) → Local m there at (counted start at) (counted start at)
   unfolding counted
-  counted-local start at = both (ltb at (start + maxNumber)) (gives (at + 1) (omega arith) (λ h. refl)) (exceeds number-over-limit (omega arith))
+  counted-local start at = both (ltb at (start + maxNumber)) (gives (at + 1) (omega arith) (λ h. refl)) (refuses at (omega arith))
 
   -- a byte of the number, and a reader after it
   counted-then : (start at : ℕ) (g g' : ℕ → Outcome ℕ) → Local m there (at + 1) (g (at + 1)) (g' (at + 1)) →
@@ -141,7 +145,7 @@ module _ {s t : Bytes} {m : ℕ} (agree : Agree s t m) where
       go : (c : Bool) →
           Local m there at ((if c then ok (at + 1) else refused number-over-limit at) >>= g) ((if c then ok (at + 1) else refused number-over-limit at) >>= g')
       go true = later (at + 1) (omega arith) r
-      go false = exceeds number-over-limit (omega arith)
+      go false = refuses at (omega arith)
 
   digits-more : (fuel fuel' start at : ℕ) → Local m there (at + 1) (digits fuel s start (at + 1)) (digits fuel' t start (at + 1)) →
       Local m there at (digits (suc fuel) s start at) (digits (suc fuel') t start at)
@@ -191,7 +195,7 @@ module _ {s t : Bytes} {m : ℕ} (agree : Agree s t m) where
   exponentDigits-more fuel fuel' start size at rest =
       choose (test isDigit)
       (λ e. under at (digit-of (byte s at)) (omega arith) (λ h. ap digit-of (agree .bytes at h))
-      (both (leb (size * 10 + (byte s at - code "0")) maxExponent) (counted-then start at _ _ (rest _)) (exceeds number-over-limit (omega arith)))) λ e.
+      (both (leb (size * 10 + (byte s at - code "0")) maxExponent) (counted-then start at _ _ (rest _)) (refuses at (omega arith)))) λ e.
       gives at (omega arith) (λ h. refl)
     where
       digit-of : ℕ → Outcome ℕ
@@ -225,7 +229,7 @@ module _ {s t : Bytes} {m : ℕ} (agree : Agree s t m) where
       choose (test isE) (λ e. counted-then start at _ _ (signedDigits-local start (at + 1))) λ e.
       gives at (omega arith) (λ h. refl)
 
-  number-local : (start : ℕ) → Local m there start (Numbers.number s start) (Numbers.number t start)
+  pub number-local : (start : ℕ) → Local m there start (Numbers.number s start) (Numbers.number t start)
   unfolding Numbers.number Numbers.minus
   number-local start =
       under start (parts (if eqb (byte s start) (code "-") then start + 1 else start)) (omega arith)
@@ -274,24 +278,24 @@ module _ {s t : Bytes} {m : ℕ} (agree : Agree s t m) where
 
   -- Values.
 
-  room-then : {X : Type 0} {place : X → ℕ} {low : ℕ} {o o' : Outcome X} (nodes p : ℕ) → Local m place low o o' →
+  room-then : {X : Type 0} {place : X → ℕ} {low : ℕ} {o o' : Outcome X} (nodes p : ℕ) → low ≤ p → Local m place low o o' →
       Local m place low (roomFor nodes p >>= λ _. o) (roomFor nodes p >>= λ _. o')
   unfolding roomFor _>>=_
-  room-then {place = place} {low = low} {o = o} {o' = o'} nodes p r = go (ltb nodes maxNodes)
+  room-then {place = place} {low = low} {o = o} {o' = o'} nodes p l r = go (ltb nodes maxNodes)
     where
       go : (c : Bool) →
           Local m place low ((if c then ok p else refused too-many-nodes p) >>= λ _. o) ((if c then ok p else refused too-many-nodes p) >>= λ _. o')
       go true = r
-      go false = exceeds too-many-nodes (omega arith)
+      go false = refuses p l
 
-  fresh-then : {X : Type 0} {place : X → ℕ} {low : ℕ} {o o' : Outcome X} (name : Text) (so-far : Members) (p : ℕ) → Local m place low o o' →
+  fresh-then : {X : Type 0} {place : X → ℕ} {low : ℕ} {o o' : Outcome X} (name : Text) (so-far : Members) (p : ℕ) → low ≤ p → Local m place low o o' →
       Local m place low (fresh name so-far p >>= λ _. o) (fresh name so-far p >>= λ _. o')
   unfolding fresh _>>=_
-  fresh-then {place = place} {low = low} {o = o} {o' = o'} name so-far p r = go (has name so-far)
+  fresh-then {place = place} {low = low} {o = o} {o' = o'} name so-far p l r = go (has name so-far)
     where
       go : (c : Bool) →
           Local m place low ((if c then refused repeated-name p else ok p) >>= λ _. o) ((if c then refused repeated-name p else ok p) >>= λ _. o')
-      go true = exceeds repeated-name (omega arith)
+      go true = refuses p l
       go false = r
 
   spelled-local : (word : Bytes) (at : ℕ) → Local m there at (spelled word s at) (spelled word t at)
@@ -318,11 +322,11 @@ module _ {s t : Bytes} {m : ℕ} (agree : Agree s t m) where
   scalar-local : (at nodes : ℕ) → Local m end at (scalar s at nodes) (scalar t at nodes)
   unfolding scalar
   scalar-local at nodes =
-      choose (test (λ b. eqb b (code "\""))) (λ e. room-then nodes at (stringValue-local at)) λ _.
-      choose (test (λ b. isDigit b || eqb b (code "-"))) (λ e. room-then nodes at (numberValue-local at)) λ _.
-      choose (test (λ b. eqb b (code "n"))) (λ e. room-then nodes at (literalValue-local Label.null-literal _ at)) λ _.
-      choose (test (λ b. eqb b (code "t"))) (λ e. room-then nodes at (literalValue-local Label.true-literal _ at)) λ _.
-      choose (test (λ b. eqb b (code "f"))) (λ e. room-then nodes at (literalValue-local Label.false-literal _ at)) λ _.
+      choose (test (λ b. eqb b (code "\""))) (λ e. room-then nodes at (omega arith) (stringValue-local at)) λ _.
+      choose (test (λ b. isDigit b || eqb b (code "-"))) (λ e. room-then nodes at (omega arith) (numberValue-local at)) λ _.
+      choose (test (λ b. eqb b (code "n"))) (λ e. room-then nodes at (omega arith) (literalValue-local Label.null-literal _ at)) λ _.
+      choose (test (λ b. eqb b (code "t"))) (λ e. room-then nodes at (omega arith) (literalValue-local Label.true-literal _ at)) λ _.
+      choose (test (λ b. eqb b (code "f"))) (λ e. room-then nodes at (omega arith) (literalValue-local Label.false-literal _ at)) λ _.
       refuses at (omega arith)
 
   nameFor-local : (isObject : Bool) (so-far : Members) (at : ℕ) → Local m end at (nameFor isObject s so-far at) (nameFor isObject t so-far at)
@@ -330,11 +334,11 @@ module _ {s t : Bytes} {m : ℕ} (agree : Agree s t m) where
   nameFor-local false so-far at = gives ([], at) (omega arith) (λ h. refl)
   nameFor-local true so-far at =
       andThen _ _ (string-local at) λ x e l.
-      fresh-then (x .0) so-far (x .1 - 1)
-      (blanks-then (x .1) (λ p. byteIn s p (code ":") (code ":") >>= λ _. ok (x .0, blanks s (p + 1))) (λ p. byteIn t p (code ":") (code ":") >>= λ _. ok (x .0, blanks t (p + 1))) λ k.
+      fresh-then (x .0) so-far (x .1 - 1) (omega arith)
+      (later (x .1) (omega arith) (blanks-then (x .1) (λ p. byteIn s p (code ":") (code ":") >>= λ _. ok (x .0, blanks s (p + 1))) (λ p. byteIn t p (code ":") (code ":") >>= λ _. ok (x .0, blanks t (p + 1))) λ k.
       byteIn-then agree (blanks s (x .1)) (code ":") (code ":") (blanks s (x .1) + 1) _ _ (omega arith) λ _.
       blanks-then (blanks s (x .1) + 1) (λ p. ok (x .0, p)) (λ p. ok (x .0, p)) λ k'.
-      gives (x .0, blanks s (blanks s (x .1) + 1)) (omega arith) (λ h. refl))
+      gives (x .0, blanks s (blanks s (x .1) + 1)) (omega arith) (λ h. refl)))
 
   module _ (reader reader' : ℕ → ℕ → Outcome (Value.Value × ℕ)) (inner : (at nodes : ℕ) → Local m end at (reader at nodes) (reader' at nodes)) (isObject : Bool) (nodes : ℕ) where
     items-more : (fuel fuel' : ℕ) (so-far : Members) (at : ℕ) → length s ≤ suc fuel + at → length t ≤ suc fuel' + at →
@@ -379,15 +383,15 @@ module _ {s t : Bytes} {m : ℕ} (agree : Agree s t m) where
       Local m end at (container reader isObject s at nodes) (container reader' isObject t at nodes)
   unfolding container
   container-local reader reader' inner isObject at nodes =
-      room-then nodes at
+      room-then nodes at (omega arith)
       (later (at + 1) (omega arith)
       (andThen _ _ (contents-local reader reader' inner isObject (nodes + 1) (at + 1)) λ x e l. gives (record { label = containerLabel isObject; kids = x .0 }, x .1) (omega arith) (λ h. refl)))
 
   value-local : (left at nodes : ℕ) → Local m end at (Read.value left s at nodes) (Read.value left t at nodes)
   unfolding Read.value
   value-local zero at nodes =
-      choose (test (λ b. eqb b (code "["))) (λ e. exceeds too-deep (omega arith)) λ _.
-      choose (test (λ b. eqb b (code "{"))) (λ e. exceeds too-deep (omega arith)) λ _.
+      choose (test (λ b. eqb b (code "["))) (λ e. refuses at (omega arith)) λ _.
+      choose (test (λ b. eqb b (code "{"))) (λ e. refuses at (omega arith)) λ _.
       scalar-local at nodes
   value-local (suc left) at nodes =
       choose (test (λ b. eqb b (code "["))) (λ e. container-local (Read.value left s) (Read.value left t) (value-local left) false at nodes) λ _.

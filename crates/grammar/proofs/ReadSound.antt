@@ -135,14 +135,14 @@ scalar-sound s at nodes =
     refuses some-value
 
 -- a member's name with its colon; an array's element has none
-data NamePart : Bool → Bytes → Text → Type 0 where
+pub data NamePart : Bool → Bytes → Text → Type 0 where
   nameless : NamePart false [] []
   under : {n c : Bytes} {name : Text} → string n name → name-separator c → NamePart true (n ++ c) name
 
 some-colon : {n : Bytes} {name : Text} → string n name → Some (Means (λ w name. NamePart true (n ++ w) name))
 some-colon {name = name} d = some (0x3A ∷ []) (name, 0) (under d (structural.around ws.none ws.none))
 
-nameFor-sound : (isObject : Bool) (s : Bytes) (so-far : Members) (at : ℕ) → Sound s end at (Means (NamePart isObject)) (nameFor isObject s so-far at)
+pub nameFor-sound : (isObject : Bool) (s : Bytes) (so-far : Members) (at : ℕ) → Sound s end at (Means (NamePart isObject)) (nameFor isObject s so-far at)
 unfolding nameFor
 nameFor-sound false s so-far at = gives ([], at) refl nameless
 nameFor-sound true s so-far at =
@@ -206,7 +206,7 @@ module _ (s : Bytes) (reader : ℕ → ℕ → Outcome (Value.Value × ℕ)) (in
       weaken (λ w' z r. more-rest p d h h' r) (items-sound fuel (so-far ⧺ single (named (x .0) (y .0))) (blanks s (blanks s (y .1) + 1))))
 
 -- what the reader takes as items is what the grammar has between the brackets, and the closing bracket
-abbrev Between : Bool → Bytes → Members → Type 0
+abbrev pub Between : Bool → Bytes → Members → Type 0
 Between false w f = elements w f
 Between true w f = members w f
 
@@ -217,10 +217,10 @@ record Listed (isObject : Bool) (w : Bytes) (f : Members) : Type 0 where
   closed : structural (closingBracket isObject) ending
   is : w ≡ text ++ ending
 
-pair : {n c w : Bytes} {name : Text} {v : Value.Value} → string n name → name-separator c → value w v → member ((n ++ c) ++ w) name v
+pub pair : {n c w : Bytes} {name : Text} {v : Value.Value} → string n name → name-separator c → value w v → member ((n ++ c) ++ w) name v
 pair {n} {c} {w} {name} {v} q h d = subst (λ x. member x name v) (sym (append-assoc n c w)) (member.pair q h d)
 
-last-between : {isObject : Bool} {n w : Bytes} {name : Text} {v : Value.Value} → NamePart isObject n name → value w v →
+pub last-between : {isObject : Bool} {n w : Bytes} {name : Text} {v : Value.Value} → NamePart isObject n name → value w v →
     Between isObject (n ++ w) (node name v Forest.none)
 last-between nameless d = elements.last-element d
 last-between (under q h) d = members.last-member (pair q h d)
@@ -286,7 +286,7 @@ module _ (s : Bytes) (reader : ℕ → ℕ → Outcome (Value.Value × ℕ)) (in
       room-then nodes at (past _ (openingBracket isObject) (at + 1) (opening-positive isObject) e refl
       (finish (λ x. (record { label = containerLabel isObject; kids = x .0 }, x .1)) (λ x. refl) (λ w x d. d) (contents-sound (nodes + 1) (at + 1))))
 
-value-sound : (left : ℕ) (s : Bytes) (at nodes : ℕ) → Sound s end at (Means value) (Read.value left s at nodes)
+pub value-sound : (left : ℕ) (s : Bytes) (at nodes : ℕ) → Sound s end at (Means value) (Read.value left s at nodes)
 unfolding Read.value
 value-sound zero s at nodes =
     choose (eqb (byte s at) (code "[")) (λ e. exceeds too-deep (omega arith)) λ _.

@@ -41,13 +41,12 @@ pub refusals : Refusals
 refusals s v number p d e = refusal-reason (read-complete d) e
 
 -- what is refused at p on s is refused at p on every text that begins with more of s than that
-no-longer : (s : Bytes) (p : ℕ) → read s ≡ refused not-json p → (n : ℕ) → p < n → n ≤ length s → ¬ Begins (take n s)
-no-longer s p e n l h b =
-    let alike : Agree s (take n s ++ b .rest) (length (take n s)) =
-    subst (λ x. Agree x (take n s ++ b .rest) (length (take n s))) (take-append-drop n s) (agree (take n s) (drop n s) (b .rest)) in
-    let refused-too =
-    same-stop (subst (λ o. Local (length (take n s)) (λ v. length s) 0 o (read (take n s ++ b .rest))) e (read-local alike)) (omega (arith, length-take-le n s h)) in
-    not-refused (read-complete (b .derived)) refused-too
+pub refused-alike : (s : Bytes) (number p : ℕ) → read s ≡ refused number p → (n : ℕ) → p < n → n ≤ length s → (rest : Bytes) →
+    read (take n s ++ rest) ≡ refused number p
+refused-alike s number p e n l h rest =
+    let alike : Agree s (take n s ++ rest) (length (take n s)) =
+    subst (λ x. Agree x (take n s ++ rest) (length (take n s))) (take-append-drop n s) (agree (take n s) (drop n s) rest) in
+    same-stop (subst (λ o. Local (length (take n s)) (λ v. length s) 0 o (read (take n s ++ rest))) e (read-local alike)) (omega (arith, length-take-le n s h))
 
 pub place-of-3 : PlaceOf3
 place-of-3 s p e =
@@ -55,7 +54,7 @@ place-of-3 s p e =
     record {
       inside = inside (r .from) (omega arith);
       begins = subst Begins (sym (prefix (r .from))) (record { rest = r .some .text; meaning = r .some .meaning; derived = r .some .derived });
-      longest = λ n l h. no-longer s p e n (omega arith) h;
+      longest = λ n l h b. not-refused (read-complete (b .derived)) (refused-alike s not-json p e n (omega arith) h (b .rest));
     }
 
 pub cut-short : CutShort

@@ -63,11 +63,11 @@ anything (refused number p) = refuses
 
 -- Numbers: no byte is counted past the limit.
 module _ (s : Bytes) (start : ℕ) where
-  Short : ℕ → Type 0
+  abbrev pub Short : ℕ → Type 0
   Short p = p ≤ start + maxNumber
 
   counted-short : (at : ℕ) → Yields Short (counted start at)
-  unfolding counted Short
+  unfolding counted
   counted-short at =
       choose (ltb at (start + maxNumber)) (λ e. let l = ltb-true at (start + maxNumber) e in yields {x = at + 1} (omega arith)) (λ e. refuses)
 
@@ -80,11 +80,11 @@ module _ (s : Bytes) (start : ℕ) where
   unfolding someDigits
   someDigits-short at l = andThen _ (anything (byteIn s at (code "0") (code "9"))) λ _ _ _. digits-short (length s) at l
 
-  int-short : (at : ℕ) → Short at → Yields Short (Numbers.int s start at)
+  pub int-short : (at : ℕ) → Short at → Yields Short (Numbers.int s start at)
   unfolding Numbers.int
   int-short at l = choose (eqb (byte s at) (code "0")) (λ e. counted-short at) (λ e. someDigits-short at l)
 
-  frac-short : (at : ℕ) → Short at → Yields Short (Numbers.frac s start at)
+  pub frac-short : (at : ℕ) → Short at → Yields Short (Numbers.frac s start at)
   unfolding Numbers.frac
   frac-short at l = choose (eqb (byte s at) (code ".")) (λ e. andThen _ (counted-short at) λ x _ m. someDigits-short x m) (λ e. yields l)
 
@@ -180,7 +180,6 @@ exp-fits s start at =
 -- a number after its sign
 parts-fit : (s : Bytes) (start at : ℕ) {m : Bytes} → optional minus m → From s start m at → at ≤ start + maxNumber →
     Yields (λ next. NumberFits (take (next - start) (drop start s))) (Numbers.int s start at >>= λ fraction. Numbers.frac s start fraction >>= λ exponent. Numbers.exp s start exponent)
-unfolding Short
 parts-fit s start at {m} pm fm l =
     andThen _ (both (int-short s start at l) (sound-yields (int-sound s start at))) λ p _ i.
     andThen _ (both (frac-short s start p (i .0)) (sound-yields (frac-sound s start p))) λ q _ f.
@@ -191,7 +190,7 @@ parts-fit s start at {m} pm fm l =
     let far = from .far in
     subst NumberFits (sym (bytes from)) (record { short = omega arith; exponent-fits = rw same (x .1 .fits) })
 
-number-fits : (s : Bytes) (start : ℕ) → Yields (λ next. NumberFits (take (next - start) (drop start s))) (Numbers.number s start)
+pub number-fits : (s : Bytes) (start : ℕ) → Yields (λ next. NumberFits (take (next - start) (drop start s))) (Numbers.number s start)
 unfolding Numbers.number Numbers.minus
 number-fits s start = go (eqb (byte s start) 0x2D) refl
   where
@@ -217,16 +216,16 @@ room-then {P = P} {o = o} before at f = go (ltb before maxNodes) refl
     go true e = f (ltb-true before maxNodes e)
     go false e = refuses
 
-Bounded : ℕ → ℕ → Value.Value × ℕ → Type 0
+abbrev pub Bounded : ℕ → ℕ → Value.Value × ℕ → Type 0
 Bounded left before x = Asked left before (x .0)
 
 literal-within : (left before : ℕ) (label : Label) (word s : Bytes) (at : ℕ) → Value.isContainer label ≡ false → Fits label Forest.none →
     before < maxNodes → Yields (Bounded left before) (literalValue label word s at)
-unfolding literalValue Bounded
+unfolding literalValue
 literal-within left before label word s at e h l = andThen _ (anything (spelled word s (at + 1))) λ x _ _. yields (easy label e h l)
 
 scalar-within : (left before : ℕ) (s : Bytes) (at : ℕ) → Yields (Bounded left before) (scalar s at before)
-unfolding scalar stringValue numberValue Bounded Value.isContainer Value.tag
+unfolding scalar stringValue numberValue Value.isContainer Value.tag
 scalar-within left before s at =
     choose (eqb (byte s at) (code "\""))
     (λ _. room-then before at λ l. andThen _ (anything (Strings.string s at)) λ x _ _. yields (easy (Label.string (x .0)) refl tt l)) λ _.
@@ -264,7 +263,7 @@ kept-more {f = f} name v k new a =
       below = everywhere-⧺ (k .below) (Everywhere.one-more (a .fits) (a .below) Everywhere.none-left);
     }
 
-New : Bool → Members → Text × ℕ → Type 0
+abbrev pub New : Bool → Members → Text × ℕ → Type 0
 New isObject so-far x = isObject ≡ true → has (x .0) so-far ≡ false
 
 fresh-then : (so-far : Members) (name : Text) (p : ℕ) {o : Outcome (Text × ℕ)} → (has name so-far ≡ false → Yields (New true so-far) o) →
@@ -276,8 +275,8 @@ fresh-then so-far name p {o} f = go (has name so-far) refl
     go true h = refuses
     go false h = f h
 
-nameFor-new : (isObject : Bool) (s : Bytes) (so-far : Members) (at : ℕ) → Yields (New isObject so-far) (nameFor isObject s so-far at)
-unfolding nameFor New
+pub nameFor-new : (isObject : Bool) (s : Bytes) (so-far : Members) (at : ℕ) → Yields (New isObject so-far) (nameFor isObject s so-far at)
+unfolding nameFor
 nameFor-new false s so-far at = yields (λ h. absurd (true≢false (sym h)))
 nameFor-new true s so-far at =
     andThen _ (anything (Strings.string s at)) λ x _ _.
@@ -291,7 +290,7 @@ module _ (s : Bytes) (left : ℕ) (reader : ℕ → ℕ → Outcome (Value.Value
 
   items-within : (fuel : ℕ) (so-far : Members) (at : ℕ) → Kept isObject left before so-far →
       Yields KeptAll (items fuel reader isObject s before so-far at)
-  unfolding items KeptAll Bounded New
+  unfolding items KeptAll
   items-within zero so-far at k = refuses
   items-within (suc fuel) so-far at k =
       andThen _ (nameFor-new isObject s so-far at) λ x _ new.
@@ -319,13 +318,13 @@ asked-container true f k =
 container-within : (s : Bytes) (left : ℕ) (reader : ℕ → ℕ → Outcome (Value.Value × ℕ)) →
     ((at before : ℕ) → Yields (Bounded left before) (reader at before)) → (isObject : Bool) (at before : ℕ) →
     Yields (Bounded (suc left) before) (container reader isObject s at before)
-unfolding container Bounded KeptAll
+unfolding container KeptAll
 container-within s left reader inner isObject at before =
     room-then before at λ l.
     andThen _ (contents-within s left reader inner isObject (before + 1) (at + 1) (omega arith)) λ x _ k.
     yields (asked-container isObject (x .0) k)
 
-value-within : (left : ℕ) (s : Bytes) (at before : ℕ) → Yields (Bounded left before) (Read.value left s at before)
+pub value-within : (left : ℕ) (s : Bytes) (at before : ℕ) → Yields (Bounded left before) (Read.value left s at before)
 unfolding Read.value
 value-within zero s at before =
     choose (eqb (byte s at) (code "[")) (λ _. refuses) λ _.
@@ -337,7 +336,7 @@ value-within (suc left) s at before =
     scalar-within (suc left) before s at
 
 pub read-within : (s : Bytes) → Yields WithinLimits (read s)
-unfolding read Bounded
+unfolding read
 read-within s =
     andThen _ (value-within maxDepth s (blanks s 0) 0) λ x _ a.
     choose (eqb (blanks s (x .1)) (length s))

@@ -1,3 +1,4 @@
 pub mod Grammar
 pub mod Limits
 pub mod Theorems
+pub mod RefusedAt
