@@ -1,0 +1,110 @@
+// The patch tool: two file names, a document and a patch. It prints the patched document, or the refusal on one line, or `unreadable`.
+use json_patch::Answer;
+use json_patch::apply;
+use libc::STDOUT_FILENO;
+ghost use lib.ListN.{length};
+ghost use Rattle.patch_tool.specs.Contents.{Within};
+
+// One byte more than a text may have, so that a longer one is seen to be too long.
+const INPUT: usize = 32_769;
+
+const OUTPUT: usize = 65_536;
+
+const WORK_WORDS: usize = 6_144;
+
+// A number after a word.
+fn print_field(word: &[u8], n: usize) {
+    io::write_all(STDOUT_FILENO, word);
+    io::print_decimal(STDOUT_FILENO, n as u64);
+}
+
+fn print_refusal(answer: Answer) {
+    print_field(b"refused ", answer.number as usize);
+    print_field(b" text ", answer.text as usize);
+    print_field(b" op ", answer.op);
+    print_field(b" place ", answer.place);
+    io::write_all(STDOUT_FILENO, b"\n");
+}
+
+// The first `length` bytes, and a newline.
+fn print_text(output: &[u8], length: usize) {
+    if output.len() < length {
+        return;
+    }
+    io::write_all(STDOUT_FILENO, &output[..length]);
+    io::write_all(STDOUT_FILENO, b"\n");
+}
+
+fn print_answer(answer: Answer, output: &[u8]) {
+    if answer.number != 0 {
+        print_refusal(answer);
+        return;
+    }
+    print_text(output, answer.length);
+}
+
+fn run<'a>(document: &'a [u8], patch: &'a [u8]) {
+    let mut output = [0u8; OUTPUT];
+    let mut values = [0u64; WORK_WORDS];
+    let mut names = [0u64; WORK_WORDS];
+    let answer = apply(document, patch, &mut output, &mut values, &mut names);
+    print_answer(answer, &output);
+}
+
+pub enum Contents {
+    Bytes(usize),
+    Unreadable,
+}
+
+// The file's first bytes, as many as there is room for.
+fn read_all(fd: i32, buf: &mut [u8]) -> Contents
+    ensures { λ r. ⌜ Within (length (now (buf .exit))) r ⌝ }
+{
+    let n = io::read_full(fd, buf);
+    if n == buf.len() {
+        return Contents::Bytes(n);
+    }
+    // where the file has ended another read answers 0, and where it cannot be read it fails
+    let mut more = [0u8; 1];
+    if libc::read(fd, &mut more) < 0 {
+        return Contents::Unreadable;
+    }
+    Contents::Bytes(n)
+}
+
+// The contents of the file that argument i names.
+fn read_file(i: usize, buf: &mut [u8]) -> Contents
+    ensures { λ r. ⌜ Within (length (now (buf .exit))) r ⌝ }
+{
+    let mut path = io::buffer();
+    let n = os::arg(i, &mut path);
+    let fd = os::open_read(&path[..n]);
+    if fd < 0 {
+        return Contents::Unreadable;
+    }
+    let r = read_all(fd, buf);
+    libc::close(fd);
+    r
+}
+
+fn unreadable() {
+    io::write_all(STDOUT_FILENO, b"unreadable\n");
+}
+
+fn main() {
+    if os::arg_count() != 3 {
+        unreadable();
+        return;
+    }
+    let mut document = [0u8; INPUT];
+    let mut patch = [0u8; INPUT];
+    let Contents::Bytes(d) = read_file(1, &mut document) else {
+        unreadable();
+        return;
+    };
+    let Contents::Bytes(p) = read_file(2, &mut patch) else {
+        unreadable();
+        return;
+    };
+    run(&document[..d], &patch[..p]);
+}
