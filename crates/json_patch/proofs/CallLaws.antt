@@ -1,15 +1,15 @@
 -- Laws of the call: the work area lent in part, and cleared.
-use Prim.Native.Nat.{ℕ, _≤_, _<_}
+use Prim.Native.Nat.{ℕ, _≤_}
 use native.Mathlib.Omega.{arith}
 use mathlib.Core.Path.{_≡_, refl, sym, ap, _∙_}
 use mathlib.Core.Bool.{true, false}
 use mathlib.Core.List.{List, _++_}
-use lib.ListN.{length, take, drop, replicate, length-append}
+use lib.ListN.{length, take, drop, replicate}
 use lib.Seq.{length-take-le, length-front, drop-at}
 use Rattle.spec.specs.Refusal.{work-too-short}
 use Rattle.spec.specs.Limits.{workWords}
 use Rattle.spec.specs.Bytes.{Bytes}
-use Rattle.spec.specs.Answer.{Lent, workSuffices}
+use Rattle.spec.specs.Answer.{workSuffices}
 use Rattle.tape.specs.Columns.{cleared}
 use Rattle.tape.proofs.Columns.{filled-first}
 use Rattle.json_patch.specs.Call.{RefusalIs, wiped, lentOf, ApplyIs}

@@ -1,34 +1,49 @@
 -- Laws of the two texts in the table: what a text that is read gives, and that the document stays while the patch is read.
-use Prim.Native.Nat.{ℕ, suc, _+_, _≤_, _<_}
+use Prim.Native.Nat.{ℕ, suc, _+_, _≤_}
 use native.Mathlib.Omega.{arith}
-use mathlib.Core.Path.{_≡_, refl, sym, ap, _∙_}
+use mathlib.Core.Path.{_≡_, refl, sym, ap, ap₂, _∙_}
 use mathlib.Core.List.{List, _++_, _∷_}
 use lib.ListN.{length, take, drop, take-append-drop}
 use lib.Seq.{take-take}
 use borrow.Author.Tests.{le-ltb}
+use Rattle.spec.specs.Outcome.{Outcome, ok, refused}
 use Rattle.spec.specs.Limits.{maxBytes, maxDepth, maxNodes, workWords}
 use Rattle.spec.specs.Bytes.{Bytes}
 use Rattle.spec.specs.Forest.{Forest, none, tree, size}
 use Rattle.spec.specs.Value as Value
 use Rattle.spec.specs.Value.{depth}
 use Rattle.spec.specs.Read.{read}
+use Rattle.lexer.specs.declared.cursor.Cursor.{Cursor}
 use Rattle.tape.specs.Layout.{inDocument, inPatch, documentRow, patchRow, scratchRow, rows}
 use Rattle.tape.specs.Tape.{tape, Holds}
-use Rattle.tape.specs.Cell.{Cell, Formed, formed-none, formed-tree, Held}
+use Rattle.tape.specs.Cell.{Cell, formed-none, formed-tree}
 use Rattle.tape.proofs.Tape.{tape-single, holds-words}
 use Rattle.tape.proofs.Cells.{formed-fit, formed-kids}
 use Rattle.table.specs.Meaning.{sourceText}
 use Rattle.table.specs.Sound.{NodeHeld}
 use Rattle.table.proofs.AllLaws.{all-first, all-kids}
 use Rattle.reader.specs.Filled.{Changed}
-use Rattle.reader.specs.Texts.{reading, Rooted}
+use Rattle.reader.specs.Texts.{reading, Rooted, TextIs, text-read, text-refused}
+use Rattle.reader.specs.declared.values.Read.{Read}
+use Rattle.reader.specs.declared.values.Read.the-variants as Read
 use Rattle.operations.specs.Document.{Document}
 use Rattle.json_patch.specs.Stages.{PatchHeld}
 
--- ---- what is read of a text that is not too long, into columns that are long enough, is what the definition reads
-pub reading-whole : (vs ns : List ℕ) (s : Bytes) → workWords ≤ length vs → workWords ≤ length ns → length s ≤ maxBytes → reading vs ns s ≡ read s
+-- ---- where the text is not too long and the columns are long enough, nothing is refused before the definition's reading
+pub read-into : (vs ns : List ℕ) (s : Bytes) → workWords ≤ length vs → workWords ≤ length ns → length s ≤ maxBytes → read s ≡ reading vs ns s
 unfolding reading
-reading-whole vs ns s h i j = rw (le-ltb (length vs) workWords h, le-ltb (length ns) workWords i, le-ltb maxBytes (length s) j)
+read-into vs ns s h i j = rw (le-ltb (length vs) workWords h, le-ltb (length ns) workWords i, le-ltb maxBytes (length s) j)
+
+-- ---- what is answered of a text: its value, with its tree in the table, or its refusal
+module _ {source : ℕ} {s : Bytes} {base : ℕ} {vs ns vs' ns' : List ℕ} {o : Outcome Value.Value} where
+  pub text-value : {C : Type 0} {told : Read} {next : Cursor} {end : ℕ} → TextIs source s base vs ns vs' ns' o told → told ≡ Read.Value next end
+      → ((v : Value.Value) → o ≡ ok v → end ≤ base + maxNodes → Rooted source s base end v vs' ns' → Changed base end vs ns vs' ns' → C) → C
+  text-value {end = end} (text-read v n e is last short rooted changed) t then-it = let same : e ≡ end = cc in then-it v is (rw same at short) (rw same at rooted) (rw same at changed)
+  text-value (text-refused number place is changed) t then-it = absurd (let z : _≡_ {A = ℕ} 0 1 = cc in omega arith)
+
+  pub text-refusal : {told : Read} {number place : ℕ} → TextIs source s base vs ns vs' ns' o told → told ≡ Read.Refused number place → o ≡ refused number place
+  text-refusal (text-read v n e is last short rooted changed) t = absurd (let z : _≡_ {A = ℕ} 0 1 = cc in omega arith)
+  text-refusal (text-refused number place is changed) t = is ∙ ap₂ refused (cc) (cc)
 
 -- ---- the tree of a text that is read, as a node
 module _ {source : ℕ} {s : Bytes} {base end : ℕ} {v : Value.Value} {vs ns : List ℕ} (tree-read : Rooted source s base end v vs ns) where

@@ -1,7 +1,6 @@
 -- What each stage of the call promises. Each takes the columns as the stage before left them, and answers as the definition of its stage does.
 use Prim.Native.Nat.{ℕ, _+_, _≤_, _<_}
 use mathlib.Core.Path.{_≡_}
-use mathlib.Core.Bool.{true}
 use mathlib.Core.List.{List}
 use lib.ListN.{length}
 use Rattle.spec.specs.Limits.{maxBytes, workWords}

@@ -7,7 +7,7 @@ use tape::moves::clear;
 ghost use Rattle.json_patch.specs.Call.{ApplyIs};
 
 // The patch is applied to the document and the result written to `output`, or the call is refused. `values` and `names` are the work area, of at
-// least WORK_WORDS words each; they may hold anything, and are all zero afterwards.
+// least ROWS words each; they may hold anything, and are all zero for ROWS words afterwards.
 pub fn apply<'a>(
     document: &'a [u8],
     patch: &'a [u8],

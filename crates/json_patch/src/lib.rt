@@ -2,7 +2,7 @@
 //
 // What is proved: on every input the answer is that of the definition `answer` of crate `spec`; the output afterwards begins with the written
 // text and is else as it was; and the two buffers of the work area are all zero for their stated length, and else as they were, or untouched where
-// one of them was too short.
+// one of them was too short. Of two makers' patches in regions of their own, specs/Region says what the call answers on a shuffle of them.
 
 pub mod answer; // what the call answers
 pub mod call; // the call

@@ -1,6 +1,6 @@
 -- `run_operations` meets its contract, by that of the run.
 use borrow.Author.Needs.{needs}
-use Rattle.json_patch.proofs.StageLaws.{operations-done, operations-stopped}
+use Rattle.json_patch.proofs.StageLaws.{run-told, ran-done, ran-refused}
 use Rattle.json_patch.proofs.stages.run_operations.Statement.{statement}
 use Rattle.json_patch.proofs.stages.run_operations.Tie as tie
 
@@ -21,7 +21,7 @@ run-operations-spec =
     -- same-length-3
     (λ c. search needs)
     -- returns
-    (λ c v p d held short os right. operations-done d held short os right (c .before .before .before .before .before .before .before .before .before .before .before .before .run .ensures) (c .before .before .before .before .before .before .enum-told .given .1) (c .before .before .write-out .ensures))
+    (λ c v p d held short os right. ran-done (run-told (c .before .before .before .before .before .before .before .before .before .before .before .before .run .ensures) v p d held short os right) (c .before .before .before .before .before .before .enum-told .given .1) (c .before .before .write-out .ensures))
     -- enum-known-number
     (λ c. search needs)
     -- refusal-requires
@@ -31,4 +31,4 @@ run-operations-spec =
     -- same-length-5
     (λ c. search needs)
     -- returns-2
-    (λ c v p d held short os right. operations-stopped d held short os right (c .before .before .before .before .before .before .before .before .run .ensures) (c .before .before .number .given .1) (c .refusal .ensures)))
+    (λ c v p d held short os right. ran-refused (run-told (c .before .before .before .before .before .before .before .before .run .ensures) v p d held short os right) (c .before .before .number .given .1) (c .refusal .ensures)))
