@@ -1,76 +1,52 @@
 -- Laws of a change at the parent of a location: down to the child that a token names, and up again with the change made there.
-use Prim.Native.Nat.{ℕ, suc, _+_, _-_, _%_, _≤_, _<_}
+use Prim.Native.Nat.{ℕ, suc, _+_, _-_, _≤_, _<_}
 use native.Mathlib.Omega.{arith}
 use native.Mathlib.Decide.{decLt}
-use mathlib.Core.Path.{_≡_, refl, ap, sym, _∙_, subst}
-use mathlib.Core.Bool.{Bool, true, false}
+use mathlib.Core.Path.{_≡_, ap, sym, _∙_, subst}
 use mathlib.Core.List.{List, [], _∷_, _++_}
-use Prim.Native.Char.{code}
-use lib.Dec.{eqb}
-use lib.ListN.{length, getD, set}
-use Rattle.spec.specs.Outcome.{Outcome, ok, refused, _>>=_, if_then_else_}
+use lib.ListN.{getD}
+use Rattle.spec.specs.Outcome.{Outcome, ok, refused, _>>=_}
 use Rattle.spec.specs.Refusal.{location-missing}
 use Rattle.spec.specs.Limits.{maxNodes}
 use Rattle.spec.specs.Bytes.{Bytes, Text}
-use Rattle.spec.specs.Forest.{Forest, tree, Tree, single, count, size, before, from, nth, replaceAt}
+use Rattle.spec.specs.Forest.{Forest, Tree, count, size, before, from, nth, replaceAt}
 use Rattle.spec.specs.Value as Value
 use Rattle.spec.specs.Value.{valueOf, depth, nodes}
-use Rattle.spec.specs.Pointer.{Tokens, childAt, child, prepend, segments, unescapeAll}
-use Rattle.spec.specs.Operation.{put, atParent, insertChild, removeChild, replaceChild}
+use Rattle.spec.specs.Pointer.{Tokens, childAt, child}
+use Rattle.spec.specs.Operation.{put, atParent, removeChild, replaceChild}
 use Rattle.spec.proofs.ChildLaws.{depth-child}
-use Rattle.text.specs.Decode.{textOf, decodeFrom}
-use Rattle.tape.specs.Layout.{arrayKind, objectKind, spans, rows, patchRow}
+use Rattle.tape.specs.Layout.{arrayKind, objectKind, spans}
 use Rattle.tape.specs.Packing.{spanOf}
-use Rattle.tape.specs.Tape.{tape, Laid}
-use Rattle.tape.specs.Cell.{Cell, word, nameWord, Fit, Formed, formed-none, formed-tree, level, deep}
+use Rattle.tape.specs.Tape.{tape}
+use Rattle.tape.specs.Cell.{Cell, word, nameWord, Fit, formed-tree, deep}
 use Rattle.tape.specs.Rows.{childRow}
 use Rattle.tape.proofs.Forests.{size-replaceAt}
-use Rattle.tape.proofs.Cells.{span-word, formed-fit, formed-kids, formed-rest, formed-child, formed-replaceAt, container-fit, fit-container}
+use Rattle.tape.proofs.Cells.{span-word, formed-kids, formed-rest, formed-child, formed-replaceAt, container-fit, fit-container}
 use Rattle.tape.proofs.Depth.{level-container}
 use Rattle.tape.proofs.Changes.{laid-length, laid-child, laid-put, child-front, laid-word, laid-span-child, laid-name-child}
 use Rattle.table.specs.Meaning.{partOf, nameText, meant}
 use Rattle.table.proofs.MeaningLaws.{depth-meant, nodes-meant}
 use Rattle.table.proofs.AllLaws.{all-first, all-kids, all-single, all-replaceAt}
-use Rattle.pointer.specs.Tokens.{tokensFrom, tokenBytes, TokenAt}
 use Rattle.pointer.specs.declared.answers.Token.{Token}
 use Rattle.pointer.specs.declared.answers.Token.the-variants as Token
-use Rattle.pointer.proofs.WalkLaws.{Unfolds, unescaped, last-token, next-token, next-order}
-use Rattle.walk.specs.Names.{IsToken, NamesToken, Short, TokenNameIs}
-use Rattle.walk.specs.Path.{TokensFrom}
+use Rattle.pointer.proofs.WalkLaws.{next-order}
 use Rattle.walk.specs.Step.{StepIs}
 use Rattle.walk.specs.declared.steps.Child.{Child}
 use Rattle.walk.specs.declared.steps.Child.the-variants as Child
 use Rattle.walk.proofs.Children.{blank, child-meant, sound-child}
 use Rattle.walk.proofs.StepLaws.{child-scalar}
 use Rattle.operations.specs.Limited.{limitedTo}
-use Rattle.operations.specs.Cut.{renamed}
 use Rattle.operations.specs.Site.{Surroundings, Standing, Site, SameBehind}
 use Rattle.operations.specs.Change.{Answers, done, refusal, Few, resized, Makes, adds, removes, replaces, ChangeChildIs, AlterIs}
 use Rattle.operations.specs.declared.answers.Change.{Change}
 use Rattle.operations.specs.declared.answers.Altered.{Altered}
 use Rattle.operations.specs.declared.answers.Altered.the-variants.{Done, Refused}
 use Rattle.operations.proofs.LimitLaws.{limited-put}
-use Rattle.operations.proofs.SiteLaws.{site-held, site-fit, site-inside, behind-set, behind-long}
+use Rattle.operations.proofs.KeptLaws.{formed-alone, behind-set, behind-long}
+use Rattle.operations.proofs.SiteLaws.{site-fit, site-inside}
 use Rattle.operations.proofs.MeantLaws.{put-meant, name-fits}
 use Rattle.operations.proofs.ChangeLaws.{same-answers, answers-refused, insert-scalar, no-child, the-child}
-
--- ---- there is a token at every place
--- behind a slash there is a segment
-segments-some : (t : Text) → (a : Text) × (as' : List Text) × (segments t ≡ a ∷ as')
-unfolding segments prepend
-segments-some [] = ([], [], refl)
-segments-some (c ∷ t) = go (eqb c (code "/")) (segments-some t)
-  where
-    go : (b : Bool) → (a : Text) × (as' : List Text) × (segments t ≡ a ∷ as') → (a : Text) × (as' : List Text) × ((if b then [] ∷ segments t else prepend c (segments t)) ≡ a ∷ as')
-    go true (a, l, e) = ([], segments t, refl)
-    go false (a, l, e) = (c ∷ a, l, ap (prepend c) e)
-
-pub some-token : {C : Type 0} (s : Bytes) (at : ℕ) (ts : Tokens) → tokensFrom s at ≡ ok ts → ((t : Text) (us : Tokens) → ts ≡ t ∷ us → C) → C
-unfolding tokensFrom
-some-token s at ts h then-it =
-    let (a, l, e) = segments-some (decodeFrom s at) in
-    let u = unescaped a l ts (ap unescapeAll (sym e) ∙ h) in
-    then-it _ (u .rest) (u .is)
+use Rattle.operations.proofs.TokenLaws.{TokenRead, one-left, more-left}
 
 -- ---- a scalar has no children
 module _ (D P : Bytes) (c : Cell) (kids : Forest Cell) (fit : Fit c kids) (scalar : c .kind < arrayKind) where
@@ -109,31 +85,6 @@ alter-scalar {D} {P} none z f t ts makes short inside from = answers-refused (sc
           depth-meant D P (z .c) (z .kids) (site-fit z .kind) (formed-kids (z .standing .formed)),
           level-container (z .c) (deep (z .kids)) (omega arith),
         ))
-
--- ---- a token that was read, with its name
-pub record TokenRead (D P : Bytes) (path at : ℕ) (t : Token) (name : ℕ) : Type 0 where
-  pub is : TokenAt (partOf D P path) at t
-  pub named : TokenNameIs D P path at t name
-
-pub token-read : {D P : Bytes} {path at : ℕ} {t : Token} {name : ℕ} (pointer : Bytes) → pointer ≡ partOf D P path → TokenAt pointer at t → TokenNameIs D P path at t name → TokenRead D P path at t name
-token-read {at = at} {t} pointer e is named = record { is = subst (λ s. TokenAt s at t) e is; named = named }
-
-module _ {D P : Bytes} {path at name : ℕ} {t : Token} (read : TokenRead D P path at t name) (short : Short D P) (inside : at ≤ length (partOf D P path)) {u : Text} {us : Tokens} (from : TokensFrom D P path at (u ∷ us)) where
-  -- the last token
-  one-left : (end : ℕ) → t ≡ Token.Last end → (us ≡ []) × (u ≡ nameText D P name)
-  one-left end e =
-      let one : u ∷ us ≡ textOf 3 (tokenBytes (partOf D P path) at t) ∷ [] = last-token (partOf D P path) at t (read .is) end (u ∷ us) e (from .is) in
-      let n = read .named short inside .says in
-      ((cc), (cc))
-
-  -- others behind it
-  more-left : {C : Type 0} (end next : ℕ) → t ≡ Token.Next end next → ((v : Text) (vs : Tokens) → us ≡ v ∷ vs → u ≡ nameText D P name → TokensFrom D P path next (v ∷ vs) → C) → C
-  more-left end next e then-it =
-      let f = next-token (partOf D P path) at t (read .is) end next (u ∷ us) e (from .is) in
-      let n = read .named short inside .says in
-      let rest : us ≡ f .rest = cc (f .is) in
-      let first : u ≡ nameText D P name = cc (f .is) in
-      some-token (partOf D P path) next (f .rest) (f .from) λ v vs g. then-it v vs (rest ∙ g) first (record { is = f .from ∙ ap ok g })
 
 -- ---- the last token
 module _ {D P : Bytes} {values names : List ℕ} {used row path at name : ℕ} {t : Token} {change : Change} (read : TokenRead D P path at t name) where
@@ -253,7 +204,7 @@ module _ {D P : Bytes} {values names : List ℕ} {used row levels : ℕ} (z : Si
           titlePlace = z .standing .titlePlace;
           formed =
               formed-tree (fit-container (replaceAt k new (z .kids)) (site-fit z) container small)
-              (formed-replaceAt k (formed-kids (z .standing .formed)) new (formed-tree (formed-fit (stands .formed)) (formed-kids (stands .formed)) formed-none))
+              (formed-replaceAt k (formed-kids (z .standing .formed)) new (formed-alone (stands .formed)))
               (formed-rest (z .standing .formed));
           label = z .standing .label;
           sound = all-replaceAt k (z .standing .sound) new (all-single new (record { title = name-fits k kth (z .standing .sound); label = stands .label }) (stands .sound));
@@ -277,31 +228,31 @@ module _ {D P : Bytes} {values names : List ℕ} {used row levels : ℕ} (z : Si
 module _ {D P : Bytes} {values names values' names' : List ℕ} {used row path at name levels below end next : ℕ} {t : Token} {change : Change} (read : TokenRead D P path at t name)
     (e : t ≡ Token.Next end next) (one-less : levels ≡ suc below) (s : Child) (is : StepIs D P values names row name s) (inner : ℕ) (there : s ≡ Child.At inner) (r : Altered)
     (alters : AlterIs D P values names values' names' used inner below path next change r) where
-  pub alter-done : (now : ℕ) → r ≡ Done now → now ≤ maxNodes → {ended : List ℕ} → ended ≡ resized values' row used now → AlterIs D P values names ended names' used row levels path at change (Done now)
+  -- what is done with the child's answer
+  through : (q : Altered) → r ≡ q → {ended : List ℕ}
+      → ((z : Site D P values names used row levels) (k : ℕ) (named : childAt (nameText D P name) (meant D P (z .c) (z .kids)) ≡ ok k) (kth : k < count (z .kids)) (place : inner ≡ childRow row k (z .kids))
+      → (o : Outcome Value.Value) → Answers (child-site z (nameText D P name) k below one-less named kth inner place) values' names' o q
+      → Answers z ended names' (o >>= λ x. ok (put k x (meant D P (z .c) (z .kids)))) q)
+      → AlterIs D P values names ended names' used row levels path at change q
   unfolding child-site
-  alter-done now g few {ended} w z f u us makes short inside from =
+  through q g {ended} up z f u us makes short inside from =
       more-left read short inside from end next e λ v vs more first later.
       the-child s is z (read .named short inside .token) there λ k named kth place.
       let y = child-site z (nameText D P name) k below one-less named kth inner place in
       let o = atParent f v vs (meant D P (nth blank k (z .kids) .root) (nth blank k (z .kids) .kids)) in
-      let answer : Answers y values' names' o (Done now) =
+      let answer : Answers y values' names' o q =
       subst (λ q. Answers y values' names' o q) g (alters y f v vs makes short (next-order (partOf D P path) at t (read .is) end next e .2) later) in
       let same : atParent f u us (meant D P (z .c) (z .kids)) ≡ o >>= λ x. ok (put k x (meant D P (z .c) (z .kids))) =
       rw (more, first) (child-outcome z (nameText D P name) k below one-less named kth inner place f v vs) in
-      same-answers same (rw w (up-done z (nameText D P name) k below one-less named kth inner place few answer))
+      same-answers same (up z k named kth place o answer)
+
+  pub alter-done : (now : ℕ) → r ≡ Done now → now ≤ maxNodes → {ended : List ℕ} → ended ≡ resized values' row used now → AlterIs D P values names ended names' used row levels path at change (Done now)
+  alter-done now g few w =
+      through (Done now) g λ z k named kth place o answer. rw w (up-done z (nameText D P name) k below one-less named kth inner place few answer)
 
   pub alter-not : (number : ℕ) → r ≡ Refused number → AlterIs D P values names values' names' used row levels path at change r
-  unfolding child-site
-  alter-not number g z f u us makes short inside from =
-      more-left read short inside from end next e λ v vs more first later.
-      the-child s is z (read .named short inside .token) there λ k named kth place.
-      let y = child-site z (nameText D P name) k below one-less named kth inner place in
-      let o = atParent f v vs (meant D P (nth blank k (z .kids) .root) (nth blank k (z .kids) .kids)) in
-      let answer : Answers y values' names' o (Refused number) =
-      subst (λ q. Answers y values' names' o q) g (alters y f v vs makes short (next-order (partOf D P path) at t (read .is) end next e .2) later) in
-      let same : atParent f u us (meant D P (z .c) (z .kids)) ≡ o >>= λ x. ok (put k x (meant D P (z .c) (z .kids))) =
-      rw (more, first) (child-outcome z (nameText D P name) k below one-less named kth inner place f v vs) in
-      same-answers same (rw g (up-refused z (nameText D P name) k below one-less named kth inner place answer))
+  alter-not number g =
+      rw g (through (Refused number) g λ z k named kth place o answer. up-refused z (nameText D P name) k below one-less named kth inner place answer)
 
 pub few-done : {r : Altered} {now : ℕ} → r ≡ Done now → Few r → now ≤ maxNodes
 few-done e f = subst Few e f

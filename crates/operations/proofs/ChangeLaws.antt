@@ -2,37 +2,33 @@
 use Prim.Native.Nat.{ℕ, suc, _+_, _≤_, _<_}
 use native.Mathlib.Omega.{arith}
 use mathlib.Core.Path.{_≡_, refl, ap, sym, _∙_, subst}
-use mathlib.Core.Bool.{Bool, true, false}
-use mathlib.Core.List.{List, []}
-use lib.Dec.{ltb}
+use mathlib.Core.List.{List}
 use lib.ListN.{length, getD}
 use borrow.Author.Tests.{lt-ltb, le-ltb, eq-eqb, ne-eqb}
 use Rattle.spec.specs.Outcome.{Outcome, ok, refused, _>>=_, if_then_else_}
 use Rattle.spec.specs.Refusal.{location-missing, no-index}
 use Rattle.spec.specs.Bytes.{Bytes, Text}
-use Rattle.spec.specs.Forest.{Forest, count, size, before, from, nth, insertAt, removeAt, replaceAt}
+use Rattle.spec.specs.Forest.{Forest, count, before, from, nth, insertAt, replaceAt}
 use Rattle.spec.specs.Value as Value
 use Rattle.spec.specs.Value.{find, named}
 use Rattle.spec.specs.Pointer.{childAt, elementBelow, isDash}
 use Rattle.spec.specs.Operation.{put, withKids, insertElement, insertMember, insertChild, removeChild, replaceChild}
-use Rattle.text.specs.Decode.{textOf}
 use Rattle.tape.specs.Layout.{arrayKind, objectKind}
-use Rattle.tape.specs.Packing.{kindOf, spanOf, spellingOf}
+use Rattle.tape.specs.Packing.{kindOf, spanOf}
 use Rattle.tape.specs.Cell.{Cell, Fit, Node}
-use Rattle.tape.specs.Rows.{endOf, childRow, ForNode, ChildIs}
+use Rattle.tape.specs.Rows.{endOf, childRow, ChildIs}
 use Rattle.tape.specs.declared.nodes.Located.{Located}
 use Rattle.tape.specs.declared.nodes.Located.the-variants as Located
-use Rattle.tape.proofs.Forests.{count-le-size}
 use Rattle.tape.proofs.Cells.{container-fit}
 use Rattle.tape.proofs.Rows.{kind-here, end-here, childRow-end, childOf-at, childOf-fewer}
-use Rattle.tape.proofs.Held.{held-node, held-kids}
+use Rattle.tape.proofs.Held.{held-node}
 use Rattle.tape.proofs.Map.{count-map}
-use Rattle.table.specs.Meaning.{spelled, nameText, partOf, entryOf, members, meant}
-use Rattle.table.specs.Find.{Asked, Found, found, missing, FindIs}
+use Rattle.table.specs.Meaning.{nameText, entryOf, members, meant}
+use Rattle.table.specs.Find.{Found, found, missing, FindIs}
 use Rattle.table.specs.declared.find.Member.{Member}
 use Rattle.table.specs.declared.find.Member.the-variants as Member
 use Rattle.table.proofs.MeaningLaws.{isArray-label, isObject-label}
-use Rattle.pointer.specs.Index.{indexLimit, indexOf, elementAt, insertionAt}
+use Rattle.pointer.specs.Index.{indexOf, elementAt, insertionAt}
 use Rattle.pointer.specs.declared.answers.Index.{Index}
 use Rattle.pointer.specs.declared.answers.Index.the-variants as Index
 use Rattle.pointer.proofs.IndexLaws.{insertion}
@@ -41,15 +37,15 @@ use Rattle.walk.specs.Step.{Stepped, stepped, missed, StepIs}
 use Rattle.walk.specs.declared.steps.Child.{Child}
 use Rattle.walk.specs.declared.steps.Child.the-variants as Child
 use Rattle.walk.proofs.Children.{blank}
-use Rattle.walk.proofs.StepLaws.{few-children, index-is}
+use Rattle.walk.proofs.StepLaws.{few-children, asked}
 use Rattle.operations.specs.Cut.{renamed}
-use Rattle.operations.specs.Site.{Site, Offered}
+use Rattle.operations.specs.Site.{Site}
 use Rattle.operations.specs.Limited.{limitedTo}
-use Rattle.operations.specs.Change.{Answers, refusal, PutIs, TakeOutIs, Placed, placed, unplaced, InsertionIs, ReplaceChildIs, AddElementIs, AddMemberIs, AddIs, RemoveIs, ReplaceIs, Makes, adds, removes, replaces, ChangeChildIs}
+use Rattle.operations.specs.Change.{Answers, refusal, PutIs, TakeOutIs, Placed, placed, unplaced, InsertionIs, ReplaceChildIs, AddElementIs, AddMemberIs, AddIs, RemoveIs, ReplaceIs, adds, removes, replaces, ChangeChildIs}
 use Rattle.operations.specs.declared.answers.Change.{Change}
 use Rattle.operations.specs.declared.answers.Change.the-variants.{Add, Remove, Replace}
 use Rattle.operations.specs.declared.answers.Altered.{Altered}
-use Rattle.operations.specs.declared.answers.Altered.the-variants.{Done, Refused}
+use Rattle.operations.specs.declared.answers.Altered.the-variants.{Refused}
 use Rattle.operations.proofs.LimitLaws.{limited-refused}
 use Rattle.operations.proofs.CutLaws.{cut-before, cut-around}
 use Rattle.operations.proofs.SiteLaws.{site-held, site-fit, site-inside, child-rows, child-name}
@@ -169,14 +165,11 @@ module _ (D P : Bytes) (c x : Cell) (kids below : Forest Cell) (name : Text) whe
   unfolding insertMember
   member-new e = rw (count-map (entryOf D P) kids, e, le-ltb (count kids) (count kids) (omega arith))
 
-asked : {D P : Bytes} {values names : List ℕ} {used row levels end : ℕ} → end ≡ endOf values row → (z : Site D P values names used row levels) → Asked D P values names (row + 1) end (z .kids)
-asked ends z = record { held = held-kids (site-held z .held); ends = sym (ends ∙ end-here (held-node (site-held z .held))); sound = z .standing .sound }
-
 module _ {D P : Bytes} {values names : List ℕ} {used row below token source : ℕ} (end : ℕ) (ends : end ≡ endOf values row) (m : Member) (is : FindIs D P values names (row + 1) end token m) where
   pub member-replaced : {values' names' : List ℕ} {r : Altered} (at : ℕ) → m ≡ Member.At at → ReplaceChildIs D P values names values' names' used row below at source r
       → AddMemberIs D P values names values' names' used row below token source r
   unfolding childRow
-  member-replaced {values'} {names'} {r} at e replace-is z x kids kind offered t = go (is (z .kids) (asked ends z) (t .hashed)) e
+  member-replaced {values'} {names'} {r} at e replace-is z x kids kind offered t = go (is (z .kids) (asked end ends m is (site-held z)) (t .hashed)) e
     where
       go : {n : Member} → Found D P (row + 1) (z .kids) (nameText D P token) n → n ≡ Member.At at
           → Answers z values' names' (ok (insertMember (meant D P x kids) (nameText D P token) (meant D P (z .c) (z .kids)))) r
@@ -188,7 +181,7 @@ module _ {D P : Bytes} {values names : List ℕ} {used row below token source : 
   pub member-added : {values' names' : List ℕ} {r : Altered} → m ≡ Member.Missing → PutIs values names values' names' used row below end 0 source token r
       → AddMemberIs D P values names values' names' used row below token source r
   unfolding insertAt
-  member-added {values'} {names'} {r} e put-is z x kids kind offered t = go (is (z .kids) (asked ends z) (t .hashed)) e
+  member-added {values'} {names'} {r} e put-is z x kids kind offered t = go (is (z .kids) (asked end ends m is (site-held z)) (t .hashed)) e
     where
       go : {n : Member} → Found D P (row + 1) (z .kids) (nameText D P token) n → n ≡ Member.Missing
           → Answers z values' names' (ok (insertMember (meant D P x kids) (nameText D P token) (meant D P (z .c) (z .kids)))) r

@@ -1,15 +1,14 @@
 -- Laws of a forest cut in three, with other trees in the middle.
-use Prim.Native.Nat.{ℕ, zero, suc, _+_, _≤_, _<_, max}
-use native.Mathlib.Nat.{add-zero}
+use Prim.Native.Nat.{ℕ, suc, _+_, _≤_, _<_, max}
 use native.Mathlib.Omega.{arith}
 use mathlib.Core.Path.{_≡_, refl, ap, sym, _∙_, subst}
 use mathlib.Core.List.{List, [], _∷_, _++_}
 use lib.ListN.{length, take, drop, length-append}
 use Rattle.spec.specs.Bytes.{Bytes}
-use Rattle.spec.specs.Forest.{Forest, none, tree, Tree, single, count, size, before, from, nth, _⧺_}
+use Rattle.spec.specs.Forest.{Forest, none, tree, single, count, size, before, from, nth, _⧺_}
 use Rattle.tape.specs.Columns.{usedAfter, spliced}
 use Rattle.tape.specs.Tape.{tape, Laid}
-use Rattle.tape.specs.Cell.{Cell, Formed, formed-none, formed-tree, level, deep}
+use Rattle.tape.specs.Cell.{Cell, Formed, formed-none, formed-tree, deep}
 use Rattle.tape.specs.Rows.{childRow}
 use Rattle.tape.proofs.Columns.{Room}
 use Rattle.tape.proofs.Forests.{size-⧺, size-single, before-from, from-nth}

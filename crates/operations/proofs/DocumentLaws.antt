@@ -1,63 +1,49 @@
--- Laws of the document in the table, and of a change at a location.
+-- Laws of the document in the table, and of what an operation makes of it.
 use Prim.Native.Nat.{ℕ, suc, _+_, _≤_, _<_}
 use native.Mathlib.Omega.{arith}
-use mathlib.Core.Path.{_≡_, refl, ap, sym, _∙_}
-use mathlib.Core.Bool.{Bool, true, false}
-use mathlib.Core.List.{List, [], _∷_, append-nil}
-use lib.ListN.{length, take, drop, getD}
-use borrow.Author.Tests.{leb-true, leb-false}
-use Rattle.spec.specs.Outcome.{Outcome, ok, _>>=_}
-use Rattle.spec.specs.Refusal.{too-deep, too-many-nodes, remove-of-root}
+use mathlib.Core.Path.{_≡_, refl, ap, sym, _∙_, subst}
+use mathlib.Core.List.{List, [], append-nil}
+use lib.ListN.{length}
+use Rattle.spec.specs.Outcome.{Outcome, ok, refused}
 use Rattle.spec.specs.Limits.{maxDepth, maxNodes}
-use Rattle.spec.specs.Bytes.{Bytes, Text}
-use Rattle.spec.specs.Forest.{Forest, none, tree, size, _⧺_}
+use Rattle.spec.specs.Bytes.{Bytes}
+use Rattle.spec.specs.Forest.{Forest, none, tree, size}
 use Rattle.spec.specs.Value as Value
-use Rattle.spec.specs.Value.{depth}
-use Rattle.spec.specs.Pointer.{Tokens, tokens}
-use Rattle.spec.specs.Operation.{atParent, insertChild, removeChild, replaceChild, addAt, removeAtPath, replaceAtPath}
-use Rattle.text.specs.Decode.{decode}
+use Rattle.spec.specs.Value.{depth, nodes}
+use Rattle.spec.specs.Pointer.{Tokens, walk}
 use Rattle.tape.specs.Layout.{documentRow, rows}
-use Rattle.tape.specs.Packing.{spanOf}
-use Rattle.tape.specs.Rows.{WithinIs}
-use Rattle.tape.specs.Columns.{usedAfter, spliced}
-use Rattle.tape.specs.Tape.{tape, Holds, Laid}
-use Rattle.tape.specs.Cell.{Cell, formed-none, formed-tree, level, deep}
-use Rattle.tape.proofs.Columns.{Room}
-use Rattle.tape.proofs.Cells.{formed-fit, formed-kids}
-use Rattle.tape.proofs.Tape.{tape-single, holds-size, holds-words}
-use Rattle.tape.proofs.Changes.{tape-exchange, laid-length, laid-splice}
-use Rattle.tape.proofs.Held.{held-node, held-laid}
-use Rattle.table.specs.Meaning.{partOf, meant}
-use Rattle.table.proofs.MeaningLaws.{depth-meant, nodes-meant}
-use Rattle.pointer.specs.Tokens.{tokensFrom, FirstOf}
-use Rattle.pointer.specs.declared.answers.First.{First}
-use Rattle.pointer.specs.declared.answers.First.the-variants as First
-use Rattle.pointer.proofs.WalkLaws.{first-root, first-at, first-inside, first-malformed}
-use Rattle.walk.specs.Path.{PathIs}
-use Rattle.operations.specs.Site.{Surroundings, Standing, Site, Offered}
-use Rattle.operations.specs.Change.{Answers, done, refusal, Few, Makes, adds, removes, replaces, AlterIs}
-use Rattle.operations.specs.Document.{Document, judged, Results, results, ReplaceDocumentIs, MakesAt, adds-at, removes-at, replaces-at, ChangeDocumentIs, ChangeAtIs}
+use Rattle.tape.specs.Tape.{Holds, Laid}
+use Rattle.tape.specs.Cell.{Cell}
+use Rattle.tape.proofs.Tape.{tape-single, holds-words}
+use Rattle.tape.proofs.Changes.{laid-length}
+use Rattle.tape.proofs.Held.{held-laid}
+use Rattle.table.specs.Meaning.{meant}
+use Rattle.table.specs.Sound.{NodeHeld}
+use Rattle.table.proofs.MeaningLaws.{nodes-meant}
+use Rattle.walk.specs.Names.{Short}
+use Rattle.walk.specs.Path.{PathIs, Walked, reached, lost, WalkIs}
+use Rattle.walk.specs.declared.steps.Child.{Child}
+use Rattle.walk.specs.declared.steps.Child.the-variants as Child
+use Rattle.operations.specs.Site.{Surroundings, Standing, Site}
+use Rattle.operations.specs.Change.{Answers, done, refusal, Few}
+use Rattle.operations.specs.Document.{Document, judged, Results, results}
 use Rattle.operations.specs.Document as Document
-use Rattle.operations.specs.declared.answers.Change.{Change}
-use Rattle.operations.specs.declared.answers.Change.the-variants.{Add, Remove, Replace}
+use Rattle.operations.specs.Perform.{SamePatch, Performed, performed, failed}
 use Rattle.operations.specs.declared.answers.Altered.{Altered}
-use Rattle.operations.specs.declared.answers.Altered.the-variants.{Done, Refused}
-use Rattle.operations.proofs.LimitLaws.{limited-whole, limited-deep, limited-large, limited-fits, limited-same}
-use Rattle.operations.proofs.SiteLaws.{behind-long, behind-spliced}
-use Rattle.operations.proofs.PutLaws.{offered-size}
-use Rattle.operations.proofs.AlterLaws.{some-token}
+use Rattle.operations.proofs.LimitLaws.{limited-whole, limited-same, judged-fits}
+use Rattle.operations.proofs.KeptLaws.{formed-alone, behind-long, patch-same, patch-then, patch-behind}
 
 -- ---- a document is a node with nothing around it
 abbrev pub nothing-around : Surroundings
 nothing-around = record { rest = none; front = []; back = []; titlesFront = []; titlesBack = [] }
 
 -- a column's first words are those of the tree that it holds from the first row on
-whole-laid : {w : Cell → Forest Cell → ℕ} {xs after : List ℕ} {c : Cell} {kids rest : Forest Cell} (used : ℕ) → used ≡ suc (size kids)
+pub whole-laid : {w : Cell → Forest Cell → ℕ} {xs after : List ℕ} {c : Cell} {kids rest : Forest Cell} (used : ℕ) → used ≡ suc (size kids)
     → Holds w xs documentRow (tree c kids rest) after → Laid w xs used [] (tree c kids none) []
 whole-laid {w} {c = c} {kids} used e h = record { is = holds-words used e h ∙ rw (tape-single w (record { root = c; kids = kids }), append-nil) }
 
 module _ {D P : Bytes} {values names : List ℕ} {used : ℕ} where
-  pub document-site : {v : Value.Value} → Document D P values names used v → Site D P values names used documentRow maxDepth
+  unfoldable pub document-site : {v : Value.Value} → Document D P values names used v → Site D P values names used documentRow maxDepth
   document-site d =
       record {
         around = nothing-around;
@@ -70,7 +56,7 @@ module _ {D P : Bytes} {values names : List ℕ} {used : ℕ} where
               titles = whole-laid used (d .ends) (d .held .held .titles);
               place = refl;
               titlePlace = refl;
-              formed = formed-tree (formed-fit (d .held .held .formed)) (formed-kids (d .held .held .formed)) formed-none;
+              formed = formed-alone (d .held .held .formed);
               label = d .held .label;
               sound = d .held .sound;
             };
@@ -107,127 +93,51 @@ document-answers {D} {P} d {o} few (done {kids = kids} e stands sv sn) =
     results (sym (limited-whole o) ∙ e) (standing-document stands few (within .1) (behind-long sv (d .long)) (behind-long sn (d .titlesLong))) sv sn
 document-answers d {o} few (refusal e sv sn) = Document.refusal (sym (limited-whole o) ∙ e)
 
--- ---- another tree in the place of the whole document
--- a column's words in use exchanged for those of a tree behind them
-whole-exchanged : {w : Cell → Forest Cell → ℕ} {xs after : List ℕ} {used source n : ℕ} {c x : Cell} {kids below rest : Forest Cell} → used ≡ suc (size kids) → n ≡ suc (size below)
-    → Laid w xs used [] (tree c kids none) [] → Room xs used used source n → Holds w xs source (tree x below rest) after
-    → Laid w (spliced xs used 0 used source n) n [] (tree x below none) []
-unfolding size _⧺_
-whole-exchanged {w} {xs} {used = used} {source} {n} {c} {x} {kids} {below} ends many l room h =
-    let now : usedAfter used used n ≡ n = omega arith in
-    let old : size (tree c kids none) ≡ used = omega arith in
-    let given : take n (drop source xs) ≡ tape w (tree x below none) = holds-words n many h ∙ sym (tape-single w (record { root = x; kids = below })) in
-    rw now at
-    (laid-splice (tree x below none) 0 0 used source n l refl (omega arith) room
-    (tape-exchange w none (tree c kids none) (tree x below none) none (tree c kids none) refl ∙ rw (old, given)))
+-- ---- a document is within the limits
+module _ {D P : Bytes} {values names : List ℕ} {used : ℕ} {v : Value.Value} (d : Document D P values names used v) where
+  pub few-nodes : nodes v ≤ maxNodes
+  few-nodes = omega (arith, ap nodes (d .means), nodes-meant D P (d .c) (d .kids), d .ends, d .few)
 
-module _ {D P : Bytes} {values names : List ℕ} {used source : ℕ} {v : Value.Value} (d : Document D P values names used v) {x : Cell} {kids : Forest Cell}
-    (offered : Offered D P values names source x kids) where
-  depth-offered : depth (meant D P x kids) ≡ level x (deep kids)
-  depth-offered = depth-meant D P x kids (formed-fit (offered .held .held .formed) .kind) (formed-kids (offered .held .held .formed))
+  pub document-fits : judged (ok v) ≡ ok v
+  document-fits = judged-fits v (d .shallow) few-nodes
 
-  pub replace-deep : {r : Bool} → WithinIs values source maxDepth r → r ≡ false → Results D P values names values names (judged (ok (meant D P x kids))) (Refused too-deep)
-  replace-deep is e =
-      let l = leb-false (level x (deep kids)) maxDepth (sym (is x kids (held-node (offered .held .held))) ∙ e) in
-      Document.refusal (sym (limited-whole (ok (meant D P x kids))) ∙ limited-deep maxDepth maxNodes (meant D P x kids) (omega (arith, depth-offered)))
+-- ---- the value at a location of the document
+module _ {D P : Bytes} {values names : List ℕ} {used path : ℕ} {v : Value.Value} {ts : Tokens} (s : Child) (is : WalkIs D P values names documentRow path s) (d : Document D P values names used v)
+    (short : Short D P) (path-is : PathIs D P path ts) where
+  walked : Walked D P values names documentRow (size (d .kids)) (walk ts v) s
+  walked = subst (λ u. Walked D P values names documentRow (size (d .kids)) (walk ts u) s) (d .means) (is ts short path-is (d .c) (d .kids) (d .held))
 
-  module _ {r : Bool} (is : WithinIs values source maxDepth r) (e : r ≡ true) (count : ℕ) (count-is : count ≡ spanOf (getD values source 0) + 1) where
-    shallow : depth (meant D P x kids) ≤ maxDepth
-    shallow = let l = leb-true (level x (deep kids)) maxDepth (sym (is x kids (held-node (offered .held .held))) ∙ e) in omega (arith, depth-offered)
+  pub the-value : {C : Type 0} {row : ℕ} → s ≡ Child.At row
+      → ((c : Cell) (kids : Forest Cell) → walk ts v ≡ ok (meant D P c kids) → NodeHeld D P values names row c kids → row + size kids < used → C) → C
+  the-value {C} {row} e then-it = go walked e
+    where
+      go : {q : Child} → Walked D P values names documentRow (size (d .kids)) (walk ts v) q → q ≡ Child.At row → C
+      go (reached {at} {c} {kids} f node low high) g =
+          let same : at ≡ row = cc in
+          then-it c kids f (rw same at node) (omega (arith, d .ends))
+      go (lost f) g = absurd (let z : _≡_ {A = ℕ} 0 1 = cc in omega arith)
 
-    count-size : count ≡ suc (size kids)
-    count-size = omega (arith, offered-size offered)
+  pub no-value : {number : ℕ} → s ≡ Child.Refused number → walk ts v ≡ refused number 0
+  no-value {number} e = go walked e
+    where
+      go : {q : Child} → Walked D P values names documentRow (size (d .kids)) (walk ts v) q → q ≡ Child.Refused number → walk ts v ≡ refused number 0
+      go (reached f node low high) g = absurd (let z : _≡_ {A = ℕ} 0 1 = cc in omega arith)
+      go (lost {number = n} f) g = let same : n ≡ number = cc in f ∙ ap (λ m. refused m 0) same
 
-    pub replace-large : maxNodes < count → Results D P values names values names (judged (ok (meant D P x kids))) (Refused too-many-nodes)
-    replace-large h =
-        Document.refusal
-        (sym (limited-whole (ok (meant D P x kids))) ∙ limited-large maxDepth maxNodes (meant D P x kids) shallow (omega (arith, nodes-meant D P x kids, count-size)))
+-- ---- an operation by its steps
+-- its last step, a change at a location
+pub performed-change : {D P : Bytes} {values names values' names' : List ℕ} {o : Outcome Value.Value} {r : Altered} → Results D P values names values' names' o r
+    → Performed D P values names values' names' o r
+performed-change (results f d sv sn) = performed f d (patch-behind sv) (patch-behind sn)
+performed-change (Document.refusal f) = failed f
 
-    module _ (few : count ≤ maxNodes) where
-      room : {w : Cell → Forest Cell → ℕ} {xs after : List ℕ} {rest : Forest Cell} → Holds w xs source (tree x kids rest) after → rows ≤ length xs → Room xs used used source count
-      unfolding size
-      room h long = record { before = omega (arith, offered .behind, d .few); after = omega (arith, offered .behind); there = omega (arith, holds-size h, offered .behind, count-size) }
+-- a step before it, which keeps the patch
+pub performed-after : {D P : Bytes} {values names vs ns values' names' : List ℕ} {o p : Outcome Value.Value} {r : Altered} → SamePatch values vs → SamePatch names ns → o ≡ p
+    → Performed D P vs ns values' names' p r → Performed D P values names values' names' o r
+performed-after a b e (performed f d sv sn) = performed (e ∙ f) d (patch-then a sv) (patch-then b sn)
+performed-after a b e (failed f) = failed (e ∙ f)
 
-      all-replaced : Results D P values names (spliced values used 0 used source count) (spliced names used 0 used source count) (judged (ok (meant D P x kids))) (Done count)
-      unfolding document-site
-      all-replaced =
-          let whole = document-site d .standing in
-          let h = offered .held .held in
-          let values-room = room (h .words) (d .long) in
-          let names-room = room (h .titles) (d .titlesLong) in
-          let same-values = behind-spliced used 0 used source count (omega arith) values-room (omega arith) in
-          let same-names = behind-spliced used 0 used source count (omega arith) names-room (omega arith) in
-          let stands : Standing D P (spliced values used 0 used source count) (spliced names used 0 used source count) count documentRow nothing-around x kids =
-          record {
-            words = whole-exchanged (d .ends) count-size (whole .words) values-room (h .words);
-            titles = whole-exchanged (d .ends) count-size (whole .titles) names-room (h .titles);
-            place = refl;
-            titlePlace = refl;
-            formed = formed-tree (formed-fit (h .formed)) (formed-kids (h .formed)) formed-none;
-            label = offered .held .label;
-            sound = offered .held .sound;
-          } in
-          results (sym (limited-whole (ok (meant D P x kids))) ∙ limited-fits maxDepth maxNodes (meant D P x kids) shallow (omega (arith, nodes-meant D P x kids, count-size)))
-          (standing-document stands few shallow (behind-long same-values (d .long)) (behind-long same-names (d .titlesLong))) same-values same-names
-
-      -- as the code goes: the words of each column spliced
-      pub replace-done : {values' names' : List ℕ} → values' ≡ spliced values used 0 used source count → names' ≡ spliced names used 0 used source count
-          → Results D P values names values' names' (judged (ok (meant D P x kids))) (Done count)
-      replace-done a b = rw (a, b) all-replaced
-
--- ---- the whole document changed
-module _ {values names values' names' : List ℕ} {used : ℕ} where
-  pub document-added : {r : Altered} (change : Change) (source : ℕ) → change ≡ Add source → ReplaceDocumentIs values names values' names' used source r
-      → ChangeDocumentIs values names values' names' used change r
-  unfolding addAt
-  document-added change source e is D P v d f (adds-at source' x kids offered) = let same : source' ≡ source = cc in is D P v d x kids (rw same at offered)
-  document-added change source e is D P v d f removes-at = absurd (let w : _≡_ {A = ℕ} 0 1 = cc in omega arith)
-  document-added change source e is D P v d f (replaces-at source' x kids offered) = absurd (let w : _≡_ {A = ℕ} 0 1 = cc in omega arith)
-
-  pub document-replaced : {r : Altered} (change : Change) (source : ℕ) → change ≡ Replace source → ReplaceDocumentIs values names values' names' used source r
-      → ChangeDocumentIs values names values' names' used change r
-  unfolding replaceAtPath
-  document-replaced change source e is D P v d f (adds-at source' x kids offered) = absurd (let w : _≡_ {A = ℕ} 0 1 = cc in omega arith)
-  document-replaced change source e is D P v d f removes-at = absurd (let w : _≡_ {A = ℕ} 0 1 = cc in omega arith)
-  document-replaced change source e is D P v d f (replaces-at source' x kids offered) = let same : source' ≡ source = cc in is D P v d x kids (rw same at offered)
-
-  -- the root is not removed
-  pub document-kept : (change : Change) → change ≡ Remove → ChangeDocumentIs values names values' names' used change (Refused remove-of-root)
-  unfolding removeAtPath _>>=_
-  document-kept change e D P v d f (adds-at source' x kids offered) = absurd (let w : _≡_ {A = ℕ} 0 1 = cc in omega arith)
-  document-kept change e D P v d f removes-at = Document.refusal refl
-  document-kept change e D P v d f (replaces-at source' x kids offered) = absurd (let w : _≡_ {A = ℕ} 0 1 = cc in omega arith)
-
--- ---- a change below the root is one at a parent
-pub below-root : {C : Type 0} {D P : Bytes} {values names : List ℕ} {change : Change} {f : Tokens → Value.Value → Outcome Value.Value} → MakesAt D P values names change f
-    → (t : Text) (ts : Tokens) (v : Value.Value)
-    → ((g : Text → Value.Value → Outcome Value.Value) → Makes D P values names change g → f (t ∷ ts) v ≡ atParent g t ts v → C) → C
-unfolding addAt removeAtPath replaceAtPath
-below-root {D = D} {P} (adds-at source x kids offered) t ts v then-it = then-it (insertChild (meant D P x kids)) (adds source x kids offered) refl
-below-root removes-at t ts v then-it = then-it removeChild removes refl
-below-root {D = D} {P} (replaces-at source x kids offered) t ts v then-it = then-it (replaceChild (meant D P x kids)) (replaces source x kids offered) refl
-
--- ---- a change at a location, by where the pointer's tokens begin
-path-of : {D P : Bytes} {path : ℕ} {ts : Tokens} (s : Bytes) → s ≡ partOf D P path → PathIs D P path ts → tokens (decode s) ≡ ok ts
-path-of s part p = ap (λ b. tokens (decode b)) part ∙ p .is
-
-module _ {D P : Bytes} {values names values' names' : List ℕ} {used path : ℕ} {change : Change} {r : Altered} (s : Bytes) (part : s ≡ partOf D P path) (first : First) (is : FirstOf s first) where
-  pub change-root : first ≡ First.Root → ChangeDocumentIs values names values' names' used change r → ChangeAtIs D P values names values' names' used path change r
-  change-root e changes v d short ts p f makes =
-      let none : ts ≡ [] = first-root s first is ts e (path-of s part p) in
-      rw none (changes D P v d f makes)
-
-  pub change-below : (at : ℕ) → first ≡ First.At at → AlterIs D P values names values' names' used documentRow maxDepth path at change r → Few r
-      → ChangeAtIs D P values names values' names' used path change r
-  unfolding document-site
-  change-below at e alters few v d short ts p f makes =
-      let from : tokensFrom (partOf D P path) at ≡ ok ts = rw part at (first-at s first is at ts e (path-of s part p)) in
-      some-token (partOf D P path) at ts from λ t us some.
-      below-root makes t us v λ g made same.
-      let inside : at ≤ length (partOf D P path) = rw part at (first-inside s first is at e) in
-      let answers = alters (document-site d) g t us made short inside (record { is = from ∙ ap ok some }) in
-      let outcome : f ts v ≡ atParent g t us (meant D P (d .c) (d .kids)) = ap (λ l. f l v) some ∙ same ∙ ap (atParent g t us) (sym (d .means)) in
-      rw outcome (document-answers d few answers)
-
-  pub change-malformed : first ≡ First.Malformed → ChangeAtIs D P values names values' names' used path change r
-  change-malformed e v d short ts p f makes = absurd (first-malformed s first is ts e (path-of s part p))
+-- none before it
+pub same-performed : {D P : Bytes} {values names values' names' : List ℕ} {o p : Outcome Value.Value} {r : Altered} → o ≡ p → Performed D P values names values' names' p r
+    → Performed D P values names values' names' o r
+same-performed e p = performed-after patch-same patch-same e p

@@ -1,11 +1,17 @@
 pub mod LimitLaws
 pub mod CutLaws
+pub mod KeptLaws
 pub mod SiteLaws
 pub mod PutLaws
 pub mod MeantLaws
 pub mod ChangeLaws
+pub mod TokenLaws
 pub mod AlterLaws
 pub mod DocumentLaws
+pub mod PathLaws
+pub mod RemovalLaws
+pub mod AsideLaws
 pub mod TransferLaws
+pub mod ToldLaws
 pub mod PerformLaws
 pub mod RunLaws

@@ -17,11 +17,7 @@ use Rattle.spec.specs.Operation.{put, notTooDeep, notTooLarge}
 use Rattle.spec.proofs.ChildLaws.{depth-put, child-there}
 use Rattle.tape.proofs.Forests.{size-replaceAt}
 use Rattle.operations.specs.Limited.{withinLevels, withinRoom, limitedTo}
-
--- of the whole document
-pub limited-whole : (o : Outcome Value.Value) → limitedTo maxDepth maxNodes o ≡ o >>= notTooDeep >>= notTooLarge
-unfolding limitedTo withinLevels withinRoom notTooDeep notTooLarge
-limited-whole o = refl
+use Rattle.operations.specs.Document.{judged}
 
 module _ (levels room : ℕ) where
   pub limited-refused : (number place : ℕ) → limitedTo levels room (refused number place) ≡ refused number place
@@ -57,6 +53,25 @@ module _ (levels room : ℕ) where
           (ap ok same, rw same at (leb-true (depth v) levels p), rw same at (leb-true (nodes v) room q))
       go true false p q f = absurd (let g = rw (q, _>>=_) at f in let z : _≡_ {A = ℕ} 0 1 = cc in omega arith)
       go false b p q f = absurd (let z : _≡_ {A = ℕ} 0 1 = cc in omega arith)
+
+-- ---- the whole document's limits
+pub limited-whole : (o : Outcome Value.Value) → limitedTo maxDepth maxNodes o ≡ judged o
+unfolding limitedTo withinLevels withinRoom notTooDeep notTooLarge
+limited-whole o = refl
+
+pub judged-refused : (number place : ℕ) → judged (refused number place) ≡ refused number place
+judged-refused number place = sym (limited-whole (refused number place)) ∙ limited-refused maxDepth maxNodes number place
+
+module _ (v : Value.Value) where
+  pub judged-deep : maxDepth < depth v → judged (ok v) ≡ refused too-deep 0
+  judged-deep h = sym (limited-whole (ok v)) ∙ limited-deep maxDepth maxNodes v h
+
+  module _ (h : depth v ≤ maxDepth) where
+    pub judged-large : maxNodes < nodes v → judged (ok v) ≡ refused too-many-nodes 0
+    judged-large l = sym (limited-whole (ok v)) ∙ limited-large maxDepth maxNodes v h l
+
+    pub judged-fits : nodes v ≤ maxNodes → judged (ok v) ≡ ok v
+    judged-fits l = sym (limited-whole (ok v)) ∙ limited-fits maxDepth maxNodes v h l
 
 -- ---- a child's limits are its parent's
 leb-same : (a b m n : ℕ) → (a ≤ b → m ≤ n) → (m ≤ n → a ≤ b) → leb a b ≡ leb m n

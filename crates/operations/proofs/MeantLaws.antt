@@ -1,12 +1,11 @@
 -- The changes of a value's children are those of the cells that mean them.
-use Prim.Native.Nat.{ℕ, suc, _+_, _≤_, _<_}
+use Prim.Native.Nat.{ℕ, _<_}
 use native.Mathlib.Omega.{arith}
 use mathlib.Core.Path.{_≡_, refl, ap, sym, _∙_}
 use mathlib.Core.List.{[]}
 use Rattle.spec.specs.Bytes.{Bytes}
 use Rattle.spec.specs.Forest.{Forest, count, nth, insertAt, removeAt, replaceAt}
 use Rattle.spec.specs.Value.{named}
-use Rattle.spec.specs.Pointer.{child}
 use Rattle.spec.specs.Operation.{put, withKids}
 use Rattle.lexer.specs.Hash.{hashFrom, hash}
 use Rattle.text.specs.Decode.{textFrom, textOf}

@@ -4,20 +4,19 @@ use native.Mathlib.Omega.{arith}
 use mathlib.Core.Path.{_≡_, refl, ap, sym, _∙_}
 use mathlib.Core.Bool.{Bool, true, false}
 use mathlib.Core.List.{List, [], _∷_, _++_}
-use lib.Dec.{leb}
-use lib.ListN.{length, take, drop, getD, set}
+use lib.ListN.{length, getD, set}
 use borrow.Author.Tests.{leb-true, leb-false}
 use Rattle.spec.specs.Outcome.{Outcome, ok, refused}
 use Rattle.spec.specs.Refusal.{too-deep, too-many-nodes}
 use Rattle.spec.specs.Limits.{maxNodes}
 use Rattle.spec.specs.Bytes.{Bytes}
-use Rattle.spec.specs.Forest.{Forest, none, tree, single, count, size, before, from, nth, removeAt, _⧺_}
+use Rattle.spec.specs.Forest.{Forest, none, tree, single, count, size, before, from, removeAt, _⧺_}
 use Rattle.spec.specs.Value as Value
-use Rattle.spec.specs.Value.{depth, nodes}
-use Rattle.tape.specs.Layout.{arrayKind, objectKind, spans, patchRow, rows}
+use Rattle.spec.specs.Value.{depth}
+use Rattle.tape.specs.Layout.{arrayKind, spans, rows}
 use Rattle.tape.specs.Packing.{spanOf, withSpan}
 use Rattle.tape.specs.Columns.{usedAfter, spliced}
-use Rattle.tape.specs.Tape.{tape, Laid}
+use Rattle.tape.specs.Tape.{tape, Holds, Laid}
 use Rattle.tape.specs.Cell.{Cell, word, nameWord, Fit, Formed, formed-none, formed-tree, level, deep}
 use Rattle.tape.specs.Rows.{childRow, WithinIs}
 use Rattle.tape.proofs.Columns.{Room}
@@ -33,15 +32,15 @@ use Rattle.table.specs.All.{all-none}
 use Rattle.table.specs.Sound.{NameFits, Sound}
 use Rattle.table.proofs.MeaningLaws.{depth-meant, nodes-meant}
 use Rattle.table.proofs.AllLaws.{all-single}
-use Rattle.walk.proofs.Children.{blank}
 use Rattle.operations.specs.Limited.{limitedTo}
-use Rattle.operations.specs.Site.{Standing, Site, Offered, SameBehind}
+use Rattle.operations.specs.Site.{Standing, Site, Offered}
 use Rattle.operations.specs.Cut.{Cut, renamed}
 use Rattle.operations.specs.Change.{Answers, done, refusal, resized}
 use Rattle.operations.specs.declared.answers.Altered.the-variants.{Done, Refused}
 use Rattle.operations.proofs.LimitLaws.{limited-deep, limited-large, limited-fits}
 use Rattle.operations.proofs.CutLaws.{cut-inside, cut-formed, cut-sound, cut-size, cut-deep, cut-around, past-front, laid-exchange}
-use Rattle.operations.proofs.SiteLaws.{site-fit, site-inside, site-deep, child-rows, behind-set, behind-spliced, laid-rename}
+use Rattle.operations.proofs.KeptLaws.{behind-set, behind-spliced}
+use Rattle.operations.proofs.SiteLaws.{site-fit, site-inside, site-deep, child-rows, laid-rename}
 
 -- ---- the span that `resize` sets
 pub resize-is : (values : List ℕ) (row used now old : ℕ) (new : ℕ) {w : ℕ} → w ≡ getD values row 0 → old ≡ spanOf w → new ≡ old + now - used
@@ -116,15 +115,11 @@ module _ {D P : Bytes} {values names : List ℕ} {source : ℕ} {x : Cell} {kids
   offered-fit : Fit x kids
   offered-fit = formed-fit (offered .held .held .formed)
 
-  -- the rows of the tree, behind those in use
-  module _ {used removed : ℕ} (count : ℕ) (count-is : count ≡ suc (size kids)) (few : used ≤ maxNodes) (few-then : usedAfter used removed count ≤ maxNodes) where
-    room-values : rows ≤ length values → Room values used removed source count
-    unfolding size
-    room-values long = record { before = omega (arith, offered .behind); after = omega (arith, offered .behind); there = omega (arith, holds-size (offered .held .held .words), offered .behind) }
-
-    room-names : rows ≤ length names → Room names used removed source count
-    unfolding size
-    room-names long = record { before = omega (arith, offered .behind); after = omega (arith, offered .behind); there = omega (arith, holds-size (offered .held .held .titles), offered .behind) }
+  -- its words in a column are behind those in use, before and after
+  pub offered-room : {w : Cell → Forest Cell → ℕ} {xs after : List ℕ} {rest : Forest Cell} {used removed : ℕ} (count : ℕ) → count ≡ suc (size kids) → used ≤ maxNodes
+      → usedAfter used removed count ≤ maxNodes → Holds w xs source (tree x kids rest) after → Room xs used removed source count
+  unfolding size
+  offered-room count e few few-then h = record { before = omega (arith, offered .behind); after = omega (arith, offered .behind); there = omega (arith, holds-size h) }
 
   module _ (name : ℕ) (fits : NameFits D P name) where
     abbrev new : Forest Cell
@@ -172,10 +167,10 @@ module _ {D P : Bytes} {values names : List ℕ} {source : ℕ} {x : Cell} {kids
           now-few = omega (arith, count-size, size-new)
 
           values-room : Room values used removed source count
-          values-room = room-values count (count-size ∙ size-new) (z .few) (omega (arith, now-used, now-few)) (z .long)
+          values-room = offered-room count (count-size ∙ size-new) (z .few) (omega (arith, now-used, now-few)) (offered .held .held .words)
 
           names-room : Room names used removed source count
-          names-room = room-names count (count-size ∙ size-new) (z .few) (omega (arith, now-used, now-few)) (z .titlesLong)
+          names-room = offered-room count (count-size ∙ size-new) (z .few) (omega (arith, now-used, now-few)) (offered .held .held .titles)
 
           words : Laid word (spliced values used at removed source count) now (z .around .front ++ (word (z .c) (z .kids) ∷ [])) (left ⧺ new ⧺ right) (tape word (z .around .rest) ++ z .around .back)
           unfolding word

@@ -1,15 +1,14 @@
 -- Laws of the operations of a patch, one after another.
-use Prim.Native.Nat.{ℕ, zero, suc, _+_, _-_, _≤_, _<_}
+use Prim.Native.Nat.{ℕ, _+_, _≤_, _<_}
 use native.Mathlib.Omega.{arith}
 use mathlib.Core.Path.{_≡_, refl, sym, ap, _∙_, subst}
 use mathlib.Core.Bool.{Bool, true, false}
 use mathlib.Core.List.{List, [], _∷_}
 use lib.Dec.{leb}
-use lib.ListN.{length, take, drop, take-append-drop}
-use lib.Seq.{take-nil, take-take, take-at, drop-drop}
+use lib.ListN.{length}
 use Rattle.spec.specs.Outcome.{Outcome, ok, refused, if_then_else_}
 use Rattle.spec.specs.Refusal.{wrong-shape, too-many-operations}
-use Rattle.spec.specs.Limits.{maxNodes, maxOperations}
+use Rattle.spec.specs.Limits.{maxOperations}
 use Rattle.spec.specs.Bytes.{Bytes}
 use Rattle.spec.specs.Forest.{Forest, none, tree, count, size}
 use Rattle.spec.specs.Value as Value
@@ -18,67 +17,24 @@ use Rattle.spec.specs.Operation as Operation
 use Rattle.spec.specs.Operation.{limited}
 use Rattle.spec.specs.Patch.{Run, finished, stopped, atOp, onFinish, operation, operations, shape, run}
 use Rattle.tape.specs.Layout.{patchRow, scratchRow}
-use Rattle.tape.specs.Tape.{tape, Holds}
-use Rattle.tape.specs.Cell.{Cell, Held}
+use Rattle.tape.specs.Cell.{Cell}
 use Rattle.tape.specs.Rows.{endOf}
 use Rattle.tape.specs.Map.{mapForest}
-use Rattle.tape.proofs.Tape.{length-tape}
+use Rattle.tape.proofs.Forests.{size-none}
 use Rattle.tape.proofs.Rows.{no-node, end-here}
-use Rattle.tape.proofs.Held.{Remaining, remaining-next, remaining-none, remaining-first, held-node}
+use Rattle.tape.proofs.Held.{held-node}
 use Rattle.table.specs.Meaning.{members, meant}
-use Rattle.table.specs.Sound.{Sound}
-use Rattle.table.proofs.AllLaws.{all-first, all-kids, all-rest}
 use Rattle.walk.specs.Names.{Short}
 use Rattle.shape.specs.Patch.{RowsHeld}
-use Rattle.shape.proofs.RunLaws.{rows-children}
+use Rattle.shape.proofs.RunLaws.{rows-children, rows-first, first-node, rows-next}
 use Rattle.operations.specs.Document.{Document}
-use Rattle.operations.specs.Perform.{SamePatch, Performed, performed, failed, Listed, PerformIs}
+use Rattle.operations.specs.Perform.{Performed, performed, failed, Listed, PerformIs}
 use Rattle.operations.specs.Run.{RanTo, ran, halted, ElementsRunIs, RunIs}
 use Rattle.operations.specs.declared.answers.Altered.{Altered}
 use Rattle.operations.specs.declared.answers.Altered.the-variants as Altered
 use Rattle.operations.specs.declared.run.Ran.{Ran}
 use Rattle.operations.specs.declared.run.Ran.the-variants as Ran
-
--- ---- what an operation keeps
--- a part of a list's first m words
-take-part : {A : Type 0} (p n m : ℕ) (l : List A) → p + n ≤ m → take n (drop p (take m l)) ≡ take n (drop p l)
-take-part zero n m l h = take-take n m l (omega arith)
-take-part (suc p) n m [] h = rw (take-nil m)
-take-part (suc p) n zero (x ∷ l) h = absurd (omega arith)
-take-part (suc p) n (suc m) (x ∷ l) h = take-part p n m l (omega arith)
-
-module _ {xs ys : List ℕ} (same : SamePatch xs ys) {at : ℕ} (behind : patchRow ≤ at) where
-  -- words in rows of the patch
-  window-kept : (n : ℕ) → at + n ≤ scratchRow → take n (drop at ys) ≡ take n (drop at xs)
-  window-kept n before =
-      let place : patchRow + (at - patchRow) ≡ at = omega arith in
-      let part : (l : List ℕ) → take n (drop (at - patchRow) (take maxNodes (drop patchRow l))) ≡ take n (drop at l) =
-      λ l. take-part (at - patchRow) n maxNodes (drop patchRow l) (omega arith) ∙ rw (drop-drop, place) in
-      sym (part ys) ∙ ap (λ l. take n (drop (at - patchRow) l)) (same .patch) ∙ part xs
-
-  -- a forest in rows of the patch
-  holds-kept : {A : Type 0} {w : A → Forest A → ℕ} {f : Forest A} {after : List ℕ} → Holds w xs at f after → at + size f ≤ scratchRow → Holds w ys at f (drop (at + size f) ys)
-  holds-kept {w = w} {f} {after} h before =
-      record {
-        is =
-            let window : take (size f) (drop at ys) ≡ tape w f = window-kept (size f) before ∙ rw (h .is) (take-at (tape w f) after (size f) (length-tape w f)) in
-            sym (take-append-drop (size f) (drop at ys)) ∙ rw (window, drop-drop);
-      }
-
--- in both columns
-module _ {values names values' names' : List ℕ} (sv : SamePatch values values') (sn : SamePatch names names') {row : ℕ} (behind : patchRow ≤ row) where
-  held-kept : {f : Forest Cell} → Held values names row f → row + size f ≤ scratchRow → Held values' names' row f
-  held-kept {f} h before =
-      record {
-        after = drop (row + size f) values';
-        behind = drop (row + size f) names';
-        words = holds-kept sv behind (h .words) before;
-        titles = holds-kept sn behind (h .titles) before;
-        formed = h .formed;
-      }
-
-  rows-kept : {D P : Bytes} {end : ℕ} {f : Forest Cell} → RowsHeld D P values names row end f → end ≤ scratchRow → RowsHeld D P values' names' row end f
-  rows-kept h before = record { held = held-kept (h .held) (omega (arith, h .ends)); ends = h .ends; sound = h .sound }
+use Rattle.operations.proofs.KeptLaws.{rows-kept}
 
 -- ---- the first of the operations
 -- where there are operations, of a first outcome and of the others, what they are
@@ -147,43 +103,31 @@ record First (D P : Bytes) (values names : List ℕ) (row end op : ℕ) (os : Li
   pub whole : os ≡ o ∷ later
 
 module _ {D P : Bytes} {values names : List ℕ} {used row end op : ℕ} {whole : Run Value.Value} (g : Going D P values names used row end op whole) where
-  remaining : Remaining values names row end (g .left)
-  remaining = record { held = g .rows .held; ends = g .rows .ends }
-
   -- where none is left
   going-none : end ≤ row → RanTo D P values names whole (Ran.Done used)
   going-none h =
-      let e : operations (op + 1) (members D P none) ≡ finished (g .os) = subst (λ f. operations (op + 1) (members D P f) ≡ finished (g .os)) (remaining-none remaining h) (g .are) in
+      let none-left : g .left ≡ none = size-none (g .left) (omega (arith, g .rows .ends)) in
+      let e : operations (op + 1) (members D P none) ≡ finished (g .os) = subst (λ f. operations (op + 1) (members D P f) ≡ finished (g .os)) none-left (g .are) in
       ran (sym (g .gives) ∙ ap (λ os. run limited (op + 1) os (g .now)) (no-operations D P (op + 1) (g .os) e) ∙ run-none (op + 1) (g .now)) (g .document)
 
   module _ (more : row < end) where
     -- the row is in the column
     going-inside : {C : Type 0} → length values ≤ row → C
-    going-inside h = remaining-first remaining more (λ c kids rest e r. no-node (held-node (r .held)) h)
+    going-inside h = rows-first (g .rows) more (λ c kids rest e r. no-node (held-node (r .held)) h)
 
     going-first : First D P values names row end op (g .os)
     unfolding size
     going-first =
-        remaining-first remaining more
+        rows-first (g .rows) more
         (λ c kids rest e r.
-        let sound : Sound D P (tree c kids rest) = subst (Sound D P) e (g .rows .sound) in
-        let b : Begins (operation (meant D P c kids)) (operations (op + 1 + 1) (members D P rest)) (g .os) =
-        first-operation D P (op + 1) c kids rest (g .os) (subst (λ f. operations (op + 1) (members D P f) ≡ finished (g .os)) e (g .are)) in
+        let b = first-operation D P (op + 1) c kids rest (g .os) (subst (λ f. operations (op + 1) (members D P f) ≡ finished (g .os)) e (g .are)) in
         record {
           c = c;
           kids = kids;
           rest = rest;
-          rows = record { held = r .held; ends = r .ends; sound = sound };
+          rows = r;
           o = b .o;
-          listed =
-              record {
-                c = c;
-                kids = kids;
-                held = record { rest = rest; held = r .held; label = all-first sound .label; sound = all-kids sound };
-                behind = g .behind;
-                before = omega (arith, r .ends, g .before);
-                is = b .is;
-              };
+          listed = record { c = c; kids = kids; held = first-node r; behind = g .behind; before = omega (arith, r .ends, g .before); is = b .is };
           later = b .later;
           are = b .are;
           whole = b .whole;
@@ -203,13 +147,12 @@ module _ {D P : Bytes} {values names : List ℕ} {used row end op : ℕ} {whole 
     going-done : {used' : ℕ} (next : ℕ) → next ≡ endOf values' row → Performed D P values names values' names' (limited (first .o) (g .now)) (Altered.Done used')
         → Going D P values' names' used' next end (op + 1) whole
     going-done next at (performed {w = w} e document sv sn) =
-        let kept : RowsHeld D P values' names' row end (tree (first .c) (first .kids) (first .rest)) = rows-kept sv sn (g .behind) (first .rows) (g .before) in
-        let r : Remaining values' names' next end (first .rest) = remaining-next next at (record { held = kept .held; ends = kept .ends }) in
+        let kept = rows-kept sv sn (g .behind) (g .before) (first .rows) in
         record {
           now = w;
           document = document;
           left = first .rest;
-          rows = record { held = r .held; ends = r .ends; sound = all-rest (kept .sound) };
+          rows = rows-next kept next at;
           behind = omega (arith, at ∙ end-here (held-node (kept .held)), g .behind);
           before = g .before;
           short = g .short;

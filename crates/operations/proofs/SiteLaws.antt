@@ -2,32 +2,26 @@
 use Prim.Native.Nat.{ℕ, suc, _+_, _≤_, _<_}
 use native.Mathlib.Omega.{arith}
 use mathlib.Core.Path.{_≡_, refl, ap, sym, _∙_}
-use mathlib.Core.List.{List, [], _∷_, _++_, append-assoc}
-use lib.ListN.{length, drop, getD, set, length-append, length-drop}
-use lib.Seq.{drop-set-lt}
-use Rattle.spec.specs.Limits.{maxNodes}
+use mathlib.Core.List.{List, _++_, append-assoc}
+use lib.ListN.{length, getD, set, length-append}
 use Rattle.spec.specs.Bytes.{Bytes}
 use Rattle.spec.specs.Forest.{Forest, tree, single, count, size, nth, _⧺_}
-use Rattle.spec.specs.Value.{depth}
-use Rattle.tape.specs.Layout.{arrayKind, patchRow, rows}
+use Rattle.tape.specs.Layout.{arrayKind}
 use Rattle.tape.specs.Packing.{spanOf}
 use Rattle.tape.specs.Rows.{childRow}
-use Rattle.tape.specs.Columns.{usedAfter, spliced}
 use Rattle.tape.specs.Tape.{tape, Laid}
-use Rattle.tape.specs.Cell.{Cell, word, nameWord, Fit, level, deep}
-use Rattle.tape.proofs.Columns.{Room, drop-spliced}
+use Rattle.tape.specs.Cell.{Cell, nameWord, Fit, deep}
 use Rattle.tape.proofs.Cells.{formed-fit, formed-kids}
 use Rattle.tape.proofs.Depth.{level-container}
 use Rattle.tape.proofs.Tape.{tape-⧺, length-tape}
 use Rattle.tape.proofs.Changes.{laid-length, laid-kids, laid-join, laid-store}
 use Rattle.tape.proofs.Held.{held-laid, held-node, held-child, name-here}
 use Rattle.tape.proofs.Rows.{span-here, node-child}
-use Rattle.table.specs.Meaning.{meant}
 use Rattle.table.proofs.MeaningLaws.{depth-meant}
 use Rattle.table.specs.Sound.{NodeHeld}
 use Rattle.walk.proofs.Children.{blank}
 use Rattle.operations.specs.Cut.{renamed}
-use Rattle.operations.specs.Site.{Site, SameBehind}
+use Rattle.operations.specs.Site.{Site}
 
 module _ {D P : Bytes} {values names : List ℕ} {used row levels : ℕ} (z : Site D P values names used row levels) where
   pub site-held : NodeHeld D P values names row (z .c) (z .kids)
@@ -62,21 +56,6 @@ module _ {D P : Bytes} {values names : List ℕ} {used row levels : ℕ} (z : Si
 
     pub child-name : getD names at 0 ≡ nth blank k (z .kids) .root .name
     child-name = rw place (name-here (held-child (site-held .held) blank k kth))
-
--- ---- the rows behind the document's
-module _ {xs : List ℕ} where
-  pub behind-same : SameBehind xs xs
-  behind-same = record { is = refl }
-
-  pub behind-set : {ys : List ℕ} (row x : ℕ) → row < patchRow → SameBehind xs ys → SameBehind xs (set ys row x)
-  behind-set {ys} row x h b = record { is = drop-set-lt patchRow ys row x h ∙ b .is }
-
-  pub behind-long : {ys : List ℕ} → SameBehind xs ys → rows ≤ length xs → rows ≤ length ys
-  behind-long {ys} b h = omega (arith, simp length-drop at (ap length (b .is)))
-
-  pub behind-spliced : (used at removed source n : ℕ) → at + removed ≤ used → Room xs used removed source n → usedAfter used removed n ≤ patchRow
-      → SameBehind xs (spliced xs used at removed source n)
-  behind-spliced used at removed source n in-use room h = record { is = drop-spliced xs used at removed source n in-use room patchRow h }
 
 -- ---- the name of a tree among others stored anew
 pub laid-rename : {xs : List ℕ} {used : ℕ} {front back : List ℕ} (left : Forest Cell) (c : Cell) (kids right : Forest Cell) (name at : ℕ) → at ≡ length front + size left

@@ -1,15 +1,15 @@
 -- What an operation of the patch makes of the document.
-use Prim.Native.Nat.{ℕ, suc, _+_, _≤_, _<_}
+use Prim.Native.Nat.{ℕ, _+_, _≤_, _<_}
 use mathlib.Core.Path.{_≡_}
 use mathlib.Core.List.{List, _∷_}
 use mathlib.Core.Bool.{true}
-use lib.ListN.{length, take, drop, getD}
+use lib.ListN.{take, drop, getD}
 use Rattle.spec.specs.Outcome.{Outcome, ok, refused, _>>=_}
 use Rattle.spec.specs.Limits.{maxNodes}
 use Rattle.spec.specs.Bytes.{Bytes, Text}
 use Rattle.spec.specs.Forest.{Forest, size}
 use Rattle.spec.specs.Value as Value
-use Rattle.spec.specs.Pointer.{Tokens, walk}
+use Rattle.spec.specs.Pointer.{Tokens}
 use Rattle.spec.specs.Operation as Operation
 use Rattle.spec.specs.Operation.{addAt, removeAtPath, moveTo, copyTo, testAt, limited}
 use Rattle.spec.specs.Patch as Patch
@@ -31,8 +31,7 @@ use Rattle.operations.specs.declared.answers.Altered.the-variants.{Done,
 
 -- a column, and the same with other words in the rows of the document and of scratch: those of the patch are kept
 pub record SamePatch (xs ys : List ℕ) : Type 0 where
-  pub patch : take maxNodes (drop patchRow ys) ≡ take maxNodes (drop patchRow xs)
-  pub long : length ys ≡ length xs
+  pub is : take maxNodes (drop patchRow ys) ≡ take maxNodes (drop patchRow xs)
 
 -- The outcome of an operation, given what it is by the definitions: the document is then the result, and the patch is kept; or the refusal's number.
 pub data Performed (D P : Bytes) (values names values' names' : List ℕ) (o : Outcome Value.Value) : Altered → Type 0 where

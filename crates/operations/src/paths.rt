@@ -9,7 +9,6 @@ use pointer::first;
 use table::spellings::part;
 use tape::moves::splice;
 use tape::nodes::within;
-ghost use Rattle.operations.specs.Change.{Few};
 ghost use Rattle.operations.specs.Document.{ReplaceDocumentIs, ChangeDocumentIs, ChangeAtIs};
 
 // Nested containers of a document.

@@ -10,7 +10,6 @@ use tape::layout::SCRATCH;
 use tape::moves::slide;
 use walk::Child;
 use walk::walk;
-ghost use mathlib.Core.Path.{_≡_};
 ghost use Rattle.operations.specs.Perform.{SetAsideIs, CopyIs, MoveAsideIs, MoveValueIs, MoveIs};
 
 // The tree in a row is copied to the scratch rows.

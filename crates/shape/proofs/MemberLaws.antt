@@ -111,8 +111,8 @@ module _ {D P : Bytes} {values names : List ℕ} {row : ℕ} {name : Text} {v : 
   sought-missing is (missing e) = e
 
   pub sought-at : {r : Member} (at : ℕ) → r ≡ Member.At at → Sought D P values names row name v r
-      → (e : Cell) × (below : Forest Cell) × (NodeHeld D P values names at e below) × (member name v ≡ ok (meant D P e below))
-  sought-at at is (found {at = b} {e} {below} l n m) = let same : b ≡ at = cc in (e, below, subst (λ a. NodeHeld D P values names a e below) same n, m)
+      → (e : Cell) × (below : Forest Cell) × (row < at) × (NodeHeld D P values names at e below) × (member name v ≡ ok (meant D P e below))
+  sought-at at is (found {at = b} {e} {below} l n m) = let same : b ≡ at = cc in (e, below, rw same at l, subst (λ a. NodeHeld D P values names a e below) same n, m)
   sought-at at is (missing m) = absurd (let z : _≡_ {A = ℕ} 0 1 = cc in omega arith)
 
   module _ {r : Member} (s : Sought D P values names row name v r) where
@@ -123,14 +123,14 @@ module _ {D P : Bytes} {values names : List ℕ} {row : ℕ} {name : Text} {v : 
     module _ (at : ℕ) (is : r ≡ Member.At at) (kind : ℕ) (kind-is : kind ≡ kindOf (getD values at 0)) where
       pub string-other : (kind ≡ 4 → ⊥) → TextIs D P (stringMember name v) Spelled.Not
       string-other d =
-          let (e, below, n, m) = sought-at at is s in
+          let (e, below, l, n, m) = sought-at at is s in
           let node = held-node (n .held) in
           text-not (string-of name v (meant D P e below) m ∙ other-label D P (e .kind) (e .payload) (formed-fit (node .formed) .kind) (λ f. d (kind-is ∙ kind-here node ∙ f)))
 
       pub string-found : (spelling : ℕ) → kind ≡ 4 → spelling ≡ payloadOf (getD values at 0) → TextIs D P (stringMember name v) (Spelled.As spelling)
       unfolding textOutcome spelled
       string-found spelling four payload-is =
-          let (e, below, n, m) = sought-at at is s in
+          let (e, below, l, n, m) = sought-at at is s in
           let node = held-node (n .held) in
           let k : e .kind ≡ 4 = sym (kind-here node) ∙ sym kind-is ∙ four in
           let p : spelling ≡ e .payload = payload-is ∙ payload-here node in

@@ -37,16 +37,16 @@ module _ {D P : Bytes} {values names : List ℕ} where
       → RowsHeld D P values names (row + 1) end kids
   rows-children end e n = record { held = held-kids (n .held); ends = sym (e ∙ end-here (held-node (n .held))); sound = n .sound }
 
-  rows-first : {C : Type 0} {row end : ℕ} {f : Forest Cell} → RowsHeld D P values names row end f → row < end
+  pub rows-first : {C : Type 0} {row end : ℕ} {f : Forest Cell} → RowsHeld D P values names row end f → row < end
       → ((c : Cell) (kids rest : Forest Cell) → f ≡ tree c kids rest → RowsHeld D P values names row end (tree c kids rest) → C) → C
   rows-first {row = row} {end} {f} h l then-it =
       first-tree f (omega (arith, h .ends)) (λ c kids rest e. then-it c kids rest e (subst (RowsHeld D P values names row end) e h))
 
   module _ {row end : ℕ} {c : Cell} {kids rest : Forest Cell} (h : RowsHeld D P values names row end (tree c kids rest)) where
-    first-node : NodeHeld D P values names row c kids
+    pub first-node : NodeHeld D P values names row c kids
     first-node = record { rest = rest; held = h .held; label = all-first (h .sound) .label; sound = all-kids (h .sound) }
 
-    rows-next : (next : ℕ) → next ≡ endOf values row → RowsHeld D P values names next end rest
+    pub rows-next : (next : ℕ) → next ≡ endOf values row → RowsHeld D P values names next end rest
     rows-next next e =
         let r : Remaining values names next end rest = remaining-next next e (record { held = h .held; ends = h .ends }) in
         record { held = r .held; ends = r .ends; sound = all-rest (h .sound) }

@@ -135,7 +135,7 @@ module _ {D P : Bytes} {values names : List ℕ} {start path first at row name :
     walking-less end next f = let o = next-order pointer at t is end next f in omega (arith, o .0, o .1, o .2)
 
 -- ---- all tokens
-first-of : {f : First} (pointer : Bytes) {s : Bytes} → pointer ≡ s → FirstOf pointer f → FirstOf s f
+pub first-of : {f : First} (pointer : Bytes) {s : Bytes} → pointer ≡ s → FirstOf pointer f → FirstOf s f
 first-of {f} pointer e is = subst (λ s. FirstOf s f) e is
 
 module _ {D P : Bytes} {values names : List ℕ} {start path : ℕ} (pointer : Bytes) (pointer-is : pointer ≡ partOf D P path) (f : First) (is : FirstOf pointer f) where

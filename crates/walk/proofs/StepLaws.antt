@@ -110,7 +110,7 @@ module _ {D P : Bytes} {values names : List ℕ} {row token : ℕ} where
   member-outside h t c kids n = no-node (held-node (n .held)) h
 
   module _ (end : ℕ) (ends : end ≡ endOf values row) (m : Member) (is : FindIs D P values names (row + 1) end token m) where
-    asked : {c : Cell} {kids : Forest Cell} → NodeHeld D P values names row c kids → Asked D P values names (row + 1) end kids
+    pub asked : {c : Cell} {kids : Forest Cell} → NodeHeld D P values names row c kids → Asked D P values names (row + 1) end kids
     asked n = record { held = held-kids (n .held); ends = sym (ends ∙ end-here (held-node (n .held))); sound = n .sound }
 
     answer : {kids : Forest Cell} {m : Member} → Found D P (row + 1) kids (nameText D P token) m → (at : ℕ) → m ≡ Member.At at

@@ -4,7 +4,8 @@ use native.Mathlib.Omega.{arith}
 use borrow.Author.Needs.{needs}
 use borrow.Fn.Kinds.{In}
 use borrow.Fn.PlainCycle.{Measures, is, falls, and}
-use Rattle.operations.proofs.AlterLaws.{token-read, alter-scalar, alter-last, alter-refused, alter-done, alter-not, few-done}
+use Rattle.operations.proofs.TokenLaws.{token-read}
+use Rattle.operations.proofs.AlterLaws.{alter-scalar, alter-last, alter-refused, alter-done, alter-not, few-done}
 use Rattle.operations.proofs.alter.alter.Reads as alter
 use Rattle.operations.proofs.alter.alter.Kinds as alter-kinds
 use Rattle.operations.proofs.alter.+alter.Lts-alter as alter-lts

@@ -1,5 +1,5 @@
 use borrow.Author.Needs.{needs}
-use Rattle.operations.proofs.DocumentLaws.{change-root, change-below, change-malformed}
+use Rattle.operations.proofs.PathLaws.{change-root, change-below, change-malformed}
 use Rattle.operations.proofs.paths.change_at.Statement.{statement}
 use Rattle.operations.proofs.paths.change_at.Tie as tie
 

@@ -1,5 +1,5 @@
 use borrow.Author.Needs.{needs}
-use Rattle.operations.proofs.DocumentLaws.{document-added, document-kept, document-replaced}
+use Rattle.operations.proofs.PathLaws.{document-added, document-kept, document-replaced}
 use Rattle.operations.proofs.paths.change_document.Statement.{statement}
 use Rattle.operations.proofs.paths.change_document.Tie as tie
 

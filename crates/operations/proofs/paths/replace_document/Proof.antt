@@ -1,7 +1,7 @@
 use native.Mathlib.Omega.{arith}
 use borrow.Author.Needs.{needs}
 use borrow.Author.Tests.{not-true, not-false}
-use Rattle.operations.proofs.DocumentLaws.{replace-deep, replace-large, replace-done}
+use Rattle.operations.proofs.PathLaws.{replace-deep, replace-large, replace-done}
 use Rattle.operations.proofs.paths.replace_document.Statement.{statement}
 use Rattle.operations.proofs.paths.replace_document.Tie as tie
 

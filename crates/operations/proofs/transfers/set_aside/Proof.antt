@@ -1,4 +1,4 @@
-use Rattle.operations.proofs.TransferLaws.{set-aside}
+use Rattle.operations.proofs.AsideLaws.{set-aside}
 use borrow.Author.Needs.{needs}
 use Rattle.operations.proofs.transfers.set_aside.Statement.{statement}
 use Rattle.operations.proofs.transfers.set_aside.Tie as tie

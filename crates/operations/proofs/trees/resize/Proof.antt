@@ -1,5 +1,4 @@
 use mathlib.Core.Path.{_∙_}
-use native.Mathlib.Omega.{arith}
 use borrow.Author.Needs.{needs}
 use Rattle.operations.proofs.PutLaws.{resize-is}
 use Rattle.operations.proofs.trees.resize.Statement.{statement}
