@@ -3,7 +3,7 @@ use crate::answer::Answer;
 use crate::answer::refusal;
 use crate::stages::checked;
 use tape::layout::ROWS;
-use tape::moves::clear;
+use tape::moves::wipe;
 ghost use Rattle.json_patch.specs.Call.{ApplyIs};
 
 // The patch is applied to the document and the result written to `output`, or the call is refused. `values` and `names` are the work area, of at
@@ -30,7 +30,7 @@ pub fn apply<'a>(
         &mut values[..ROWS],
         &mut names[..ROWS],
     );
-    clear(values, 0, ROWS);
-    clear(names, 0, ROWS);
+    wipe(values);
+    wipe(names);
     answer
 }

@@ -6,9 +6,10 @@ use native.Mathlib.Omega.{arith}
 use mathlib.Core.Path.{_≡_, sym, _∙_}
 use mathlib.Core.List.{List, [], _∷_, _++_, append-assoc}
 use lib.ListN.{length, take, drop, getD, set, replicate, replicate-append-replicate, length-append, length-take, length-drop, length-replicate, take-append-drop, List·getD-append}
-use lib.Seq.{paste, paste-zero, paste-suc, drop-paste, length-paste, append-snoc, take-nil, drop-cons, take-suc, set-at, length-take-le, getD-take, getD-drop, drop-at, take-append-le, take-take, drop-drop, take-add}
-use Rattle.tape.specs.Columns.{replaced, copied, moved, usedAfter, spliced}
-use Rattle.tape.proofs.Columns.{Room, moved-in, spliced-in}
+use lib.Seq.{paste, paste-zero, paste-suc, drop-paste, length-paste, append-snoc, take-nil, drop-cons, take-suc, set-at, length-take-le, getD-take, getD-drop, take-at, drop-at, take-append-le, take-take, drop-drop, take-add}
+use Rattle.tape.specs.Columns.{replaced, copied, moved, usedAfter, spliced, filled}
+use lib.Bits.{bitOr, or-add-and, and-le-l, and-le-r}
+use Rattle.tape.proofs.Columns.{Room, moved-in, spliced-in, filled-in}
 
 -- ---- words replaced by a copy
 module _ {W : Type 0} (z : W) (d s : List W) (at n : ℕ) where
@@ -70,6 +71,37 @@ module _ {W : Type 0} (x : W) (xs : List W) (start : ℕ) where
       let n : start + (i + 1) ≡ suc (start + i) = omega arith in
       rw (drop-cons xs (start + i) x (omega arith), n, ← (replicate-append-replicate i 1 x), ← (append-assoc (take start xs) (replicate i x) (x ∷ [])))
       (set-at p (getD xs (start + i) x) (drop (suc (start + i)) xs) x (start + i) long ∙ sym (append-snoc p x (drop (suc (start + i)) xs)))
+
+  -- the first words filled, and then more
+  pub filled-further : (n : ℕ) → start + n ≤ length xs
+      → filled x (replaced xs 0 start (replicate start x)) start n ≡ replaced xs 0 (start + n) (replicate (start + n) x)
+  unfolding replaced
+  filled-further n h =
+      let ys : List W = replicate start x ++ drop start xs in
+      let same : take 0 xs ++ replicate start x ++ drop (0 + start) xs ≡ ys = let e : 0 + start ≡ start = omega arith in rw e in
+      let long : length ys ≡ length xs = simp (length-append, length-replicate, length-drop) (omega arith) in
+      let front : take start ys ≡ replicate start x = take-at (replicate start x) (drop start xs) start (length-replicate start x) in
+      let back : drop (start + n) ys ≡ drop (start + n) xs =
+      rw (← drop-drop, drop-at (replicate start x) (drop start xs) start (length-replicate start x), drop-drop) in
+      let e : 0 + (start + n) ≡ start + n = omega arith in
+      rw (same, filled-in ys x start n (omega arith), front, back, e, ← (replicate-append-replicate start n x)) (simp append-assoc)
+
+-- words that are already so, filled
+pub filled-same : {W : Type 0} (x : W) (xs : List W) (start n : ℕ) → start + n ≤ length xs → take n (drop start xs) ≡ replicate n x → filled x xs start n ≡ xs
+unfolding replaced copied
+filled-same x xs start n h e = rw (filled-in xs x start n h, ← e) (copied-same xs start n)
+
+-- a word more of those that are all 0 where their disjunction is
+pub or-clear : (xs : List ℕ) (start i bits : ℕ) → start + i < length xs → (bits ≡ 0 → take i (drop start xs) ≡ replicate i 0)
+    → bitOr bits (getD xs (start + i) 0) ≡ 0 → take (i + 1) (drop start xs) ≡ replicate (i + 1) 0
+or-clear xs start i bits inside so-far none =
+    let word : ℕ = getD xs (start + i) 0 in
+    let none-before : bits ≡ 0 = omega (arith, or-add-and bits word, and-le-l bits word, and-le-r bits word) in
+    let here : getD (drop start xs) i 0 ≡ 0 = let zero-here : word ≡ 0 = omega (arith, or-add-and bits word, and-le-l bits word, and-le-r bits word) in getD-drop start xs i 0 ∙ zero-here in
+    let there : i < length (drop start xs) = simp length-drop (omega arith) in
+    let more : replicate {A = ℕ} i 0 ++ (0 ∷ []) ≡ replicate (i + 1) 0 = replicate-append-replicate i 1 0 in
+    let one-more : take (i + 1) (drop start xs) ≡ replicate {A = ℕ} i 0 ++ (0 ∷ []) = rw (add-one, take-suc (drop start xs) i 0 there, so-far none-before, here) in
+    one-more ∙ more
 
 -- ---- a splice by two moves
 pub drop-take : {W : Type 0} (m n : ℕ) (xs : List W) → drop m (take n xs) ≡ take (n - m) (drop m xs)

@@ -1,5 +1,8 @@
 // Words moved in a column. Each public function is total: where the numbers do not fit the column, nothing changes.
+use crate::layout::ROWS;
 ghost use mathlib.Core.Path.{_≡_};
+ghost use mathlib.Core.Bool.{true};
+ghost use Rattle.tape.specs.Layout.{rows};
 ghost use Prim.Native.Nat.{_+_, _≤_};
 ghost use lib.ListN.{length, getD, set};
 ghost use Rattle.tape.specs.Columns.{copied, moved, spliced, cleared};
@@ -36,6 +39,53 @@ pub fn clear(column: &mut [u64], start: usize, count: usize)
     while i < count {
         column[start + i] = 0;
         i += 1;
+    }
+}
+
+// Whether `count` words from `start` on are all 0.
+fn is_clear(column: &[u64], start: usize, count: usize) -> bool
+    requires { ⌜ start + count ≤ length (now column) ⌝ }
+    ensures { λ r. ⌜ (r ≡ true → cleared (now (column .entry)) start count ≡ now (column .entry)) ⌝ }
+{
+    let mut bits: u64 = 0;
+    let mut i = 0;
+    while i < count {
+        bits = bits | column[start + i];
+        i += 1;
+    }
+    bits == 0
+}
+
+// The words of a block that is looked at before it is made 0.
+const BLOCK: usize = 256;
+
+// A block is made 0. One that is 0 already is only read, which is quicker.
+fn wipe_block(column: &mut [u64], start: usize)
+    ensures { λ _. ⌜ now (column .exit) ≡ cleared (now (column .entry)) start 256 ⌝ }
+{
+    if column.len() < BLOCK {
+        return;
+    }
+    if column.len() - BLOCK < start {
+        return;
+    }
+    if is_clear(column, start, BLOCK) {
+        return;
+    }
+    clear(column, start, BLOCK);
+}
+
+// All rows are made 0.
+pub fn wipe(column: &mut [u64])
+    ensures { λ _. ⌜ now (column .exit) ≡ cleared (now (column .entry)) 0 rows ⌝ }
+{
+    if column.len() < ROWS {
+        return;
+    }
+    let mut at = 0;
+    while at < ROWS {
+        wipe_block(column, at);
+        at += BLOCK;
     }
 }
 

@@ -31,9 +31,9 @@ apply-spec =
     (λ c. sym (length-take-le workWords (c .before .before .before .before .before .before .before .before .before .before .args .names .now) (omega arith)))
     -- checked-requires
     (λ c κs. search needs)
-    -- clear-requires
+    -- wipe-requires
     (λ c κs. search needs)
-    -- clear-requires-2
+    -- wipe-requires-2
     (λ c κs. search needs)
     -- same-length
     (λ c. search needs)
@@ -44,4 +44,4 @@ apply-spec =
     -- returns-3
     (λ c.
     let k = c .before .before .before .before .before .before .before .before .before .before .before .before .before .before .checked in
-    work-done (omega arith) (omega arith) (k .ensures) (k .last .1 .1 .1 .0) (k .kept .1 .1 .1 .0) (c .before .before .before .before .before .before .clear .ensures) (k .last .1 .1 .1 .1 .0) (k .kept .1 .1 .1 .1 .0) (c .before .before .clear2 .ensures)))
+    work-done (omega arith) (omega arith) (k .ensures) (k .last .1 .1 .1 .0) (k .kept .1 .1 .1 .0) (c .before .before .before .before .before .before .wipe .ensures) (k .last .1 .1 .1 .1 .0) (k .kept .1 .1 .1 .1 .0) (c .before .before .wipe2 .ensures)))
