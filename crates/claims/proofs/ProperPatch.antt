@@ -108,7 +108,7 @@ members-proper kind v m p h =
     subst ProperMembers same
     (record { path-characters = string-member (ascii "path") v path p e; from-characters = from-member kind v from p g; value-proper = value-member kind v x p f })
 
-operation-proper : (v : Value.Value) (o : Operation) → Proper v → operation v ≡ ok o → ProperOperation o
+pub operation-proper : (v : Value.Value) (o : Operation) → Proper v → operation v ≡ ok o → ProperOperation o
 unfolding operation operationMembers withPointers
 operation-proper v o p h =
     let (m, e, i) = both-ok (operationMembers v) _ o h in
@@ -151,7 +151,7 @@ unfolding atOp
 at-op op (ok b) a h = let same : b ≡ a = cc in ap ok same
 at-op op (refused n p) a h = cc
 
-proper-first : {object : Bool} {e : Entry} {kids rest : Members} → ProperItems object (tree e kids rest) → Proper (record { label = e .label; kids = kids }) × ProperItems object rest
+pub proper-first : {object : Bool} {e : Entry} {kids rest : Members} → ProperItems object (tree e kids rest) → Proper (record { label = e .label; kids = kids }) × ProperItems object rest
 proper-first (Proper.element n a i p) = (record { allows = a; items = i }, p)
 proper-first (Proper.member n h a i p) = (record { allows = a; items = i }, p)
 

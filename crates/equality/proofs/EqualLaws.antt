@@ -1,17 +1,18 @@
 -- Each way out of `equal`, of whatever values the columns hold in the two rows.
 use Prim.Native.Nat.{ℕ, suc, _+_, _-_, _≤_, _<_}
 use native.Mathlib.Omega.{arith}
-use mathlib.Core.Path.{_≡_, sym, ap, ap₂, _∙_}
+use mathlib.Core.Path.{_≡_, refl, sym, ap, ap₂, _∙_, subst}
 use mathlib.Core.Bool.{Bool, true, false}
 use mathlib.Core.List.{List}
 use lib.ListN.{length, getD}
 use lib.Dec.{eqb, leb}
 use borrow.Author.Tests.{le-leb}
 use Rattle.spec.specs.Bytes.{Bytes}
-use Rattle.spec.specs.Forest.{Forest, none}
+use Rattle.spec.specs.Forest.{Forest, none, from}
 use Rattle.spec.specs.Value as Value
 use Rattle.spec.specs.Value.{Label, isObject, isContainer, depth, depths}
 use Rattle.spec.specs.Equality.{sameLabel, equal}
+use Rattle.claims.specs.Equality.{NoRepeats, Distinct}
 use Rattle.tape.specs.Layout.{arrayKind, objectKind}
 use Rattle.tape.specs.Packing.{kindOf}
 use Rattle.tape.specs.Cell.{Cell}
@@ -27,7 +28,8 @@ use Rattle.equality.specs.Compare.{SameLabelIs, PartnerIs, EqualIs}
 use Rattle.equality.proofs.LabelLaws.{sameLabel-tag}
 use Rattle.equality.proofs.MatchLaws.{equal-agree, agree-end}
 use Rattle.equality.proofs.SiblingLaws.{value-node, value-inside, value-fit, value-labelled, siblings-all}
-use Rattle.equality.proofs.PendingLaws.{agreeing, Pending, pending-end, pending-more, pending-alone, pending-differs, pending-next}
+use Rattle.equality.proofs.PartnerLaws.{agreeing}
+use Rattle.equality.proofs.PendingLaws.{Pending, pending-end, pending-more, pending-alone, pending-differs, pending-next}
 
 depth-container : (v : Value.Value) → isContainer (v .label) ≡ true → depth v ≡ suc (depths (v .kids))
 unfolding depth Value.levels
@@ -55,15 +57,16 @@ module _ {D P : Bytes} {vs ns : List ℕ} {at : ℕ} {c : Cell} {kids : Forest C
 abbrev pub Comparing : Bytes → Bytes → List ℕ → List ℕ → ℕ → ℕ → ℕ → Bool → ℕ → ℕ → ℕ → ℕ → Type 0
 Comparing D P vs ns at other levels o end stop row next =
     (c : Cell) (kids : Forest Cell) (e : Cell) (below : Forest Cell) → NodeHeld D P vs ns at c kids → NodeHeld D P vs ns other e below
-    → depth (meant D P c kids) ≤ levels → Pending D P vs ns o row end next stop (levels - 1) below (equal (meant D P c kids) (meant D P e below))
+    → depth (meant D P c kids) ≤ levels → Distinct (meant D P e below)
+    → Pending D P vs ns o row end next stop (levels - 1) below (equal (meant D P c kids) (meant D P e below))
 
 -- ---- before the loop
 module _ {D P : Bytes} {vs ns : List ℕ} {at other : ℕ} (levels : ℕ) where
   pub equal-outside : (r : Bool) → length vs ≤ at → EqualIs D P vs ns at other levels r
-  equal-outside r h c kids e below x y low = absurd (omega (arith, value-inside x))
+  equal-outside r h c kids e below x y low apart = absurd (omega (arith, value-inside x))
 
   pub equal-outside-other : (r : Bool) → length vs ≤ other → EqualIs D P vs ns at other levels r
-  equal-outside-other r h c kids e below x y low = absurd (omega (arith, value-inside y))
+  equal-outside-other r h c kids e below x y low apart = absurd (omega (arith, value-inside y))
 
   module _ (same : Bool) (said : SameLabelIs D P (getD vs at 0) (getD vs other 0) same) where
     labels : {c e : Cell} {kids below : Forest Cell} → NodeHeld D P vs ns at c kids → NodeHeld D P vs ns other e below
@@ -75,7 +78,7 @@ module _ {D P : Bytes} {vs ns : List ℕ} {at other : ℕ} (levels : ℕ) where
 
     pub equal-labels : same ≡ false → EqualIs D P vs ns at other levels false
     unfolding equal
-    equal-labels f c kids e below x y low = rw (← (labels x y), f)
+    equal-labels f c kids e below x y low apart = rw (← (labels x y), f)
 
     module _ (alike : same ≡ true) where
       agreed : {c e : Cell} {kids below : Forest Cell} → NodeHeld D P vs ns at c kids → NodeHeld D P vs ns other e below
@@ -91,9 +94,13 @@ module _ {D P : Bytes} {vs ns : List ℕ} {at other : ℕ} (levels : ℕ) where
             let tag-e = tag-label D P (e .kind) (e .payload) (value-fit y .kind) in
             sym tag-e ∙ sym tags ∙ tag-c ∙ kind-is x k told
 
+        object-other : {c e : Cell} {kids below : Forest Cell} → NodeHeld D P vs ns at c kids → NodeHeld D P vs ns other e below
+            → isObject (labelled D P e) ≡ eqb k objectKind
+        object-other {e = e} x y = isObject-label D P (e .kind) (e .payload) (value-fit y .kind) ∙ ap (λ j. eqb j objectKind) (kind-other x y)
+
         pub equal-scalar : k < arrayKind → EqualIs D P vs ns at other levels true
         unfolding mapForest
-        equal-scalar h c kids e below x y low =
+        equal-scalar h c kids e below x y low apart =
             let no-kids : kids ≡ none = value-fit x .scalar (omega (arith, kind-is x k told)) in
             let none-below : below ≡ none = value-fit y .scalar (omega (arith, kind-other x y)) in
             let o = isObject (labelled D P c) in
@@ -101,17 +108,21 @@ module _ {D P : Bytes} {vs ns : List ℕ} {at other : ℕ} (levels : ℕ) where
 
         module _ (container : arrayKind ≤ k) where
           pub equal-flat : (r : Bool) → levels ≡ 0 → EqualIs D P vs ns at other levels r
-          equal-flat r z c kids e below x y low = absurd (omega (arith, depth-is x k told container))
+          equal-flat r z c kids e below x y low apart = absurd (omega (arith, depth-is x k told container))
 
           -- all children are left
           pub comparing-all : (end stop : ℕ) → end ≡ endOf vs at → stop ≡ endOf vs other
               → Comparing D P vs ns at other levels (eqb k objectKind) end stop (at + 1) (other + 1)
-          comparing-all end stop ends stops c kids e below x y low =
+          unfolding from
+          comparing-all end stop ends stops c kids e below x y low apart =
               record {
                 rest = kids;
                 beside = below;
                 first = siblings-all end ends x;
                 second = siblings-all stop stops y;
+                distinct = subst (λ b. NoRepeats b (members D P below)) (object-other x y) apart;
+                passed = 0;
+                left = refl;
                 shallow = omega (arith, depth-is x k told container);
                 same = agreed x y ∙ ap (λ o. agreeing D P o below kids below) (object-is x k told);
               }
@@ -120,23 +131,23 @@ module _ {D P : Bytes} {vs ns : List ℕ} {at other : ℕ} (levels : ℕ) where
 module _ {D P : Bytes} {vs ns : List ℕ} {at other : ℕ} (levels : ℕ) (o : Bool) (end stop row next : ℕ)
     (comparing : Comparing D P vs ns at other levels o end stop row next) where
   pub equal-end : end ≤ row → EqualIs D P vs ns at other levels (leb stop next)
-  equal-end h c kids e below x y low = sym (pending-end (comparing c kids e below x y low) h)
+  equal-end h c kids e below x y low apart = sym (pending-end (comparing c kids e below x y low apart) h)
 
   module _ (more : row < end) where
     pub equal-more : stop ≤ next → EqualIs D P vs ns at other levels false
-    equal-more h c kids e below x y low = sym (pending-more (comparing c kids e below x y low) more h)
+    equal-more h c kids e below x y low apart = sym (pending-more (comparing c kids e below x y low apart) more h)
 
-    module _ (others : next < stop) (stops : stop ≡ endOf vs other) (q : Member) (t : PartnerIs D P vs ns o (other + 1) stop row next q) where
+    module _ (others : next < stop) (stops : stop ≡ endOf vs other) (q : Member) (t : PartnerIs D P vs ns (other + 1) stop row next o q) where
       pub equal-alone : q ≡ Missing → EqualIs D P vs ns at other levels false
-      equal-alone f c kids e below x y low =
-          sym (pending-alone (comparing c kids e below x y low) more others (siblings-all stop stops y) q t f)
+      equal-alone f c kids e below x y low apart =
+          sym (pending-alone (comparing c kids e below x y low apart) more others (siblings-all stop stops y) q t f)
 
       module _ (pair : ℕ) (is : q ≡ At pair) (r : Bool) (compared : EqualIs D P vs ns row pair (levels - 1) r) where
         pub equal-differs : r ≡ false → EqualIs D P vs ns at other levels false
-        equal-differs f c kids e below x y low =
-            sym (pending-differs (comparing c kids e below x y low) more others (siblings-all stop stops y) q t pair is r compared f)
+        equal-differs f c kids e below x y low apart =
+            sym (pending-differs (comparing c kids e below x y low apart) more others (siblings-all stop stops y) q t pair is r compared f)
 
         pub comparing-next : r ≡ true → (row' next' : ℕ) → row' ≡ endOf vs row → next' ≡ endOf vs next
             → Comparing D P vs ns at other levels o end stop row' next'
-        comparing-next f row' next' m n c kids e below x y low =
-            pending-next (comparing c kids e below x y low) more others (siblings-all stop stops y) q t pair is r compared f row' next' m n
+        comparing-next f row' next' m n c kids e below x y low apart =
+            pending-next (comparing c kids e below x y low apart) more others (siblings-all stop stops y) q t pair is r compared f row' next' m n

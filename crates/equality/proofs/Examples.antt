@@ -12,8 +12,9 @@ use Rattle.spec.specs.Numbers.{isDigit, isE}
 use Rattle.spec.specs.Worth.{mantissa, fractionDigits, decimal, signedExponent, exponent, dropZeros, trimmed, isNegative, power, worth}
 use Rattle.spec.specs.Forest.{Forest, none, tree, count, size}
 use Rattle.spec.specs.Write.{utf8, writeCharacter, writeCharacters}
-use Rattle.spec.specs.Value.{tag, isNumber, isObject, isContainer, content, levels, depths, depth, sameText}
+use Rattle.spec.specs.Value.{tag, isNumber, isObject, isContainer, content, levels, depths, depth, sameText, find}
 use Rattle.spec.specs.Equality.{sameBool, sameInteger, sameWorth, sameLabel, partner, matches, equal}
+use Rattle.claims.specs.Equality.{Distinct, empty, member}
 use Rattle.lexer.specs.Hash.{mix, hashFrom, hash}
 use Rattle.text.specs.Decode.{characterIn, decodeLoop, decodeFrom, textFrom, textOf}
 use Rattle.text.specs.Decode as Decode
@@ -152,5 +153,9 @@ two-deep : depth (meant document patch object first) ≡ 2
 unfolding compute mapForest labelOf tag isContainer levels depths depth
 two-deep = refl
 
+two-names : Distinct (meant document patch object second)
+unfolding compute mapForest labelOf tag isObject count sameText find
+two-names = member refl empty (member refl empty empty)
+
 pub equal-example : (r : Bool) → EqualIs document patch values names 0 3 2 r → r ≡ true
-equal-example r told = told object first object second first-value second-value (omega (arith, two-deep)) ∙ are-equal
+equal-example r told = told object first object second first-value second-value (omega (arith, two-deep)) two-names ∙ are-equal

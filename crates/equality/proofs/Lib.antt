@@ -2,6 +2,7 @@
 pub mod LabelLaws
 pub mod MatchLaws
 pub mod SiblingLaws
+pub mod PartnerLaws
 pub mod PendingLaws
 pub mod EqualLaws
 pub mod Examples

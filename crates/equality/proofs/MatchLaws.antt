@@ -1,6 +1,7 @@
 -- Laws of the definitions' comparison: two containers of one kind, tree by tree.
-use Prim.Native.Nat.{suc}
-use mathlib.Core.Path.{_≡_, refl}
+use Prim.Native.Nat.{ℕ, zero, suc}
+use native.Mathlib.Omega.{arith}
+use mathlib.Core.Path.{_≡_, refl, sym, subst}
 use mathlib.Core.Bool.{Bool, true, false, _&&_, and-assoc, and-false}
 use lib.Dec.{eqb, eqb·zero-suc, eqb·suc-zero, eqb·suc-suc}
 use Rattle.spec.specs.Outcome.{if_then_else_}
@@ -9,6 +10,9 @@ use Rattle.spec.specs.Forest.{none, tree, count, from}
 use Rattle.spec.specs.Value as Value
 use Rattle.spec.specs.Value.{Entry, Members, find, sameText, isObject}
 use Rattle.spec.specs.Equality.{sameLabel, partner, matches, equal}
+use Rattle.spec.proofs.TextLaws.{sameText-refl}
+use Rattle.claims.specs.Equality.{NoRepeats, empty, element, member}
+use Rattle.claims.proofs.Found.{sameText-apart, found, found-absent}
 
 -- the value that a tree is
 abbrev pub valueOf : Entry → Members → Value.Value
@@ -24,6 +28,28 @@ partner-find n (tree e kids rest) = go (sameText (e .name) n) (partner-find n re
         → (if t then tree e kids rest else partner true n rest) ≡ from (if t then 0 else suc (find n rest)) (tree e kids rest)
     go true ih = refl
     go false ih = ih
+
+-- ---- a tree among others where no name is repeated: no name is repeated in it, and of a member's name there is no member before it
+first-inside : {o : Bool} {e : Entry} {kids rest : Members} → NoRepeats o (tree e kids rest) → NoRepeats (isObject (e .label)) kids
+first-inside (element i r) = i
+first-inside (member a i r) = i
+
+module _ {e : Entry} {kids rest : Members} where
+  pub inside : {o : Bool} {g : Members} (k : ℕ) → NoRepeats o g → from k g ≡ tree e kids rest → NoRepeats (isObject (e .label)) kids
+  unfolding from
+  inside {o} zero r h = first-inside (subst (NoRepeats o) h r)
+  inside (suc k) empty h = absurd (let z : _≡_ {A = ℕ} 0 1 = cc in omega arith)
+  inside (suc k) (element i r) h = inside k r h
+  inside (suc k) (member a i r) h = inside k r h
+
+  pub partner-there : {g : Members} (k : ℕ) → NoRepeats true g → from k g ≡ tree e kids rest → partner true (e .name) g ≡ tree e kids rest
+  unfolding from partner
+  partner-there zero r h = subst (λ g. partner true (e .name) g ≡ tree e kids rest) (sym h) (rw (sameText-refl (e .name)))
+  partner-there (suc k) empty h = absurd (let z : _≡_ {A = ℕ} 0 1 = cc in omega arith)
+  partner-there (suc k) (member {e = d} {rest = g} a i r) h =
+      let there = partner-there k r h in
+      let apart : d .name ≡ e .name → ⊥ = λ same. found-absent (found (e .name) g e kids rest there) (rw same at a) in
+      rw (sameText-apart (d .name) (e .name) apart) there
 
 -- ---- one tree against its partner
 module _ (e : Entry) (kids f : Members) where

@@ -1,5 +1,5 @@
 -- Two containers in the columns, compared tree by tree: what is left to compare, and what a turn of the loop makes of it.
-use Prim.Native.Nat.{ℕ, _≤_, _<_}
+use Prim.Native.Nat.{ℕ, suc, _≤_, _<_}
 use native.Mathlib.Omega.{arith}
 use mathlib.Core.Path.{_≡_, refl, sym, ap, ap₂, _∙_, subst}
 use mathlib.Core.Bool.{Bool, true, false, _&&_}
@@ -7,20 +7,20 @@ use mathlib.Core.List.{List}
 use lib.Dec.{leb}
 use borrow.Author.Tests.{leb-true, leb-false}
 use Rattle.spec.specs.Bytes.{Bytes}
-use Rattle.spec.specs.Forest.{Forest, none, tree}
+use Rattle.spec.specs.Forest.{Forest, none, tree, from}
 use Rattle.spec.specs.Value.{depth, depths}
+use Rattle.claims.specs.Equality.{NoRepeats}
 use Rattle.tape.specs.Cell.{Cell}
 use Rattle.tape.specs.Rows.{endOf}
 use Rattle.tape.specs.Map.{mapForest}
-use Rattle.table.specs.Meaning.{nameText, entryOf, members, meant}
-use Rattle.table.specs.Sound.{NodeHeld}
-use Rattle.table.specs.Find.{Found}
+use Rattle.tape.proofs.Forests.{from-suc}
+use Rattle.table.specs.Meaning.{entryOf, members, meant}
 use Rattle.table.specs.declared.find.Member.{Member}
 use Rattle.table.specs.declared.find.Member.the-variants.{At, Missing}
 use Rattle.equality.specs.Compare.{PartnerIs, EqualIs}
-use Rattle.equality.proofs.MatchLaws.{agree, agree-end, agree-less, agree-more, agree-element, agree-member, agree-alone}
-use Rattle.equality.proofs.SiblingLaws.{Siblings, siblings-none, siblings-first, siblings-value, siblings-name, siblings-hashed, siblings-next}
-use Rattle.equality.proofs.SiblingLaws.{siblings-asked, member-found, member-missing}
+use Rattle.equality.proofs.MatchLaws.{agree-end, agree-less, agree-more}
+use Rattle.equality.proofs.SiblingLaws.{Siblings, siblings-none, siblings-first, siblings-next}
+use Rattle.equality.proofs.PartnerLaws.{agreeing, alone, paired}
 
 module _ (D P : Bytes) (c : Cell) (kids rest : Forest Cell) where
   depth-first : depth (meant D P c kids) ≤ depths (members D P (tree c kids rest))
@@ -31,46 +31,16 @@ module _ (D P : Bytes) (c : Cell) (kids rest : Forest Cell) where
   unfolding depths mapForest
   depth-rest = omega arith
 
--- whether what is left of two containers agrees, as their cells mean it
-abbrev pub agreeing : Bytes → Bytes → Bool → Forest Cell → Forest Cell → Forest Cell → Bool
-agreeing D P object all f g = agree object (members D P all) (members D P f) (members D P g)
-
--- ---- a turn: the first tree that is left of one, and what `partner` answers for it; both have a first tree
-module _ {D P : Bytes} {vs ns : List ℕ} {start row end next stop : ℕ} {all : Forest Cell} (second : Siblings D P vs ns start stop all)
-    {c : Cell} {ks rest : Forest Cell} (x : Siblings D P vs ns row end (tree c ks rest))
-    {d : Cell} {ds after : Forest Cell} (y : Siblings D P vs ns next stop (tree d ds after)) where
-  sought : (q : Member) → PartnerIs D P vs ns true start stop row next q → Found D P start all (nameText D P (c .name)) q
-  sought q t = subst (λ n. Found D P start all (nameText D P n) q) (siblings-name x) (t .named refl all (siblings-asked second) (siblings-hashed x))
-
-  alone : (o : Bool) (q : Member) → PartnerIs D P vs ns o start stop row next q → q ≡ Missing
-      → agreeing D P o all (tree c ks rest) (tree d ds after) ≡ false
-  unfolding mapForest
-  alone true q t e =
-      let no-partner = member-missing second (subst (Found D P start all (nameText D P (c .name))) e (sought q t)) in
-      agree-alone (members D P all) (entryOf D P c) (members D P ks) (members D P rest) (entryOf D P d) (members D P ds) (members D P after) no-partner
-  alone false q t e = absurd (let z : _≡_ {A = ℕ} 0 1 = cc (t .element refl) in omega arith)
-
-  module _ (levels : ℕ) (low : depth (meant D P c ks) ≤ levels) (pair : ℕ) (r : Bool) (compared : EqualIs D P vs ns row pair levels r) where
-    paired : (o : Bool) (q : Member) → PartnerIs D P vs ns o start stop row next q → q ≡ At pair
-        → agreeing D P o all (tree c ks rest) (tree d ds after) ≡ r && agreeing D P o all rest after
-    unfolding mapForest
-    paired true q t e =
-        member-found second (subst (Found D P start all (nameText D P (c .name))) e (sought q t)) λ p ps behind is there.
-        agree-member (members D P all) (entryOf D P c) (members D P ks) (members D P rest) (entryOf D P d) (members D P ds) (members D P after)
-        (entryOf D P p) (members D P ps) (members D P behind) is
-        ∙ ap (λ b. b && agreeing D P true all rest after) (sym (compared c ks p ps (siblings-value x) there low))
-    paired false q t e =
-        let same : next ≡ pair = cc (t .element refl) in
-        let there : NodeHeld D P vs ns pair d ds = subst (λ n. NodeHeld D P vs ns n d ds) same (siblings-value y) in
-        agree-element (members D P all) (entryOf D P c) (members D P ks) (members D P rest) (entryOf D P d) (members D P ds) (members D P after)
-        ∙ ap (λ b. b && agreeing D P false all rest after) (sym (compared c ks d ds (siblings-value x) there low))
-
--- ---- at the head of the loop: the verdict on two containers, the second of which has the trees `all`, is whether what is left agrees
+-- ---- at the head of the loop: the verdict on two containers, the second of which has the trees `all` and repeats no name, is whether what is left
+-- agrees; so many trees of each are passed
 pub record Pending (D P : Bytes) (vs ns : List ℕ) (o : Bool) (row end next stop levels : ℕ) (all : Forest Cell) (verdict : Bool) : Type 0 where
   pub rest : Forest Cell
   pub beside : Forest Cell
   pub first : Siblings D P vs ns row end rest
   pub second : Siblings D P vs ns next stop beside
+  pub distinct : NoRepeats o (members D P all)
+  pub passed : ℕ
+  pub left : from passed all ≡ beside
   pub shallow : depths (members D P rest) ≤ levels
   pub same : verdict ≡ agreeing D P o all rest beside
 
@@ -101,7 +71,7 @@ module _ {D P : Bytes} {vs ns : List ℕ} {o : Bool} {row end next stop levels :
         now-left (tree c ks rest) none is (siblings-none (p .second) h)
         ∙ agree-more o (members D P all) (entryOf D P c) (members D P ks) (members D P rest)
 
-    module _ (others : next < stop) {start : ℕ} (whole : Siblings D P vs ns start stop all) (q : Member) (t : PartnerIs D P vs ns o start stop row next q) where
+    module _ (others : next < stop) {start : ℕ} (whole : Siblings D P vs ns start stop all) (q : Member) (t : PartnerIs D P vs ns start stop row next o q) where
       pub pending-alone : q ≡ Missing → verdict ≡ false
       pending-alone e =
           siblings-first (p .first) more λ c ks rest is x.
@@ -111,7 +81,7 @@ module _ {D P : Bytes} {vs ns : List ℕ} {o : Bool} {row end next stop levels :
       module _ (pair : ℕ) (e : q ≡ At pair) (r : Bool) (compared : EqualIs D P vs ns row pair levels r) where
         step : {C : Type 0}
             → ((c : Cell) (ks rest : Forest Cell) (d : Cell) (ds after : Forest Cell)
-            → Siblings D P vs ns row end (tree c ks rest) → Siblings D P vs ns next stop (tree d ds after)
+            → Siblings D P vs ns row end (tree c ks rest) → Siblings D P vs ns next stop (tree d ds after) → from (p .passed) all ≡ tree d ds after
             → depths (members D P (tree c ks rest)) ≤ levels → verdict ≡ r && agreeing D P o all rest after → C)
             → C
         step then-it =
@@ -119,20 +89,25 @@ module _ {D P : Bytes} {vs ns : List ℕ} {o : Bool} {row end next stop levels :
             siblings-first (p .second) others λ d ds after are y.
             let low : depths (members D P (tree c ks rest)) ≤ levels = subst (λ f. depths (members D P f) ≤ levels) is (p .shallow) in
             let one : depth (meant D P c ks) ≤ levels = omega (arith, depth-first D P c ks rest) in
-            then-it c ks rest d ds after x y low (now-left (tree c ks rest) (tree d ds after) is are ∙ paired whole x y levels one pair r compared o q t e)
+            let here = p .left ∙ are in
+            then-it c ks rest d ds after x y here low
+            (now-left (tree c ks rest) (tree d ds after) is are ∙ paired whole x y levels one pair r compared (p .passed) here o (p .distinct) q t e)
 
         pub pending-differs : r ≡ false → verdict ≡ false
-        pending-differs f = step λ c ks rest d ds after x y low is. is ∙ ap (λ b. b && agreeing D P o all rest after) f
+        pending-differs f = step λ c ks rest d ds after x y here low is. is ∙ ap (λ b. b && agreeing D P o all rest after) f
 
         pub pending-next : r ≡ true → (row' next' : ℕ) → row' ≡ endOf vs row → next' ≡ endOf vs next
             → Pending D P vs ns o row' end next' stop levels all verdict
         pending-next f row' next' m n =
-            step λ c ks rest d ds after x y low is.
+            step λ c ks rest d ds after x y here low is.
             record {
               rest = rest;
               beside = after;
               first = siblings-next x row' m;
               second = siblings-next y next' n;
+              distinct = p .distinct;
+              passed = suc (p .passed);
+              left = from-suc (p .passed) all d ds after here;
               shallow = omega (arith, depth-rest D P c ks rest);
               same = is ∙ ap (λ b. b && agreeing D P o all rest after) f;
             }

@@ -8,12 +8,13 @@ use Rattle.spec.specs.Bytes.{Bytes}
 use Rattle.spec.specs.Forest.{Forest}
 use Rattle.spec.specs.Value.{Label, depth}
 use Rattle.spec.specs.Equality.{sameLabel, equal}
+use Rattle.claims.specs.Equality.{Distinct}
 use Rattle.tape.specs.Layout.{objectKind}
 use Rattle.tape.specs.Packing.{kindOf, payloadOf}
 use Rattle.tape.specs.Cell.{Cell}
 use Rattle.table.specs.Meaning.{labelOf, meant}
 use Rattle.table.specs.Sound.{NumberFits, NodeHeld}
-use Rattle.table.specs.Find.{FindIs}
+use Rattle.table.specs.Find.{SameNameIs, FindIs}
 use Rattle.table.specs.declared.find.Member.{Member}
 use Rattle.table.specs.declared.find.Member.the-variants.{At}
 
@@ -32,14 +33,18 @@ SameLabelIs document patch a b r =
     → r ≡ sameLabel (wordLabel document patch a) (wordLabel document patch b)
 
 -- ---- the child that is compared with the one in a row
-pub record PartnerIs (document patch : Bytes) (values names : List ℕ) (object : Bool) (start end row next : ℕ) (r : Member) : Type 0 where
-  pub named : object ≡ true → FindIs document patch values names start end (getD names row 0) r
-  pub element : object ≡ false → r ≡ At next
+-- in an array the one in the row `next`; in an object that one, where it has the same name, and else the first of that name
+pub data PartnerIs (document patch : Bytes) (values names : List ℕ) (start end row next : ℕ) : Bool → Member → Type 0 where
+  element : PartnerIs document patch values names start end row next false (At next)
+  in-step : SameNameIs document patch (getD names row 0) (getD names next 0) true → PartnerIs document patch values names start end row next true (At next)
+  sought : {r : Member} → FindIs document patch values names start end (getD names row 0) r → PartnerIs document patch values names start end row next true r
 
 -- ---- two values
--- whether the values are equal that the columns hold in two rows, whatever they are, if the first nests at most so many containers
+-- whether the values are equal that the columns hold in two rows, whatever they are, if the first nests at most so many containers and no object
+-- of the second has two members of one name
 abbrev pub EqualIs : Bytes → Bytes → List ℕ → List ℕ → ℕ → ℕ → ℕ → Bool → Type 0
 EqualIs document patch values names at other levels r =
     (c : Cell) (kids : Forest Cell) (e : Cell) (below : Forest Cell)
     → NodeHeld document patch values names at c kids → NodeHeld document patch values names other e below
-    → depth (meant document patch c kids) ≤ levels → r ≡ equal (meant document patch c kids) (meant document patch e below)
+    → depth (meant document patch c kids) ≤ levels → Distinct (meant document patch e below)
+    → r ≡ equal (meant document patch c kids) (meant document patch e below)

@@ -3,6 +3,7 @@
 use decimal::same_number;
 use table::find::Member;
 use table::find::find;
+use table::find::same_name;
 use table::spellings::part;
 use table::spellings::same_spelling;
 use tape::layout::ARRAY;
@@ -34,8 +35,8 @@ pub fn same_label<'a>(document: &'a [u8], patch: &'a [u8], a: u64, b: u64) -> bo
     true
 }
 
-// The row of what the child in `row` is compared with: in an object the member of its name among the rows from `start` up to `end`, in an array
-// what stands in the row `next`.
+// The row of what the child in `row` is compared with: in an array what stands in the row `next`, in an object the member of its name among the
+// rows from `start` up to `end`. That one stands in the row `next` too where both objects have the same order, so it is looked for there first.
 fn partner<'a>(
     values: &[u64],
     names: &[u64],
@@ -47,16 +48,21 @@ fn partner<'a>(
     row: usize,
     next: usize,
 ) -> Member
-    ensures { λ r. ⌜ PartnerIs (now (document .entry)) (now (patch .entry)) (now (values .entry)) (now (names .entry)) object start end row next r ⌝ }
+    ensures { λ r. ⌜ PartnerIs (now (document .entry)) (now (patch .entry)) (now (values .entry)) (now (names .entry)) start end row next object r ⌝ }
 {
-    if object {
-        return find(values, names, document, patch, start, end, load(names, row));
+    if !object {
+        return Member::At(next);
     }
-    Member::At(next)
+    let name = load(names, row);
+    if same_name(document, patch, name, load(names, next)) {
+        return Member::At(next);
+    }
+    find(values, names, document, patch, start, end, name)
 }
 
-// Whether the values in the rows `at` and `other` are equal, of which the first nests at most `levels` containers. The children of both are passed
-// in step, those of an object too: two containers have as many children if both end together.
+// Whether the values in the rows `at` and `other` are equal, of which the first nests at most `levels` containers, and no object of the second has
+// two members of one name. The children of both are passed in step, those of an object too: two containers have as many children if both end
+// together.
 pub fn equal<'a>(
     values: &[u64],
     names: &[u64],

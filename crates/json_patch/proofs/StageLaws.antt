@@ -1,7 +1,7 @@
 -- Laws of the stages of the call, each for one way out of a stage.
 use Prim.Native.Nat.{ℕ, _≤_, _<_}
 use native.Mathlib.Omega.{arith}
-use mathlib.Core.Path.{_≡_, refl, subst, ap, ap₂, _∙_}
+use mathlib.Core.Path.{_≡_, refl, sym, subst, ap, ap₂, _∙_}
 use mathlib.Core.List.{List, _++_}
 use lib.ListN.{length, drop}
 use Rattle.spec.specs.Refusal.{output-too-short}
@@ -15,6 +15,8 @@ use Rattle.spec.specs.Write.{write}
 use Rattle.spec.specs.Read.{read}
 use Rattle.spec.specs.Answer.{fitting, answerOf, patched, onPatch, onDocument}
 use Rattle.spec.proofs.ReadLaws.{read-depth}
+use Rattle.claims.specs.Proper.{Proper}
+use Rattle.claims.proofs.ReadProper.{read-proper}
 use Rattle.lexer.specs.declared.cursor.Cursor.{Cursor}
 use Rattle.tape.specs.Layout.{inDocument, inPatch, documentRow, patchRow}
 use Rattle.walk.specs.Names.{Short}
@@ -61,7 +63,7 @@ module _ {D P : Bytes} {values names : List ℕ} {used : ℕ} {v : Value.Value} 
 -- ---- the operations run
 pub run-told : {D P : Bytes} {vs ns vs' ns' : List ℕ} {used : ℕ} {told : Ran} → RunIs D P vs ns vs' ns' used told → (v p : Value.Value) → Document D P vs ns used v → PatchHeld D P vs ns p → Short D P
     → (os : List Operation.Operation) → shape p ≡ finished os → RanTo D P vs' ns' (run limited 1 os v) told
-run-told runs v p d held short os shaped = runs v d short (held .c) (held .kids) (held .held) (held .inside) os (ap shape (held .means) ∙ shaped)
+run-told runs v p d held short os shaped = runs v d short (held .c) (held .kids) (held .held) (held .inside) (subst Proper (sym (held .means)) (held .proper)) os (ap shape (held .means) ∙ shaped)
 
 module _ {D P : Bytes} {values names : List ℕ} {o : Run Value.Value} {out : Bytes} {r : Answer} where
   pub ran-done : {told : Ran} {used : ℕ} {out' : Bytes} → RanTo D P values names o told → told ≡ Ran.Done used → WriteOutIs D P out out' values names r → Answered (answerOf (length out) o) out out' r
@@ -110,7 +112,8 @@ module _ {D P : Bytes} {vs ns vs' ns' : List ℕ} {used : ℕ} {v : Value.Value}
   patch-read t shortD same titles runs =
       text-value reads t λ p is small rooted changed.
       let kept = document-kept changed (omega (arith, d .long)) (omega (arith, d .titlesLong)) d in
-      rw (patch-as-read ∙ is) (runs v p kept (patch-held D rooted small) (record { document = omega arith; patch = omega arith }))
+      let proper = read-proper P p (patch-as-read ∙ is) .0 in
+      rw (patch-as-read ∙ is) (runs v p kept (patch-held D rooted small proper) (record { document = omega arith; patch = omega arith }))
 
   pub patch-refused : {out : Bytes} {number place : ℕ} {r : Answer} → told ≡ Read.Refused number place → RefusalIs number 2 0 place r → Answered (onPatch (length out) v (read P)) out out r
   unfolding onPatch

@@ -13,6 +13,7 @@ use Rattle.spec.specs.Forest.{Forest, none, tree, size}
 use Rattle.spec.specs.Value as Value
 use Rattle.spec.specs.Value.{depth}
 use Rattle.spec.specs.Read.{read}
+use Rattle.claims.specs.Proper.{Proper}
 use Rattle.lexer.specs.declared.cursor.Cursor.{Cursor}
 use Rattle.tape.specs.Layout.{inDocument, inPatch, documentRow, patchRow, scratchRow, rows}
 use Rattle.tape.specs.Tape.{tape, Holds}
@@ -53,10 +54,11 @@ module _ {source : ℕ} {s : Bytes} {base end : ℕ} {v : Value.Value} {vs ns : 
       record { rest = none; held = tree-read .held; label = all-first sound .label; sound = all-kids sound }
 
 -- the patch
-pub patch-held : (D : Bytes) {P : Bytes} {end : ℕ} {p : Value.Value} {vs ns : List ℕ} → Rooted inPatch P patchRow end p vs ns → end ≤ patchRow + maxNodes → PatchHeld D P vs ns p
+pub patch-held : (D : Bytes) {P : Bytes} {end : ℕ} {p : Value.Value} {vs ns : List ℕ} → Rooted inPatch P patchRow end p vs ns → end ≤ patchRow + maxNodes
+    → Proper p → PatchHeld D P vs ns p
 unfolding sourceText
-patch-held D {P} r short =
-    record { c = r .root; kids = r .kids; held = rooted-node r refl; means = r .means D P refl; inside = omega (arith, r .ends) }
+patch-held D {P} r short proper =
+    record { c = r .root; kids = r .kids; held = rooted-node r refl; means = r .means D P refl; inside = omega (arith, r .ends); proper = proper }
 
 -- the document
 pub document-held : {D : Bytes} (P : Bytes) {end : ℕ} {v : Value.Value} {vs ns : List ℕ} → Rooted inDocument D documentRow end v vs ns → end ≤ documentRow + maxNodes → depth v ≤ maxDepth

@@ -13,6 +13,7 @@ use Rattle.spec.specs.Operation as Operation
 use Rattle.spec.specs.Operation.{limited}
 use Rattle.spec.specs.Patch.{finished, shape, run}
 use Rattle.spec.specs.Answer.{fitting, answerOf, patched, onPatch, onDocument, answer}
+use Rattle.claims.specs.Proper.{Proper}
 use Rattle.tape.specs.Layout.{patchRow, scratchRow}
 use Rattle.tape.specs.Cell.{Cell}
 use Rattle.table.specs.Meaning.{meant}
@@ -22,13 +23,14 @@ use Rattle.operations.specs.Document.{Document}
 use Rattle.json_patch.specs.Call.{Answered, lentOf}
 use Rattle.json_patch.specs.declared.answer.Answer.{Answer}
 
--- the patch is a value: its tree begins in the first row of the patch's part, and ends in it
+-- the patch is a value as texts are read: its tree begins in the first row of the patch's part, and ends in it
 pub record PatchHeld (D P : Bytes) (values names : List ℕ) (p : Value.Value) : Type 0 where
   pub c : Cell
   pub kids : Forest Cell
   pub held : NodeHeld D P values names patchRow c kids
   pub means : meant D P c kids ≡ p
   pub inside : patchRow + size kids < scratchRow
+  pub proper : Proper p
 
 module _ (D P out out' : Bytes) (values names : List ℕ) where
   -- the document written

@@ -1,7 +1,7 @@
 -- Laws of one operation of the patch.
 use Prim.Native.Nat.{ℕ, _≤_}
 use native.Mathlib.Omega.{arith}
-use mathlib.Core.Path.{_≡_, refl, ap, sym, _∙_}
+use mathlib.Core.Path.{_≡_, refl, ap, sym, _∙_, subst}
 use mathlib.Core.Bool.{Bool, true, false, true≢false}
 use mathlib.Core.List.{List}
 use Rattle.spec.specs.Outcome.{Outcome, ok, refused, _>>=_, if_then_else_}
@@ -17,6 +17,9 @@ use Rattle.spec.specs.Operation.{addAt, removeAtPath, replaceAtPath, moveTo, co
 use Rattle.spec.specs.Patch.{member, usesValue, usesFrom}
 use Rattle.spec.proofs.OutcomeLaws.{refused≢ok}
 use Rattle.spec.proofs.PlaceLaws.{plant-walk, depth-plant}
+use Rattle.claims.specs.Equality.{Distinct}
+use Rattle.claims.proofs.EqualityRules.{proper-repeats}
+use Rattle.claims.proofs.ProperPatch.{operation-proper}
 use Rattle.text.specs.Decode.{decode}
 use Rattle.tape.specs.Layout.{documentRow, patchRow}
 use Rattle.tape.specs.Cell.{Cell}
@@ -56,25 +59,25 @@ depth-walk ts v w e = omega (arith, depth-plant ts v w e w, ap depth (plant-walk
 module _ {D P : Bytes} {values names : List ℕ} {path : ℕ} {s : Child} (walked : WalkIs D P values names documentRow path s) where
   pub test-lost : {used value : ℕ} (number : ℕ) → s ≡ Child.Refused number → TestIs D P values names used path value (Refused number)
   unfolding testAt _>>=_
-  test-lost number e v d short ts p x kids held = failed {number = number} (rw (no-value s walked d short p e))
+  test-lost number e v d short ts p x kids held distinct = failed {number = number} (rw (no-value s walked d short p e))
 
   module _ (at : ℕ) (e : s ≡ Child.At at) {value : ℕ} {same : Bool} (compared : EqualIs D P values names at value maxDepth same) where
     test-found : {used : ℕ} {v : Value.Value} → Document D P values names used v → Short D P → (ts : Tokens) → PathIs D P path ts
-        → (x : Cell) (kids : Forest Cell) → NodeHeld D P values names value x kids
+        → (x : Cell) (kids : Forest Cell) → NodeHeld D P values names value x kids → Distinct (meant D P x kids)
         → testAt ts (meant D P x kids) v ≡ (if same then ok v else refused test-differs 0)
     unfolding testAt _>>=_
-    test-found {v = v} d short ts p x kids held =
+    test-found {v = v} d short ts p x kids held distinct =
         the-value s walked d short p e λ c below f n inside.
         let shallow : depth (meant D P c below) ≤ maxDepth = omega (arith, depth-walk ts v (meant D P c below) f, d .shallow) in
-        rw (f, ← compared c below x kids n held shallow)
+        rw (f, ← compared c below x kids n held shallow distinct)
 
     pub test-equal : {used : ℕ} → same ≡ true → TestIs D P values names used path value (Done used)
-    test-equal is v d short ts p x kids held =
-        performed {w = v} (rw (test-found d short ts p x kids held, is) (document-fits d)) d patch-same patch-same
+    test-equal is v d short ts p x kids held distinct =
+        performed {w = v} (rw (test-found d short ts p x kids held distinct, is) (document-fits d)) d patch-same patch-same
 
     pub test-unequal : {used : ℕ} → same ≡ false → TestIs D P values names used path value (Refused test-differs)
     unfolding _>>=_
-    test-unequal is v d short ts p x kids held = failed {number = test-differs} (rw (test-found d short ts p x kids held, is))
+    test-unequal is v d short ts p x kids held distinct = failed {number = test-differs} (rw (test-found d short ts p x kids held distinct, is))
 
 -- ---- an operation by its kind
 -- each kind is its own function, judged
@@ -119,24 +122,24 @@ unused q e known uses = true≢false (sym uses ∙ asked q known refl e)
 module _ {D P : Bytes} {values names values' names' : List ℕ} {used path value : ℕ} {r : Altered} {kind : Kind} where
   pub with-add : kindOutcome kind ≡ ok Operation.add → ChangeAtIs D P values names values' names' used path (Add value) r
       → WithValueIs D P values names values' names' used kind path value r
-  with-add e is v d short o known p uses x kids offered means =
+  with-add e is v d short o known p uses x kids offered means distinct =
       same-performed (add-is o v (the-kind Operation.add e known) ∙ ap (λ w. judged (addAt (o .path) w v)) (sym means))
       (performed-change (is v d short (o .path) p (λ ts v. addAt ts (meant D P x kids) v) (adds-at value x kids offered)))
 
   pub with-replace : kindOutcome kind ≡ ok Operation.replace → ChangeAtIs D P values names values' names' used path (Replace value) r
       → WithValueIs D P values names values' names' used kind path value r
-  with-replace e is v d short o known p uses x kids offered means =
+  with-replace e is v d short o known p uses x kids offered means distinct =
       same-performed (replace-is o v (the-kind Operation.replace e known) ∙ ap (λ w. judged (replaceAtPath (o .path) w v)) (sym means))
       (performed-change (is v d short (o .path) p (λ ts v. replaceAtPath ts (meant D P x kids) v) (replaces-at value x kids offered)))
 
   pub with-no-value : asks usesValue kind ≡ false → WithValueIs D P values names values' names' used kind path value r
-  with-no-value e v d short o known p uses x kids offered means = absurd (unused usesValue e known uses)
+  with-no-value e v d short o known p uses x kids offered means distinct = absurd (unused usesValue e known uses)
 
 pub with-test : {D P : Bytes} {values names : List ℕ} {used path value : ℕ} {r : Altered} {kind : Kind} → kindOutcome kind ≡ ok Operation.test
     → TestIs D P values names used path value r → WithValueIs D P values names values names used kind path value r
-with-test e is v d short o known p uses x kids offered means =
+with-test e is v d short o known p uses x kids offered means distinct =
     same-performed (test-is o v (the-kind Operation.test e known) ∙ ap (λ w. judged (testAt (o .path) w v)) (sym means))
-    (is v d short (o .path) p x kids (offered .held))
+    (is v d short (o .path) p x kids (offered .held) (subst Distinct (sym means) distinct))
 
 -- ---- with `from`
 module _ {D P : Bytes} {values names values' names' : List ℕ} {used from path : ℕ} {r : Altered} {kind : Kind} where
@@ -194,7 +197,7 @@ module _ {D P : Bytes} {values names values' names' : List ℕ} {used row path :
         let (x, kids, offered, is) = member-offered e (l .behind) (sought (l .c) (l .kids) (l .held)) in
         let value-is = told _ o (l .is) .value used-here in
         let same : meant D P x kids ≡ o .value = cc in
-        with v d short o known p used-here x kids offered same
+        with v d short o known p used-here x kids offered same (proper-repeats (operation-proper _ o (l .proper) (l .is) .value-proper .items))
 
   module _ {a : Bool} {s : Spelled} (is-asked : a ≡ asks usesFrom kind) (uses : a ≡ true) (string : StringIs D P values names row (ascii "from") s) where
     pub from-missing : s ≡ Spelled.Not → OfKindIs D P values names values' names' used row kind path r

@@ -16,6 +16,8 @@ use Rattle.spec.specs.Value.{isArray}
 use Rattle.spec.specs.Operation as Operation
 use Rattle.spec.specs.Operation.{limited}
 use Rattle.spec.specs.Patch.{Run, finished, stopped, atOp, onFinish, operation, operations, shape, run}
+use Rattle.claims.specs.Proper.{ProperItems}
+use Rattle.claims.proofs.ProperPatch.{proper-first}
 use Rattle.tape.specs.Layout.{patchRow, scratchRow}
 use Rattle.tape.specs.Cell.{Cell}
 use Rattle.tape.specs.Rows.{endOf}
@@ -86,18 +88,21 @@ pub record Going (D P : Bytes) (values names : List ℕ) (used row end op : ℕ)
   pub behind : patchRow ≤ row
   pub before : end ≤ scratchRow
   pub short : Short D P
+  pub object : Bool
+  pub proper : ProperItems object (members D P left)
   pub os : List Operation.Operation
   pub are : operations (op + 1) (members D P left) ≡ finished os
   pub gives : run limited (op + 1) os now ≡ whole
 
 -- the first of the elements that are left is an operation
-record First (D P : Bytes) (values names : List ℕ) (row end op : ℕ) (os : List Operation.Operation) : Type 0 where
+record First (D P : Bytes) (values names : List ℕ) (row end op : ℕ) (object : Bool) (os : List Operation.Operation) : Type 0 where
   pub c : Cell
   pub kids : Forest Cell
   pub rest : Forest Cell
   pub rows : RowsHeld D P values names row end (tree c kids rest)
   pub o : Operation.Operation
   pub listed : Listed D P values names row o
+  pub proper : ProperItems object (members D P rest)
   pub later : List Operation.Operation
   pub are : operations (op + 1 + 1) (members D P rest) ≡ finished later
   pub whole : os ≡ o ∷ later
@@ -115,25 +120,27 @@ module _ {D P : Bytes} {values names : List ℕ} {used row end op : ℕ} {whole 
     going-inside : {C : Type 0} → length values ≤ row → C
     going-inside h = rows-first (g .rows) more (λ c kids rest e r. no-node (held-node (r .held)) h)
 
-    going-first : First D P values names row end op (g .os)
-    unfolding size
+    going-first : First D P values names row end op (g .object) (g .os)
+    unfolding size mapForest
     going-first =
         rows-first (g .rows) more
         (λ c kids rest e r.
         let b = first-operation D P (op + 1) c kids rest (g .os) (subst (λ f. operations (op + 1) (members D P f) ≡ finished (g .os)) e (g .are)) in
+        let proper = proper-first (subst (λ f. ProperItems (g .object) (members D P f)) e (g .proper)) in
         record {
           c = c;
           kids = kids;
           rest = rest;
           rows = r;
           o = b .o;
-          listed = record { c = c; kids = kids; held = first-node r; behind = g .behind; before = omega (arith, r .ends, g .before); is = b .is };
+          listed = record { c = c; kids = kids; held = first-node r; proper = proper .0; behind = g .behind; before = omega (arith, r .ends, g .before); is = b .is };
+          proper = proper .1;
           later = b .later;
           are = b .are;
           whole = b .whole;
         })
 
-  module _ (first : First D P values names row end op (g .os)) {values' names' : List ℕ} where
+  module _ (first : First D P values names row end op (g .object) (g .os)) {values' names' : List ℕ} where
     -- it is performed
     going-performs : {r s : Altered} → PerformIs D P values names values' names' used row r → r ≡ s → Performed D P values names values' names' (limited (first .o) (g .now)) s
     going-performs is e = subst (Performed D P values names values' names' (limited (first .o) (g .now))) e (is (g .now) (g .document) (g .short) (first .o) (first .listed))
@@ -156,6 +163,8 @@ module _ {D P : Bytes} {values names : List ℕ} {used row end op : ℕ} {whole 
           behind = omega (arith, at ∙ end-here (held-node (kept .held)), g .behind);
           before = g .before;
           short = g .short;
+          object = g .object;
+          proper = first .proper;
           os = first .later;
           are = first .are;
           gives = sym (run-ok (op + 1) (first .o) (first .later) (g .now) e) ∙ ap (λ os. run limited (op + 1) os (g .now)) (sym (first .whole)) ∙ g .gives;
@@ -166,35 +175,35 @@ module _ {D P : Bytes} {values names : List ℕ} {used row end op : ℕ} {whole 
 abbrev pub ForRun : Bytes → Bytes → List ℕ → List ℕ → ℕ → ℕ → ℕ → (Run Value.Value → Type 0) → Type 0
 ForRun D P values names used start end Q =
     (v : Value.Value) → Document D P values names used v → Short D P → (f : Forest Cell) → RowsHeld D P values names start end f → patchRow ≤ start → end ≤ scratchRow
-    → (os : List Operation.Operation) → operations 1 (members D P f) ≡ finished os → Q (run limited 1 os v)
+    → (object : Bool) → ProperItems object (members D P f) → (os : List Operation.Operation) → operations 1 (members D P f) ≡ finished os → Q (run limited 1 os v)
 
 -- `op` of them are passed
 abbrev pub GoingAny : Bytes → Bytes → List ℕ → List ℕ → ℕ → ℕ → ℕ → List ℕ → List ℕ → ℕ → ℕ → ℕ → Type 0
 GoingAny D P values₀ names₀ used₀ start end values names used row op = ForRun D P values₀ names₀ used₀ start end (Going D P values names used row end op)
 
 pub going-all : (D P : Bytes) (values names : List ℕ) (used start end : ℕ) → GoingAny D P values names used start end values names used start 0
-going-all D P values names used start end v document short f rows behind before os are =
-    record { now = v; document = document; left = f; rows = rows; behind = behind; before = before; short = short; os = os; are = are; gives = refl }
+going-all D P values names used start end v document short f rows behind before object proper os are =
+    record { now = v; document = document; left = f; rows = rows; behind = behind; before = before; short = short; object = object; proper = proper; os = os; are = are; gives = refl }
 
 module _ {D P : Bytes} {values₀ names₀ values names : List ℕ} {used₀ start end used row op : ℕ} (any : GoingAny D P values₀ names₀ used₀ start end values names used row op) where
   pub run-ends : end ≤ row → ElementsRunIs D P values₀ names₀ values names used₀ start end (Ran.Done used)
-  run-ends h v document short f rows behind before os are = going-none (any v document short f rows behind before os are) h
+  run-ends h v document short f rows behind before object proper os are = going-none (any v document short f rows behind before object proper os are) h
 
   module _ (more : row < end) where
     pub run-inside : length values ≤ row → {values' names' : List ℕ} {r : Ran} → ElementsRunIs D P values₀ names₀ values' names' used₀ start end r
-    run-inside h v document short f rows behind before os are = going-inside (any v document short f rows behind before os are) more h
+    run-inside h v document short f rows behind before object proper os are = going-inside (any v document short f rows behind before object proper os are) more h
 
     module _ {values' names' : List ℕ} {r : Altered} (is : PerformIs D P values names values' names' used row r) where
       pub run-halts : {number : ℕ} → r ≡ Altered.Refused number → ElementsRunIs D P values₀ names₀ values' names' used₀ start end (Ran.Refused number (op + 1))
-      run-halts e v document short f rows behind before os are =
-          let g = any v document short f rows behind before os are in
+      run-halts e v document short f rows behind before object proper os are =
+          let g = any v document short f rows behind before object proper os are in
           let first = going-first g more in
           going-refused g first (going-performs g first is e)
 
       pub run-next : {used' : ℕ} → r ≡ Altered.Done used' → (next : ℕ) → next ≡ endOf values' row
           → GoingAny D P values₀ names₀ used₀ start end values' names' used' next (op + 1)
-      run-next e next at v document short f rows behind before os are =
-          let g = any v document short f rows behind before os are in
+      run-next e next at v document short f rows behind before object proper os are =
+          let g = any v document short f rows behind before object proper os are in
           let first = going-first g more in
           going-done g first next at (going-performs g first is e)
 
@@ -212,6 +221,6 @@ shape-operations v os e = right-shape (isArray (v .label)) (leb (count (v .kids)
 
 pub run-patch : {D P : Bytes} {values names values' names' : List ℕ} {used : ℕ} {r : Ran} (end : ℕ) → end ≡ endOf values patchRow
     → ElementsRunIs D P values names values' names' used (patchRow + 1) end r → RunIs D P values names values' names' used r
-run-patch {D} {P} end e is v document short c kids node before os right =
+run-patch {D} {P} end e is v document short c kids node before proper os right =
     let rows = rows-children end e node in
-    is v document short kids rows (omega arith) (omega (arith, rows .ends)) os (shape-operations (meant D P c kids) os right)
+    is v document short kids rows (omega arith) (omega (arith, rows .ends)) _ (proper .items) os (shape-operations (meant D P c kids) os right)

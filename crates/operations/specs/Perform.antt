@@ -14,6 +14,8 @@ use Rattle.spec.specs.Operation as Operation
 use Rattle.spec.specs.Operation.{addAt, removeAtPath, moveTo, copyTo, testAt, limited}
 use Rattle.spec.specs.Patch as Patch
 use Rattle.spec.specs.Patch.{operation}
+use Rattle.claims.specs.Proper.{Proper}
+use Rattle.claims.specs.Equality.{Distinct}
 use Rattle.tape.specs.Layout.{patchRow, scratchRow}
 use Rattle.tape.specs.Packing.{spanOf}
 use Rattle.tape.specs.Columns.{moved}
@@ -71,18 +73,19 @@ module _ (D P : Bytes) (values names values' names' : List ℕ) (used : ℕ) whe
       → (x : Cell) (kids : Forest Cell) → Offered D P values names scratchRow x kids
       → Performed D P values names values' names' (judged (removeAtPath (g ∷ gs) v >>= addAt ts (meant D P x kids))) r
 
--- ---- a test, with a value of the patch
+-- ---- a test, with a value of the patch, no object of which has two members of one name
 abbrev pub TestIs : Bytes → Bytes → List ℕ → List ℕ → ℕ → ℕ → ℕ → Altered → Type 0
 TestIs D P values names used path value r =
     (v : Value.Value) → Document D P values names used v → Short D P → (ts : Tokens) → PathIs D P path ts → (x : Cell) (kids : Forest Cell) → NodeHeld D P values names value x kids
-    → Performed D P values names values names (judged (testAt ts (meant D P x kids) v)) r
+    → Distinct (meant D P x kids) → Performed D P values names values names (judged (testAt ts (meant D P x kids) v)) r
 
 -- ---- an operation of the patch
--- the operation that the element in a row of the patch is
+-- the operation that the element in a row of the patch is, a value as texts are read
 pub record Listed (D P : Bytes) (values names : List ℕ) (row : ℕ) (o : Operation.Operation) : Type 0 where
   pub c : Cell
   pub kids : Forest Cell
   pub held : NodeHeld D P values names row c kids
+  pub proper : Proper (meant D P c kids)
   pub behind : patchRow ≤ row
   pub before : row + size kids < scratchRow
   pub is : operation (meant D P c kids) ≡ ok o
@@ -93,7 +96,7 @@ module _ (D P : Bytes) (values names values' names' : List ℕ) (used : ℕ) whe
   WithValueIs kind path value r =
       (v : Value.Value) → Document D P values names used v → Short D P → (o : Operation.Operation) → Knows kind (o .kind) → PathIs D P path (o .path)
       → Patch.usesValue (o .kind) ≡ true → (x : Cell) (kids : Forest Cell) → Offered D P values names value x kids → meant D P x kids ≡ o .value
-      → Performed D P values names values' names' (limited o v) r
+      → Distinct (o .value) → Performed D P values names values' names' (limited o v) r
 
   -- given its kind, its path and its from
   abbrev pub WithFromIs : Kind → ℕ → ℕ → Altered → Type 0

@@ -1,7 +1,6 @@
--- `partner` meets its contract, by the one test.
-use mathlib.Core.Path.{refl, sym, _∙_}
-use mathlib.Core.Bool.{true≢false}
+-- `partner` meets its contract, by its two tests.
 use borrow.Author.Needs.{needs}
+use Rattle.equality.proofs.PartnerLaws.{partner-element, partner-in-step, partner-sought}
 use Rattle.equality.proofs.partner.Statement.{statement}
 use Rattle.equality.proofs.partner.Tie as tie
 
@@ -9,15 +8,21 @@ pub partner-spec : {M : Type 1} → statement M
 partner-spec =
     tie.close
     (tie.spec
+    -- returns
+    (λ c. partner-element (c .if1 .taken))
     -- load-requires
     (λ c κs. search needs)
+    -- load-requires-2
+    (λ c κs. search needs)
+    -- same-name-requires
+    (λ c κs. search needs)
+    -- returns-2
+    (λ c.
+    let l = c .before .before .before in
+    partner-in-step (l .before .if1 .left) (l .load .ensures) (c .before .before .load2 .ensures) (c .before .same-name .ensures) (c .if2 .taken))
     -- find-requires
     (λ c κs. search needs)
-    -- returns
+    -- returns-3
     (λ c.
-    record {
-      named = λ _. rw (c .before .load .ensures) at (c .find .ensures .0);
-      element = λ e. absurd (true≢false (sym (c .before .before .if1 .taken) ∙ e));
-    })
-    -- returns-2
-    (λ c. record { named = λ e. absurd (true≢false (sym e ∙ c .if1 .left)); element = λ _. refl }))
+    let l = c .before .before .before .before in
+    partner-sought (l .before .if1 .left) (l .load .ensures) (c .find .ensures .0)))
