@@ -154,6 +154,12 @@ fn the_answers_fields_are_those_of_the_call() {
         .map(|field| typed(field).0)
         .collect();
     assert_eq!(of_call, fields);
+    let export = file("crates/json_patch/src/exports.rt");
+    let laid_down: Vec<&str> = items(between(&export, "*answer = [", "]"))
+        .into_iter()
+        .map(|item| between(item, "r.", " as u64"))
+        .collect();
+    assert_eq!(laid_down, fields);
 }
 
 /// A name with capitals or hyphens inside, as a constant.
