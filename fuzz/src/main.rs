@@ -83,7 +83,10 @@ fn run(options: &Options) -> io::Result<u64> {
         for file in &options.files {
             found.extend(cases_of(file)?);
         }
-        return Ok(judge_all("cases of files", options, found.len() as u64, |i| pick(&found, i)));
+        let count = found.len() as u64;
+        let differences = judge_all("cases of files", options, count, |i| pick(&found, i));
+        println!("{differences} differences");
+        return Ok(differences);
     }
     let pool = committed()?;
     let mut differences =
