@@ -4,8 +4,9 @@ Usage: growth.py DRIVER PICTURE.svg   (see run.sh)
 
 Each shape is measured at eight sizes up to what the limits allow; the processor
 time a call is the least of several runs.  Where cost is linear the points lie on
-the line from the origin to the last one.  The printed table has the time at full
-size and the growth from half of it: 2 is linear, 4 quadratic.
+the dashed line from the first to the last.  The printed table has the time at
+full size and the growth from half of it: 2 is linear, 4 quadratic, and less than
+2 means that a fixed part counts.
 """
 import itertools
 import json
@@ -83,6 +84,11 @@ def flat_operations(n):
 def flat_members(n):
     """The same number of operations, the object growing."""
     return text(members(n)), text([operation("replace", "/m%04d" % (n - 1 - i), value=1) for i in range(128)])
+
+
+def crowded_operations(n):
+    """One operation with n members that are ignored."""
+    return "[]", text([{**members(n), **operation("add", "/-", value=0)}])
 
 
 def deep_paths(n):
@@ -179,17 +185,18 @@ SHAPES = [
     (nested_objects, 60, "towers of 31 objects"),
     (blanks, 32760, "bytes"),
     (long_string, 32760, "bytes"),
-    (wide_string, 3600, "9 bytes"),
+    (wide_string, 3600, "times 9 bytes"),
     (escapes, 5400, "escapes"),
     (surrogates, 2700, "pairs"),
     (appends, 256, "operations"),
     (flat_operations, 256, "operations"),
     (flat_members, 2000, "members"),
+    (crowded_operations, 2000, "members"),
     (deep_paths, 256, "operations"),
     (deep_inserts, 256, "operations"),
     (front_operations, 256, "operations"),
     (front_elements, 1700, "elements"),
-    (moves, 128, "two moves each"),
+    (moves, 128, "pairs of moves"),
     (large_moves, 2000, "elements"),
     (copies, 1000, "elements"),
     (equal_in_step, 2000, "members"),
@@ -220,7 +227,7 @@ def measure(driver, document, patch, folder):
 
 def picture(results):
     """All shapes beside one another, as SVG."""
-    columns, width, height = 5, 210, 165
+    columns, width, height = 4, 230, 165
     rows = -(-len(results) // columns)
     out = ['<svg xmlns="http://www.w3.org/2000/svg" viewBox="0 0 %d %d" font-family="sans-serif" font-size="10">'
            % (columns * width, rows * height), '<rect width="100%" height="100%" fill="white"/>']
@@ -232,9 +239,8 @@ def picture(results):
         def place(size, time):
             return left + w * size / most, top + h - h * time / longest
 
-        end = place(most, points[-1][1])
         out += ['<g stroke="#bbb" fill="none"><path d="M%d %dv%dh%d"/>' % (left, top, h, w),
-                '<path stroke-dasharray="3 3" d="M%d %dL%.1f %.1f"/></g>' % (left, top + h, *end),
+                '<path stroke-dasharray="3 3" d="M%.1f %.1fL%.1f %.1f"/></g>' % (*place(*points[0]), *place(*points[-1])),
                 '<polyline fill="none" stroke="#06c" points="%s"/>' % " ".join("%.1f,%.1f" % place(*p) for p in points)]
         out += ['<circle cx="%.1f" cy="%.1f" r="2" fill="#06c"/>' % place(*p) for p in points]
         out += ['<text x="%d" y="%d" font-weight="bold">%s</text>' % (left - 30, top - 10, name.replace("_", " ")),

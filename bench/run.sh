@@ -86,9 +86,9 @@ profile)
     for name in "$@"; do
         file=$out/callgrind.$name
         valgrind --tool=callgrind --callgrind-out-file="$file" --toggle-collect=json_patch_apply \
-            "$bin/json_patch" "$out/work/$name.doc.json" "$out/work/$name.patch.json" 1 >/dev/null 2>"$file.log" || exit 1
+            "$bin/json_patch" "$out/work/$name.doc.json" "$out/work/$name.patch.json" 0 >/dev/null 2>"$file.log" || exit 1
         echo "== $name"
-        callgrind_annotate "$file" | grep -v '^--\|^ *$' | sed -n '/Ir/,$p' | cut -c1-110 | head -${LINES_SHOWN:-26}
+        callgrind_annotate "$file" | grep '^ *[0-9,]* (' | sed 's/ \[.*//; s/\?\?\?://' | head -${LINES_SHOWN:-20}
     done
     ;;
 growth) python3 "$here/growth.py" "$bin/json_patch" "$root/docs/growth.svg" ;;

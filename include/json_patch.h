@@ -3,7 +3,8 @@
  * One function, proved to answer as the definitions say on every input. It
  * allocates nothing, keeps no state and may be called from several threads at
  * once, each with buffers of its own. Link with target/staticlib/libjson_patch.a
- * (made by `rt staticlib json_patch`); examples/apply.c is a worked example.
+ * (made by `rt staticlib json_patch`), which needs memcpy and memset and nothing
+ * else; examples/apply.c is a worked example.
  *
  * C99, and C++. */
 #ifndef JSON_PATCH_H
