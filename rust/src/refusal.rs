@@ -1,0 +1,148 @@
+//! Refusals.
+
+use core::error::Error;
+use core::fmt;
+
+/// Why a patch was not applied, and where.
+///
+/// It prints as the patch tool's line, with the meaning after it.
+///
+/// ```
+/// # fn main() -> Result<(), Box<dyn std::error::Error>> {
+/// use json_patch::{apply, Kind, Work};
+///
+/// let patch = br#"[{"op":"test","path":"/mAh","value":3001}]"#;
+/// let refusal = apply(br#"{"mAh":3000}"#, patch, &mut [0; 64], &mut Work::new()).unwrap_err();
+/// assert_eq!(refusal.kind(), Some(Kind::TestDiffers));
+/// assert_eq!((refusal.number, refusal.op), (15, 1));
+/// assert_eq!(
+///     refusal.to_string(),
+///     "refused 15 text 0 op 1 place 0: test found a difference"
+/// );
+/// # Ok(())
+/// # }
+/// ```
+#[derive(Clone, Copy, Debug, PartialEq, Eq, Hash)]
+pub struct Refusal {
+    /// The number, from 1 to 16.
+    pub number: u32,
+    /// 1 for the document, 2 for the patch, else 0.
+    pub text: u32,
+    /// The operation, counted from 1, else 0.
+    pub op: usize,
+    /// A byte offset in that text, else 0.
+    pub place: usize,
+}
+
+impl Refusal {
+    /// What the number means; `None` for one that is not in the table, which
+    /// [`apply`](crate::apply) never gives.
+    pub fn kind(&self) -> Option<Kind> {
+        Kind::ALL.into_iter().find(|kind| kind.number() == self.number)
+    }
+}
+
+impl fmt::Display for Refusal {
+    fn fmt(&self, f: &mut fmt::Formatter) -> fmt::Result {
+        let Refusal { number, text, op, place } = self;
+        write!(f, "refused {number} text {text} op {op} place {place}")?;
+        match self.kind() {
+            Some(kind) => write!(f, ": {kind}"),
+            None => Ok(()),
+        }
+    }
+}
+
+impl Error for Refusal {}
+
+/// The refusals, each under the name that it has in the definitions.
+#[derive(Clone, Copy, Debug, PartialEq, Eq, Hash)]
+pub enum Kind {
+    /// A work buffer is shorter than stated.
+    WorkTooShort = 1,
+    /// An input is too long, document first; sets `text`.
+    InputTooLong = 2,
+    /// Not JSON text; sets `text` and `place`.
+    NotJson = 3,
+    /// A member name repeated in one object; sets `text` and `place`.
+    RepeatedName = 4,
+    /// More than 32 nested; sets `text` and `place`, or `op`.
+    TooDeep = 5,
+    /// More than 2,048 nodes; sets `text` and `place`, or `op`.
+    TooManyNodes = 6,
+    /// Number over its limit; sets `text` and `place`.
+    NumberOverLimit = 7,
+    /// Patch not of the right shape; sets `op`.
+    WrongShape = 8,
+    /// More than 256 operations.
+    TooManyOperations = 9,
+    /// Malformed pointer; sets `op`.
+    MalformedPointer = 10,
+    /// Location missing; sets `op`.
+    LocationMissing = 11,
+    /// Token is no array index; sets `op`.
+    NoIndex = 12,
+    /// Remove of the root; sets `op`.
+    RemoveOfRoot = 13,
+    /// Move into its own child; sets `op`.
+    MoveIntoChild = 14,
+    /// Test found a difference; sets `op`.
+    TestDiffers = 15,
+    /// Written text longer than the lent output.
+    OutputTooShort = 16,
+}
+
+impl Kind {
+    /// All of them, in the order of their numbers.
+    pub const ALL: [Kind; 16] = [
+        Kind::WorkTooShort,
+        Kind::InputTooLong,
+        Kind::NotJson,
+        Kind::RepeatedName,
+        Kind::TooDeep,
+        Kind::TooManyNodes,
+        Kind::NumberOverLimit,
+        Kind::WrongShape,
+        Kind::TooManyOperations,
+        Kind::MalformedPointer,
+        Kind::LocationMissing,
+        Kind::NoIndex,
+        Kind::RemoveOfRoot,
+        Kind::MoveIntoChild,
+        Kind::TestDiffers,
+        Kind::OutputTooShort,
+    ];
+
+    /// Its number.
+    pub fn number(self) -> u32 {
+        self as u32
+    }
+
+    /// When it is given, in a few words.
+    pub fn meaning(self) -> &'static str {
+        match self {
+            Kind::WorkTooShort => "a work buffer is shorter than stated",
+            Kind::InputTooLong => "an input is too long",
+            Kind::NotJson => "not JSON text",
+            Kind::RepeatedName => "a member name repeated in one object",
+            Kind::TooDeep => "more than 32 nested",
+            Kind::TooManyNodes => "more than 2,048 nodes",
+            Kind::NumberOverLimit => "number over its limit",
+            Kind::WrongShape => "patch not of the right shape",
+            Kind::TooManyOperations => "more than 256 operations",
+            Kind::MalformedPointer => "malformed pointer",
+            Kind::LocationMissing => "location missing",
+            Kind::NoIndex => "token is no array index",
+            Kind::RemoveOfRoot => "remove of the root",
+            Kind::MoveIntoChild => "move into its own child",
+            Kind::TestDiffers => "test found a difference",
+            Kind::OutputTooShort => "written text longer than the lent output",
+        }
+    }
+}
+
+impl fmt::Display for Kind {
+    fn fmt(&self, f: &mut fmt::Formatter) -> fmt::Result {
+        f.write_str(self.meaning())
+    }
+}

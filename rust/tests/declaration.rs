@@ -1,0 +1,235 @@
+//! The declaration here, the C header and the library's source say the same, as
+//! far as their texts can be compared: the parameters' number, order, names and
+//! types, the answer's fields, the refusals' names and numbers, the limits.
+
+use json_patch::Kind;
+use std::collections::BTreeMap;
+use std::fs;
+use std::path::Path;
+
+/// A file of the repository.
+fn file(name: &str) -> String {
+    let path = Path::new(env!("CARGO_MANIFEST_DIR")).join("..").join(name);
+    fs::read_to_string(&path).unwrap_or_else(|error| panic!("{}: {error}", path.display()))
+}
+
+fn header() -> String {
+    file("include/json_patch.h")
+}
+
+/// A function at the level of C: names and types of its parameters, in Rust's
+/// words, and the type of its result.
+#[derive(Debug, PartialEq, Eq)]
+struct Signature {
+    parameters: Vec<(String, String)>,
+    result: String,
+}
+
+/// What stands between a beginning and the next end after it.
+fn between<'a>(text: &'a str, begin: &str, end: &str) -> &'a str {
+    let at = text.find(begin).unwrap_or_else(|| panic!("no {begin:?}")) + begin.len();
+    let length = text[at..].find(end).unwrap_or_else(|| panic!("no {end:?} after {begin:?}"));
+    &text[at..at + length]
+}
+
+/// The items of a list with commas, blanks trimmed.
+fn items(list: &str) -> Vec<&str> {
+    list.split(',').map(str::trim).filter(|item| !item.is_empty()).collect()
+}
+
+/// A name and a type with a colon between them.
+fn typed(item: &str) -> (String, String) {
+    let (name, kind) = item.split_once(':').unwrap_or_else(|| panic!("no type: {item:?}"));
+    (name.trim().to_string(), kind.trim().to_string())
+}
+
+/// As the library's source has it: a slice is a pointer and a length.
+fn of_source() -> Signature {
+    let source = file("crates/json_patch/src/exports.rt");
+    let text = between(&source, "pub extern \"C\" fn json_patch_apply", "{");
+    let mut parameters = Vec::new();
+    for (name, kind) in items(between(text, "(", ")")).into_iter().map(typed) {
+        let kind: Vec<&str> =
+            kind[1..].split_whitespace().filter(|word| !word.starts_with('\'')).collect();
+        let (pointer, target) = match kind.join(" ") {
+            kind if kind.starts_with("mut ") => ("*mut", kind["mut ".len()..].to_string()),
+            kind => ("*const", kind),
+        };
+        match target.strip_prefix('[').and_then(|target| target.strip_suffix(']')) {
+            Some(element) if !element.contains(';') => {
+                parameters.push((name.clone(), format!("{pointer} {element}")));
+                parameters.push((name + "_length", "usize".to_string()));
+            }
+            _ => parameters.push((name, format!("{pointer} {target}"))),
+        }
+    }
+    let result = text[text.find("->").expect("a result") + 2..].split_whitespace().next();
+    Signature { parameters, result: result.expect("a result").to_string() }
+}
+
+/// As the header has it.
+fn of_header() -> Signature {
+    let header = header();
+    let words = |name: &str| match name {
+        "uint8_t" => "u8".to_string(),
+        "uint64_t" => "u64".to_string(),
+        "size_t" => "usize".to_string(),
+        "json_patch_answer" => answer_in_words(fields_of_header().len()),
+        other => panic!("a type of C: {other}"),
+    };
+    let parameters = items(between(&header, "uint32_t json_patch_apply(", ")"))
+        .into_iter()
+        .map(|item| match item.split_once('*') {
+            Some((kind, name)) => match kind.trim().strip_prefix("const ") {
+                Some(kind) => (name.to_string(), format!("*const {}", words(kind))),
+                None => (name.to_string(), format!("*mut {}", words(kind.trim()))),
+            },
+            None => {
+                let (kind, name) = item.split_once(' ').expect("a type and a name");
+                (name.to_string(), words(kind))
+            }
+        })
+        .collect();
+    Signature { parameters, result: "u32".to_string() }
+}
+
+/// As the declaration in Rust has it.
+fn of_rust() -> Signature {
+    let source = file("rust/src/raw.rs");
+    let text = between(&source, "pub fn json_patch_apply", ";");
+    let answer = answer_in_words(fields_of_rust().len());
+    let parameters = items(between(text, "(", ")"))
+        .into_iter()
+        .map(typed)
+        .map(|(name, kind)| (name, kind.replace("Answer", &answer)))
+        .collect();
+    Signature { parameters, result: text[text.find("->").expect("a result") + 2..].trim().into() }
+}
+
+/// The answer's type, as the library's source has it: so many words.
+fn answer_in_words(fields: usize) -> String {
+    format!("[u64; {fields}]")
+}
+
+/// The names of the answer's fields, all of 64 bits, in the header.
+fn fields_of_header() -> Vec<String> {
+    let header = header();
+    let mut names = Vec::new();
+    for line in between(&header, "typedef struct json_patch_answer {", "}").lines() {
+        if let Some(line) = line.trim().strip_prefix("uint64_t ") {
+            names.push(line.split(';').next().unwrap_or_default().to_string());
+        }
+    }
+    names
+}
+
+/// The same in Rust.
+fn fields_of_rust() -> Vec<String> {
+    let source = file("rust/src/raw.rs");
+    let mut names = Vec::new();
+    for line in between(&source, "pub struct Answer {", "}").lines() {
+        if let Some(line) = line.trim().strip_prefix("pub ") {
+            names.push(line.strip_suffix(": u64,").expect("a field of 64 bits").to_string());
+        }
+    }
+    names
+}
+
+#[test]
+fn the_function_is_declared_alike() {
+    let source = of_source();
+    assert_eq!(of_header(), source);
+    assert_eq!(of_rust(), source);
+    assert_eq!(source.parameters.len(), 11);
+}
+
+#[test]
+fn the_answers_fields_are_those_of_the_call() {
+    let fields = fields_of_header();
+    assert_eq!(fields_of_rust(), fields);
+    let source = file("crates/json_patch/src/answer.rt");
+    let of_call: Vec<String> = between(&source, "pub struct Answer {", "}")
+        .lines()
+        .filter_map(|line| line.trim().strip_prefix("pub "))
+        .map(|field| typed(field).0)
+        .collect();
+    assert_eq!(of_call, fields);
+    let export = file("crates/json_patch/src/exports.rt");
+    let laid_down: Vec<&str> = items(between(&export, "*answer = [", "]"))
+        .into_iter()
+        .map(|item| between(item, "r.", " as u64"))
+        .collect();
+    assert_eq!(laid_down, fields);
+}
+
+/// A name with capitals or hyphens inside, as a constant.
+fn constant(name: &str) -> String {
+    let mut made = String::new();
+    for character in name.replace('-', "_").chars() {
+        if character.is_uppercase() && !made.is_empty() && !made.ends_with('_') {
+            made.push('_');
+        }
+        made.extend(character.to_uppercase());
+    }
+    made
+}
+
+fn number(text: &str) -> Option<u64> {
+    text.replace('_', "").parse().ok()
+}
+
+/// The numbers that a file of definitions gives names to, the names as constants.
+fn defined(name: &str) -> BTreeMap<String, u64> {
+    let text = file(name);
+    let equations = text.lines().filter_map(|line| line.split_once(" = "));
+    equations.filter_map(|(name, value)| Some((constant(name), number(value)?))).collect()
+}
+
+/// The numbers in the header, their names without the prefix: those of the
+/// enumeration, and the others.
+fn in_header() -> [BTreeMap<String, u64>; 2] {
+    let mut maps = [BTreeMap::new(), BTreeMap::new()];
+    for line in header().lines() {
+        let line = line.split("/*").next().unwrap_or_default();
+        let words: Vec<&str> = line.split([' ', ',', '=']).filter(|w| !w.is_empty()).collect();
+        let (map, name, value) = match words[..] {
+            ["#define", name, value] => (&mut maps[1], name, value),
+            [name, value] => (&mut maps[0], name, value),
+            _ => continue,
+        };
+        if let (Some(name), Some(value)) = (name.strip_prefix("JSON_PATCH_"), number(value)) {
+            map.insert(name.to_string(), value);
+        }
+    }
+    maps
+}
+
+#[test]
+fn refusals_have_the_numbers_and_names_of_the_definitions() {
+    let mut refusals = defined("crates/spec/specs/Refusal.antt");
+    assert_eq!(refusals.len(), 17);
+    assert_eq!(in_header()[0], refusals);
+    refusals.remove("DONE");
+    let here: BTreeMap<String, u64> = Kind::ALL
+        .into_iter()
+        .map(|kind| (constant(&format!("{kind:?}")), u64::from(kind.number())))
+        .collect();
+    assert_eq!(here, refusals);
+}
+
+#[test]
+fn limits_are_those_of_the_definitions() {
+    let limits = defined("crates/spec/specs/Limits.antt");
+    assert_eq!(limits.len(), 7);
+    let here: BTreeMap<String, u64> = file("rust/src/lib.rs")
+        .lines()
+        .filter_map(|line| line.strip_prefix("pub const ")?.split_once(": usize = "))
+        .filter_map(|(name, value)| Some((name.to_string(), number(value.strip_suffix(';')?)?)))
+        .collect();
+    let [_, header] = in_header();
+    for (name, value) in limits {
+        assert_eq!(header.get(&name), Some(&value), "{name}");
+        assert_eq!(here.get(&name), Some(&value), "{name}");
+    }
+    assert_eq!(header.get("TOOL_OUTPUT"), here.get("TOOL_OUTPUT"));
+}
