@@ -52,7 +52,7 @@ pub record Filled (source : ℕ) (s : Bytes) (start end : ℕ) (all : Members) (
 
 -- the key of a member in the filter, by its object's row and the hash of its name
 abbrev pub keyOf : ℕ → ℕ → ℕ
-keyOf row h = (h / 4096 + row * 31) % 65536
+keyOf row h = (h + row * 31) % 65536
 
 -- the filter has the keys of an object's members
 pub data Marked (values : List ℕ) (row : ℕ) : Members → Type 0 where

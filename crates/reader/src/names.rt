@@ -29,7 +29,7 @@ fn key(row: usize, hash: u32) -> u64
     requires { ⌜ row ≤ scratchRow ⌝ }
     ensures { λ r. ⌜ r ≡ keyOf row hash ⌝ }
 {
-    (hash as u64 / 4096 + row as u64 * 31) % 65536
+    (hash as u64 + row as u64 * 31) % 65536
 }
 
 // Whether the object in a row has a member of a name already, among those in the rows up to `end`. Where the filter has not the key of the name,
