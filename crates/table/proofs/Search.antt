@@ -1,5 +1,6 @@
 -- Laws of a search for a name: what has been passed has other names.
-use Prim.Native.Nat.{ℕ, suc, _+_, _<_, _≤_}
+use Prim.Native.Nat.{ℕ, zero, suc, _+_, _<_, _≤_}
+use native.Mathlib.Nat.{add-zero}
 use native.Mathlib.Numerals.{add-one}
 use native.Mathlib.Omega.{arith}
 use native.Mathlib.Decide.{decLt}
@@ -12,16 +13,15 @@ use Rattle.spec.specs.Forest.{Forest, none, tree, Tree, count, size, before, fr
 use Rattle.spec.specs.Value.{sameText, find}
 use Rattle.spec.proofs.TextLaws.{sameText-true}
 use Rattle.lexer.specs.Hash.{hash}
-use Rattle.tape.specs.Packing.{hashOf}
+use Rattle.tape.specs.Packing.{spanOf, hashOf}
 use Rattle.tape.specs.Cell.{Cell, Held}
-use Rattle.tape.specs.Rows.{endOf}
 use Rattle.tape.specs.Map.{position}
 use Rattle.tape.proofs.Forests.{count-from, from-nth, size-cut, size-before-suc, before-all, from-all, count-le-size}
-use Rattle.tape.proofs.Held.{held-from, held-node, name-here, held-next}
-use Rattle.tape.proofs.Rows.{end-here, inside-here}
+use Rattle.tape.proofs.Held.{held-from, held-node, name-inside, name-here}
+use Rattle.tape.proofs.Rows.{inside-here, span-here}
 use Rattle.tape.proofs.Map.{count-map, find-map, position-found, position-next, position-none}
 use Rattle.table.specs.Meaning.{nameText, entryOf, members, Hashed}
-use Rattle.table.specs.Find.{SameNameIs, Found, found, missing, Asked, FindIs}
+use Rattle.table.specs.Find.{SameNameIs, limitOf, AllQuiet, Found, found, missing, Asked}
 use Rattle.table.specs.declared.find.Member.the-variants.{At, Missing}
 use Rattle.table.proofs.AllLaws.{all-first, all-from}
 
@@ -82,9 +82,12 @@ module _ {D P : Bytes} {values names : List ℕ} {start end : ℕ} {f : Forest C
     unfolding _⧺_
     here = rw (s .place) (rw (from-nth blank (s .k) f there) at (held-from (s .k) (a .held)))
 
-    -- the row is in the column
+    -- the row is in the columns
     pub seek-inside : row < length values
     seek-inside = inside-here (held-node here)
+
+    pub seek-titled : row < length names
+    seek-titled = name-inside here
 
     -- the name in the row has the hash of its text
     pub seek-hashed : Hashed D P (getD names row 0)
@@ -98,11 +101,31 @@ module _ {D P : Bytes} {values names : List ℕ} {start end : ℕ} {f : Forest C
     seek-found t =
         found (s .k) row (find-map (entryOf D P) name f ∙ position-found (named D P name) blank (s .k) f there (test-here true t) (s .passed)) there (s .place)
 
-    pub seek-next : (next : ℕ) → next ≡ endOf values row → false ≡ sameText (nameText D P (getD names row 0)) name → Seeking D P start f name next
+    pub seek-next : (next : ℕ) → next ≡ row + 1 + spanOf (getD values row 0) → false ≡ sameText (nameText D P (getD names row 0)) name
+        → Seeking D P start f name next
     seek-next next n t =
         record {
           k = suc (s .k);
           few = there;
-          place = n ∙ end-here (held-node here) ∙ omega (arith, s .place, size-before-suc blank (s .k) f there);
+          place = n ∙ omega (arith, span-here (held-node here), s .place, size-before-suc blank (s .k) f there);
           passed = position-next (named D P name) blank (s .k) f there (test-here false t) (s .passed);
         }
+
+  -- no tree is left where a search ends
+  pub seek-over : (stop : ℕ) → stop ≡ limitOf values names end → stop ≤ row → Found D P start f name Missing
+  seek-over stop e l = go (decLt row end)
+    where
+      go : Dec (row < end) → Found D P start f name Missing
+      go (yes h) = absurd (omega (arith, seek-inside h, seek-titled h))
+      go (no h) = seek-none (omega arith)
+
+-- quiet rows are passed
+module _ {D P : Bytes} {values names : List ℕ} {start end : ℕ} {f : Forest Cell} {name row : ℕ} (a : Asked D P values names start end f) (h : Hashed D P name) where
+  pub seek-quiet : (n : ℕ) → row + n ≤ end → AllQuiet values names name row n → Seeking D P start f (nameText D P name) row
+      → Seeking D P start f (nameText D P name) (row + n)
+  seek-quiet zero l q s = rw (add-zero row) s
+  seek-quiet (suc n) l q s =
+      let t = seek-quiet n (omega arith) (λ i o. q i (omega arith)) s in
+      let here : row + n < end = omega arith in
+      let r = q n (omega arith) in
+      seek-next a t here (row + suc n) (omega (arith, r .leaf)) (other-hash (r .other) (seek-hashed a t here) h)

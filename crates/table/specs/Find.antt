@@ -1,12 +1,13 @@
 -- What a search for a member by its name answers.
-use Prim.Native.Nat.{ℕ, _+_, _<_, _≤_}
+use Prim.Native.Nat.{ℕ, _+_, _<_, _≤_, min}
 use mathlib.Core.Path.{_≡_}
-use mathlib.Core.Bool.{Bool}
+use mathlib.Core.Bool.{Bool, true}
 use mathlib.Core.List.{List}
-use lib.ListN.{length}
+use lib.ListN.{length, getD}
 use Rattle.spec.specs.Bytes.{Bytes, Text}
 use Rattle.spec.specs.Forest.{Forest, count, size, before}
 use Rattle.spec.specs.Value.{sameText, find}
+use Rattle.tape.specs.Packing.{spanOf, hashOf}
 use Rattle.tape.specs.Cell.{Cell, Held}
 use Rattle.table.specs.Meaning.{nameText, members, Hashed}
 use Rattle.table.specs.Sound.{Sound}
@@ -16,6 +17,26 @@ use Rattle.table.specs.declared.find.Member.the-variants.{At, Missing}
 -- two names compared, each with the hash of its text
 abbrev pub SameNameIs : Bytes → Bytes → ℕ → ℕ → Bool → Type 0
 SameNameIs document patch a b r = Hashed document patch a → Hashed document patch b → r ≡ sameText (nameText document patch a) (nameText document patch b)
+
+-- a search ends there, or where a column ends
+abbrev pub limitOf : List ℕ → List ℕ → ℕ → ℕ
+limitOf values names end = min end (min (length values) (length names))
+
+-- a row whose node has no children, and whose name has another hash than this one
+pub record Quiet (values names : List ℕ) (name row : ℕ) : Type 0 where
+  pub leaf : spanOf (getD values row 0) ≡ 0
+  pub other : hashOf (getD names row 0) ≡ hashOf name → ⊥
+
+-- so are n rows from a row on
+abbrev pub AllQuiet : List ℕ → List ℕ → ℕ → ℕ → ℕ → Type 0
+AllQuiet values names name row n = (i : ℕ) → i < n → Quiet values names name (row + i)
+
+-- how many rows are looked at together
+abbrev pub block : ℕ
+block = 16
+
+abbrev pub QuietIs : List ℕ → List ℕ → ℕ → ℕ → ℕ → Bool → Type 0
+QuietIs values names row stop name r = r ≡ true → (row + block ≤ stop) × AllQuiet values names name row block
 
 -- of a forest that the columns hold from a row on: the row of the first tree that has the name, or none
 pub data Found (document patch : Bytes) (start : ℕ) (f : Forest Cell) (name : Text) : Member → Type 0 where

@@ -1,13 +1,16 @@
 // A member found by its name.
 use crate::spellings::same_spelling;
 use crate::spellings::spells;
-use tape::moves::load;
-use tape::nodes::end_of;
+use tape::layout::HASHES;
 use tape::words::hash;
+use tape::words::span;
 use tape::words::spelling;
 ghost use mathlib.Core.Path.{_≡_};
-ghost use Prim.Native.Nat.{_≤_, _<_};
-ghost use Rattle.table.specs.Find.{SameNameIs, FindIs, FindAsciiIs, Between};
+ghost use Prim.Native.Nat.{_≤_, _<_, min};
+ghost use lib.ListN.{length};
+ghost use Rattle.tape.specs.Layout.{hashes};
+ghost use Rattle.tape.specs.Packing.{hashOf};
+ghost use Rattle.table.specs.Find.{SameNameIs, limitOf, QuietIs, FindIs, FindAsciiIs, Between};
 
 pub enum Member {
     // the member's row
@@ -25,6 +28,60 @@ pub fn same_name<'a>(document: &'a [u8], patch: &'a [u8], a: u64, b: u64) -> boo
     same_spelling(document, patch, spelling(a), spelling(b))
 }
 
+fn least(a: usize, b: usize) -> usize
+    ensures { λ r. ⌜ r ≡ min a b ⌝ }
+{
+    if a < b {
+        return a;
+    }
+    b
+}
+
+// The rows from `end` on, or behind one of the columns, are not looked at.
+fn limit(values: &[u64], names: &[u64], end: usize) -> usize
+    ensures { λ r. ⌜ r ≡ limitOf (now (values .entry)) (now (names .entry)) end ⌝ }
+{
+    least(end, least(values.len(), names.len()))
+}
+
+// A number that is HASHES or more only where the two names' hashes differ.
+fn apart(a: u64, b: u64) -> u64
+    ensures { λ r. ⌜ (hashOf a ≡ hashOf b → r < hashes) ⌝ }
+{
+    (hash(a) ^ hash(b)) + (HASHES - 1)
+}
+
+// How many rows are looked at together.
+const BLOCK: usize = 16;
+
+// Whether the row is a multiple of BLOCK and in the BLOCK rows from it on no node has children and no name has the hash of this one. No row
+// waits for what another one holds, so that several are compared at a time.
+fn quiet(values: &[u64], names: &[u64], row: usize, stop: usize, name: u64) -> bool
+    requires { ⌜ (row ≤ stop) × (stop ≤ length (now values)) × (stop ≤ length (now names)) ⌝ }
+    ensures { λ r. ⌜ QuietIs (now (values .entry)) (now (names .entry)) row stop name r ⌝ }
+{
+    if row % BLOCK != 0 {
+        return false;
+    }
+    if stop - row < BLOCK {
+        return false;
+    }
+    // an `or` has the span 0 only if each of its words has
+    let mut spans = 0;
+    // an `and` is at most each of its numbers
+    let mut others = HASHES;
+    let mut i = 0;
+    while i < BLOCK {
+        spans |= values[row + i];
+        others &= apart(names[row + i], name);
+        i += 1;
+    }
+    if others < HASHES {
+        return false;
+    }
+    span(spans) == 0
+}
+
 // The first of the trees in the rows from `start` up to `end` that has the name.
 pub fn find<'a>(
     values: &[u64],
@@ -38,15 +95,17 @@ pub fn find<'a>(
     ensures { λ r. ⌜ FindIs (now (document .entry)) (now (patch .entry)) (now (values .entry)) (now (names .entry)) start end name r ⌝ }
     ensures { λ r. ⌜ Between start end (now (values .entry)) r ⌝ }
 {
+    let stop = limit(values, names, end);
     let mut row = start;
-    while row < end {
-        if values.len() <= row {
-            return Member::Missing;
+    while row < stop {
+        if quiet(values, names, row, stop, name) {
+            row += BLOCK;
+            continue;
         }
-        if same_name(document, patch, load(names, row), name) {
+        if same_name(document, patch, names[row], name) {
             return Member::At(row);
         }
-        row = end_of(values, row);
+        row = row + 1 + span(values[row]);
     }
     Member::Missing
 }
@@ -64,15 +123,13 @@ pub fn find_ascii<'a>(
     ensures { λ r. ⌜ FindAsciiIs (now (document .entry)) (now (patch .entry)) (now (values .entry)) (now (names .entry)) start end (now (name .entry)) r ⌝ }
     ensures { λ r. ⌜ Between start end (now (values .entry)) r ⌝ }
 {
+    let stop = limit(values, names, end);
     let mut row = start;
-    while row < end {
-        if values.len() <= row {
-            return Member::Missing;
-        }
-        if spells(document, patch, spelling(load(names, row)), name) {
+    while row < stop {
+        if spells(document, patch, spelling(names[row]), name) {
             return Member::At(row);
         }
-        row = end_of(values, row);
+        row = row + 1 + span(values[row]);
     }
     Member::Missing
 }

@@ -46,10 +46,13 @@ pub fn same_spelling<'a>(document: &'a [u8], patch: &'a [u8], a: u64, b: u64) ->
     same_text(form(a), s, form(b), t)
 }
 
-// Whether a spelling says the text that is given by its bytes, each of which is a character.
+// Whether a spelling says the text that is given by its bytes, each of which is a character. It says no more characters than it has bytes.
 pub fn spells<'a>(document: &'a [u8], patch: &'a [u8], spelling: u64, text: &[u8]) -> bool
     ensures { λ r. ⌜ r ≡ sameText (spelled (now (document .entry)) (now (patch .entry)) spelling) (now (text .entry)) ⌝ }
 {
+    if length(spelling) < text.len() {
+        return false;
+    }
     let s = part(document, patch, spelling);
     same_ascii(form(spelling), s, text)
 }
