@@ -26,8 +26,8 @@ const OUTPUT: usize = 65_536;
 
 const WORK_WORDS: usize = 6_144;
 
-// What the output holds before a call.
-const UNWRITTEN: u8 = 165;
+// What the output holds before a call: a byte that no text has.
+const UNWRITTEN: u8 = 255;
 
 // The call, with the first `room` bytes of the output lent, or all where there are fewer.
 fn lend<'a>(
