@@ -1,17 +1,17 @@
--- What is known of a place, a number, a name or a case, once it is known that there is one.
-use Prim.Native.Nat.{ℕ, _≤_, _<_}
+-- What is known of a place, of a part or of a case, once it is known that there is one.
+use Prim.Native.Nat.{ℕ, _≤_}
 use mathlib.Core.Path.{_≡_, sym, subst}
 use mathlib.Core.List.{List}
 use lib.ListN.{length, take, replicate, length-replicate}
 use lib.Seq.{length-take-le}
-use Rattle.vectors.specs.Places.{Within, Met, Behind, Numbered, Measured, Named, Stands, Standing}
+use Rattle.vectors.specs.Places.{Within, Met, Behind, Numbered, Measured, Lies, TakenIs, Stands, Standing}
 use Rattle.vectors.specs.declared.Contents.{Contents}
 use Rattle.vectors.specs.declared.Contents.the-variants.{Bytes}
 use Rattle.vectors.specs.declared.cases.Place.{Place}
 use Rattle.vectors.specs.declared.cases.Place.the-variants.{At}
 use Rattle.vectors.specs.declared.cases.Number as Number
 use Rattle.vectors.specs.declared.cases.Measures as Measures
-use Rattle.vectors.specs.declared.cases.Name as Name
+use Rattle.vectors.specs.declared.cases.Taken as Taken
 use Rattle.vectors.specs.declared.cases.Part.{Part}
 use Rattle.vectors.specs.declared.cases.Case.{Case}
 use Rattle.vectors.specs.declared.cases.Found.{Found}
@@ -29,21 +29,21 @@ module _ (xs : List ℕ) {r : Contents} {n : ℕ} (e : r ≡ Bytes n) (w : Withi
   bytes-counted = sym (length-take-le n xs bytes-within)
 
 module _ (n at : ℕ) where
-  pub met : {r : Place} {i : ℕ} → r ≡ At i → Met n at r → (at ≤ i) × (i < n)
+  pub met : {r : Place} {i : ℕ} → r ≡ At i → Met n at r → Met n at (At i)
   met e w = subst (Met n at) e w
 
-  pub behind : {r : Place} {i : ℕ} → r ≡ At i → Behind n at r → (at < i) × (i ≤ n)
+  pub behind : {r : Place} {i : ℕ} → r ≡ At i → Behind n at r → Behind n at (At i)
   behind e w = subst (Behind n at) e w
 
-  pub numbered : {r : Number.Number} {value next : ℕ} → r ≡ Number.the-variants.Is value next → Numbered n at r → (at < next) × (next ≤ n)
+  pub numbered : {r : Number.Number} {value next : ℕ} → r ≡ Number.the-variants.Is value next → Numbered n at r → Behind n at (At next)
   numbered e w = subst (Numbered n at) e w
 
   pub measured : {r : Measures.Measures} {room document patch next : ℕ} → r ≡ Measures.the-variants.Are room document patch next →
-      Measured n at r → (at < next) × (next ≤ n)
+      Measured n at r → Behind n at (At next)
   measured e w = subst (Measured n at) e w
 
-  pub named : {r : Name.Name} {p : Part} → r ≡ Name.the-variants.Is p → Named n at r → (at < p .start) × (p .start ≤ p .end) × (p .end < n)
-  named e w = subst (Named n at) e w
+  pub taken : {r : Taken.Taken} {p : Part} {next : ℕ} → r ≡ Taken.the-variants.Is p next → TakenIs n at r → Lies n p × Behind n at (At next)
+  taken e w = subst (TakenIs n at) e w
 
   pub standing : {r : Found} {c : Case} → r ≡ Here c → Standing n at r → Stands n at c
   standing e w = subst (Standing n at) e w

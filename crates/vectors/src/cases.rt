@@ -1,11 +1,7 @@
 // A case in the file of cases: `case NAME ROOM DOCLEN PATCHLEN`, a newline, DOCLEN bytes of document, a newline, PATCHLEN bytes of patch, a newline.
 use check::same;
-ghost use Prim.Native.Nat.{_+_};
 ghost use lib.ListN.{length};
-ghost use Rattle.vectors.specs.Places.{Behind, Met, Numbered, Measured, Named, Standing};
-
-// Numbers of a header are below ten times this.
-const LARGEST: usize = 99_999_999;
+ghost use Rattle.vectors.specs.Places.{Met, Behind, Numbered, Measured, TakenIs, Standing};
 
 pub enum Place {
     At(usize),
@@ -25,6 +21,64 @@ fn find(file: &[u8], at: usize, byte: u8) -> Place
     }
     Place::Nowhere
 }
+
+// The place behind the word that begins every case.
+fn behind_case(file: &[u8], at: usize) -> Place
+    ensures { λ r. ⌜ Behind (length (now (file .entry))) at r ⌝ }
+{
+    let Place::At(i) = find(file, at, b' ') else {
+        return Place::Nowhere;
+    };
+    if !same(&file[at..i], b"case") {
+        return Place::Nowhere;
+    }
+    Place::At(i + 1)
+}
+
+// A part of the file.
+pub struct Part {
+    pub start: usize,
+    pub end: usize,
+}
+
+// A part, and the place behind the byte that ends it.
+pub enum Taken {
+    Is(Part, usize),
+    Missing,
+}
+
+// The name of the case that begins at a place.
+fn name_at(file: &[u8], at: usize) -> Taken
+    ensures { λ r. ⌜ TakenIs (length (now (file .entry))) at r ⌝ }
+{
+    let Place::At(start) = behind_case(file, at) else {
+        return Taken::Missing;
+    };
+    let Place::At(end) = find(file, start, b' ') else {
+        return Taken::Missing;
+    };
+    Taken::Is(Part { start, end }, end + 1)
+}
+
+// `count` bytes that a newline ends.
+fn bytes_at(file: &[u8], at: usize, count: usize) -> Taken
+    ensures { λ r. ⌜ TakenIs (length (now (file .entry))) at r ⌝ }
+{
+    if file.len() < at {
+        return Taken::Missing;
+    }
+    if file.len() - at <= count {
+        return Taken::Missing;
+    }
+    let end = at + count;
+    if file[end] != b'\n' {
+        return Taken::Missing;
+    }
+    Taken::Is(Part { start: at, end }, end + 1)
+}
+
+// Digits are read while the number is no more than this, so that none overflows.
+const LARGEST: usize = 99_999_999;
 
 pub enum Digits {
     Say(usize),
@@ -94,61 +148,7 @@ fn measures_at(file: &[u8], at: usize) -> Measures
     Measures::Are(room, document, patch, c)
 }
 
-// The place behind the word that begins every case.
-fn behind_case(file: &[u8], at: usize) -> Place
-    ensures { λ r. ⌜ Behind (length (now (file .entry))) at r ⌝ }
-{
-    let Place::At(i) = find(file, at, b' ') else {
-        return Place::Nowhere;
-    };
-    if !same(&file[at..i], b"case") {
-        return Place::Nowhere;
-    }
-    Place::At(i + 1)
-}
-
-// A part of the file.
-pub struct Part {
-    pub start: usize,
-    pub end: usize,
-}
-
-pub enum Name {
-    Is(Part),
-    Missing,
-}
-
-// The name of the case that begins at a place.
-fn name_at(file: &[u8], at: usize) -> Name
-    ensures { λ r. ⌜ Named (length (now (file .entry))) at r ⌝ }
-{
-    let Place::At(start) = behind_case(file, at) else {
-        return Name::Missing;
-    };
-    let Place::At(end) = find(file, start, b' ') else {
-        return Name::Missing;
-    };
-    Name::Is(Part { start, end })
-}
-
-// The place behind `count` bytes and a newline.
-fn behind_bytes(file: &[u8], at: usize, count: usize) -> Place
-    ensures { λ r. ⌜ Behind (length (now (file .entry))) (at + count) r ⌝ }
-{
-    if file.len() < at {
-        return Place::Nowhere;
-    }
-    if file.len() - at <= count {
-        return Place::Nowhere;
-    }
-    let end = at + count;
-    if file[end] != b'\n' {
-        return Place::Nowhere;
-    }
-    Place::At(end + 1)
-}
-
-// A case's parts, its room, and the place behind it.
+// A case's parts and its room, and the place behind it.
 pub struct Case {
     pub name: Part,
     pub room: usize,
@@ -166,29 +166,23 @@ pub enum Found {
 pub fn case_at(file: &[u8], at: usize) -> Found
     ensures { λ r. ⌜ Standing (length (now (file .entry))) at r ⌝ }
 {
-    let Name::Is(name) = name_at(file, at) else {
+    let Taken::Is(name, a) = name_at(file, at) else {
         return Found::Nothing;
     };
-    let Measures::Are(room, d, p, document) = measures_at(file, name.end + 1) else {
+    let Measures::Are(room, d, p, b) = measures_at(file, a) else {
         return Found::Nothing;
     };
-    let Place::At(patch) = behind_bytes(file, document, d) else {
+    let Taken::Is(document, c) = bytes_at(file, b, d) else {
         return Found::Nothing;
     };
-    let Place::At(next) = behind_bytes(file, patch, p) else {
+    let Taken::Is(patch, next) = bytes_at(file, c, p) else {
         return Found::Nothing;
     };
     Found::Here(Case {
         name,
         room,
-        document: Part {
-            start: document,
-            end: document + d,
-        },
-        patch: Part {
-            start: patch,
-            end: patch + p,
-        },
+        document,
+        patch,
         next,
     })
 }

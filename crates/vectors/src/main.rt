@@ -16,6 +16,7 @@ use lines::print_answer;
 use lines::print_no_case;
 use lines::say;
 ghost use mathlib.Core.Path.{_≡_};
+ghost use Prim.Native.Nat.{_≤_};
 ghost use lib.ListN.{length};
 ghost use Rattle.vectors.specs.Places.{Behind, Lies, Within};
 
@@ -26,10 +27,10 @@ const OUTPUT: usize = 65_536;
 
 const WORK_WORDS: usize = 6_144;
 
-// What the output holds before a call.
-const UNWRITTEN: u8 = 165;
+// What the output holds before a call: a byte that no text has.
+const UNWRITTEN: u8 = 255;
 
-// The call, with the first `room` bytes of the output lent, or all where there are fewer.
+// The call, with the first `room` bytes of the output lent.
 fn lend<'a>(
     document: &'a [u8],
     patch: &'a [u8],
@@ -37,21 +38,25 @@ fn lend<'a>(
     output: &mut [u8],
     values: &mut [u64],
     names: &mut [u64],
-) -> Answer {
-    if output.len() < room {
-        return apply(document, patch, output, values, names);
-    }
+) -> Answer
+    requires { ⌜ room ≤ length (now output) ⌝ }
+{
     apply(document, patch, &mut output[..room], values, names)
 }
 
-// The case's line, with another text in it where the call has not left the memory as it must. Before the call the work area holds rubbish.
+// The case's line, with another text in it where there is not as much room, or where the call has not left the memory as it must. Before the
+// call the work area holds rubbish.
 fn run_case<'a>(name: &'a [u8], room: usize, document: &'a [u8], patch: &'a [u8], rubbish: u64) {
+    say(name);
+    say(b": ");
+    if OUTPUT < room {
+        say(b"there is less room\n");
+        return;
+    }
     let mut output = [UNWRITTEN; OUTPUT];
     let mut values = [rubbish; WORK_WORDS];
     let mut names = [rubbish; WORK_WORDS];
     let answer = lend(document, patch, room, &mut output, &mut values, &mut names);
-    say(name);
-    say(b": ");
     if !all_zero(&values) {
         say(b"the work area is not all zero\n");
         return;

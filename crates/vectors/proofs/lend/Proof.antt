@@ -10,6 +10,12 @@ pub lend-spec : {M : Type 1} → statement M
 lend-spec =
     tie.close
     (tie.spec
+    -- slice-relend-prefix-apply
+    (λ c. search needs)
+    -- slice-aggregate-apply
+    (λ c.
+    let a = c .before .before .before .before .before .before .args in
+    sym (length-take-le (a .room) (a .output .now) (omega arith)))
     -- apply-requires
     (λ c κs. search needs)
     -- same-length
@@ -19,20 +25,4 @@ lend-spec =
     -- same-length-3
     (λ c. search needs)
     -- returns
-    (λ c. search needs)
-    -- slice-relend-prefix-apply
-    (λ c. search needs)
-    -- slice-aggregate-apply
-    (λ c.
-    let a = c .before .before .before .before .before .before .before .args in
-    sym (length-take-le (a .room) (a .output .now) (omega arith)))
-    -- apply-requires-2
-    (λ c κs. search needs)
-    -- same-length-4
-    (λ c. search needs)
-    -- same-length-5
-    (λ c. search needs)
-    -- same-length-6
-    (λ c. search needs)
-    -- returns-2
     (λ c. search needs))

@@ -25,9 +25,11 @@ name-at-spec =
     (λ c. search needs)
     -- returns-2
     (λ c. search needs)
+    -- add-t8
+    (λ c. omega (arith, met _ _ (c .before .end .given .1) (c .before .before .before .find .ensures)))
     -- returns-3
     (λ c.
     let s = c .before .before .before .before in
     let first = behind _ _ (s .before .start .given .1) (s .before .before .before .behind-case .ensures) in
     let second = met _ _ (c .before .end .given .1) (c .before .before .before .find .ensures) in
-    (omega arith, omega arith, omega arith)))
+    ((omega arith, omega arith), (omega arith, omega arith))))
