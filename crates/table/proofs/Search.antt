@@ -21,7 +21,7 @@ use Rattle.tape.proofs.Held.{held-from, held-node, name-inside, name-here}
 use Rattle.tape.proofs.Rows.{inside-here, span-here}
 use Rattle.tape.proofs.Map.{count-map, find-map, position-found, position-next, position-none}
 use Rattle.table.specs.Meaning.{nameText, entryOf, members, Hashed}
-use Rattle.table.specs.Find.{SameNameIs, limitOf, AllQuiet, Found, found, missing, Asked}
+use Rattle.table.specs.Find.{SameNameIs, NamedIs, limitOf, AllQuiet, Found, found, missing, Asked}
 use Rattle.table.specs.declared.find.Member.the-variants.{At, Missing}
 use Rattle.table.proofs.AllLaws.{all-first, all-from}
 
@@ -31,6 +31,14 @@ other-hash {D} {P} {a} {b} differ h i = go (sameText (nameText D P a) (nameText 
   where
     go : (r : Bool) → sameText (nameText D P a) (nameText D P b) ≡ r → false ≡ sameText (nameText D P a) (nameText D P b)
     go true e = absurd (differ (h .is ∙ ap hash (sameText-true _ _ e) ∙ sym (i .is)))
+    go false e = sym e
+
+-- nor is a name the same as a text that has another hash
+pub other-text : {D P : Bytes} {word h : ℕ} (name : Text) → (hashOf word ≡ h → ⊥) → NamedIs D P word h name false
+other-text {D} {P} {word} {h} name differ hashed is = go (sameText (nameText D P word) name) refl
+  where
+    go : (r : Bool) → sameText (nameText D P word) name ≡ r → false ≡ sameText (nameText D P word) name
+    go true e = absurd (differ (hashed .is ∙ ap hash (sameText-true _ _ e) ∙ sym is))
     go false e = sym e
 
 -- the test of the search, and any tree

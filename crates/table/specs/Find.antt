@@ -7,12 +7,17 @@ use lib.ListN.{length, getD}
 use Rattle.spec.specs.Bytes.{Bytes, Text}
 use Rattle.spec.specs.Forest.{Forest, count, size, before}
 use Rattle.spec.specs.Value.{sameText, find}
+use Rattle.lexer.specs.Hash.{hash}
 use Rattle.tape.specs.Packing.{spanOf, hashOf}
 use Rattle.tape.specs.Cell.{Cell, Held}
 use Rattle.table.specs.Meaning.{nameText, members, Hashed}
 use Rattle.table.specs.Sound.{Sound}
 use Rattle.table.specs.declared.find.Member.{Member}
 use Rattle.table.specs.declared.find.Member.the-variants.{At, Missing}
+
+-- a name compared with a text of that hash
+abbrev pub NamedIs : Bytes → Bytes → ℕ → ℕ → Text → Bool → Type 0
+NamedIs document patch word h name r = Hashed document patch word → h ≡ hash name → r ≡ sameText (nameText document patch word) name
 
 -- two names compared, each with the hash of its text
 abbrev pub SameNameIs : Bytes → Bytes → ℕ → ℕ → Bool → Type 0

@@ -1,6 +1,7 @@
 // A member found by its name.
 use crate::spellings::same_spelling;
 use crate::spellings::spells;
+use lexer::mix;
 use tape::layout::HASHES;
 use tape::words::hash;
 use tape::words::span;
@@ -8,9 +9,10 @@ use tape::words::spelling;
 ghost use mathlib.Core.Path.{_≡_};
 ghost use Prim.Native.Nat.{_≤_, _<_, min};
 ghost use lib.ListN.{length};
+ghost use Rattle.lexer.specs.Hash.{hash};
 ghost use Rattle.tape.specs.Layout.{hashes};
 ghost use Rattle.tape.specs.Packing.{hashOf};
-ghost use Rattle.table.specs.Find.{SameNameIs, limitOf, QuietIs, FindIs, FindAsciiIs, Between};
+ghost use Rattle.table.specs.Find.{SameNameIs, NamedIs, limitOf, QuietIs, FindIs, FindAsciiIs, Between};
 
 pub enum Member {
     // the member's row
@@ -110,6 +112,29 @@ pub fn find<'a>(
     Member::Missing
 }
 
+// The hash of a text that is given by its bytes, each of which is a character.
+fn hash_ascii(name: &[u8]) -> u32
+    ensures { λ r. ⌜ r ≡ hash (now (name .entry)) ⌝ }
+{
+    let mut h: u32 = 0;
+    let mut i = 0;
+    while i < name.len() {
+        h = mix(h, name[i] as u32);
+        i += 1;
+    }
+    h
+}
+
+// Whether a name is the text that is given by its bytes and has the hash `h`.
+fn is_named<'a>(document: &'a [u8], patch: &'a [u8], word: u64, h: u64, name: &[u8]) -> bool
+    ensures { λ r. ⌜ NamedIs (now (document .entry)) (now (patch .entry)) word h (now (name .entry)) r ⌝ }
+{
+    if hash(word) != h {
+        return false;
+    }
+    spells(document, patch, spelling(word), name)
+}
+
 // The same, of a name that is given by its bytes, each of which is a character.
 pub fn find_ascii<'a>(
     values: &[u64],
@@ -123,10 +148,11 @@ pub fn find_ascii<'a>(
     ensures { λ r. ⌜ FindAsciiIs (now (document .entry)) (now (patch .entry)) (now (values .entry)) (now (names .entry)) start end (now (name .entry)) r ⌝ }
     ensures { λ r. ⌜ Between start end (now (values .entry)) r ⌝ }
 {
+    let h = hash_ascii(name) as u64;
     let stop = limit(values, names, end);
     let mut row = start;
     while row < stop {
-        if spells(document, patch, spelling(names[row]), name) {
+        if is_named(document, patch, names[row], h, name) {
             return Member::At(row);
         }
         row = row + 1 + span(values[row]);
