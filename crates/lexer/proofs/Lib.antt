@@ -4,6 +4,7 @@ pub mod Always
 pub mod ByteLaws
 pub mod AnswerLaws
 pub mod StringLaws
+pub mod SequenceLaws
 pub mod StringLoop
 pub mod NameLaws
 pub mod NumberLoop

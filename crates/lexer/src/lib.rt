@@ -23,3 +23,4 @@ pub use cursor::peek;
 pub use hash::mix;
 pub use strings::Name;
 pub use strings::stands_for_itself;
+pub use utf8::sequence;

@@ -178,6 +178,9 @@ module _ (form : ℕ) (s : Bytes) (at : ℕ) {r : Character} (e : characterOutco
   pub scalar-less : (c : ℕ) (next : Cursor) → r ≡ Character.Scalar c next → length s - next .at < length s - at
   scalar-less c next t = omega (arith, letter-begins form s at (c, next .at) (scalar-ok c next e t) .past)
 
+  pub scalar-inside : (c : ℕ) (next : Cursor) → r ≡ Character.Scalar c next → next .at ≤ length s
+  scalar-inside c next t = letter-begins form s at (c, next .at) (scalar-ok c next e t) .past .1
+
   pub refused-text : (place : ℕ) → r ≡ Character.Refused place → textFrom form s at ≡ []
   refused-text place t = letter-ends form s at not-json place (character-refused place e t)
 

@@ -5,6 +5,7 @@ pub mod CompareLaws
 pub mod Utf8Laws
 pub mod PlainLaws
 pub mod LengthLaws
+pub mod RunLaws
 pub mod HashLaws
 pub mod EscapeLaws
 pub mod StoreLaws

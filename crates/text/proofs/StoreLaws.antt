@@ -1,7 +1,7 @@
 -- Bytes stored one after another in an output.
 use mathlib.Core.Path.{_≡_, refl, sym, ap, _∙_}
 use mathlib.Core.List.{[], _∷_, _++_, append-nil, append-assoc}
-use Prim.Native.Nat.{ℕ, suc, _+_, _≤_, _<_, min}
+use Prim.Native.Nat.{ℕ, suc, _+_, _-_, _≤_, _<_, min}
 use native.Mathlib.Omega.{arith}
 use native.Mathlib.Nat.{add-zero, zero-add}
 use native.Mathlib.Decide.{decLt}
@@ -65,32 +65,52 @@ module _ {form : ℕ} {s out₀ out : Bytes} {put at : ℕ} (l : Laying form s o
       let all : writeCharacters (textOf form s) ≡ l .so-far = l .whole ∙ ap (λ t. l .so-far ++ writeCharacters t) e ∙ append-nil (l .so-far) in
       record { count-is = l .put-is ∙ ap length (sym all); after-is = l .out-is ∙ ap (sets out₀ 0) (sym all) }
 
-  pub laying-more : (c next : ℕ) {out' : Bytes} {put' : ℕ} → textFrom form s at ≡ c ∷ textFrom form s next → Stored (writeCharacter c) put out out' put' → Laying form s out₀ out' put' next
-  unfolding writeCharacters
-  laying-more c next e r =
+  -- bytes of what is left
+  pub laying-on : (bytes : Bytes) (next : ℕ) {out' : Bytes} {put' : ℕ} → writeCharacters (textFrom form s at) ≡ bytes ++ writeCharacters (textFrom form s next) →
+      Stored bytes put out out' put' → Laying form s out₀ out' put' next
+  laying-on bytes next e r =
       record {
-        so-far = l .so-far ++ writeCharacter c;
-        whole = l .whole ∙ ap (λ t. l .so-far ++ writeCharacters t) e ∙ sym (append-assoc (l .so-far) (writeCharacter c) (writeCharacters (textFrom form s next)));
-        put-is = r .next-is ∙ ap (λ n. n + length (writeCharacter c)) (l .put-is) ∙ sym (length-append (l .so-far) (writeCharacter c));
-        out-is = stores-on out₀ 0 (l .so-far) (writeCharacter c) (l .out-is) (r .after-is) (l .put-is ∙ sym (zero-add (length (l .so-far))));
+        so-far = l .so-far ++ bytes;
+        whole = l .whole ∙ ap (λ t. l .so-far ++ t) e ∙ sym (append-assoc (l .so-far) bytes (writeCharacters (textFrom form s next)));
+        put-is = r .next-is ∙ ap (λ n. n + length bytes) (l .put-is) ∙ sym (length-append (l .so-far) bytes);
+        out-is = stores-on out₀ 0 (l .so-far) bytes (l .out-is) (r .after-is) (l .put-is ∙ sym (zero-add (length (l .so-far))));
       }
 
--- ---- a part copied
+  -- one character of it
+  pub laying-more : (c next : ℕ) {out' : Bytes} {put' : ℕ} → textFrom form s at ≡ c ∷ textFrom form s next → Stored (writeCharacter c) put out out' put' → Laying form s out₀ out' put' next
+  unfolding writeCharacters
+  laying-more c next e r = laying-on (writeCharacter c) next (ap writeCharacters e) r
 
-pub copied-more : (s out₀ : Bytes) (i : ℕ) {out : Bytes} → i < length s → out ≡ sets out₀ 0 (take i s) → set out i (getD s i 0) ≡ sets out₀ 0 (take (i + 1) s)
-copied-more s out₀ i {out} h e =
-    stores-on out₀ 0 (take i s) (getD s i 0 ∷ []) e refl (omega (arith, length-take-le i s (omega arith)))
-    ∙ ap (sets out₀ 0) (sym (take-suc s i 0 h) ∙ ap (λ n. take n s) (sym (add-one i)))
+-- ---- bytes copied to a place, one after another: the first i of them
 
--- all of it, or as much as there was room for
-pub copied : (s out₀ : Bytes) (i : ℕ) {out : Bytes} → i ≡ min (length s) (length out₀) → out ≡ sets out₀ 0 (take i s) → LaidDown s out₀ out (length s)
-copied s out₀ i {out} h e = record { count-is = refl; after-is = e ∙ go (decLt i (length s)) }
-  where
-    go : Dec (i < length s) → sets out₀ 0 (take i s) ≡ sets out₀ 0 s
-    go (yes l) =
-        let full : length out₀ ≤ 0 + length (take i s) = omega (arith, length-take-le i s (omega arith)) in
-        sym
-        (ap (sets out₀ 0) (sym (take-append-drop i s))
-        ∙ sets-append out₀ 0 (take i s) (drop i s)
-        ∙ sets-out (sets out₀ 0 (take i s)) (0 + length (take i s)) (drop i s) (omega (arith, length-sets out₀ 0 (take i s))))
-    go (no l) = ap (sets out₀ 0) (take-all i s (omega arith))
+pub record Copied (s out₀ : Bytes) (at i : ℕ) (out : Bytes) : Type 0 where
+  pub is : out ≡ sets out₀ at (take i s)
+
+pub copied-none : {s out : Bytes} {at : ℕ} → Copied s out at 0 out
+copied-none = record { is = refl }
+
+module _ {s out₀ : Bytes} {at i : ℕ} {out : Bytes} (k : Copied s out₀ at i out) where
+  pub copied-length : length out ≡ length out₀
+  copied-length = ap length (k .is) ∙ length-sets out₀ at (take i s)
+
+  pub copied-more : i < length s → Copied s out₀ at (i + 1) (set out (at + i) (getD s i 0))
+  copied-more h =
+      let place : at + i ≡ at + length (take i s) = omega (arith, length-take-le i s (omega arith)) in
+      record { is = stores-on out₀ at (take i s) (getD s i 0 ∷ []) (k .is) refl place ∙ ap (sets out₀ at) (sym (take-suc s i 0 h) ∙ ap (λ n. take n s) (sym (add-one i))) }
+
+  -- all of them, or as many as there was room for
+  pub copied-all : i ≡ min (length s) (length out₀ - at) → Stored s at out₀ out (at + length s)
+  copied-all h = record { next-is = refl; after-is = k .is ∙ go (decLt i (length s)) }
+    where
+      go : Dec (i < length s) → sets out₀ at (take i s) ≡ sets out₀ at s
+      go (yes l) =
+          let full : length out₀ ≤ at + length (take i s) = omega (arith, length-take-le i s (omega arith)) in
+          sym
+          (ap (sets out₀ at) (sym (take-append-drop i s))
+          ∙ sets-append out₀ at (take i s) (drop i s)
+          ∙ sets-out (sets out₀ at (take i s)) (at + length (take i s)) (drop i s) (omega (arith, length-sets out₀ at (take i s))))
+      go (no l) = ap (sets out₀ at) (take-all i s (omega arith))
+
+-- what is stored at the front is laid down
+pub front : {bytes before after : Bytes} {next : ℕ} → Stored bytes 0 before after next → LaidDown bytes before after next
+front r = record { count-is = omega (arith, r .next-is); after-is = r .after-is }

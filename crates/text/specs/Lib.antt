@@ -1,3 +1,4 @@
 pub mod Decode
 pub mod Letters
+pub mod Runs
 pub mod Written

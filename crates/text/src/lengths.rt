@@ -6,6 +6,8 @@ ghost use Rattle.text.specs.Decode.{textOf};
 ghost use Rattle.text.specs.Written.{written};
 use crate::escapes::short_letter;
 use crate::letters::letter;
+use crate::letters::string_letter;
+use crate::runs::run_end;
 use lexer::Character;
 
 // The number of bytes of a code point in UTF-8.
@@ -52,12 +54,32 @@ fn text_length(form: u64, s: &[u8]) -> usize
     }
 }
 
+// The same of a string's text: a run of characters that are written as they are read, then one that may not be, and so on.
+fn string_length(s: &[u8]) -> usize
+    ensures { λ r. ⌜ r ≡ length (writeCharacters (textOf 2 (now (s .entry)))) ⌝ }
+{
+    let mut total = 0;
+    let mut start = 0;
+    loop {
+        let at = run_end(s, start);
+        total += at - start;
+        let Character::Scalar(c, next) = string_letter(s, at) else {
+            return total;
+        };
+        total += character_length(c);
+        start = next.at;
+    }
+}
+
 // The number of bytes of a part when it is written; it is at most the part's own.
 pub fn written_length(form: u64, s: &[u8]) -> usize
     ensures { λ r. ⌜ r ≡ length (written form (now (s .entry))) ⌝ }
 {
     if form == 1 {
         return s.len();
+    }
+    if form == 2 {
+        return string_length(s);
     }
     text_length(form, s)
 }

@@ -10,7 +10,7 @@ use lexer::peek;
 use lexer::stands_for_itself;
 
 // The character of a string at a place of its part; refused where the string ends.
-fn string_letter(s: &[u8], at: usize) -> Character
+pub fn string_letter(s: &[u8], at: usize) -> Character
     ensures { λ r. ⌜ characterOutcome r ≡ characterIn (now (s .entry)) at ⌝ }
 {
     if peek(s, at) == b'"' {

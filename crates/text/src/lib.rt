@@ -7,6 +7,7 @@ pub mod compare; // whether two texts are the same
 pub mod hash; // the hash of a text
 pub mod lengths; // how long a text is when it is written
 pub mod write; // texts laid down in the output
+mod runs; // a run of characters that are written as they are read
 mod escapes; // a character that is written as an escape
 
 pub use compare::same_ascii;

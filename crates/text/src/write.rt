@@ -1,8 +1,8 @@
 // Texts laid down in the output.
 ghost use mathlib.Core.Path.{_≡_};
 ghost use mathlib.Core.List.{[], _∷_};
-ghost use Prim.Native.Nat.{_+_, _%_, _<_, min};
-ghost use lib.ListN.{set};
+ghost use Prim.Native.Nat.{_+_, _-_, _%_, _<_, min};
+ghost use lib.ListN.{length, set};
 ghost use lib.Seq.{sets};
 ghost use Rattle.spec.specs.Write.{utf8, writeCharacter, writeCharacters};
 ghost use Rattle.text.specs.Decode.{textOf};
@@ -10,6 +10,8 @@ ghost use Rattle.text.specs.Written.{Stored, LaidDown, written, hexEscap
 use crate::escapes::hex_digit;
 use crate::escapes::short_letter;
 use crate::letters::letter;
+use crate::letters::string_letter;
+use crate::runs::run_end;
 use lexer::Character;
 
 // A byte stored at a place, where there is room.
@@ -127,17 +129,42 @@ fn least(a: usize, b: usize) -> usize
     if a < b { a } else { b }
 }
 
-// A part's bytes at the front of the output.
-fn copy(s: &[u8], out: &mut [u8]) -> usize
-    ensures { λ r. ⌜ LaidDown (now (s .entry)) (now (out .entry)) (now (out .exit)) r ⌝ }
+// How many bytes there is room for from a place on.
+fn room(length: usize, at: usize) -> usize
+    ensures { λ r. ⌜ r ≡ length - at ⌝ }
 {
-    let n = least(s.len(), out.len());
+    if at < length { length - at } else { 0 }
+}
+
+// Bytes from a place on, where there is room; the answer is the place after them.
+fn put_bytes(out: &mut [u8], at: usize, s: &[u8]) -> usize
+    requires { ⌜ at + length (now s) < 0x1_0000_0000_0000_0000 ⌝ }
+    ensures { λ r. ⌜ Stored (now (s .entry)) at (now (out .entry)) (now (out .exit)) r ⌝ }
+{
+    let n = least(s.len(), room(out.len(), at));
     let mut i = 0;
     while i < n {
-        out[i] = s[i];
+        out[at + i] = s[i];
         i += 1;
     }
-    s.len()
+    at + s.len()
+}
+
+// A string's text at the front of the output: a run of characters that are written as they are read, then one that may not be, and so on.
+fn write_string(s: &[u8], out: &mut [u8]) -> usize
+    ensures { λ r. ⌜ LaidDown (writeCharacters (textOf 2 (now (s .entry)))) (now (out .entry)) (now (out .exit)) r ⌝ }
+{
+    let mut put = 0;
+    let mut start = 0;
+    loop {
+        let at = run_end(s, start);
+        put = put_bytes(out, put, &s[start..at]);
+        let Character::Scalar(c, next) = string_letter(s, at) else {
+            return put;
+        };
+        put = put_character(out, put, c);
+        start = next.at;
+    }
 }
 
 // A part written at the front of `out`, which is the rest of the output; the answer is the number of its bytes, as `written_length` has it.
@@ -145,7 +172,10 @@ pub fn write_text(form: u64, s: &[u8], out: &mut [u8]) -> usize
     ensures { λ r. ⌜ LaidDown (written form (now (s .entry))) (now (out .entry)) (now (out .exit)) r ⌝ }
 {
     if form == 1 {
-        return copy(s, out);
+        return put_bytes(out, 0, s);
+    }
+    if form == 2 {
+        return write_string(s, out);
     }
     write_letters(form, s, out)
 }

@@ -11,4 +11,6 @@ written-length-spec =
     (tie.spec
     (λ c. rw (c .if1 .taken))
     (λ c κs. search auto)
-    (λ c. rw (ne-eqb _ _ (c .before .if1 .left)) (c .text-length .ensures)))
+    (λ c. rw (c .before .if2 .taken) (c .string-length .ensures))
+    (λ c κs. search auto)
+    (λ c. rw (ne-eqb _ _ (c .before .before .if1 .left)) (c .text-length .ensures)))
