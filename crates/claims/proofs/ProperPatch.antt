@@ -14,7 +14,7 @@ use Rattle.spec.specs.Value as Value
 use Rattle.spec.specs.Value.{Label, Entry, Members, leaf, valueOf, tag, isArray, isObject, isString, content, has, find, depth, nodes}
 use Rattle.spec.specs.Pointer.{Tokens, tokens, child}
 use Rattle.spec.specs.Operation.{Kind, Operation, perform, notTooDeep, notTooLarge, limited}
-use Rattle.spec.specs.Patch.{member, stringOf, stringMember, kindNamed, usesValue, usesFrom, isMove, Members-of-operation, valueFor, fromFor, membersFor, operationMembers, properPrefix, withPointers, operation, Run, finished, stopped, atOp, onFinish, operations, shape, run}
+use Rattle.spec.specs.Patch.{member, stringOf, stringMember, kindNamed, usesValue, usesFrom, isMove, OperationMembers, valueFor, fromFor, membersFor, operationMembers, properPrefix, withPointers, operation, Run, finished, stopped, atOp, onFinish, operations, shape, run}
 use Rattle.spec.proofs.OutcomeLaws.{refused≢ok, both-ok}
 use Rattle.claims.specs.Proper as Proper
 use Rattle.claims.specs.Proper.{Proper, Readable, Allows, ScalarValue, ScalarValues, ProperItems}
@@ -93,12 +93,12 @@ unfolding fromFor
 from-member kind v cs p h =
     if-ok (usesFrom kind) h (λ _ i. string-member (ascii "from") v cs p i) (λ _ i. let same : [] ≡ cs = cc in subst ScalarValues same Proper.nothing)
 
-record ProperMembers (m : Members-of-operation) : Type 0 where
+record ProperMembers (m : OperationMembers) : Type 0 where
   path-characters : ScalarValues (m .path)
   from-characters : ScalarValues (m .from)
   value-proper : Proper (m .value)
 
-members-proper : (kind : Kind) (v : Value.Value) (m : Members-of-operation) → Proper v → membersFor kind v ≡ ok m → ProperMembers m
+members-proper : (kind : Kind) (v : Value.Value) (m : OperationMembers) → Proper v → membersFor kind v ≡ ok m → ProperMembers m
 unfolding membersFor
 members-proper kind v m p h =
     let (path, e, i) = both-ok (stringMember (ascii "path") v) _ m h in

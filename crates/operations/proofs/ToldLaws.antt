@@ -7,7 +7,7 @@ use Rattle.spec.specs.Bytes.{Text, ascii}
 use Rattle.spec.specs.Value as Value
 use Rattle.spec.specs.Pointer.{tokens}
 use Rattle.spec.specs.Operation as Operation
-use Rattle.spec.specs.Patch.{member, stringMember, usesValue, usesFrom, isMove, Members-of-operation, valueFor, fromFor, membersFor, properPrefix, withPointers, operation}
+use Rattle.spec.specs.Patch.{member, stringMember, usesValue, usesFrom, isMove, OperationMembers, valueFor, fromFor, membersFor, properPrefix, withPointers, operation}
 use Rattle.spec.proofs.OutcomeLaws.{both-ok}
 use Rattle.shape.specs.Operation.{kindOf}
 use Rattle.shape.proofs.AnswerLaws.{operation-kind}
@@ -34,13 +34,13 @@ module _ (k : Operation.Kind) (v : Value.Value) where
   unfolding fromFor
   from-used e uses = rw uses at e
 
-  record MembersTold (m : Members-of-operation) : Type 0 where
+  record MembersTold (m : OperationMembers) : Type 0 where
     kind : k ≡ m .kind
     path : stringMember (ascii "path") v ≡ ok (m .path)
     value : valueFor k v ≡ ok (m .value)
     from : fromFor k v ≡ ok (m .from)
 
-  told-members : (m : Members-of-operation) → membersFor k v ≡ ok m → MembersTold m
+  told-members : (m : OperationMembers) → membersFor k v ≡ ok m → MembersTold m
   unfolding membersFor
   told-members m e =
       let (p, path-is, e₁) = both-ok (stringMember (ascii "path") v) _ m e in
@@ -55,13 +55,13 @@ module _ (k : Operation.Kind) (v : Value.Value) where
       }
 
 -- and then its pointers
-record PointersTold (m : Members-of-operation) (o : Operation.Operation) : Type 0 where
+record PointersTold (m : OperationMembers) (o : Operation.Operation) : Type 0 where
   kind : m .kind ≡ o .kind
   value : m .value ≡ o .value
   path : tokens (m .path) ≡ ok (o .path)
   from : tokens (m .from) ≡ ok (o .from)
 
-told-pointers : (m : Members-of-operation) (o : Operation.Operation) → withPointers m ≡ ok o → PointersTold m o
+told-pointers : (m : OperationMembers) (o : Operation.Operation) → withPointers m ≡ ok o → PointersTold m o
 unfolding withPointers
 told-pointers m o e =
     let (p, path-is, e₁) = both-ok (tokens (m .path)) _ o e in

@@ -15,7 +15,7 @@ use Rattle.spec.specs.Value as Value
 use Rattle.spec.specs.Value.{isObject}
 use Rattle.spec.specs.Operation as Operation
 use Rattle.spec.specs.Pointer.{tokens}
-use Rattle.spec.specs.Patch.{member, stringMember, kindNamed, usesValue, usesFrom, isMove, Members-of-operation, valueFor, fromFor, membersFor, operationMembers, withPointers, operation}
+use Rattle.spec.specs.Patch.{member, stringMember, kindNamed, usesValue, usesFrom, isMove, OperationMembers, valueFor, fromFor, membersFor, operationMembers, withPointers, operation}
 use Rattle.spec.proofs.OutcomeLaws.{>>=-assoc}
 use Rattle.text.specs.Decode.{decode, decodeFrom, decodeLoop, textOf, textFrom}
 use Rattle.pointer.specs.Tokens.{accepted}
@@ -124,7 +124,7 @@ pub prefix-is : {s part t other : Bytes} {r : Bool} → s ≡ part → t ≡ oth
     → (b : Bool) → r ≡ b → PrefixOf (tokens (decode part)) (tokens (decode other)) b
 prefix-is {s} {part} {t} {other} {r} e f is b g = rw (← e, ← f, ← g) is
 
-module _ (m : Members-of-operation) where
+module _ (m : OperationMembers) where
   pub path-malformed : accepted (tokens (m .path)) ≡ false → Answers (withPointers m) 10
   unfolding withPointers _>>=_
   path-malformed e = rw (not-accepted (m .path) e) (wrong 10 (omega arith))

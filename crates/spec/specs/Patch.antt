@@ -62,7 +62,7 @@ isMove copy = false
 isMove test = false
 
 -- an operation's members, its pointers as they are written; what is not used is empty, or null
-pub record Members-of-operation : Type 0 where
+pub record OperationMembers : Type 0 where
   pub kind : Kind
   pub path : Text
   pub from : Text
@@ -75,7 +75,7 @@ unfoldable pub fromFor : Kind → Value.Value → Outcome Text
 fromFor kind v = if usesFrom kind then stringMember (ascii "from") v else ok []
 
 -- "`path` is a string; add, replace and test have `value`; move and copy have `from`, a string: else 8"
-unfoldable pub membersFor : Kind → Value.Value → Outcome Members-of-operation
+unfoldable pub membersFor : Kind → Value.Value → Outcome OperationMembers
 membersFor kind v = do
   path ← stringMember (ascii "path") v
   value ← valueFor kind v
@@ -83,7 +83,7 @@ membersFor kind v = do
   ok (record { kind = kind; path = path; from = from; value = value })
 
 -- "It is an object; `op` is one of ..", and the other members that it must have: else 8
-unfoldable pub operationMembers : Value.Value → Outcome Members-of-operation
+unfoldable pub operationMembers : Value.Value → Outcome OperationMembers
 operationMembers v = do
   _ ← require wrong-shape (isObject (v .label))
   op ← stringMember (ascii "op") v
@@ -99,7 +99,7 @@ properPrefix (t ∷ ts) (u ∷ us) = sameText t u && properPrefix ts us
 
 -- "Then `path`, then `from` where used, is a pointer: else 10. Then, for move, the tokens of `from` are not a proper prefix of those of
 -- `path`: else 14."
-unfoldable pub withPointers : Members-of-operation → Outcome Operation
+unfoldable pub withPointers : OperationMembers → Outcome Operation
 withPointers m = do
   path ← tokens (m .path)
   from ← tokens (m .from)
