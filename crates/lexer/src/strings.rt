@@ -38,10 +38,14 @@ pub enum Quoted {
 pub fn stands_for_itself(b: u8) -> bool
     ensures { λ r. ⌜ r ≡ standsForItself b ⌝ }
 {
-    if b < 0x20 {
-        return false;
+    // the small letters first
+    if b'\\' < b {
+        if 0x7F < b {
+            return false;
+        }
+        return true;
     }
-    if 0x7F < b {
+    if b < 0x20 {
         return false;
     }
     if b == b'"' {
