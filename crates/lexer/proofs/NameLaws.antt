@@ -18,9 +18,12 @@ use Rattle.spec.specs.Strings.{tail, multibyte, character, characters, string}
 use Rattle.lexer.specs.declared.cursor.Cursor.{Cursor}
 use Rattle.lexer.specs.declared.strings.Name.{Name}
 use Rattle.lexer.specs.declared.strings.Name.the-variants as Name
-use Rattle.lexer.specs.Answers.{nameOutcome}
+use Rattle.lexer.specs.declared.strings.Quoted.{Quoted}
+use Rattle.lexer.specs.declared.strings.Quoted.the-variants as Quoted
+use Rattle.lexer.specs.Answers.{quotedOutcome, nameOutcome}
 use Rattle.lexer.specs.Hash.{mix, hashFrom, hash}
-use Rattle.lexer.specs.Names.{standsForItself, noBackslash, part, kept, keptOf}
+use Rattle.lexer.specs.Names.{standsForItself, noBackslash, part, plainOf, kept, keptOf}
+use Rattle.lexer.specs.Sequences.{Sequence, unread, read}
 use Rattle.lexer.proofs.Always.{Always, refuses, gives, result, either, next, weaken}
 use Rattle.lexer.proofs.Fuel.{Runs, starts}
 use Rattle.lexer.proofs.AnswerLaws.{byte-taken, byte-is}
@@ -126,26 +129,18 @@ kept-from : (s : Bytes) (start : ℕ) (o : Outcome (Text × ℕ)) → keptFrom 0
 unfolding keptFrom keptOf kept hash _>>=_
 kept-from s start o = refl
 
--- In the midst of a name that begins at start: the hash and whether it is plain are those of the characters before a place, and what is
--- left of it from there on gives v.
-pub record Keeping (s : Bytes) (start at h : ℕ) (plain : Bool) (v : Outcome (ℕ × ℕ × Bool)) : Type 0 where
+-- In the midst of a string that begins at start: whether it is plain before a place.
+pub record Spanned (s : Bytes) (start at : ℕ) (plain : Bool) : Type 0 where
   pub from : start ≤ at
   pub so-far : plain ≡ noBackslash (part s start at)
-  pub left : Runs (λ fuel k. keptFrom h s start (characters fuel s k)) s at v
 
-pub keeping-starts : (s : Bytes) (start : ℕ) → Keeping s start start 0 true (keptOf s start (characters (length s) s start))
+spanned-starts : (s : Bytes) (start : ℕ) → Spanned s start start true
 unfolding noBackslash
-keeping-starts s start =
-    record {
-      from = omega arith;
-      so-far = rw (part-empty s start);
-      left = rw (kept-from s start (characters (length s) s start)) at (starts (λ fuel k. keptFrom 0 s start (characters fuel s k)) s start);
-    }
+spanned-starts s start = record { from = omega arith; so-far = rw (part-empty s start) }
 
-module _ {s : Bytes} {start at h : ℕ} {plain : Bool} {v : Outcome (ℕ × ℕ × Bool)} where
-  pub keeping-more : (u : ℕ × ℕ) {h' : ℕ} {plain' : Bool} → (byte s at ≡ code "\"" → ⊥) → character s at ≡ ok u →
-      h' ≡ mix h (u .0) → plain' ≡ (plain && not (eqb (byte s at) (code "\\"))) → Keeping s start at h plain v → Keeping s start (u .1) h' plain' v
-  keeping-more u n e m p k =
+module _ {s : Bytes} {start at : ℕ} {plain : Bool} (k : Spanned s start at plain) where
+  spanned-more : (u : ℕ × ℕ) {plain' : Bool} → character s at ≡ ok u → plain' ≡ (plain && not (eqb (byte s at) (code "\\"))) → Spanned s start (u .1) plain'
+  spanned-more u e p =
       let l = character-ok-past s at u e in
       record {
         from = omega (arith, k .from);
@@ -157,25 +152,115 @@ module _ {s : Bytes} {start at h : ℕ} {plain : Bool} {v : Outcome (ℕ × ℕ 
               no-backslash-append (part s start at) (part s at (u .1)),
               character-plain s at u e,
             );
+      }
+
+-- a character that begins with no backslash leaves it as it is
+still : (s : Bytes) (at : ℕ) (plain : Bool) → (byte s at ≡ code "\\" → ⊥) → plain ≡ (plain && not (eqb (byte s at) (code "\\")))
+still s at plain n = rw (ne-eqb (byte s at) (code "\\") n) (sym (and-true plain))
+
+-- a character of two to four bytes takes at least one, and none past the end
+pub sequence-past : {s : Bytes} {at n : ℕ} → Sequence s at n → (n ≡ 0 → ⊥) → (at < at + n) × (at + n ≤ length s)
+sequence-past unread n = absurd (n refl)
+sequence-past {s} {at} (read c n l e) _ = character-ok-past s at (c, at + n) e
+
+-- In the midst of a string: what is left of it from a place on gives v.
+pub record Passing (s : Bytes) (start at : ℕ) (plain : Bool) (v : Outcome (ℕ × Bool)) : Type 0 where
+  pub span : Spanned s start at plain
+  pub left : Runs (λ fuel k. plainOf s start (characters fuel s k)) s at v
+
+plain-cons : (s : Bytes) (start c : ℕ) (o : Outcome (Text × ℕ)) → plainOf s start (cons c o) ≡ plainOf s start o
+unfolding plainOf _>>=_
+plain-cons s start c (ok t) = refl
+plain-cons s start c (refused number place) = refl
+
+pub passing-starts : (s : Bytes) (start : ℕ) → Passing s start start true (plainOf s start (characters (length s) s start))
+passing-starts s start = record { span = spanned-starts s start; left = starts (λ fuel k. plainOf s start (characters fuel s k)) s start }
+
+module _ {s : Bytes} {start at : ℕ} {plain : Bool} {v : Outcome (ℕ × Bool)} where
+  pub passing-more : (u : ℕ × ℕ) {plain' : Bool} → (byte s at ≡ code "\"" → ⊥) → character s at ≡ ok u →
+      plain' ≡ (plain && not (eqb (byte s at) (code "\\"))) → Passing s start at plain v → Passing s start (u .1) plain' v
+  passing-more u n e p k =
+      record { span = spanned-more (k .span) u e p; left = turn-character (plainOf s start) s at (plainOf s start) u (plain-cons s start (u .0)) n e (k .left) }
+
+  pub passing-self : standsForItself (byte s at) ≡ true → Passing s start at plain v → Passing s start (at + 1) plain v
+  passing-self t = passing-more (byte s at, at + 1) (self-no-quote s at t) (self-character s at t) (still s at plain (self-no-backslash s at t))
+
+  pub passing-sequence : {n : ℕ} → Sequence s at n → (n ≡ 0 → ⊥) → Passing s start at plain v → Passing s start (at + n) plain v
+  passing-sequence unread n k = absurd (n refl)
+  passing-sequence (read c n l e) _ k = passing-more (c, at + n) (λ q. omega arith) e (still s at plain (λ q. omega arith)) k
+
+  pub passing-quote : byte s at ≡ code "\"" → Passing s start at plain v → ok (at + 1, plain) ≡ v
+  unfolding plainOf _>>=_
+  passing-quote q k =
+      let e : at + 1 - 1 ≡ at = omega arith in
+      rw (e, ← k .span .so-far) at (turn-quote (plainOf s start) s at q (k .left))
+
+  pub passing-refused : (number place : ℕ) → (byte s at ≡ code "\"" → ⊥) → character s at ≡ refused number place → Passing s start at plain v → refused number place ≡ v
+  unfolding plainOf _>>=_
+  passing-refused number place n e k = turn-refused (plainOf s start) s at number place n e (k .left)
+
+-- In the midst of a name: the hash is that of the characters before a place, and what is left of it from there on gives v.
+pub record Keeping (s : Bytes) (start at h : ℕ) (plain : Bool) (v : Outcome (ℕ × ℕ × Bool)) : Type 0 where
+  pub span : Spanned s start at plain
+  pub left : Runs (λ fuel k. keptFrom h s start (characters fuel s k)) s at v
+
+pub keeping-starts : (s : Bytes) (start : ℕ) → Keeping s start start 0 true (keptOf s start (characters (length s) s start))
+keeping-starts s start =
+    record {
+      span = spanned-starts s start;
+      left = rw (kept-from s start (characters (length s) s start)) at (starts (λ fuel k. keptFrom 0 s start (characters fuel s k)) s start);
+    }
+
+module _ {s : Bytes} {start at h : ℕ} {plain : Bool} {v : Outcome (ℕ × ℕ × Bool)} where
+  pub keeping-more : (u : ℕ × ℕ) {h' : ℕ} {plain' : Bool} → (byte s at ≡ code "\"" → ⊥) → character s at ≡ ok u →
+      h' ≡ mix h (u .0) → plain' ≡ (plain && not (eqb (byte s at) (code "\\"))) → Keeping s start at h plain v → Keeping s start (u .1) h' plain' v
+  keeping-more u n e m p k =
+      record {
+        span = spanned-more (k .span) u e p;
         left = rw m (turn-character (keptFrom h s start) s at (keptFrom (mix h (u .0)) s start) u (kept-cons h s start (u .0)) n e (k .left));
       }
 
   pub keeping-self : {h' : ℕ} → standsForItself (byte s at) ≡ true → h' ≡ mix h (byte s at) → Keeping s start at h plain v →
       Keeping s start (at + 1) h' plain v
-  keeping-self t m k =
-      keeping-more (byte s at, at + 1) (self-no-quote s at t) (self-character s at t) m
-      (rw (ne-eqb (byte s at) (code "\\") (self-no-backslash s at t)) (sym (and-true plain))) k
+  keeping-self t m k = keeping-more (byte s at, at + 1) (self-no-quote s at t) (self-character s at t) m (still s at plain (self-no-backslash s at t)) k
 
   pub keeping-quote : byte s at ≡ code "\"" → Keeping s start at h plain v → ok (at + 1, h, plain) ≡ v
   unfolding keptFrom hashFrom _>>=_
   keeping-quote q k =
       let e : at + 1 - 1 ≡ at = omega arith in
-      rw (e, ← k .so-far) at (turn-quote (keptFrom h s start) s at q (k .left))
+      rw (e, ← k .span .so-far) at (turn-quote (keptFrom h s start) s at q (k .left))
 
   pub keeping-refused : (number place : ℕ) → (byte s at ≡ code "\"" → ⊥) → character s at ≡ refused number place →
       Keeping s start at h plain v → refused number place ≡ v
   unfolding keptFrom _>>=_
   keeping-refused number place n e k = turn-refused (keptFrom h s start) s at number place n e (k .left)
+
+-- what a string that was read says
+pub record QuotedRead (s : Bytes) (at next : ℕ) (plain : Bool) : Type 0 where
+  pub text : Text
+  pub reads : string s at ≡ ok (text, next)
+  pub written : plain ≡ noBackslash (part s (at + 1) (next - 1))
+
+pub quoted-read : (s : Bytes) (at : ℕ) {next : Cursor} {plain : Bool} {r : Quoted} → quotedOutcome r ≡ plainOf s (at + 1) (string s at) →
+    r ≡ Quoted.Read next plain → QuotedRead s at (next .at) plain
+unfolding quotedOutcome plainOf _>>=_
+quoted-read s at {next} {plain} e t = go (string s at) refl (sym (ap quotedOutcome t) ∙ e)
+  where
+    go : (o : Outcome (Text × ℕ)) → string s at ≡ o → ok (next .at, plain) ≡ plainOf s (at + 1) o → QuotedRead s at (next .at) plain
+    go (ok (cs, n)) q k =
+        let p : _≡_ {A = ℕ × Bool} (next .at, plain) (n, noBackslash (part s (at + 1) (n - 1))) = cc in
+        let same : next .at ≡ n = ap (λ x. x .0) p in
+        record { text = cs; reads = rw same q; written = rw same (ap (λ x. x .1) p) }
+    go (refused number place) q k = let z : _≡_ {A = ℕ} 0 1 = cc in absurd (omega arith)
+
+pub quoted-refused : (s : Bytes) (at : ℕ) {place : ℕ} {r : Quoted} → quotedOutcome r ≡ plainOf s (at + 1) (string s at) →
+    r ≡ Quoted.Refused place → string s at ≡ refused not-json place
+unfolding quotedOutcome plainOf _>>=_
+quoted-refused s at {place} e t = go (string s at) (sym (ap quotedOutcome t) ∙ e)
+  where
+    go : (o : Outcome (Text × ℕ)) → refused not-json place ≡ plainOf s (at + 1) o → o ≡ refused not-json place
+    go (ok t) k = let z : _≡_ {A = ℕ} 0 1 = cc in absurd (omega arith)
+    go (refused number p) k = cc
 
 -- what a name that was read says of its string
 pub record NameRead (s : Bytes) (at next h : ℕ) (plain : Bool) : Type 0 where

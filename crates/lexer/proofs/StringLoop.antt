@@ -11,7 +11,6 @@ use lib.Dec.{eqb}
 use Rattle.spec.specs.Outcome.{Outcome, ok, refused, _>>=_}
 use Rattle.spec.specs.Bytes.{Bytes, Text, byte, within}
 use Rattle.spec.specs.Strings.{character, characters}
-use Rattle.lexer.specs.Answers.{endOf}
 use Rattle.lexer.specs.Names.{standsForItself}
 use Rattle.lexer.proofs.Tests.{and-both}
 use Rattle.lexer.proofs.Fuel.{Runs, goes-on, ends}
@@ -83,9 +82,3 @@ module _ {B : Type 0} (K : Outcome (Text × ℕ) → B) (s : Bytes) (at : ℕ) w
   pub turn-refused : (number place : ℕ) {b : B} → (byte s at ≡ code "\"" → ⊥) → character s at ≡ refused number place →
       Runs (λ fuel k. K (characters fuel s k)) s at b → K (refused number place) ≡ b
   turn-refused number place n e r = ends (λ l. ap K (none s at number place e l)) (λ fuel. ap K (stops s at number place n e fuel)) r
-
--- where a string ends
-pub end-cons : (c : ℕ) (o : Outcome (Text × ℕ)) → endOf (cons c o) ≡ endOf o
-unfolding endOf _>>=_
-end-cons c (ok t) = refl
-end-cons c (refused number place) = refl

@@ -12,6 +12,8 @@ use Rattle.lexer.specs.declared.characters.Character.{Character}
 use Rattle.lexer.specs.declared.characters.Character.the-variants as Character
 use Rattle.lexer.specs.declared.strings.Name.{Name}
 use Rattle.lexer.specs.declared.strings.Name.the-variants as Name
+use Rattle.lexer.specs.declared.strings.Quoted.{Quoted}
+use Rattle.lexer.specs.declared.strings.Quoted.the-variants as Quoted
 
 -- of a number that was asked for at a place
 unfoldable pub boundedOutcome : ℕ → Bounded → Outcome ℕ
@@ -30,6 +32,10 @@ refusedAt (Character.Refused place) = place
 unfoldable pub scanOutcome : Scan → Outcome ℕ
 scanOutcome (Scan.To next) = ok (next .at)
 scanOutcome (Scan.Refused number place) = refused number place
+
+unfoldable pub quotedOutcome : Quoted → Outcome (ℕ × Bool)
+quotedOutcome (Quoted.Read next plain) = ok (next .at, plain)
+quotedOutcome (Quoted.Refused place) = refused not-json place
 
 unfoldable pub nameOutcome : Name → Outcome (ℕ × ℕ × Bool)
 nameOutcome (Name.Read next hash plain) = ok (next .at, hash, plain)

@@ -22,6 +22,10 @@ noBackslash (b ∷ bs) = not (eqb b (code "\\")) && noBackslash bs
 unfoldable pub part : Bytes → ℕ → ℕ → Bytes
 part s from to = take (to - from) (drop from s)
 
+-- Of a string whose characters begin at a place, given those and the place after it: that place, and whether they are written with no escape.
+unfoldable pub plainOf : Bytes → ℕ → Outcome (Text × ℕ) → Outcome (ℕ × Bool)
+plainOf s start o = o >>= λ t. ok (t .1, noBackslash (part s start (t .1 - 1)))
+
 -- What is kept of a string whose characters begin at a place, given those and the place after it: that place, the hash of the characters,
 -- and whether they are written with no escape.
 unfoldable pub kept : Bytes → ℕ → Text × ℕ → ℕ × ℕ × Bool

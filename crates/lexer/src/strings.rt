@@ -5,8 +5,8 @@ ghost use mathlib.Core.Bool.{_&&_, not};
 ghost use lib.ListN.{length};
 ghost use lib.Dec.{eqb};
 ghost use Rattle.spec.specs.Strings.{characters, string};
-ghost use Rattle.lexer.specs.Names.{standsForItself, keptOf};
-ghost use Rattle.lexer.specs.Answers.{scanOutcome, endOf, nameOutcome, refusedAt};
+ghost use Rattle.lexer.specs.Names.{standsForItself, plainOf, keptOf};
+ghost use Rattle.lexer.specs.Answers.{scanOutcome, endOf, quotedOutcome, nameOutcome, refusedAt};
 use crate::characters::Character;
 use crate::cursor::Bounded;
 use crate::cursor::Cursor;
@@ -15,6 +15,7 @@ use crate::cursor::Scan;
 use crate::cursor::byte_in;
 use crate::cursor::peek;
 use crate::hash::mix;
+use crate::utf8::sequence;
 
 // A name's cursor after it, the hash of its characters, and whether it is plain: written with no escape; or the place of a refusal, whose
 // number is 3.
@@ -27,14 +28,24 @@ pub enum Name {
     Refused(usize),
 }
 
+// A string's cursor after it, and whether it is plain; or the place of a refusal, whose number is 3.
+pub enum Quoted {
+    Read { next: Cursor, plain: bool },
+    Refused(usize),
+}
+
 // Whether a byte is a whole character of its string, as most bytes of most strings are: asked first, it keeps a loop over them quick.
 pub fn stands_for_itself(b: u8) -> bool
     ensures { λ r. ⌜ r ≡ standsForItself b ⌝ }
 {
-    if b < 0x20 {
-        return false;
+    // the small letters first
+    if b'\\' < b {
+        if 0x7F < b {
+            return false;
+        }
+        return true;
     }
-    if 0x7F < b {
+    if b < 0x20 {
         return false;
     }
     if b == b'"' {
@@ -53,28 +64,6 @@ fn refused_at(read: Character) -> usize
     }
 }
 
-// The characters from a place to the closing quotation mark.
-fn characters(s: &[u8], start: usize) -> Scan
-    ensures { λ r. ⌜ scanOutcome r ≡ endOf (characters (length (now (s .entry))) (now (s .entry)) start) ⌝ }
-{
-    let mut at = start;
-    loop {
-        let b = peek(s, at);
-        if stands_for_itself(b) {
-            at += 1;
-            continue;
-        }
-        if b == b'"' {
-            return Scan::To(Cursor { at: at + 1 });
-        }
-        let read = (Cursor { at }).character(s);
-        let Character::Scalar(_, next) = read else {
-            return Scan::Refused(NOT_JSON, refused_at(read));
-        };
-        at = next.at;
-    }
-}
-
 // Whether a text is still plain after a character that begins with a byte.
 fn still_plain(plain: bool, b: u8) -> bool
     ensures { λ r. ⌜ r ≡ (plain && not (eqb b 0x5C)) ⌝ }
@@ -83,6 +72,38 @@ fn still_plain(plain: bool, b: u8) -> bool
         return false;
     }
     plain
+}
+
+// The characters from a place to the closing quotation mark.
+fn characters(s: &[u8], start: usize) -> Quoted
+    ensures { λ r. ⌜ quotedOutcome r ≡ plainOf (now (s .entry)) start (characters (length (now (s .entry))) (now (s .entry)) start) ⌝ }
+{
+    let mut at = start;
+    let mut plain = true;
+    loop {
+        let b = peek(s, at);
+        if stands_for_itself(b) {
+            at += 1;
+            continue;
+        }
+        if b == b'"' {
+            return Quoted::Read {
+                next: Cursor { at: at + 1 },
+                plain,
+            };
+        }
+        let n = sequence(s, at);
+        if n != 0 {
+            at += n;
+            continue;
+        }
+        let read = (Cursor { at }).character(s);
+        let Character::Scalar(_, next) = read else {
+            return Quoted::Refused(refused_at(read));
+        };
+        plain = still_plain(plain, b);
+        at = next.at;
+    }
 }
 
 // The characters from a place to the closing quotation mark, with what is kept of them.
@@ -117,15 +138,26 @@ fn name_characters(s: &[u8], start: usize) -> Name
 }
 
 impl Cursor {
+    // The string at the cursor, with its quotation marks, and whether it is plain.
+    pub fn quoted(self, s: &[u8]) -> Quoted
+        ensures { λ r. ⌜ quotedOutcome r ≡ plainOf (now (s .entry)) (self .at + 1) (string (now (s .entry)) (self .at)) ⌝ }
+    {
+        let at = self.at;
+        let Bounded::Within(_) = byte_in(s, at, b'"', b'"') else {
+            return Quoted::Refused(at);
+        };
+        characters(s, at + 1)
+    }
+
     // The string at the cursor, with its quotation marks.
     pub fn string(self, s: &[u8]) -> Scan
         ensures { λ r. ⌜ scanOutcome r ≡ endOf (string (now (s .entry)) (self .at)) ⌝ }
     {
-        let at = self.at;
-        let Bounded::Within(_) = byte_in(s, at, b'"', b'"') else {
-            return Scan::Refused(NOT_JSON, at);
-        };
-        characters(s, at + 1)
+        let quoted = self.quoted(s);
+        match quoted {
+            Quoted::Read { next, plain: _ } => Scan::To(next),
+            Quoted::Refused(place) => Scan::Refused(NOT_JSON, place),
+        }
     }
 
     // The string at the cursor, with its quotation marks, and what is kept of it as a name.

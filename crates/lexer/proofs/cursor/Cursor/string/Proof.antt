@@ -1,21 +1,17 @@
-use native.Mathlib.Omega.{arith}
 use Rattle.spec.specs.Outcome.{_>>=_}
-use Rattle.spec.specs.Strings.{string}
-use Rattle.lexer.specs.Answers.{endOf, scanOutcome}
-use Rattle.lexer.proofs.AnswerLaws.{within-ok, outside-refused, byte-known}
+use Rattle.lexer.specs.Answers.{scanOutcome, endOf}
+use Rattle.lexer.proofs.NameLaws.{quoted-read, quoted-refused}
 use Rattle.lexer.proofs.Auto.{auto}
 use Rattle.lexer.proofs.cursor.Cursor.string.Statement.{statement}
 use Rattle.lexer.proofs.cursor.Cursor.string.Tie as tie
 
 pub string-spec : {M : Type 1} → statement M
-unfolding string endOf scanOutcome _>>=_
+unfolding scanOutcome endOf _>>=_
 string-spec =
     tie.close
     (tie.spec
     (λ c κs. search auto)
     (λ c. search auto)
     (λ c. search auto)
-    (λ c. rw (outside-refused _ (c .before .before .byte-in .ensures) (c .enum-told2 .given .1)))
-    (λ c. omega (arith, byte-known _ _ _ _ _ (omega arith) (c .before .before .byte-in .ensures) (c .enum-told .given .1)))
-    (λ c κs. search auto)
-    (λ c. rw (within-ok _ (c .before .before .before .byte-in .ensures) (c .before .enum-told .given .1)) (c .characters .ensures)))
+    (λ c. rw (quoted-read _ _ (c .before .before .before .quoted .ensures) (c .before .quoted2 .given .1) .reads))
+    (λ c. rw (quoted-refused _ _ (c .before .before .before .quoted .ensures) (c .before .quoted3 .given .1))))
