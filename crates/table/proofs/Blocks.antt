@@ -1,14 +1,14 @@
 -- Laws of rows that are looked at together: what the `or` of their words and the `and` of their names' numbers tell of each.
-use Prim.Native.Nat.{ℕ, suc, _+_, _/_, _%_, _≤_, _<_}
+use Prim.Native.Nat.{ℕ, _+_, _/_, _%_, _≤_, _<_}
 use native.Mathlib.Omega.{arith}
 use native.Mathlib.Decide.{decLt}
-use mathlib.Core.Path.{_≡_, ap, sym, _∙_}
+use mathlib.Core.Path.{_≡_, ap, _∙_}
 use mathlib.Core.List.{List}
 use lib.Bits.{bitAnd, bitOr, and-le-l, and-le-r, or-add-and, or-shr, or-mod}
 use lib.ListN.{getD}
 use Rattle.tape.specs.Layout.{spans, hashes}
 use Rattle.tape.specs.Packing.{spanOf, hashOf}
-use Rattle.table.specs.Find.{Quiet, AllQuiet}
+use Rattle.table.specs.Find.{AllQuiet}
 
 -- ---- the `or` of two words has a span of 0 only if both have
 module _ (a b : ℕ) where
@@ -31,7 +31,7 @@ module _ {values names : List ℕ} {name row : ℕ} where
   pub scanned-none : {words numbers : ℕ} → Scanned values names name row 0 words numbers
   scanned-none = record { leaves = λ n j l. absurd (omega arith); others = λ n j l e. absurd (omega arith) }
 
-  -- a row is passed, the first j
+  -- one row more
   pub scanned-next : {i words numbers : ℕ} (number : ℕ) → (hashOf (getD names (row + i) 0) ≡ hashOf name → number < hashes)
       → Scanned values names name row i words numbers
       → Scanned values names name row (i + 1) (bitOr words (getD values (row + i) 0)) (bitAnd numbers number)

@@ -1,7 +1,6 @@
 -- Laws of a search for a name: what has been passed has other names.
 use Prim.Native.Nat.{ℕ, zero, suc, _+_, _<_, _≤_}
 use native.Mathlib.Nat.{add-zero}
-use native.Mathlib.Numerals.{add-one}
 use native.Mathlib.Omega.{arith}
 use native.Mathlib.Decide.{decLt}
 use mathlib.Core.Path.{_≡_, refl, ap, sym, _∙_}
@@ -10,17 +9,19 @@ use mathlib.Core.List.{List}
 use lib.ListN.{length, getD}
 use Rattle.spec.specs.Bytes.{Bytes, Text}
 use Rattle.spec.specs.Forest.{Forest, none, tree, Tree, count, size, before, from, nth, _⧺_}
-use Rattle.spec.specs.Value.{sameText, find}
+use Rattle.spec.specs.Value.{sameText}
 use Rattle.spec.proofs.TextLaws.{sameText-true}
 use Rattle.lexer.specs.Hash.{hash}
-use Rattle.tape.specs.Packing.{spanOf, hashOf}
+use Rattle.tape.specs.Layout.{arrayKind}
+use Rattle.tape.specs.Packing.{kindOf, spanOf, hashOf}
 use Rattle.tape.specs.Cell.{Cell, Held}
 use Rattle.tape.specs.Map.{position}
-use Rattle.tape.proofs.Forests.{count-from, from-nth, size-cut, size-before-suc, before-all, from-all, count-le-size}
+use Rattle.tape.proofs.Forests.{count-from, from-nth, size-cut, size-before-suc, before-all, count-le-size}
+use Rattle.tape.proofs.Cells.{formed-fit}
 use Rattle.tape.proofs.Held.{held-from, held-node, name-inside, name-here}
-use Rattle.tape.proofs.Rows.{inside-here, span-here}
-use Rattle.tape.proofs.Map.{count-map, find-map, position-found, position-next, position-none}
-use Rattle.table.specs.Meaning.{nameText, entryOf, members, Hashed}
+use Rattle.tape.proofs.Rows.{inside-here, kind-here, span-here}
+use Rattle.tape.proofs.Map.{find-map, position-found, position-next, position-none}
+use Rattle.table.specs.Meaning.{nameText, entryOf, Hashed}
 use Rattle.table.specs.Find.{SameNameIs, NamedIs, limitOf, AllQuiet, Found, found, missing, Asked}
 use Rattle.table.specs.declared.find.Member.the-variants.{At, Missing}
 use Rattle.table.proofs.AllLaws.{all-first, all-from}
@@ -118,6 +119,13 @@ module _ {D P : Bytes} {values names : List ℕ} {start end : ℕ} {f : Forest C
           place = n ∙ omega (arith, span-here (held-node here), s .place, size-before-suc blank (s .k) f there);
           passed = position-next (named D P name) blank (s .k) f there (test-here false t) (s .passed);
         }
+
+    -- a scalar's word tells of no children
+    pub seek-scalar : kindOf (getD values row 0) < arrayKind → spanOf (getD values row 0) ≡ 0
+    unfolding size
+    seek-scalar scalar =
+        let n = held-node here in
+        span-here n ∙ ap size (formed-fit (n .formed) .scalar (omega (arith, kind-here n)))
 
   -- no tree is left where a search ends
   pub seek-over : (stop : ℕ) → stop ≡ limitOf values names end → stop ≤ row → Found D P start f name Missing

@@ -23,7 +23,7 @@ NamedIs document patch word h name r = Hashed document patch word → h ≡ hash
 abbrev pub SameNameIs : Bytes → Bytes → ℕ → ℕ → Bool → Type 0
 SameNameIs document patch a b r = Hashed document patch a → Hashed document patch b → r ≡ sameText (nameText document patch a) (nameText document patch b)
 
--- a search ends there, or where a column ends
+-- where a search up to the row `end` stops: there, or where one of the columns ends
 abbrev pub limitOf : List ℕ → List ℕ → ℕ → ℕ
 limitOf values names end = min end (min (length values) (length names))
 

@@ -2,8 +2,10 @@
 use crate::spellings::same_spelling;
 use crate::spellings::spells;
 use lexer::mix;
+use tape::layout::ARRAY;
 use tape::layout::HASHES;
 use tape::words::hash;
+use tape::words::kind;
 use tape::words::span;
 use tape::words::spelling;
 ghost use mathlib.Core.Path.{_≡_};
@@ -107,7 +109,13 @@ pub fn find<'a>(
         if same_name(document, patch, names[row], name) {
             return Member::At(row);
         }
-        row = row + 1 + span(values[row]);
+        // a scalar has no children; by this test the next turn does not wait for the word, where the processor foresees the kind
+        let word = values[row];
+        if kind(word) < ARRAY {
+            row += 1;
+            continue;
+        }
+        row = row + 1 + span(word);
     }
     Member::Missing
 }

@@ -1,10 +1,8 @@
 -- `apart` meets its contract: hashes that are the same differ by nothing.
-use Prim.Native.Nat.{_<_}
 use native.Mathlib.Omega.{arith}
 use mathlib.Core.Path.{ap, sym, _∙_}
 use borrow.Author.Needs.{needs}
 use lib.Bits.{bitXor, xor-lt, xor-self}
-use Rattle.tape.specs.Layout.{hashes}
 use Rattle.table.proofs.find.apart.Statement.{statement}
 use Rattle.table.proofs.find.apart.Tie as tie
 

@@ -1,11 +1,11 @@
 -- `find` meets its contract: the trees before the row have other names, and the measure is the rows that are left.
 use Prim.Native.Nat.{_≤_, _-_}
 use native.Mathlib.Omega.{arith}
-use mathlib.Core.Path.{_≡_, sym, _∙_}
+use mathlib.Core.Path.{sym, _∙_}
 use borrow.Author.Needs.{needs}
 use Rattle.table.specs.Meaning.{nameText, Hashed}
 use Rattle.table.specs.Find.{block}
-use Rattle.table.proofs.Search.{SeekingAny, seeking-all, seek-found, seek-next, seek-over, seek-hashed, seek-quiet}
+use Rattle.table.proofs.Search.{SeekingAny, seeking-all, seek-found, seek-next, seek-scalar, seek-over, seek-hashed, seek-quiet}
 use Rattle.table.proofs.find.find.Statement.{statement}
 use Rattle.table.proofs.find.find.Tie as tie
 
@@ -51,25 +51,39 @@ find-spec =
           seek-found a s (omega arith) (sym (c .if2 .taken) ∙ c .before .same-name .ensures (seek-hashed a s (omega arith)) h),
       (omega arith, omega arith, omega arith),
     ))
-    -- add-row-2
+    -- mul-word
     (λ c. search needs)
-    -- mul-span
+    -- shared-slice-read-word
     (λ c. search needs)
-    -- shared-slice-read-span
-    (λ c. search needs)
-    -- span-requires
+    -- kind-requires
     (λ c κs. search needs)
-    -- add-row-3
+    -- add-row-2
     (λ c. search needs)
     -- loop-less-2
     (λ c. search needs)
     -- loop-again-2
     (λ c.
-    let l = c .before .before .before .before .before .before .before .before .loop in (
+    let l = c .before .before .before .before .before .before .before .before .before .loop in (
       omega arith,
       λ h f a.
           let s = l .inv .1 h f a in
-          seek-next a s (omega arith) _ (omega arith) (sym (c .before .before .if2 .left) ∙ c .before .before .before .same-name .ensures (seek-hashed a s (omega arith)) h),
+          seek-next a s (omega arith) _ (omega (arith, seek-scalar a s (omega arith) (omega arith))) (sym (c .before .before .before .if2 .left) ∙ c .before .before .before .before .same-name .ensures (seek-hashed a s (omega arith)) h),
+    ))
+    -- add-row-3
+    (λ c. search needs)
+    -- span-requires
+    (λ c κs. search needs)
+    -- add-row-4
+    (λ c. search needs)
+    -- loop-less-3
+    (λ c. search needs)
+    -- loop-again-3
+    (λ c.
+    let l = c .before .before .before .before .before .before .before .before .before .before .loop in (
+      omega arith,
+      λ h f a.
+          let s = l .inv .1 h f a in
+          seek-next a s (omega arith) _ (omega arith) (sym (c .before .before .before .before .if2 .left) ∙ c .before .before .before .before .before .same-name .ensures (seek-hashed a s (omega arith)) h),
     ))
     -- returns-2
     (λ c. (λ f a h. seek-over a (c .before .loop .inv .1 h f a) _ (c .before .before .limit .ensures) (omega arith), tt)))
