@@ -15,15 +15,17 @@ use Rattle.spec.specs.Read as Definition
 use Rattle.spec.specs.Read.{literalValue, numberValue, stringValue}
 use Rattle.spec.proofs.OutcomeLaws.{refused≢ok}
 use Rattle.lexer.specs.Hash.{mix, hashFrom, hash}
-use Rattle.lexer.specs.Names.{noBackslash, part, kept, keptOf}
-use Rattle.lexer.specs.Answers.{nameOutcome, scanOutcome}
+use Rattle.lexer.specs.Names.{noBackslash, part, plainOf, kept, keptOf}
+use Rattle.lexer.specs.Answers.{nameOutcome, quotedOutcome, scanOutcome}
 use Rattle.lexer.specs.declared.cursor.Cursor.{Cursor}
 use Rattle.lexer.specs.declared.cursor.Scan.{Scan}
 use Rattle.lexer.specs.declared.cursor.Scan.the-variants as Scan
 use Rattle.lexer.specs.declared.strings.Name.{Name}
 use Rattle.lexer.specs.declared.strings.Name.the-variants as Name
+use Rattle.lexer.specs.declared.strings.Quoted.{Quoted}
+use Rattle.lexer.specs.declared.strings.Quoted.the-variants as Quoted
 use Rattle.lexer.proofs.AnswerLaws.{scan-refused}
-use Rattle.lexer.proofs.NameLaws.{mix-bound}
+use Rattle.lexer.proofs.NameLaws.{mix-bound, QuotedRead, quoted-refused}
 use Rattle.lexer.proofs.StringLaws.{Closed, string-ok-closed}
 use Rattle.lexer.proofs.NumberLaws.{number-ok-past}
 use Rattle.text.specs.Decode.{decode, textFrom, textOf}
@@ -70,6 +72,10 @@ name-untold s at place e t = go (string s at) (ap nameOutcome (sym t) ∙ e)
     go (ok v) f = absurd (refused≢ok f)
     go (refused n p) f = let a : n ≡ not-json = cc in let b : p ≡ place = cc in ap₂ refused a b
 
+-- the same of a string that no hash was kept of
+pub as-name : {s : Bytes} {at next : ℕ} {plain : Bool} (q : QuotedRead s at next plain) → NameRead s at next (hash (q .text)) plain
+as-name q = record { text = q .text; reads = q .reads; hash-is = refl; plain-is = q .written }
+
 -- ---- a refusal of the definition's, handed on as a word
 pub record Handed {A : Type 0} (o : Outcome A) (w : Word) : Type 0 where
   pub number : ℕ
@@ -84,6 +90,9 @@ scan-handed number place e t is = record { number = number; place = place; gives
 pub name-handed : (s : Bytes) (at place : ℕ) {r : Name} {w : Word} → nameOutcome r ≡ keptOf s (at + 1) (string s at) → r ≡ Name.Refused place → w ≡ unspelledName r → Handed (string s at) w
 unfolding unspelledName
 name-handed s at place e t is = record { number = not-json; place = place; gives = name-untold s at place e t; word = is ∙ ap unspelledName t }
+
+pub quoted-handed : (s : Bytes) (at place : ℕ) {r : Quoted} → quotedOutcome r ≡ plainOf s (at + 1) (string s at) → r ≡ Quoted.Refused place → Handed (string s at) (Refused not-json place)
+quoted-handed s at place e t = record { number = not-json; place = place; gives = quoted-refused s at e t; word = refl }
 
 -- where the name ends
 pub name-closed : {s : Bytes} {at next h : ℕ} {plain : Bool} → NameRead s at next h plain → Closed s (at + 1) next

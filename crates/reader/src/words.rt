@@ -9,6 +9,7 @@ ghost use Rattle.reader.specs.Begins.{scalarOf};
 ghost use Rattle.reader.specs.Words.{stringForm, unspelled, unspelledName, ScalarIs};
 use lexer::Cursor;
 use lexer::Name;
+use lexer::Quoted;
 use lexer::Scan;
 use tape::layout::ESCAPED_STRING;
 use tape::layout::NULL;
@@ -78,16 +79,13 @@ fn string(s: &[u8], at: Cursor, source: u64) -> Word
     requires { ⌜ (source < sources) × (length (now s) < places) ⌝ }
     ensures { λ r. ⌜ ScalarIs source (now (s .entry)) stringKind (stringValue (now (s .entry)) (at .at)) r ⌝ }
 {
-    let name = at.name(s);
-    let Name::Read {
-        next,
-        hash: _,
-        plain,
-    } = name
-    else {
-        return unspelled_name(name);
-    };
-    Word::Read(next, spell_string(plain, source, at.at + 1, next.at))
+    let quoted = at.quoted(s);
+    match quoted {
+        Quoted::Read { next, plain } => {
+            Word::Read(next, spell_string(plain, source, at.at + 1, next.at))
+        }
+        Quoted::Refused(place) => Word::Refused(3, place),
+    }
 }
 
 // The scalar of a kind at a cursor.
