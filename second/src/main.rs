@@ -12,10 +12,15 @@ use std::process::ExitCode;
 const USAGE: &str = "usage:
   second apply DOC PATCH
   second answers FILE
+  second vectors FILE
   second cases
   second generate SEED COUNT
   second compare SEED COUNT -- COMMAND...
 ";
+
+/// The line of a call whose work area is too short. This program has none, so
+/// no case can say it.
+const SHORT_WORK: &[u8] = b"work-a-word-short: refused 1 text 0 op 0 place 0\n";
 
 /// How a command ends when it does not end well.
 enum Trouble {
@@ -54,13 +59,10 @@ fn run(arguments: &[OsString]) -> Result<(), Trouble> {
     let (command, rest) = arguments.split_first().ok_or(Trouble::Usage)?;
     match (command.to_str(), rest) {
         (Some("apply"), files) => out.write_all(&tool::output(files))?,
-        (Some("answers"), [file]) => {
-            let cases = cases::parse(&fs::read(file)?).map_err(Trouble::Message)?;
-            for case in cases {
-                write!(out, "{}: ", case.name)?;
-                out.write_all(&case.line(case.room))?;
-                out.write_all(b"\n")?;
-            }
+        (Some("answers"), [file]) => answers(file, &mut out)?,
+        (Some("vectors"), [file]) => {
+            answers(file, &mut out)?;
+            out.write_all(SHORT_WORK)?;
         }
         (Some("cases"), []) => {
             for vector in vectors::all() {
@@ -85,6 +87,17 @@ fn run(arguments: &[OsString]) -> Result<(), Trouble> {
         _ => return Err(Trouble::Usage),
     }
     out.flush()?;
+    Ok(())
+}
+
+/// The line of each case of a file.
+fn answers(file: &OsString, out: &mut impl Write) -> Result<(), Trouble> {
+    let cases = cases::parse(&fs::read(file)?).map_err(Trouble::Message)?;
+    for case in cases {
+        write!(out, "{}: ", case.name)?;
+        out.write_all(&case.line(case.room))?;
+        out.write_all(b"\n")?;
+    }
     Ok(())
 }
 

@@ -27,6 +27,8 @@ const OUTPUT: usize = 65_536;
 
 const WORK_WORDS: usize = 6_144;
 
+const SHORT_WORDS: usize = 6_143;
+
 // What the output holds before a call: a byte that no text has.
 const UNWRITTEN: u8 = 255;
 
@@ -139,6 +141,20 @@ fn read_file(buf: &mut [u8]) -> Contents
     r
 }
 
+// The call with a work buffer that is a word too short, which no case can say: 1, before anything else, and the output untouched.
+fn run_short() {
+    let mut output = [UNWRITTEN; 16];
+    let mut values = [1u64; SHORT_WORDS];
+    let mut names = [1u64; WORK_WORDS];
+    let answer = apply(b"[]", b"[]", &mut output, &mut values, &mut names);
+    say(b"work-a-word-short: ");
+    if !all_bytes(&output, 0, UNWRITTEN) {
+        say(b"the output is changed\n");
+        return;
+    }
+    print_answer(answer, &output);
+}
+
 // A buffer for the file. The `ensures` gives only the length, which lending it needs.
 fn empty() -> [u8; FILE]
     ensures { λ r. ⌜ 1_048_576 ≡ length r ⌝ }
@@ -153,4 +169,5 @@ fn main() {
         return;
     };
     run_all(&file[..n]);
+    run_short();
 }

@@ -34,5 +34,7 @@ main-spec =
     bytes-counted _ (t .before .n .given .1) (t .before .before .before .before .read-file .ensures))
     -- run-all-requires
     (λ c κs. search needs)
+    -- run-short-requires
+    (λ c κs. search needs)
     -- returns-2
     (λ c. search needs))
