@@ -23,7 +23,7 @@ use Rattle.lexer.specs.declared.strings.Quoted.the-variants as Quoted
 use Rattle.lexer.specs.Answers.{quotedOutcome, nameOutcome}
 use Rattle.lexer.specs.Hash.{mix, hashFrom, hash}
 use Rattle.lexer.specs.Names.{standsForItself, noBackslash, part, plainOf, kept, keptOf}
-use Rattle.lexer.specs.Sequences.{Sequence, unread, read}
+use Rattle.lexer.specs.Sequences.{Sequence, ascii, unread, read}
 use Rattle.lexer.proofs.Always.{Always, refuses, gives, result, either, next, weaken}
 use Rattle.lexer.proofs.Fuel.{Runs, starts}
 use Rattle.lexer.proofs.AnswerLaws.{byte-taken, byte-is}
@@ -160,7 +160,8 @@ still s at plain n = rw (ne-eqb (byte s at) (code "\\") n) (sym (and-true plain)
 
 -- a character of two to four bytes takes at least one, and none past the end
 pub sequence-past : {s : Bytes} {at n : ℕ} → Sequence s at n → (n ≡ 0 → ⊥) → (at < at + n) × (at + n ≤ length s)
-sequence-past unread n = absurd (n refl)
+sequence-past (ascii l) n = absurd (n refl)
+sequence-past (unread place l e) n = absurd (n refl)
 sequence-past {s} {at} (read c n l e) _ = character-ok-past s at (c, at + n) e
 
 -- In the midst of a string: what is left of it from a place on gives v.
@@ -186,7 +187,8 @@ module _ {s : Bytes} {start at : ℕ} {plain : Bool} {v : Outcome (ℕ × Bool)}
   passing-self t = passing-more (byte s at, at + 1) (self-no-quote s at t) (self-character s at t) (still s at plain (self-no-backslash s at t))
 
   pub passing-sequence : {n : ℕ} → Sequence s at n → (n ≡ 0 → ⊥) → Passing s start at plain v → Passing s start (at + n) plain v
-  passing-sequence unread n k = absurd (n refl)
+  passing-sequence (ascii l) n k = absurd (n refl)
+  passing-sequence (unread place l e) n k = absurd (n refl)
   passing-sequence (read c n l e) _ k = passing-more (c, at + n) (λ q. omega arith) e (still s at plain (λ q. omega arith)) k
 
   pub passing-quote : byte s at ≡ code "\"" → Passing s start at plain v → ok (at + 1, plain) ≡ v

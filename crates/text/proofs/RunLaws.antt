@@ -18,6 +18,7 @@ use Rattle.lexer.specs.declared.characters.Character.{Character}
 use Rattle.lexer.specs.declared.characters.Character.the-variants as Character
 use Rattle.lexer.specs.Answers.{characterOutcome}
 use Rattle.lexer.specs.Names.{part, standsForItself}
+use Rattle.lexer.specs.Sequences as Sequences
 use Rattle.lexer.specs.Sequences.{Sequence, unread, read}
 use Rattle.lexer.proofs.StringLoop.{self-no-quote, self-no-backslash, self-character}
 use Rattle.lexer.proofs.NameLaws.{part-cons, part-empty, part-append}
@@ -79,9 +80,14 @@ module _ {s : Bytes} {start at : ℕ} (r : Run s start at) where
   pub run-self : standsForItself (byte s at) ≡ true → Run s start (at + 1)
   run-self t = run-raw (byte s at) (at + 1) (self-no-quote s at t) (self-no-backslash s at t) (self-character s at t)
 
-  -- a character of two to four bytes
+  -- nothing more
+  pub run-same : Run s start (at + 0)
+  run-same = rw (add-zero at) r
+
+  -- a character of two to four bytes, or nothing
   pub run-sequence : {n : ℕ} → Sequence s at n → Run s start (at + n)
-  run-sequence unread = rw (add-zero at) r
+  run-sequence (Sequences.ascii l) = run-same
+  run-sequence (unread place l e) = run-same
   run-sequence (read c n l e) = run-raw c (at + n) (λ q. omega arith) (λ q. omega arith) e
 
   -- an escape that is written as it is read

@@ -1,7 +1,7 @@
 use borrow.Author.Needs.{needs}
 use mathlib.Core.Path.{sym}
 use native.Mathlib.Omega.{arith}
-use Rattle.lexer.specs.Sequences.{unread}
+use Rattle.lexer.proofs.SequenceLaws.{no-sequence}
 use Rattle.lexer.proofs.ByteLaws.{here}
 use Rattle.lexer.proofs.utf8.sequence.Statement.{statement}
 use Rattle.lexer.proofs.utf8.sequence.Tie as tie
@@ -17,5 +17,5 @@ sequence-spec =
     (λ c. search needs)
     (λ c. search needs)
     (λ c. search needs)
-    (λ c. unread)
-    (λ c. unread))
+    (λ c. no-sequence (λ l h. let b = c .before .peek .ensures in omega arith))
+    (λ c. no-sequence (λ l h. let b = c .before .before .before .before .peek .ensures in omega arith)))

@@ -1,5 +1,6 @@
 -- `is_named` meets its contract: a text that is the same has the same hash.
-use mathlib.Core.Path.{sym, ap, _∙_}
+use native.Mathlib.Omega.{arith}
+use mathlib.Core.Path.{ap, _∙_}
 use borrow.Author.Needs.{needs}
 use Rattle.spec.specs.Value.{sameText}
 use Rattle.table.specs.Meaning.{spelled}
@@ -14,7 +15,7 @@ is-named-spec =
     -- hash-requires
     (λ c κs. search needs)
     -- returns
-    (λ c. other-text _ (λ e. c .if1 .taken (c .before .hash .ensures ∙ e)))
+    (λ c. other-text _ (λ e. omega (arith, c .before .hash .ensures, c .if1 .taken, e)))
     -- spelling-requires
     (λ c κs. search needs)
     -- spells-requires

@@ -1,5 +1,6 @@
 -- `same_name` meets its contract: texts that are the same have the same hash.
-use mathlib.Core.Path.{ap, sym, _∙_, ap₂}
+use native.Mathlib.Omega.{arith}
+use mathlib.Core.Path.{_∙_, ap₂}
 use borrow.Author.Needs.{needs}
 use Rattle.spec.specs.Value.{sameText}
 use Rattle.table.specs.Meaning.{spelled}
@@ -16,7 +17,7 @@ same-name-spec =
     -- hash-requires-2
     (λ c κs. search needs)
     -- returns
-    (λ c. other-hash (λ e. c .if1 .taken (c .before .before .hash .ensures ∙ e ∙ sym (c .before .hash2 .ensures))))
+    (λ c. other-hash (λ e. omega (arith, c .before .before .hash .ensures, c .before .hash2 .ensures, c .if1 .taken, e)))
     -- spelling-requires
     (λ c κs. search needs)
     -- spelling-requires-2

@@ -1,10 +1,9 @@
 use borrow.Author.Needs.{needs}
 use mathlib.Core.Path.{sym, ap, _∙_}
 use native.Mathlib.Omega.{arith}
-use Rattle.lexer.specs.Sequences.{unread}
 use Rattle.lexer.proofs.ByteLaws.{here}
 use Rattle.text.specs.Runs.{keptEscape, none}
-use Rattle.text.proofs.RunLaws.{run-sequence, run-escape}
+use Rattle.text.proofs.RunLaws.{run-same, run-sequence, run-escape}
 use Rattle.text.proofs.runs.kept_bytes.Statement.{statement}
 use Rattle.text.proofs.runs.kept_bytes.Tie as tie
 
@@ -24,7 +23,7 @@ kept-bytes-spec =
     run-escape none (sym (slash .before .peek .ensures) ∙ slash .if1 .taken)
     (ap keptEscape (sym (letter .peek2 .ensures)) ∙ sym (c .before .kept-escape .ensures) ∙ c .if2 .taken))
     -- another escape
-    (λ c. run-sequence none unread)
+    (λ c. run-same none)
     (λ c κs. search needs)
     -- no escape
     (λ c. run-sequence none (c .sequence .ensures)))
