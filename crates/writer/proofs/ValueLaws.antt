@@ -22,7 +22,7 @@ use Rattle.writer.specs.Pieces.{scalarBytes, openingBracket, closingBrac
 use Rattle.writer.specs.Writing.{Placed, Writable, MeasureIs, WriteIs, lengthLimit}
 use Rattle.writer.proofs.PlacedLaws.{lent, back, placed-as, placed-none, placed-on, placed-then}
 use Rattle.writer.proofs.PieceLaws.{write-scalar, write-container}
-use Rattle.writer.proofs.LengthLaws.{writable-short}
+use Rattle.writer.proofs.RoomLaws.{writable-short}
 use Rattle.writer.proofs.ProgressLaws.{Progress, progress-all, progress-next, progress-none}
 
 module _ {D P : Bytes} {vs ns : List ℕ} {at levels : ℕ} {c : Cell} {kids : Forest Cell} (w : Writable D P vs ns at levels c kids) where

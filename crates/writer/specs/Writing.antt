@@ -1,6 +1,7 @@
 -- What writing a value comes to: document 01, "The text is laid down in the lent output, one value after another."
 use Prim.Native.Nat.{ℕ, _+_, _≤_, min}
 use mathlib.Core.Path.{_≡_}
+use mathlib.Core.Bool.{Bool, true}
 use mathlib.Core.List.{List}
 use lib.ListN.{length}
 use lib.Seq.{sets}
@@ -8,6 +9,7 @@ use Rattle.spec.specs.Bytes.{Bytes}
 use Rattle.spec.specs.Forest.{Forest}
 use Rattle.spec.specs.Value as Value
 use Rattle.spec.specs.Write.{write}
+use Rattle.tape.specs.Packing.{lengthOf, spellingOf}
 use Rattle.tape.specs.Cell.{Cell, level, deep}
 use Rattle.table.specs.Meaning.{meant}
 use Rattle.table.specs.Sound.{NodeHeld}
@@ -33,6 +35,15 @@ MeasureIs document patch values names at levels r = ForWritable document patch v
 
 abbrev pub WriteIs : Bytes → Bytes → List ℕ → List ℕ → ℕ → ℕ → Bytes → Bytes → ℕ → Type 0
 WriteIs document patch values names at levels before after r = ForWritable document patch values names at levels (λ v. Placed (write v) 0 before after r)
+
+-- The most bytes that a node takes in the text, by its name and its payload, which are never written longer than they stand. 9 more are a comma, a
+-- name's quotation marks and colon, and `false`, which is longer than a string's quotation marks or a container's brackets.
+abbrev pub rowBytes : ℕ → ℕ → ℕ
+rowBytes name payload = lengthOf (spellingOf name) + lengthOf payload + 9
+
+-- the answer of `surely_fits`: where it is true there is room, whatever the two texts are; it may be false where there is room
+abbrev pub SurelyFitsIs : List ℕ → List ℕ → ℕ → ℕ → Bool → Type 0
+SurelyFitsIs values names at room r = r ≡ true → (document patch : Bytes) (levels : ℕ) → ForWritable document patch values names at levels (λ v. length (write v) ≤ room)
 
 -- more bytes than any value's text has: a node is below 131,080 bytes long, and there are at most 4,096 in a tree
 abbrev pub lengthLimit : ℕ

@@ -7,9 +7,11 @@
 // What a caller should know: both are total. Where the output is too short, `write` fills it with the text's first bytes; so measure first.
 
 pub mod values; // a value of the table: its length, and its text
+pub mod room; // whether there is surely room for a value's text
 mod lengths; // how long the pieces of a text are
 mod pieces; // the pieces of a text laid down
 mod output; // bytes laid down, as many as there is room for
 
+pub use room::surely_fits;
 pub use values::measure;
 pub use values::write;
