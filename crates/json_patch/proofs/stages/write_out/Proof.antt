@@ -1,7 +1,6 @@
--- `write_out` meets its contract, by the text's length and the room for it.
+-- `write_out` meets its contract: there is room for the text in any case, or it is measured.
 use borrow.Author.Needs.{needs}
-use native.Mathlib.Omega.{arith}
-use Rattle.json_patch.proofs.StageLaws.{text-too-long, text-written}
+use Rattle.json_patch.proofs.StageLaws.{text-fitting}
 use Rattle.json_patch.proofs.stages.write_out.Statement.{statement}
 use Rattle.json_patch.proofs.stages.write_out.Tie as tie
 
@@ -9,17 +8,19 @@ pub write-out-spec : {M : Type 1} → statement M
 write-out-spec =
     tie.close
     (tie.spec
-    -- measure-requires
+    -- surely-fits-requires
     (λ c κs. search needs)
-    -- refusal-requires
-    (λ c κs. search needs)
-    -- returns
-    (λ c used v d. text-too-long d (c .before .before .measure .ensures .0) (omega arith) (c .refusal .ensures))
     -- write-requires
     (λ c κs. search needs)
     -- success-requires
     (λ c κs. search needs)
     -- same-length
     (λ c. search needs)
+    -- returns
+    (λ c used v d. text-fitting d (c .before .before .before .before .before .before .surely-fits .ensures) (c .before .before .before .before .before .if1 .taken) (c .before .before .before .write .ensures .0) (c .success .ensures))
+    -- write-measured-requires
+    (λ c κs. search needs)
+    -- same-length-2
+    (λ c. search needs)
     -- returns-2
-    (λ c used v d. text-written d (c .before .before .before .before .before .before .measure .ensures .0) (omega arith) (c .before .before .before .write .ensures .0) (c .success .ensures)))
+    (λ c. search needs))
