@@ -2,9 +2,11 @@
 use Prim.Native.Nat.{ℕ, _≤_, _<_}
 use native.Mathlib.Omega.{arith}
 use mathlib.Core.Path.{_≡_, refl, sym, subst, ap, ap₂, _∙_}
-use mathlib.Core.Bool.{Bool, true}
+use mathlib.Core.Bool.{Bool, true, false}
 use mathlib.Core.List.{List, _++_}
+use lib.Dec.{leb}
 use lib.ListN.{length, drop}
+use borrow.Author.Tests.{leb-true, leb-false}
 use Rattle.spec.specs.Refusal.{output-too-short}
 use Rattle.spec.specs.Limits.{maxDepth, maxBytes, workWords}
 use Rattle.spec.specs.Bytes.{Bytes}
@@ -27,8 +29,8 @@ use Rattle.shape.specs.declared.patch.Shape.the-variants as Shape
 use Rattle.reader.specs.Texts.{reading, TextIs}
 use Rattle.reader.specs.declared.values.Read.{Read}
 use Rattle.reader.specs.declared.values.Read.the-variants as Read
-use Rattle.writer.specs.Writing.{MeasureIs, SurelyFitsIs, WriteIs}
-use Rattle.writer.proofs.CallerLaws.{measured, surely, written-whole}
+use Rattle.writer.specs.Writing.{FitsIs, WriteIs}
+use Rattle.writer.proofs.CallerLaws.{fits-is, written-whole}
 use Rattle.operations.specs.Document.{Document}
 use Rattle.operations.specs.Run.{RanTo, ran, halted, RunIs}
 use Rattle.operations.specs.declared.run.Ran.{Ran}
@@ -41,34 +43,27 @@ use Rattle.json_patch.proofs.AnswerLaws.{answered-refusal, answered-suc
 
 -- ---- the document written
 module _ {D P : Bytes} {values names : List ℕ} {used : ℕ} {v : Value.Value} (d : Document D P values names used v) where
-  text-measured : {n : ℕ} → MeasureIs D P values names documentRow maxDepth n → n ≡ length (write v)
-  text-measured is = measured (d .held) (rw (d .means) (d .shallow)) is ∙ ap (λ w. length (write w)) (d .means)
-
   text-laid : {out out' : Bytes} {put : ℕ} → WriteIs D P values names documentRow maxDepth out out' put → length (write v) ≤ length out
       → (put ≡ length (write v)) × (out' ≡ write v ++ drop (length (write v)) out)
   text-laid {out} {out'} {put} writes =
       subst (λ w. length (write w) ≤ length out → (put ≡ length (write w)) × (out' ≡ write w ++ drop (length (write w)) out)) (d .means)
       (λ room. written-whole (d .held) (rw (d .means) (d .shallow)) writes room)
 
-  -- where there is room in any case
-  pub text-fitting : {out out' : Bytes} {told : Bool} {put : ℕ} {r : Answer} → SurelyFitsIs values names documentRow (length out) told → told ≡ true
-      → WriteIs D P values names documentRow maxDepth out out' put → SuccessIs put r → Answered (fitting (length out) (write v)) out out' r
-  text-fitting {out} fits told writes is =
-      let room : length (write v) ≤ length out = subst (λ w. length (write w) ≤ length out) (d .means) (surely {levels = maxDepth} (d .held) (rw (d .means) (d .shallow)) fits told) in
-      let laid = text-laid writes room in
-      answered-as (fitting-whole _ _ room) (answered-success (rw (laid .0) at is) (laid .1))
+  module _ (out : Bytes) {told : Bool} (fits : FitsIs D P values names documentRow maxDepth (length out) told) where
+    text-fits : told ≡ leb (length (write v)) (length out)
+    text-fits = fits-is (d .held) (rw (d .means) (d .shallow)) (length out) fits ∙ ap (λ w. leb (length (write w)) (length out)) (d .means)
 
-  -- where it is measured first
-  module _ {out : Bytes} {n : ℕ} (measures : MeasureIs D P values names documentRow maxDepth n) where
-    pub text-too-long : {r : Answer} → length out < n → RefusalIs output-too-short 0 0 0 r → Answered (fitting (length out) (write v)) out out r
-    text-too-long h is = answered-as (fitting-short _ _ (omega (arith, text-measured measures))) (answered-refusal is)
+    -- the text does not fit
+    pub text-refused : {r : Answer} → told ≡ false → RefusalIs output-too-short 0 0 0 r → Answered (fitting (length out) (write v)) out out r
+    text-refused told-no is = answered-as (fitting-short _ _ (leb-false _ _ (sym text-fits ∙ told-no))) (answered-refusal is)
 
-    pub text-written : {out' : Bytes} {put : ℕ} {r : Answer} → n ≤ length out → WriteIs D P values names documentRow maxDepth out out' put → SuccessIs n r
+    -- it fits
+    pub text-written : {out' : Bytes} {put : ℕ} {r : Answer} → told ≡ true → WriteIs D P values names documentRow maxDepth out out' put → SuccessIs put r
         → Answered (fitting (length out) (write v)) out out' r
-    text-written h writes is =
-        let long = text-measured measures in
-        let room : length (write v) ≤ length out = omega arith in
-        answered-as (fitting-whole _ _ room) (answered-success (rw long at is) (text-laid writes room .1))
+    text-written told-yes writes is =
+        let room : length (write v) ≤ length out = leb-true _ _ (sym text-fits ∙ told-yes) in
+        let laid = text-laid writes room in
+        answered-as (fitting-whole _ _ room) (answered-success (rw (laid .0) at is) (laid .1))
 
 -- ---- the operations run
 pub run-told : {D P : Bytes} {vs ns vs' ns' : List ℕ} {used : ℕ} {told : Ran} → RunIs D P vs ns vs' ns' used told → (v p : Value.Value) → Document D P vs ns used v → PatchHeld D P vs ns p → Short D P

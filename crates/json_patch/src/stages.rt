@@ -15,8 +15,7 @@ use tape::layout::DOCUMENT;
 use tape::layout::PATCH;
 use tape::layout::SCRATCH;
 use tape::moves::clear;
-use writer::measure;
-use writer::surely_fits;
+use writer::fits;
 use writer::write;
 ghost use mathlib.Core.Path.{_≡_};
 ghost use lib.ListN.{length};
@@ -31,25 +30,7 @@ const FILTER_WORDS: usize = 1024;
 // Bytes of a text so short that its names are compared in no time.
 const SHORT: usize = 512;
 
-// The document is measured, then written where the output has room for all of it.
-fn write_measured<'a>(
-    document: &'a [u8],
-    patch: &'a [u8],
-    output: &mut [u8],
-    values: &[u64],
-    names: &[u64],
-) -> Answer
-    ensures { λ r. ⌜ WriteOutIs (now (document .entry)) (now (patch .entry)) (now (output .entry)) (now (output .exit)) (now (values .entry)) (now (names .entry)) r ⌝ }
-{
-    let length = measure(values, names, document, patch, DOCUMENT, MAX_DEPTH);
-    if output.len() < length {
-        return refusal(16, 0, 0, 0);
-    }
-    write(values, names, document, patch, DOCUMENT, MAX_DEPTH, output);
-    success(length)
-}
-
-// The document is written, where the output has room for all of it. It is measured only where that is not sure.
+// The document is written, where the output has room for all of it.
 fn write_out<'a>(
     document: &'a [u8],
     patch: &'a [u8],
@@ -59,11 +40,19 @@ fn write_out<'a>(
 ) -> Answer
     ensures { λ r. ⌜ WriteOutIs (now (document .entry)) (now (patch .entry)) (now (output .entry)) (now (output .exit)) (now (values .entry)) (now (names .entry)) r ⌝ }
 {
-    if surely_fits(values, names, DOCUMENT, output.len()) {
-        let put = write(values, names, document, patch, DOCUMENT, MAX_DEPTH, output);
-        return success(put);
+    if !fits(
+        values,
+        names,
+        document,
+        patch,
+        DOCUMENT,
+        MAX_DEPTH,
+        output.len(),
+    ) {
+        return refusal(16, 0, 0, 0);
     }
-    write_measured(document, patch, output, values, names)
+    let length = write(values, names, document, patch, DOCUMENT, MAX_DEPTH, output);
+    success(length)
 }
 
 // The operations of a patch of the right shape run on the document, which has `used` rows.

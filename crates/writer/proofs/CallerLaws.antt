@@ -1,8 +1,9 @@
 -- What a caller may rely on, said of a node and the value that it is.
 use Prim.Native.Nat.{ℕ, _≤_}
 use mathlib.Core.Path.{_≡_, subst}
-use mathlib.Core.Bool.{Bool, true}
+use mathlib.Core.Bool.{Bool}
 use mathlib.Core.List.{List, _++_}
+use lib.Dec.{leb}
 use lib.ListN.{length, drop}
 use Rattle.spec.specs.Bytes.{Bytes}
 use Rattle.spec.specs.Forest.{Forest}
@@ -13,7 +14,7 @@ use Rattle.tape.proofs.Cells.{formed-fit, formed-kids}
 use Rattle.table.specs.Meaning.{meant}
 use Rattle.table.specs.Sound.{NodeHeld}
 use Rattle.table.proofs.MeaningLaws.{depth-meant}
-use Rattle.writer.specs.Writing.{Writable, MeasureIs, SurelyFitsIs, WriteIs}
+use Rattle.writer.specs.Writing.{Writable, FitsIs, WriteIs}
 use Rattle.writer.proofs.PlacedLaws.{placed-whole}
 
 module _ {D P : Bytes} {vs ns : List ℕ} {at levels : ℕ} {c : Cell} {kids : Forest Cell} (n : NodeHeld D P vs ns at c kids)
@@ -23,13 +24,9 @@ module _ {D P : Bytes} {vs ns : List ℕ} {at levels : ℕ} {c : Cell} {kids : F
       let o = n .held .formed in
       record { node = n; nested = subst (λ d. d ≤ levels) (depth-meant D P c kids (formed-fit o .kind) (formed-kids o)) low }
 
-  -- `measure` answers how long the value's text is
-  pub measured : {r : ℕ} → MeasureIs D P vs ns at levels r → r ≡ length (write (meant D P c kids))
-  measured is = is c kids writable
-
-  -- where `surely_fits` answers true, there is room for it
-  pub surely : {room : ℕ} {told : Bool} → SurelyFitsIs vs ns at room told → told ≡ true → length (write (meant D P c kids)) ≤ room
-  surely is told = is told D P levels c kids writable
+  -- `fits` answers whether there is room for the value's text
+  pub fits-is : (room : ℕ) {told : Bool} → FitsIs D P vs ns at levels room told → told ≡ leb (length (write (meant D P c kids))) room
+  fits-is room is = is c kids writable
 
   -- `write` lays that text down where there is room for it, and behind it the output is as it was
   pub written-whole : {before after : Bytes} {r : ℕ} → WriteIs D P vs ns at levels before after r → length (write (meant D P c kids)) ≤ length before

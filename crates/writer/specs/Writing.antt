@@ -3,6 +3,7 @@ use Prim.Native.Nat.{ℕ, _+_, _≤_, min}
 use mathlib.Core.Path.{_≡_}
 use mathlib.Core.Bool.{Bool, true}
 use mathlib.Core.List.{List}
+use lib.Dec.{leb}
 use lib.ListN.{length}
 use lib.Seq.{sets}
 use Rattle.spec.specs.Bytes.{Bytes}
@@ -40,6 +41,10 @@ WriteIs document patch values names at levels before after r = ForWritable docum
 -- name's quotation marks and colon, and `false`, which is longer than a string's quotation marks or a container's brackets.
 abbrev pub rowBytes : ℕ → ℕ → ℕ
 rowBytes name payload = lengthOf (spellingOf name) + lengthOf payload + 9
+
+-- the answer of `fits`
+abbrev pub FitsIs : Bytes → Bytes → List ℕ → List ℕ → ℕ → ℕ → ℕ → Bool → Type 0
+FitsIs document patch values names at levels room r = ForWritable document patch values names at levels (λ v. r ≡ leb (length (write v)) room)
 
 -- the answer of `surely_fits`: where it is true there is room, whatever the two texts are; it may be false where there is room
 abbrev pub SurelyFitsIs : List ℕ → List ℕ → ℕ → ℕ → Bool → Type 0

@@ -1,6 +1,7 @@
--- `write_out` meets its contract: there is room for the text in any case, or it is measured.
+-- `write_out` meets its contract, by whether the text fits.
 use borrow.Author.Needs.{needs}
-use Rattle.json_patch.proofs.StageLaws.{text-fitting}
+use borrow.Author.Tests.{not-true, not-false}
+use Rattle.json_patch.proofs.StageLaws.{text-refused, text-written}
 use Rattle.json_patch.proofs.stages.write_out.Statement.{statement}
 use Rattle.json_patch.proofs.stages.write_out.Tie as tie
 
@@ -8,19 +9,17 @@ pub write-out-spec : {M : Type 1} → statement M
 write-out-spec =
     tie.close
     (tie.spec
-    -- surely-fits-requires
+    -- fits-requires
     (λ c κs. search needs)
+    -- refusal-requires
+    (λ c κs. search needs)
+    -- returns
+    (λ c used v d. text-refused d _ (c .before .before .fits2 .ensures) (not-true _ (c .before .if1 .taken)) (c .refusal .ensures))
     -- write-requires
     (λ c κs. search needs)
     -- success-requires
     (λ c κs. search needs)
     -- same-length
     (λ c. search needs)
-    -- returns
-    (λ c used v d. text-fitting d (c .before .before .before .before .before .before .surely-fits .ensures) (c .before .before .before .before .before .if1 .taken) (c .before .before .before .write .ensures .0) (c .success .ensures))
-    -- write-measured-requires
-    (λ c κs. search needs)
-    -- same-length-2
-    (λ c. search needs)
     -- returns-2
-    (λ c. search needs))
+    (λ c used v d. text-written d _ (c .before .before .before .before .before .before .fits2 .ensures) (not-false _ (c .before .before .before .before .before .if1 .left)) (c .before .before .before .write .ensures .0) (c .success .ensures)))
