@@ -9,10 +9,12 @@ use lib.ListN.{length, drop, getD}
 use lib.Seq.{drop-cons, drop-length}
 use lib.Dec.{eqb}
 use borrow.Author.Tests.{eq-eqb, ne-eqb, eqb-true, eqb-false}
-use Rattle.spec.specs.Bytes.{Bytes, Text}
+use Rattle.spec.specs.Bytes.{Bytes, Text, byte, within}
 use Rattle.spec.specs.Value.{sameText}
 use Rattle.spec.proofs.TextLaws.{sameText-true, sameText-refl}
-use Rattle.text.specs.Decode.{textOf}
+use Rattle.text.specs.Decode.{textFrom, textOf}
+use Rattle.text.specs.Letters.{isLetter, plainAt, Common, none, more}
+use Rattle.text.proofs.LetterLaws.{plain-text, plain-inside, plain-byte, plain-is, letter-not-zero}
 
 pub differ : (s t : Text) → (s ≡ t → ⊥) → false ≡ sameText s t
 differ s t n = go (sameText s t) refl
@@ -81,3 +83,29 @@ pub same-parts : (form other : ℕ) (a b : Bytes) → form ≡ other → sameTex
 same-parts form other a b e h =
     let same : textOf form a ≡ textOf other b = ap₂ textOf e (sameText-true a b h) in
     rw same (sym (sameText-refl (textOf other b)))
+
+-- ---- the bytes that two parts begin with in common
+
+-- one byte more
+module _ {form other : ℕ} {a b : Bytes} (known : within 1 3 form ≡ true) (too : within 1 3 other ≡ true) where
+  pub common-more : {i : ℕ} → Common form a other b i → byte b i ≡ byte a i → isLetter (byte a i) ≡ true → Common form a other b (i + 1)
+  common-more {i} r e t =
+      let p = plain-byte form a i t known in
+      let q = plain-byte other b i (ap isLetter e ∙ t) too in
+      more r (λ z. letter-not-zero (byte a i) t (sym p ∙ z)) (p ∙ sym e ∙ sym q)
+
+-- the texts are the same exactly if what is left of them is
+pub common-texts : {form other n : ℕ} {a b : Bytes} → Common form a other b n → sameText (textFrom form a n) (textFrom other b n) ≡ sameText (textOf form a) (textOf other b)
+unfolding textOf
+common-texts none = refl
+common-texts {form} {other} {a = a} {b} (more {i} r n e) =
+    sym (heads-same (plain-text form a i refl n) (plain-text other b i refl (λ z. n (e ∙ z))) e) ∙ common-texts r
+
+-- the same of a word that is given by its bytes
+pub common-word : {form n : ℕ} {a l : Bytes} → Common form a 1 l n → (n ≤ length l) × (sameText (textFrom form a n) (drop n l) ≡ sameText (textOf form a) l)
+unfolding textOf byte
+common-word none = (omega arith, refl)
+common-word {form} {a = a} {l} (more {i} r n e) =
+    let m : plainAt 1 l i ≡ 0 → ⊥ = λ z. n (e ∙ z) in
+    let h = plain-inside 1 l i refl m in
+    (omega arith, sym (heads-same (plain-text form a i refl n) (front l i h) (e ∙ plain-is 1 l i m)) ∙ common-word r .1)

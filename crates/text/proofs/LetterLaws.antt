@@ -1,13 +1,13 @@
 -- A letter is the first character of the text that is left, and the text after it begins at the next place.
 use mathlib.Core.Path.{_≡_, refl, sym, ap, ap₂, subst, _∙_}
-use mathlib.Core.Bool.{Bool, true, false}
+use mathlib.Core.Bool.{Bool, true, false, true≢false}
 use mathlib.Core.List.{[], _∷_}
 use Prim.Native.Nat.{ℕ, _+_, _-_, _≤_, _<_}
 use Prim.Native.Char.{code}
 use native.Mathlib.Omega.{arith}
 use lib.ListN.{length}
-use lib.Dec.{eqb}
-use borrow.Author.Tests.{eqb-true, eqb-false, ne-eqb}
+use lib.Dec.{eqb, ltb}
+use borrow.Author.Tests.{eqb-true, eqb-false, ne-eqb, ltb-true}
 use Rattle.spec.specs.Outcome.{Outcome, ok, refused, _>>=_, if_then_else_}
 use Rattle.spec.specs.Refusal.{not-json}
 use Rattle.spec.specs.Bytes.{Bytes, Text, byte, within}
@@ -17,12 +17,12 @@ use Rattle.lexer.specs.declared.characters.Character.{Character}
 use Rattle.lexer.specs.declared.characters.Character.the-variants as Character
 use Rattle.lexer.specs.Names.{standsForItself}
 use Rattle.lexer.specs.Answers.{characterOutcome}
-use Rattle.lexer.proofs.Tests.{within-bounds}
+use Rattle.lexer.proofs.Tests.{within-bounds, and-both}
 use Rattle.lexer.proofs.AnswerLaws.{scalar-ok, character-refused}
 use Rattle.lexer.proofs.StringLoop.{self-no-quote, self-character}
 use Rattle.text.specs.Decode.{characterIn, decodeFrom, unescapeToken, textFrom}
-use Rattle.text.specs.Letters.{afterTilde, tokenStep, tokenLetter, letterAt, plainAt}
-use Rattle.text.proofs.DecodeLaws.{in-past, decode-more, decode-ends}
+use Rattle.text.specs.Letters.{afterTilde, tokenStep, tokenLetter, letterAt, isLetter, plainAt}
+use Rattle.text.proofs.DecodeLaws.{none-past, in-past, decode-more, decode-ends}
 
 -- ---- a token's letter
 
@@ -135,6 +135,18 @@ letter-begins form s at letter = by-form form s at (λ left o. o ≡ ok letter �
 pub letter-ends : (form : ℕ) (s : Bytes) (at number place : ℕ) → letterAt form s at ≡ refused number place → textFrom form s at ≡ []
 letter-ends form s at number place = by-form form s at (λ left o. o ≡ refused number place → left at ≡ []) (decode-ends s at) (token-ends s at number place) (λ h. refl)
 
+-- past the end of a part there is no letter
+module _ (form : ℕ) (s : Bytes) (at : ℕ) (h : length s ≤ at) where
+  past-token : tokenLetter s at ≡ refused not-json at
+  unfolding tokenLetter _>>=_
+  past-token = rw (none-past s at h)
+
+  pub past-letter : letterAt form s at ≡ refused not-json at
+  past-letter = by-form form s at (λ left o. o ≡ refused not-json at) (none-past s at h) past-token refl
+
+  pub past-text : textFrom form s at ≡ []
+  past-text = letter-ends form s at not-json at past-letter
+
 -- ---- a byte that is a character by itself, in every form
 
 module _ (s : Bytes) (at : ℕ) (self : standsForItself (byte s at) ≡ true) (no-tilde : byte s at ≡ code "~" → ⊥) where
@@ -157,16 +169,22 @@ module _ (s : Bytes) (at : ℕ) (self : standsForItself (byte s at) ≡ true) (n
       go false false true p q r = self-token
       go false false false p q r = absurd (omega (arith, eqb-false form 1 p, eqb-false form 2 q, eqb-false form 3 r))
 
+-- what is known of a byte that is a letter by itself
+letter-known : (b : ℕ) → isLetter b ≡ true → (standsForItself b ≡ true) × (b ≡ code "~" → ⊥)
+unfolding isLetter
+letter-known b t =
+    let (low, self) = and-both (ltb b (code "~")) (standsForItself b) t in
+    (self, λ e. omega (arith, ltb-true b (code "~") low))
+
 plain-letter : (form : ℕ) (s : Bytes) (at : ℕ) → (plainAt form s at ≡ 0 → ⊥) → letterAt form s at ≡ ok (plainAt form s at, at + 1)
 unfolding plainAt
-plain-letter form s at = go (standsForItself (byte s at)) (eqb (byte s at) (code "~")) (within 1 3 form) refl refl refl
+plain-letter form s at = go (isLetter (byte s at)) (within 1 3 form) refl refl
   where
-    go : (self tilde known : Bool) → standsForItself (byte s at) ≡ self → eqb (byte s at) (code "~") ≡ tilde → within 1 3 form ≡ known →
-        let r = if self then (if tilde then 0 else if known then byte s at else 0) else 0 in (r ≡ 0 → ⊥) → letterAt form s at ≡ ok (r, at + 1)
-    go true false true e f g n = let w = within-bounds 1 3 form g in self-letter s at e (eqb-false (byte s at) (code "~") f) form (w .0) (w .1)
-    go true true known e f g n = absurd (n refl)
-    go true false false e f g n = absurd (n refl)
-    go false tilde known e f g n = absurd (n refl)
+    go : (self known : Bool) → isLetter (byte s at) ≡ self → within 1 3 form ≡ known →
+        let r = if self then (if known then byte s at else 0) else 0 in (r ≡ 0 → ⊥) → letterAt form s at ≡ ok (r, at + 1)
+    go true true e f n = let w = within-bounds 1 3 form f in let k = letter-known (byte s at) e in self-letter s at (k .0) (k .1) form (w .0) (w .1)
+    go true false e f n = absurd (n refl)
+    go false known e f n = absurd (n refl)
 
 -- ---- what the code answered
 
@@ -193,3 +211,22 @@ module _ (form : ℕ) (s : Bytes) (at : ℕ) {r : ℕ} (e : r ≡ plainAt form s
 
   pub plain-inside : at < length s
   plain-inside = omega (arith, letter-begins form s at (r, at + 1) plain-ok .past)
+
+-- a byte that is a letter by itself is the letter at its place, in each of the three forms, and is not 0
+module _ (form : ℕ) (s : Bytes) (at : ℕ) where
+  pub plain-byte : isLetter (byte s at) ≡ true → within 1 3 form ≡ true → plainAt form s at ≡ byte s at
+  unfolding plainAt
+  plain-byte t w = rw (t, w)
+
+  pub plain-is : (plainAt form s at ≡ 0 → ⊥) → plainAt form s at ≡ byte s at
+  unfolding plainAt
+  plain-is = go (isLetter (byte s at)) (within 1 3 form)
+    where
+      go : (self known : Bool) → let r = if self then (if known then byte s at else 0) else 0 in (r ≡ 0 → ⊥) → r ≡ byte s at
+      go true true n = refl
+      go true false n = absurd (n refl)
+      go false known n = absurd (n refl)
+
+pub letter-not-zero : (b : ℕ) → isLetter b ≡ true → b ≡ 0 → ⊥
+unfolding isLetter standsForItself within
+letter-not-zero b t e = true≢false (sym t ∙ ap isLetter e)

@@ -1,7 +1,9 @@
 -- One character of what a part says: its code point with the place after it, or a refusal where the text ends.
-use Prim.Native.Nat.{ℕ}
+use Prim.Native.Nat.{ℕ, _+_}
 use Prim.Native.Char.{code}
-use lib.Dec.{eqb}
+use mathlib.Core.Path.{_≡_}
+use mathlib.Core.Bool.{Bool, _&&_}
+use lib.Dec.{eqb, ltb}
 use Rattle.spec.specs.Outcome.{Outcome, ok, refused, _>>=_, if_then_else_}
 use Rattle.spec.specs.Refusal.{not-json}
 use Rattle.spec.specs.Bytes.{Bytes, byte, within}
@@ -31,8 +33,15 @@ letterAt form s at =
     if eqb form 2 then characterIn s at else
     if eqb form 3 then tokenLetter s at else refused not-json at
 
--- the byte at a place, where it is the letter there by itself, in every form; else 0
+-- a byte that is a letter by itself, in every form: a whole character that stands before `~`
+unfoldable pub isLetter : ℕ → Bool
+isLetter b = ltb b (code "~") && standsForItself b
+
+-- the byte at a place, where it is the letter there by itself; else 0
 unfoldable pub plainAt : ℕ → Bytes → ℕ → ℕ
-plainAt form s at =
-    let b = byte s at in
-    if standsForItself b then (if eqb b (code "~") then 0 else if within 1 3 form then b else 0) else 0
+plainAt form s at = if isLetter (byte s at) then (if within 1 3 form then byte s at else 0) else 0
+
+-- as many letters from the first on are the same in both parts, each of them a byte that is one by itself
+pub data Common (form : ℕ) (a : Bytes) (other : ℕ) (b : Bytes) : ℕ → Type 0 where
+  none : Common form a other b 0
+  more : {i : ℕ} → Common form a other b i → (plainAt form a i ≡ 0 → ⊥) → plainAt form a i ≡ plainAt other b i → Common form a other b (i + 1)

@@ -20,6 +20,9 @@ pub fn hash_text(form: u64, s: &[u8]) -> u32
             at += 1;
             continue;
         }
+        if s.len() <= at {
+            return h;
+        }
         let Character::Scalar(c, next) = any_letter(form, s, at) else {
             return h;
         };

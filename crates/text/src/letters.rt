@@ -1,9 +1,10 @@
 // One character of what a part says.
 ghost use mathlib.Core.Path.{_≡_};
 ghost use Rattle.spec.specs.Outcome.{ok};
+ghost use Rattle.spec.specs.Bytes.{within};
 ghost use Rattle.lexer.specs.Answers.{characterOutcome};
 ghost use Rattle.text.specs.Decode.{characterIn};
-ghost use Rattle.text.specs.Letters.{afterTilde, tokenLetter, letterAt, plainAt};
+ghost use Rattle.text.specs.Letters.{afterTilde, tokenLetter, letterAt, isLetter, plainAt};
 use lexer::Character;
 use lexer::Cursor;
 use lexer::peek;
@@ -47,22 +48,42 @@ fn token_letter(s: &[u8], at: usize) -> Character
     Character::Scalar(c, next)
 }
 
-// The byte at a place where it is the letter there by itself, as most bytes of most texts are; else 0. Asked first, it keeps a loop over
-// letters quick.
+// Whether a byte is a letter by itself in every form, as most bytes of most texts are.
+pub fn is_letter(b: u8) -> bool
+    ensures { λ r. ⌜ r ≡ isLetter b ⌝ }
+{
+    // the small letters first
+    if b'\\' < b {
+        if b < b'~' {
+            return true;
+        }
+        return false;
+    }
+    stands_for_itself(b)
+}
+
+// Whether a form says any text but the empty one.
+pub fn is_form(form: u64) -> bool
+    ensures { λ r. ⌜ r ≡ within 1 3 form ⌝ }
+{
+    match form {
+        1..=3 => true,
+        _ => false,
+    }
+}
+
+// The byte at a place where it is the letter there by itself; else 0. Asked first, it keeps a loop over letters quick.
 pub fn plain(form: u64, s: &[u8], at: usize) -> u8
     ensures { λ r. ⌜ r ≡ plainAt form (now (s .entry)) at ⌝ }
 {
     let b = peek(s, at);
-    if !stands_for_itself(b) {
+    if !is_letter(b) {
         return 0;
     }
-    if b == b'~' {
+    if !is_form(form) {
         return 0;
     }
-    match form {
-        1..=3 => b,
-        _ => 0,
-    }
+    b
 }
 
 // The character at a place of a part in a form, with the cursor behind it; refused where the text ends.
@@ -77,13 +98,16 @@ pub fn any_letter(form: u64, s: &[u8], at: usize) -> Character
     }
 }
 
-// The same, with the test for a byte that is a letter by itself first.
+// The same, with the tests first that tell quickest: a byte that is a letter by itself, and the part's end.
 pub fn letter(form: u64, s: &[u8], at: usize) -> Character
     ensures { λ r. ⌜ characterOutcome r ≡ letterAt form (now (s .entry)) at ⌝ }
 {
     let b = plain(form, s, at);
     if b != 0 {
         return Character::Scalar(b as u32, Cursor { at: at + 1 });
+    }
+    if s.len() <= at {
+        return Character::Refused(at);
     }
     any_letter(form, s, at)
 }

@@ -1,52 +1,61 @@
--- `kind_named` meets its contract, name by name.
-use mathlib.Core.Path.{sym, _∙_}
+-- Whatever word is tried first, it names its kind; and so the answer is right however the word was chosen.
+use mathlib.Core.Path.{refl}
 use borrow.Author.Needs.{needs}
 use Rattle.spec.specs.Bytes.{ascii}
+use Rattle.spec.specs.Value.{sameText}
+use Rattle.spec.specs.Patch.{kindNamed}
 use Rattle.shape.specs.Kinds.{kindOutcome}
-use Rattle.shape.proofs.KindLaws.{add-named, remove-named, replace-named, move-named, copy-named, test-named, none-named}
 use Rattle.shape.proofs.kinds.kind_named.Statement.{statement}
 use Rattle.shape.proofs.kinds.kind_named.Tie as tie
 
 pub kind-named-spec : {M : Type 1} → statement M
-unfolding ascii kindOutcome
+unfolding kindOutcome kindNamed sameText ascii
 kind-named-spec =
     tie.close
     (tie.spec
-    -- slice-aggregate-spells
-    (λ c. search needs)
-    -- spells-requires
+    -- part-requires
     (λ c κs. search needs)
-    -- returns
-    (λ c. add-named _ (sym (c .before .spells .ensures) ∙ c .if1 .taken))
-    -- slice-aggregate-spells-2
+    -- peek-requires
+    (λ c κs. search needs)
+    -- slice-aggregate-likely-kind
     (λ c. search needs)
-    -- spells-requires-2
+    -- likely-kind-requires
+    (λ c κs. refl)
+    -- slice-aggregate-likely-kind-2
+    (λ c. search needs)
+    -- likely-kind-requires-2
+    (λ c κs. refl)
+    -- slice-aggregate-likely-kind-3
+    (λ c. search needs)
+    -- likely-kind-requires-3
+    (λ c κs. refl)
+    -- slice-aggregate-likely-kind-4
+    (λ c. search needs)
+    -- likely-kind-requires-4
+    (λ c κs. refl)
+    -- length-requires
+    (λ c κs. search needs)
+    -- slice-aggregate-likely-kind-5
+    (λ c. search needs)
+    -- likely-kind-requires-5
+    (λ c κs. refl)
+    -- returns
+    (λ c. search needs)
+    -- slice-aggregate-likely-kind-6
+    (λ c. search needs)
+    -- likely-kind-requires-6
+    (λ c κs. refl)
+    -- any-kind-requires
     (λ c κs. search needs)
     -- returns-2
-    (λ c. remove-named _ (sym (c .before .before .before .before .spells .ensures) ∙ c .before .before .before .if1 .left) (sym (c .before .spells2 .ensures) ∙ c .if2 .taken))
-    -- slice-aggregate-spells-3
     (λ c. search needs)
-    -- spells-requires-3
-    (λ c κs. search needs)
     -- returns-3
-    (λ c. replace-named _ (sym (c .before .before .before .before .before .before .before .spells .ensures) ∙ c .before .before .before .before .before .before .if1 .left) (sym (c .before .before .before .before .spells2 .ensures) ∙ c .before .before .before .if2 .left) (sym (c .before .spells3 .ensures) ∙ c .if3 .taken))
-    -- slice-aggregate-spells-4
     (λ c. search needs)
-    -- spells-requires-4
-    (λ c κs. search needs)
     -- returns-4
-    (λ c. move-named _ (sym (c .before .before .before .before .before .before .before .before .before .before .spells .ensures) ∙ c .before .before .before .before .before .before .before .before .before .if1 .left) (sym (c .before .before .before .before .before .before .before .spells2 .ensures) ∙ c .before .before .before .before .before .before .if2 .left) (sym (c .before .before .before .before .spells3 .ensures) ∙ c .before .before .before .if3 .left) (sym (c .before .spells4 .ensures) ∙ c .if4 .taken))
-    -- slice-aggregate-spells-5
     (λ c. search needs)
-    -- spells-requires-5
-    (λ c κs. search needs)
     -- returns-5
-    (λ c. copy-named _ (sym (c .before .before .before .before .before .before .before .before .before .before .before .before .before .spells .ensures) ∙ c .before .before .before .before .before .before .before .before .before .before .before .before .if1 .left) (sym (c .before .before .before .before .before .before .before .before .before .before .spells2 .ensures) ∙ c .before .before .before .before .before .before .before .before .before .if2 .left) (sym (c .before .before .before .before .before .before .before .spells3 .ensures) ∙ c .before .before .before .before .before .before .if3 .left) (sym (c .before .before .before .before .spells4 .ensures) ∙ c .before .before .before .if4 .left) (sym (c .before .spells5 .ensures) ∙ c .if5 .taken))
-    -- slice-aggregate-spells-6
     (λ c. search needs)
-    -- spells-requires-6
-    (λ c κs. search needs)
     -- returns-6
-    (λ c. test-named _ (sym (c .before .before .before .before .before .before .before .before .before .before .before .before .before .before .before .before .spells .ensures) ∙ c .before .before .before .before .before .before .before .before .before .before .before .before .before .before .before .if1 .left) (sym (c .before .before .before .before .before .before .before .before .before .before .before .before .before .spells2 .ensures) ∙ c .before .before .before .before .before .before .before .before .before .before .before .before .if2 .left) (sym (c .before .before .before .before .before .before .before .before .before .before .spells3 .ensures) ∙ c .before .before .before .before .before .before .before .before .before .if3 .left) (sym (c .before .before .before .before .before .before .before .spells4 .ensures) ∙ c .before .before .before .before .before .before .if4 .left) (sym (c .before .before .before .before .spells5 .ensures) ∙ c .before .before .before .if5 .left) (sym (c .before .spells6 .ensures) ∙ c .if6 .taken))
+    (λ c. search needs)
     -- returns-7
-    (λ c. none-named _ (sym (c .before .before .before .before .before .before .before .before .before .before .before .before .before .before .before .before .spells .ensures) ∙ c .before .before .before .before .before .before .before .before .before .before .before .before .before .before .before .if1 .left) (sym (c .before .before .before .before .before .before .before .before .before .before .before .before .before .spells2 .ensures) ∙ c .before .before .before .before .before .before .before .before .before .before .before .before .if2 .left) (sym (c .before .before .before .before .before .before .before .before .before .before .spells3 .ensures) ∙ c .before .before .before .before .before .before .before .before .before .if3 .left) (sym (c .before .before .before .before .before .before .before .spells4 .ensures) ∙ c .before .before .before .before .before .before .if4 .left) (sym (c .before .before .before .before .spells5 .ensures) ∙ c .before .before .before .if5 .left) (sym (c .before .spells6 .ensures) ∙ c .if6 .left)))
+    (λ c. search needs))

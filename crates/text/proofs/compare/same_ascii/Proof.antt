@@ -1,30 +1,31 @@
 use Prim.Native.Nat.{_-_, _≤_}
-use mathlib.Core.Path.{_≡_, refl, sym, _∙_}
+use mathlib.Core.Path.{_≡_, sym, _∙_}
 use native.Mathlib.Omega.{arith}
 use lib.ListN.{length, drop}
 use Rattle.spec.specs.Value.{sameText}
 use Rattle.text.specs.Decode.{textFrom, textOf}
 use Rattle.text.proofs.Auto.{auto}
 use Rattle.text.proofs.LetterLaws.{scalar-text, scalar-less, refused-text}
-use Rattle.text.proofs.CompareLaws.{front, back, heads-same, heads-differ, longer, end-same}
+use Rattle.text.proofs.CompareLaws.{front, back, heads-same, heads-differ, longer, end-same, common-word}
 use Rattle.text.proofs.compare.same_ascii.Statement.{statement}
 use Rattle.text.proofs.compare.same_ascii.Tie as tie
 
 abbrev Inv-loop : tie.InvT-loop
-Inv-loop form a constant i₀ j₀ i j = (j ≤ length constant) × (sameText (textFrom form a i) (drop j constant) ≡ sameText (textOf form a) constant)
+Inv-loop form a constant start₀ i₀ j₀ i j = (j ≤ length constant) × (sameText (textFrom form a i) (drop j constant) ≡ sameText (textOf form a) constant)
 
 abbrev μ-loop : tie.MeasureT-loop
-μ-loop form a constant i₀ j₀ i j = length a - i
+μ-loop form a constant start₀ i₀ j₀ i j = length a - i
 
 pub same-ascii-spec : {M : Type 1} → statement M
-unfolding textOf
 same-ascii-spec =
     tie.close
     (tie.spec
     Inv-loop
     μ-loop
+    -- common-requires
+    (λ c κs. search auto)
     -- loop-holds
-    (λ c. (omega arith, refl))
+    (λ c. common-word (c .common .ensures))
     -- letter-requires
     (λ c κs. search auto)
     -- enum-known-c
@@ -34,7 +35,7 @@ same-ascii-spec =
     -- returns
     (λ c. end-same _ _ (c .before .before .before .loop .inv .0) (refused-text _ _ _ (c .before .before .letter .ensures) _ (c .enum-told .given .1)) ∙ c .before .before .before .loop .inv .1)
     -- returns-2
-    (λ c. let l = c .before .before .before .before .before .before .before .before .args .constant .now in longer (scalar-text _ _ _ (c .before .before .before .before .letter .ensures) _ _ (c .before .before .c .given .1)) (back l (c .before .before .before .before .before .loop .j) (omega arith)) ∙ c .before .before .before .before .before .loop .inv .1)
+    (λ c. let l = c .before .before .before .before .before .before .before .before .before .args .constant .now in longer (scalar-text _ _ _ (c .before .before .before .before .letter .ensures) _ _ (c .before .before .c .given .1)) (back l (c .before .before .before .before .before .loop .j) (omega arith)) ∙ c .before .before .before .before .before .loop .inv .1)
     -- shared-slice-read-if2
     (λ c. search auto)
     -- cast-if2

@@ -5,7 +5,7 @@ use lib.ListN.{length}
 use Rattle.lexer.specs.Hash.{hashFrom, hash}
 use Rattle.text.specs.Decode.{textFrom, textOf}
 use Rattle.text.proofs.Auto.{auto}
-use Rattle.text.proofs.LetterLaws.{scalar-text, scalar-less, refused-text, plain-text, plain-inside}
+use Rattle.text.proofs.LetterLaws.{scalar-text, scalar-less, refused-text, plain-text, plain-inside, past-text}
 use Rattle.text.proofs.HashLaws.{hash-more, hash-ends}
 use Rattle.text.proofs.hash.hash_text.Statement.{statement}
 use Rattle.text.proofs.hash.hash_text.Tie as tie
@@ -37,17 +37,19 @@ hash-text-spec =
     (λ c. omega (arith, plain-inside _ _ _ (c .before .before .plain .ensures) (c .before .if1 .taken)))
     -- loop-again
     (λ c. hash-more _ (plain-text _ _ _ (c .before .before .plain .ensures) (c .before .if1 .taken)) (c .mix .ensures) (c .before .before .before .loop .inv))
+    -- returns
+    (λ c. hash-ends (past-text _ _ _ (c .if2 .taken)) (c .before .before .before .loop .inv))
     -- any-letter-requires
     (λ c κs. search auto)
     -- enum-known-c
     (λ c. search auto)
     -- enum-told
     (λ c. search auto)
-    -- returns
-    (λ c. hash-ends (refused-text _ _ _ (c .before .before .any-letter .ensures) _ (c .enum-told .given .1)) (c .before .before .before .before .before .loop .inv))
+    -- returns-2
+    (λ c. hash-ends (refused-text _ _ _ (c .before .before .any-letter .ensures) _ (c .enum-told .given .1)) (c .before .before .before .before .before .before .loop .inv))
     -- mix-requires-2
     (λ c κs. search auto)
     -- loop-less-2
     (λ c. scalar-less _ _ _ (c .before .before .before .before .any-letter .ensures) _ _ (c .before .before .c .given .1))
     -- loop-again-2
-    (λ c. hash-more _ (scalar-text _ _ _ (c .before .before .before .before .any-letter .ensures) _ _ (c .before .before .c .given .1)) (c .mix2 .ensures) (c .before .before .before .before .before .before .before .loop .inv)))
+    (λ c. hash-more _ (scalar-text _ _ _ (c .before .before .before .before .any-letter .ensures) _ _ (c .before .before .c .given .1)) (c .mix2 .ensures) (c .before .before .before .before .before .before .before .before .loop .inv)))

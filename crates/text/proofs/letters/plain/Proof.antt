@@ -1,6 +1,5 @@
-use native.Mathlib.Omega.{arith}
-use borrow.Author.Tests.{eq-eqb, ne-eqb, not-true, not-false}
-use Rattle.lexer.proofs.Tests.{told, between-within, below-within, above-within}
+use borrow.Author.Tests.{not-true, not-false}
+use Rattle.lexer.proofs.Tests.{told}
 use Rattle.text.specs.Letters.{plainAt}
 use Rattle.text.proofs.Auto.{auto}
 use Rattle.text.proofs.letters.plain.Statement.{statement}
@@ -13,15 +12,13 @@ plain-spec =
     (tie.spec
     -- peek-requires
     (λ c κs. search auto)
-    -- stands-for-itself-requires
+    -- is-letter-requires
     (λ c κs. search auto)
     -- returns
-    (λ c. rw (← c .before .before .peek .ensures, told (c .before .stands-for-itself .ensures) (not-true _ (c .if1 .taken))))
+    (λ c. rw (← c .before .before .peek .ensures, told (c .before .is-letter .ensures) (not-true _ (c .if1 .taken))))
+    -- is-form-requires
+    (λ c κs. search auto)
     -- returns-2
-    (λ c. rw (← c .before .before .before .peek .ensures, told (c .before .before .stands-for-itself .ensures) (not-false _ (c .before .if1 .left)), eq-eqb _ _ (c .if2 .taken)))
+    (λ c. rw (← c .before .before .before .before .peek .ensures, told (c .before .before .before .is-letter .ensures) (not-false _ (c .before .before .if1 .left)), told (c .before .is-form .ensures) (not-true _ (c .if2 .taken))))
     -- returns-3
-    (λ c. rw (← c .before .before .before .before .before .peek .ensures, told (c .before .before .before .before .stands-for-itself .ensures) (not-false _ (c .before .before .before .if1 .left)), ne-eqb _ _ (c .before .before .if2 .left), between-within 1 3 (c .before .before .before .before .before .before .before .args .form) (c .before .if3 .left) (omega arith)))
-    -- returns-4
-    (λ c. rw (← c .before .before .before .before .peek .ensures, told (c .before .before .before .stands-for-itself .ensures) (not-false _ (c .before .before .if1 .left)), ne-eqb _ _ (c .before .if2 .left), below-within 1 3 _ (c .if3 .taken)))
-    -- returns-5
-    (λ c. rw (← c .before .before .before .before .before .peek .ensures, told (c .before .before .before .before .stands-for-itself .ensures) (not-false _ (c .before .before .before .if1 .left)), ne-eqb _ _ (c .before .before .if2 .left), above-within 1 3 (c .before .before .before .before .before .before .before .args .form) (omega arith))))
+    (λ c. rw (← c .before .before .before .before .peek .ensures, told (c .before .before .before .is-letter .ensures) (not-false _ (c .before .before .if1 .left)), told (c .before .is-form .ensures) (not-false _ (c .if2 .left)))))
