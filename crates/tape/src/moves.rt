@@ -57,11 +57,11 @@ fn is_clear(column: &[u64], start: usize, count: usize) -> bool
 }
 
 // The words of a block that is looked at before it is made 0.
-const BLOCK: usize = 256;
+const BLOCK: usize = 128;
 
 // A block is made 0. One that is 0 already is only read, which is quicker.
 fn wipe_block(column: &mut [u64], start: usize)
-    ensures { λ _. ⌜ now (column .exit) ≡ cleared (now (column .entry)) start 256 ⌝ }
+    ensures { λ _. ⌜ now (column .exit) ≡ cleared (now (column .entry)) start 128 ⌝ }
 {
     if column.len() < BLOCK {
         return;
