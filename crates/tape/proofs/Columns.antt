@@ -3,9 +3,9 @@ use Prim.Native.Nat.{ℕ, _+_, _-_, _≤_, _<_, max}
 use native.Mathlib.Omega.{arith}
 use mathlib.Core.Path.{_≡_, _∙_}
 use mathlib.Core.Bool.{and-false}
-use mathlib.Core.List.{List, _++_, append-assoc}
-use lib.ListN.{length, take, drop, replicate, length-append, length-take, length-drop}
-use lib.Seq.{drop-paste, length-take-le, take-at, drop-at, take-append-le, drop-append-le, take-append-add, drop-append-add, take-take, drop-drop}
+use mathlib.Core.List.{List, [], _∷_, _++_, append-assoc}
+use lib.ListN.{length, take, drop, set, replicate, length-append, length-take, length-drop}
+use lib.Seq.{sets-eq, length-take-le, take-at, drop-at, take-append-le, drop-append-le, take-append-add, drop-append-add, take-take, drop-drop}
 use borrow.Author.Tests.{le-leb, lt-leb}
 use Rattle.tape.specs.Columns.{replaced, copied, inside, moved, usedAfter, spliceFits, spliced, filled}
 
@@ -55,20 +55,19 @@ module _ {W : Type 0} where
       ) (simp append-assoc)
 
 -- ---- what it leaves alone, and what it makes
-module _ {W : Type 0} (xs : List W) (at removed : ℕ) (new : List W) where
-  module _ (there : at ≤ length xs) where
-    pub take-replaced : (row : ℕ) → row ≤ at → take row (replaced xs at removed new) ≡ take row xs
-    unfolding replaced
-    take-replaced row h =
-        let inside-front : row ≤ length (take at xs) = rw (length-take-le at xs there) h in
-        rw (append-assoc, take-append-le row (take at xs) (new ++ drop (at + removed) xs) inside-front, take-take row at xs h)
+module _ {W : Type 0} (xs : List W) (at removed : ℕ) (new : List W) (there : at ≤ length xs) where
+  pub take-replaced : (row : ℕ) → row ≤ at → take row (replaced xs at removed new) ≡ take row xs
+  unfolding replaced
+  take-replaced row h =
+      let in-front : row ≤ length (take at xs) = rw (length-take-le at xs there) h in
+      rw (append-assoc, take-append-le row (take at xs) (new ++ drop (at + removed) xs) in-front, take-take row at xs h)
 
-    pub words-replaced : drop at (replaced xs at removed new) ≡ new ++ drop (at + removed) xs
-    unfolding replaced
-    words-replaced = rw append-assoc (drop-at (take at xs) (new ++ drop (at + removed) xs) at (length-take-le at xs there))
+  pub words-replaced : drop at (replaced xs at removed new) ≡ new ++ drop (at + removed) xs
+  unfolding replaced
+  words-replaced = rw append-assoc (drop-at (take at xs) (new ++ drop (at + removed) xs) at (length-take-le at xs there))
 
-  -- as many words as were removed
-  module _ (there : at + removed ≤ length xs) (same : length new ≡ removed) where
+  -- by as many words
+  module _ (same : length new ≡ removed) where
     front-long : length (take at xs ++ new) ≡ at + removed
     front-long = simp (length-append, length-take) (omega arith)
 
@@ -82,10 +81,14 @@ module _ {W : Type 0} (xs : List W) (at removed : ℕ) (new : List W) where
         let e : at + removed + (row - (at + removed)) ≡ row = omega arith in
         rw (← e, ← drop-drop, drop-at (take at xs ++ new) (drop (at + removed) xs) (at + removed) front-long, drop-drop)
 
--- ---- words replaced in two steps
+-- ---- a word stored, and words replaced in two steps
+pub replaced-one : {W : Type 0} (xs : List W) (at : ℕ) (x : W) → at < length xs → set xs at x ≡ replaced xs at 1 (x ∷ [])
+unfolding replaced
+replaced-one xs at x h = sets-eq (x ∷ []) xs at (omega arith)
+
 module _ {W : Type 0} (xs : List W) (at m n : ℕ) (new more : List W) where
   -- the first ones first
-  pub replaced-further : at + m ≤ length xs → length new ≡ m → replaced (replaced xs at m new) (at + m) n more ≡ replaced xs at (m + n) (new ++ more)
+  pub replaced-further : at ≤ length xs → length new ≡ m → replaced (replaced xs at m new) (at + m) n more ≡ replaced xs at (m + n) (new ++ more)
   unfolding replaced
   replaced-further there same =
       let behind : at + (m + n) ≡ at + m + n = omega arith in
@@ -109,7 +112,7 @@ module _ {W : Type 0} (xs : List W) (to start n : ℕ) (target : to + n ≤ leng
 
   pub drop-moved : (row : ℕ) → to + n ≤ row → drop row (moved xs to start n) ≡ drop row xs
   unfolding copied
-  drop-moved row h = rw (moved-in xs to start n target there) (drop-replaced xs to n (take n (drop start xs)) target length-words row h)
+  drop-moved row h = rw (moved-in xs to start n target there) (drop-replaced xs to n (take n (drop start xs)) (omega arith) length-words row h)
 
   pub words-moved : drop to (moved xs to start n) ≡ take n (drop start xs) ++ drop (to + n) xs
   unfolding copied

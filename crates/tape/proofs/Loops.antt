@@ -4,11 +4,11 @@ use native.Mathlib.Numerals.{add-one}
 use native.Mathlib.Omega.{arith}
 use mathlib.Core.Path.{_≡_, sym, ap, _∙_}
 use mathlib.Core.List.{List, [], _∷_, _++_, append-assoc}
-use lib.ListN.{length, take, drop, getD, set, replicate, replicate-append-replicate, length-append, length-take, length-drop, length-replicate, take-append-drop}
-use lib.Seq.{paste, paste-zero, sets-eq, drop-paste, length-paste, append-snoc, take-nil, drop-cons, take-suc, set-at, length-take-le, getD-take, getD-drop, take-at, drop-at, take-append-le, take-take, drop-drop, take-add}
+use lib.ListN.{length, take, drop, getD, set, replicate, replicate-append-replicate, length-drop, length-replicate, take-append-drop}
+use lib.Seq.{paste-zero, sets-eq, take-nil, drop-cons, take-suc, getD-drop, take-take, drop-drop, take-add}
 use Rattle.tape.specs.Columns.{replaced, copied, moved, usedAfter, spliced, filled}
 use lib.Bits.{bitOr, or-add-and, and-le-l, and-le-r}
-use Rattle.tape.proofs.Columns.{Room, moved-in, spliced-in, filled-in, length-replaced, take-replaced, drop-replaced, replaced-further, replaced-before, length-words}
+use Rattle.tape.proofs.Columns.{Room, moved-in, spliced-in, filled-in, length-replaced, take-replaced, words-replaced, drop-replaced, replaced-one, replaced-further, replaced-before, length-words}
 
 -- ---- a copy
 module _ {W : Type 0} (xs : List W) (to start : ℕ) where
@@ -22,8 +22,8 @@ module _ {W : Type 0} (xs : List W) (to start : ℕ) where
 
   -- one word stored
   pub copied-one : (z : W) → to < length xs → start < length xs → set xs to (getD xs start z) ≡ copied xs to start 1
-  unfolding copied replaced
-  copied-one z h k = rw (drop-cons xs start z k) (sets-eq (getD xs start z ∷ []) xs to (omega arith))
+  unfolding copied
+  copied-one z h k = rw (drop-cons xs start z k) (replaced-one xs to (getD xs start z) h)
 
   -- four words stored that were all loaded before
   pub copied-four : (z : W) → to + 4 ≤ length xs → start + 4 ≤ length xs
@@ -101,29 +101,26 @@ module _ {W : Type 0} (x : W) (xs : List W) (start : ℕ) where
   unfolding replaced
   filled-none = sym (paste-zero xs start [])
 
+  length-filled : (n : ℕ) → start + n ≤ length xs → length (replaced xs start n (replicate n x)) ≡ length xs
+  length-filled n h = length-replaced xs start n (replicate n x) h ∙ simp length-replicate (omega arith)
+
   pub filled-more : (i : ℕ) → start + i < length xs
       → set (replaced xs start i (replicate i x)) (start + i) x ≡ replaced xs start (i + 1) (replicate (i + 1) x)
-  unfolding replaced
   filled-more i h =
-      let p : List W = take start xs ++ replicate i x in
-      let long : length p ≡ start + i = simp (length-append, length-replicate, length-take) (omega arith) in
-      let n : start + (i + 1) ≡ suc (start + i) = omega arith in
-      rw (drop-cons xs (start + i) x (omega arith), n, ← (replicate-append-replicate i 1 x), ← (append-assoc (take start xs) (replicate i x) (x ∷ [])))
-      (set-at p (getD xs (start + i) x) (drop (suc (start + i)) xs) x (start + i) long ∙ sym (append-snoc p x (drop (suc (start + i)) xs)))
+      let ys : List W = replaced xs start i (replicate i x) in
+      let long : length ys ≡ length xs = length-filled i (omega arith) in
+      replaced-one ys (start + i) x (omega arith) ∙ replaced-further xs start i 1 (replicate i x) (x ∷ []) (omega arith) (length-replicate i x)
+      ∙ ap (replaced xs start (i + 1)) (replicate-append-replicate i 1 x)
 
-  -- the first words filled, and then more
-  pub filled-further : (n : ℕ) → start + n ≤ length xs
-      → filled x (replaced xs 0 start (replicate start x)) start n ≡ replaced xs 0 (start + n) (replicate (start + n) x)
-  unfolding replaced
-  filled-further n h =
-      let ys : List W = replicate start x ++ drop start xs in
-      let same : take 0 xs ++ replicate start x ++ drop (0 + start) xs ≡ ys = let e : 0 + start ≡ start = omega arith in rw e in
-      let long : length ys ≡ length xs = simp (length-append, length-replicate, length-drop) (omega arith) in
-      let front : take start ys ≡ replicate start x = take-at (replicate start x) (drop start xs) start (length-replicate start x) in
-      let back : drop (start + n) ys ≡ drop (start + n) xs =
-      rw (← drop-drop, drop-at (replicate start x) (drop start xs) start (length-replicate start x), drop-drop) in
-      let e : 0 + (start + n) ≡ start + n = omega arith in
-      rw (same, filled-in ys x start n (omega arith), front, back, e, ← (replicate-append-replicate start n x)) (simp append-assoc)
+-- the first words filled, and then more
+pub filled-further : {W : Type 0} (x : W) (xs : List W) (start n : ℕ) → start + n ≤ length xs
+    → filled x (replaced xs 0 start (replicate start x)) start n ≡ replaced xs 0 (start + n) (replicate (start + n) x)
+filled-further {W} x xs start n h =
+    let ys : List W = replaced xs 0 start (replicate start x) in
+    let long : length ys ≡ length xs = length-filled x xs 0 start (omega arith) in
+    let first : 0 + start ≡ start = omega arith in
+    rw (filled-in ys x start n (omega arith), ← (replicate-append-replicate start n x))
+    (rw first at (replaced-further xs 0 start n (replicate start x) (replicate n x) (omega arith) (length-replicate start x)))
 
 -- words that are already so, filled
 pub filled-same : {W : Type 0} (x : W) (xs : List W) (start n : ℕ) → start + n ≤ length xs → take n (drop start xs) ≡ replicate n x → filled x xs start n ≡ xs
@@ -149,19 +146,16 @@ module _ {W : Type 0} (xs : List W) (used at removed source n : ℕ) (in-use : a
   unfolding copied replaced
   two-moves =
       let t : ℕ = used - removed - at in
-      let s : List W = drop (at + removed) xs in
-      let m : List W = paste xs (at + n) s t in
-      let after : at + n + t ≡ usedAfter used removed n = omega arith in
-      let front : take at m ≡ take at xs =
-      rw (append-assoc, take-append-le at (take (at + n) xs) (take t s ++ drop (at + n + t) xs) (simp length-take (omega arith)), take-take at (at + n) xs (omega arith)) in
-      let behind : drop source m ≡ drop source xs =
-      let e : at + n + t + (source - (at + n + t)) ≡ source = omega arith in
-      rw (← e, ← drop-drop, drop-paste xs (at + n) s t (omega arith) (simp length-drop (omega arith)), drop-drop) in
-      let rest : drop (at + n) m ≡ take t s ++ drop (at + n + t) xs =
-      rw append-assoc (drop-at (take (at + n) xs) (take t s ++ drop (at + n + t) xs) (at + n) (length-take-le (at + n) xs (omega arith))) in
+      let tail : List W = take t (drop (at + removed) xs) in
+      let m : List W = replaced xs (at + n) t tail in
+      let same : length tail ≡ t = length-words xs (at + n) (at + removed) t (omega arith) (omega arith) in
+      let front : take at m ≡ take at xs = take-replaced xs (at + n) t tail (omega arith) at (omega arith) in
+      let behind : drop source m ≡ drop source xs = drop-replaced xs (at + n) t tail (omega arith) same source (omega arith) in
+      let rest : drop (at + n) m ≡ tail ++ drop (at + n + t) xs = words-replaced xs (at + n) t tail (omega arith) in
       let first : moved xs (at + n) (at + removed) t ≡ m = moved-in xs (at + n) (at + removed) t (omega arith) (omega arith) in
-      let long : length m ≡ length xs = length-paste xs (at + n) s t (omega arith) (simp length-drop (omega arith)) in
+      let long : length m ≡ length xs = length-copied xs (at + n) (at + removed) t (omega arith) (omega arith) in
       let second : moved m at source n ≡ take at m ++ take n (drop source m) ++ drop (at + n) m = moved-in m at source n (omega arith) (omega arith) in
+      let after : at + n + t ≡ usedAfter used removed n = omega arith in
       let left : used - (at + removed) ≡ t = omega arith in
-      let tail : drop (at + removed) (take used xs) ≡ take t s = rw (drop-take (at + removed) used xs, left) in
-      rw (first, second, front, behind, rest, spliced-in xs used at removed source n in-use room, tail, take-take at used xs (omega arith), after) (simp append-assoc)
+      let kept : drop (at + removed) (take used xs) ≡ tail = rw (drop-take (at + removed) used xs, left) in
+      rw (first, second, front, behind, rest, spliced-in xs used at removed source n in-use room, kept, take-take at used xs (omega arith), after) (simp append-assoc)

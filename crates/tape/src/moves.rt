@@ -56,7 +56,7 @@ fn is_clear(column: &[u64], start: usize, count: usize) -> bool
     bits == 0
 }
 
-// The words of a block that is looked at before it is made 0.
+// The words of a block that is looked at before it is made 0: so few that the compiler unrolls the loop over them.
 const BLOCK: usize = 128;
 
 // A block is made 0. One that is 0 already is only read, which is quicker.
