@@ -3,9 +3,9 @@ use Prim.Native.Nat.{ℕ, _+_, _-_, _≤_, _<_, max}
 use native.Mathlib.Omega.{arith}
 use mathlib.Core.Path.{_≡_, _∙_}
 use mathlib.Core.Bool.{and-false}
-use mathlib.Core.List.{List, _++_, append-assoc}
-use lib.ListN.{length, take, drop, replicate, length-append, length-take, length-drop}
-use lib.Seq.{drop-paste, length-take-le, take-at, drop-at, take-append-le, drop-append-le, take-append-add, drop-append-add, take-take, drop-drop}
+use mathlib.Core.List.{List, [], _∷_, _++_, append-assoc}
+use lib.ListN.{length, take, drop, set, replicate, length-append, length-take, length-drop}
+use lib.Seq.{sets-eq, length-take-le, take-at, drop-at, take-append-le, drop-append-le, take-append-add, drop-append-add, take-take, drop-drop}
 use borrow.Author.Tests.{le-leb, lt-leb}
 use Rattle.tape.specs.Columns.{replaced, copied, inside, moved, usedAfter, spliceFits, spliced, filled}
 
@@ -54,32 +54,69 @@ module _ {W : Type 0} where
         drop-append-le (p + removed) mid back h,
       ) (simp append-assoc)
 
--- ---- what a move and a fill leave alone, and what they make
+-- ---- what it leaves alone, and what it makes
+module _ {W : Type 0} (xs : List W) (at removed : ℕ) (new : List W) (there : at ≤ length xs) where
+  pub take-replaced : (row : ℕ) → row ≤ at → take row (replaced xs at removed new) ≡ take row xs
+  unfolding replaced
+  take-replaced row h =
+      let in-front : row ≤ length (take at xs) = rw (length-take-le at xs there) h in
+      rw (append-assoc, take-append-le row (take at xs) (new ++ drop (at + removed) xs) in-front, take-take row at xs h)
+
+  pub words-replaced : drop at (replaced xs at removed new) ≡ new ++ drop (at + removed) xs
+  unfolding replaced
+  words-replaced = rw append-assoc (drop-at (take at xs) (new ++ drop (at + removed) xs) at (length-take-le at xs there))
+
+  -- by as many words
+  module _ (same : length new ≡ removed) where
+    front-long : length (take at xs ++ new) ≡ at + removed
+    front-long = simp (length-append, length-take) (omega arith)
+
+    pub front-replaced : take (at + removed) (replaced xs at removed new) ≡ take at xs ++ new
+    unfolding replaced
+    front-replaced = take-at (take at xs ++ new) (drop (at + removed) xs) (at + removed) front-long
+
+    pub drop-replaced : (row : ℕ) → at + removed ≤ row → drop row (replaced xs at removed new) ≡ drop row xs
+    unfolding replaced
+    drop-replaced row h =
+        let e : at + removed + (row - (at + removed)) ≡ row = omega arith in
+        rw (← e, ← drop-drop, drop-at (take at xs ++ new) (drop (at + removed) xs) (at + removed) front-long, drop-drop)
+
+-- ---- a word stored, and words replaced in two steps
+pub replaced-one : {W : Type 0} (xs : List W) (at : ℕ) (x : W) → at < length xs → set xs at x ≡ replaced xs at 1 (x ∷ [])
+unfolding replaced
+replaced-one xs at x h = sets-eq (x ∷ []) xs at (omega arith)
+
+module _ {W : Type 0} (xs : List W) (at m n : ℕ) (new more : List W) where
+  -- the first ones first
+  pub replaced-further : at ≤ length xs → length new ≡ m → replaced (replaced xs at m new) (at + m) n more ≡ replaced xs at (m + n) (new ++ more)
+  unfolding replaced
+  replaced-further there same =
+      let behind : at + (m + n) ≡ at + m + n = omega arith in
+      rw (behind, front-replaced xs at m new there same, drop-replaced xs at m new there same (at + m + n) (omega arith)) (simp append-assoc)
+
+  -- the last ones first
+  pub replaced-before : at + m ≤ length xs → replaced (replaced xs (at + m) n more) at m new ≡ replaced xs at (m + n) (new ++ more)
+  unfolding replaced
+  replaced-before there =
+      let behind : at + (m + n) ≡ at + m + n = omega arith in
+      rw (behind, take-replaced xs (at + m) n more there at (omega arith), words-replaced xs (at + m) n more there) (simp append-assoc)
+
+-- ---- a move
 module _ {W : Type 0} (xs : List W) (to start n : ℕ) (target : to + n ≤ length xs) (there : start + n ≤ length xs) where
-  long-enough : n ≤ length (drop start xs)
-  long-enough = rw length-drop (omega arith)
+  pub length-words : length (take n (drop start xs)) ≡ n
+  length-words = length-take-le n (drop start xs) (rw length-drop (omega arith))
 
   pub take-moved : (row : ℕ) → row ≤ to → take row (moved xs to start n) ≡ take row xs
-  unfolding copied replaced
-  take-moved row h =
-      rw (
-        moved-in xs to start n target there,
-        append-assoc (take to xs) (take n (drop start xs)) (drop (to + n) xs),
-        take-append-le row (take to xs) (take n (drop start xs) ++ drop (to + n) xs) (rw (length-take-le to xs (omega arith)) h),
-        take-take row to xs h,
-      )
+  unfolding copied
+  take-moved row h = rw (moved-in xs to start n target there) (take-replaced xs to n (take n (drop start xs)) (omega arith) row h)
 
   pub drop-moved : (row : ℕ) → to + n ≤ row → drop row (moved xs to start n) ≡ drop row xs
-  unfolding copied replaced
-  drop-moved row h =
-      let e : to + n + (row - (to + n)) ≡ row = omega arith in
-      rw (moved-in xs to start n target there, ← e, ← drop-drop, drop-paste xs to (drop start xs) n (omega arith) long-enough, drop-drop)
+  unfolding copied
+  drop-moved row h = rw (moved-in xs to start n target there) (drop-replaced xs to n (take n (drop start xs)) (omega arith) length-words row h)
 
   pub words-moved : drop to (moved xs to start n) ≡ take n (drop start xs) ++ drop (to + n) xs
-  unfolding copied replaced
-  words-moved =
-      rw (moved-in xs to start n target there, append-assoc (take to xs) (take n (drop start xs)) (drop (to + n) xs))
-      (drop-at (take to xs) (take n (drop start xs) ++ drop (to + n) xs) to (length-take-le to xs (omega arith)))
+  unfolding copied
+  words-moved = rw (moved-in xs to start n target there) (words-replaced xs to n (take n (drop start xs)) (omega arith))
 
 -- a column's first words filled
 pub filled-first : {W : Type 0} (x : W) (xs : List W) (n : ℕ) → n ≤ length xs → filled x xs 0 n ≡ replicate n x ++ drop n xs

@@ -1,16 +1,15 @@
 -- A forest's words stored from a row on, tree after tree: what a reader does, which stores a node's own word when its children are stored.
-use Prim.Native.Nat.{ℕ, suc, _+_, _-_, _≤_, _<_}
+use Prim.Native.Nat.{ℕ, suc, _+_, _≤_, _<_}
 use native.Mathlib.Nat.{add-zero}
-use native.Mathlib.Numerals.{add-one}
 use native.Mathlib.Omega.{arith}
 use mathlib.Core.Path.{_≡_, sym, ap, _∙_}
-use mathlib.Core.List.{List, [], _∷_, _++_, append-assoc, append-nil}
-use lib.ListN.{length, take, drop, getD, set, length-append, take-append-drop}
-use lib.Seq.{take-at, drop-at, take-suc, set-at, drop-drop, take-take, take-append-le, length-take-le}
+use mathlib.Core.List.{List, [], _∷_, append-nil}
+use lib.ListN.{length, take, drop, set, length-take, take-append-drop}
+use lib.Seq.{take-at, length-take-le}
 use Rattle.spec.specs.Forest.{Forest, none, tree, size, _⧺_}
 use Rattle.tape.specs.Columns.{replaced}
 use Rattle.tape.specs.Tape.{tape, Holds, Laid, Stored}
-use Rattle.tape.proofs.Columns.{length-replaced}
+use Rattle.tape.proofs.Columns.{length-replaced, take-replaced, words-replaced, drop-replaced, replaced-one, replaced-further, replaced-before}
 use Rattle.tape.proofs.Forests.{size-⧺}
 use Rattle.tape.proofs.Tape.{length-tape, tape-⧺}
 
@@ -24,52 +23,34 @@ module _ {A W : Type 0} {w : A → Forest A → W} {xs : List W} {at : ℕ} wher
     stored-length h = ap length (s .is) ∙ length-replaced xs at (size f) (tape w f) h ∙ omega (arith, length-tape w f)
 
     module _ (inside : at ≤ length xs) where
-      before-it : length (take at xs) ≡ at
-      before-it = length-take-le at xs inside
-
       -- what stands in the column then
       pub stored-holds : Holds w ys at f (drop (at + size f) xs)
-      unfolding replaced
-      stored-holds = record { is = rw (s .is, append-assoc) (drop-at (take at xs) (tape w f ++ drop (at + size f) xs) at before-it) }
+      stored-holds = record { is = rw (s .is) (words-replaced xs at (size f) (tape w f) inside) }
 
       pub stored-take : (row : ℕ) → row ≤ at → take row ys ≡ take row xs
-      unfolding replaced
-      stored-take row h =
-          rw (s .is, append-assoc, take-append-le row (take at xs) (tape w f ++ drop (at + size f) xs) (rw before-it h), take-take row at xs h)
+      stored-take row h = rw (s .is) (take-replaced xs at (size f) (tape w f) inside row h)
 
       pub stored-drop : (row : ℕ) → at + size f ≤ row → drop row ys ≡ drop row xs
-      unfolding replaced
-      stored-drop row h =
-          let e : at + size f + (row - (at + size f)) ≡ row = omega arith in
-          let long : length (take at xs ++ tape w f) ≡ at + size f = rw (length-append, before-it, length-tape w f) in
-          rw (s .is, ← e, ← drop-drop, drop-at (take at xs ++ tape w f) (drop (at + size f) xs) (at + size f) long, drop-drop)
+      stored-drop row h = rw (s .is) (drop-replaced xs at (size f) (tape w f) inside (length-tape w f) row h)
 
 -- other trees behind the forest
 pub stored-join : {A W : Type 0} {w : A → Forest A → W} {xs ys zs : List W} {at next : ℕ} {f g : Forest A} → at ≤ length xs → Stored w xs at f ys
     → next ≡ at + size f → Stored w ys next g zs → Stored w xs at (f ⧺ g) zs
-unfolding replaced
-stored-join {w = w} {xs} {ys} {zs} {at} {next} {f} {g} inside s e r =
-    record {
-      is =
-          let front : take (at + size f) ys ≡ take at xs ++ tape w f =
-          rw (s .is) (take-at (take at xs ++ tape w f) (drop (at + size f) xs) (at + size f) (rw (length-append, length-take-le at xs inside, length-tape w f))) in
-          let back : drop (at + size f + size g) ys ≡ drop (at + size f + size g) xs = stored-drop s inside (at + size f + size g) (omega arith) in
-          let n : at + size (f ⧺ g) ≡ at + size f + size g = omega (arith, size-⧺ f g) in
-          r .is ∙ rw (e, front, back, n, tape-⧺ w f g) (simp append-assoc);
-    }
+stored-join {w = w} {xs} {at = at} {f = f} {g} inside s e r =
+    record { is = r .is ∙ rw (e, s .is, size-⧺ f g, tape-⧺ w f g) (replaced-further xs at (size f) (size g) (tape w f) (tape w g) inside (length-tape w f)) }
 
 -- the children's words before the node's own
 pub stored-tree : {A W : Type 0} {w : A → Forest A → W} {xs ys : List W} {at : ℕ} {kids : Forest A} (a : A) (y : W) → at < length xs
     → Stored w xs (at + 1) kids ys → y ≡ w a kids
     → Stored w xs at (tree a kids none) (set ys at y)
-unfolding replaced tape size
+unfolding tape size
 stored-tree {w = w} {xs} {ys} {at} {kids} a y inside s e =
     record {
       is =
-          let n : at + suc (size kids + 0) ≡ at + 1 + size kids = omega arith in
-          let front : take (at + 1) xs ≡ take at xs ++ (getD xs at y ∷ []) = rw add-one (take-suc xs at y inside) in
-          rw (s .is, front, n, append-nil, ← e)
-          (simp append-assoc (set-at (take at xs) (getD xs at y) (tape w kids ++ drop (at + 1 + size kids) xs) y at (length-take-le at xs (omega arith))));
+          let n : suc (size kids + 0) ≡ 1 + size kids = omega arith in
+          let front : length (take (at + 1) ys) ≡ at + 1 = ap length (stored-take s (omega arith) (at + 1) (omega arith)) ∙ length-take-le (at + 1) xs (omega arith) in
+          let long : at < length ys = omega (arith, length-take (at + 1) ys) in
+          replaced-one ys at y long ∙ rw (s .is, n, append-nil, ← e) (replaced-before xs at 1 (size kids) (y ∷ []) (tape w kids) (omega arith));
     }
 
 -- the first words of a column

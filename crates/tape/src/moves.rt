@@ -3,7 +3,7 @@ use crate::layout::ROWS;
 ghost use mathlib.Core.Path.{_≡_};
 ghost use mathlib.Core.Bool.{true};
 ghost use Rattle.tape.specs.Layout.{rows};
-ghost use Prim.Native.Nat.{_+_, _≤_};
+ghost use Prim.Native.Nat.{_+_, _*_, _≤_};
 ghost use lib.ListN.{length, getD, set};
 ghost use Rattle.tape.specs.Columns.{copied, moved, spliced, cleared};
 
@@ -56,12 +56,12 @@ fn is_clear(column: &[u64], start: usize, count: usize) -> bool
     bits == 0
 }
 
-// The words of a block that is looked at before it is made 0.
-const BLOCK: usize = 256;
+// The words of a block that is looked at before it is made 0: so few that the compiler unrolls the loop over them.
+const BLOCK: usize = 128;
 
 // A block is made 0. One that is 0 already is only read, which is quicker.
 fn wipe_block(column: &mut [u64], start: usize)
-    ensures { λ _. ⌜ now (column .exit) ≡ cleared (now (column .entry)) start 256 ⌝ }
+    ensures { λ _. ⌜ now (column .exit) ≡ cleared (now (column .entry)) start 128 ⌝ }
 {
     if column.len() < BLOCK {
         return;
@@ -89,8 +89,35 @@ pub fn wipe(column: &mut [u64])
     }
 }
 
-// Words are copied towards the front, the first one first.
-fn shift_down(column: &mut [u64], to: usize, start: usize, count: usize)
+// Four words are copied. Each is loaded before one is stored, so that the two runs may overlap either way.
+fn move_four(column: &mut [u64], to: usize, start: usize)
+    requires { ⌜ (to + 4 ≤ length (now column)) × (start + 4 ≤ length (now column)) ⌝ }
+    ensures { λ _. ⌜ now (column .exit) ≡ copied (now (column .entry)) to start 4 ⌝ }
+{
+    let a = column[start];
+    let b = column[start + 1];
+    let c = column[start + 2];
+    let d = column[start + 3];
+    column[to] = a;
+    column[to + 1] = b;
+    column[to + 2] = c;
+    column[to + 3] = d;
+}
+
+// Words are copied towards the front, four at a time, the first ones first.
+fn fours_down(column: &mut [u64], to: usize, start: usize, fours: usize)
+    requires { ⌜ (to ≤ start) × (start + 4 * fours ≤ length (now column)) ⌝ }
+    ensures { λ _. ⌜ now (column .exit) ≡ copied (now (column .entry)) to start (4 * fours) ⌝ }
+{
+    let mut k = 0;
+    while k < fours {
+        move_four(column, to + 4 * k, start + 4 * k);
+        k += 1;
+    }
+}
+
+// The same, one at a time.
+fn words_down(column: &mut [u64], to: usize, start: usize, count: usize)
     requires { ⌜ (to ≤ start) × (start + count ≤ length (now column)) ⌝ }
     ensures { λ _. ⌜ now (column .exit) ≡ copied (now (column .entry)) to start count ⌝ }
 {
@@ -101,8 +128,31 @@ fn shift_down(column: &mut [u64], to: usize, start: usize, count: usize)
     }
 }
 
-// Words are copied towards the back, the last one first.
-fn shift_up(column: &mut [u64], to: usize, start: usize, count: usize)
+// Words are copied towards the front, the rest behind all fours last.
+fn shift_down(column: &mut [u64], to: usize, start: usize, count: usize)
+    requires { ⌜ (to ≤ start) × (start + count ≤ length (now column)) ⌝ }
+    ensures { λ _. ⌜ now (column .exit) ≡ copied (now (column .entry)) to start count ⌝ }
+{
+    let fours = count / 4;
+    let done = 4 * fours;
+    fours_down(column, to, start, fours);
+    words_down(column, to + done, start + done, count - done);
+}
+
+// Words are copied towards the back, four at a time, the last ones first.
+fn fours_up(column: &mut [u64], to: usize, start: usize, fours: usize)
+    requires { ⌜ (start ≤ to) × (to + 4 * fours ≤ length (now column)) ⌝ }
+    ensures { λ _. ⌜ now (column .exit) ≡ copied (now (column .entry)) to start (4 * fours) ⌝ }
+{
+    let mut k = fours;
+    while 0 < k {
+        k -= 1;
+        move_four(column, to + 4 * k, start + 4 * k);
+    }
+}
+
+// The same, one at a time.
+fn words_up(column: &mut [u64], to: usize, start: usize, count: usize)
     requires { ⌜ (start ≤ to) × (to + count ≤ length (now column)) ⌝ }
     ensures { λ _. ⌜ now (column .exit) ≡ copied (now (column .entry)) to start count ⌝ }
 {
@@ -111,6 +161,17 @@ fn shift_up(column: &mut [u64], to: usize, start: usize, count: usize)
         i -= 1;
         column[to + i] = column[start + i];
     }
+}
+
+// Words are copied towards the back, the rest before all fours last.
+fn shift_up(column: &mut [u64], to: usize, start: usize, count: usize)
+    requires { ⌜ (start ≤ to) × (to + count ≤ length (now column)) ⌝ }
+    ensures { λ _. ⌜ now (column .exit) ≡ copied (now (column .entry)) to start count ⌝ }
+{
+    let fours = count / 4;
+    let rest = count - 4 * fours;
+    fours_up(column, to + rest, start + rest, fours);
+    words_up(column, to, start, rest);
 }
 
 // `count` words from `start` on are copied to the rows from `to` on; the two runs may overlap.

@@ -1,57 +1,36 @@
--- `tape::moves::shift_down` meets its contract. Assumes nothing.
-use Prim.Native.Nat.{_≤_, _-_, _+_}
+-- `tape::moves::shift_down` meets its contract: the fours, and then the rest behind them.
+use Prim.Native.Nat.{_+_, _-_, _*_, _/_}
 use native.Mathlib.Omega.{arith}
-use mathlib.Core.Path.{_≡_, refl, sym, ap, _∙_}
-use lib.ListN.{length, set, getD, length-set}
+use mathlib.Core.Path.{_≡_, ap, _∙_}
 use borrow.Author.Needs.{needs}
 use Rattle.tape.specs.Columns.{copied}
-use Rattle.tape.proofs.Loops.{copied-none, down-more}
+use Rattle.tape.proofs.Loops.{copied-further}
 use Rattle.tape.proofs.moves.shift_down.Statement.{statement}
 use Rattle.tape.proofs.moves.shift_down.Tie as tie
-
--- the first i words are copied
-abbrev Inv-loop : tie.InvT-loop
-Inv-loop column₀ to start count i₀ column i = (i ≤ count) × (length column ≡ length column₀) × (column ≡ copied column₀ to start i)
-
-abbrev μ-loop : tie.MeasureT-loop
-μ-loop column₀ to start count i₀ column i = count - i
 
 pub shift-down-spec : {M : Type 1} → statement M
 shift-down-spec =
     tie.close
     (tie.spec
-    Inv-loop
-    μ-loop
-    -- loop-holds
-    (λ c. let a = c .args in (omega arith, refl, sym (copied-none 0 (a .column .now) (a .to) (a .start))))
-    -- add-column
+    -- mul-done
     (λ c. search needs)
-    -- mul-column
+    -- fours-down-requires
+    (λ c κs. search needs)
+    -- add-words-down
     (λ c. search needs)
-    -- slice-read-column
+    -- add-words-down-2
     (λ c. search needs)
-    -- add-column-2
+    -- sub-words-down
     (λ c. search needs)
-    -- mul-column-2
-    (λ c. search needs)
-    -- slice-write-column
-    (λ c. search needs)
-    -- add-i
-    (λ c. search needs)
-    -- loop-less
-    (λ c. search needs)
-    -- loop-again
-    (λ c.
-    let a = c .before .before .before .args in
-    let l = c .before .before .loop in (
-      omega arith,
-      simp length-set (l .inv .1),
-      ap (λ xs. set xs (a .to + l .i) (getD xs (a .start + l .i) 0)) (l .inv .2) ∙ down-more 0 (a .column .now) (a .to) (a .start) (l .i) (omega arith) (omega arith),
-    ))
+    -- words-down-requires
+    (λ c κs. search needs)
     -- same-length
     (λ c. search needs)
     -- returns
     (λ c.
-    let a = c .before .before .args in
-    let e : c .before .loop .i ≡ a .count = omega arith in
-    c .before .loop .inv .2 ∙ ap (copied (a .column .now) (a .to) (a .start)) e))
+    let a = c .before .before .before .before .before .before .before .before .before .args in
+    let done = 4 * (a .count / 4) in
+    let rest = a .count - done in
+    let all : done + rest ≡ a .count = omega arith in
+    c .before .before .words-down .ensures ∙ ap (λ xs. copied xs (a .to + done) (a .start + done) rest) (c .before .before .before .before .before .before .fours-down .ensures)
+    ∙ copied-further (a .column .now) (a .to) (a .start) done rest (omega arith) (omega arith) ∙ ap (copied (a .column .now) (a .to) (a .start)) all))

@@ -1,65 +1,36 @@
--- `tape::moves::shift_up` meets its contract. Assumes nothing.
-use Prim.Native.Nat.{_≤_, _-_, _+_}
+-- `tape::moves::shift_up` meets its contract: the fours, and then the rest before them.
+use Prim.Native.Nat.{_+_, _-_, _*_, _/_}
 use native.Mathlib.Omega.{arith}
-use mathlib.Core.Path.{_≡_, refl, sym, ap, _∙_}
-use lib.ListN.{length, set, getD, length-set}
+use mathlib.Core.Path.{_≡_, ap, _∙_}
 use borrow.Author.Needs.{needs}
 use Rattle.tape.specs.Columns.{copied}
-use Rattle.tape.proofs.Loops.{copied-none, up-more}
+use Rattle.tape.proofs.Loops.{copied-before}
 use Rattle.tape.proofs.moves.shift_up.Statement.{statement}
 use Rattle.tape.proofs.moves.shift_up.Tie as tie
-
--- the last words, from the i-th on, are copied
-abbrev Inv-loop : tie.InvT-loop
-Inv-loop column₀ to start count i₀ column i =
-    (i ≤ count) × (length column ≡ length column₀) × (column ≡ copied column₀ (to + i) (start + i) (count - i))
-
-abbrev μ-loop : tie.MeasureT-loop
-μ-loop column₀ to start count i₀ column i = i
 
 pub shift-up-spec : {M : Type 1} → statement M
 shift-up-spec =
     tie.close
     (tie.spec
-    Inv-loop
-    μ-loop
-    -- loop-holds
-    (λ c.
-    let a = c .args in
-    let z : a .count - a .count ≡ 0 = omega arith in
-    (omega arith, refl, rw z (sym (copied-none 0 (a .column .now) (a .to + a .count) (a .start + a .count)))))
-    -- sub-i
+    -- mul-rest
     (λ c. search needs)
-    -- add-column
+    -- sub-rest
     (λ c. search needs)
-    -- mul-column
+    -- add-fours-up
     (λ c. search needs)
-    -- slice-read-column
+    -- add-fours-up-2
     (λ c. search needs)
-    -- add-column-2
-    (λ c. search needs)
-    -- mul-column-2
-    (λ c. search needs)
-    -- slice-write-column
-    (λ c. search needs)
-    -- loop-less
-    (λ c. search needs)
-    -- loop-again
-    (λ c.
-    let a = c .before .before .before .args in
-    let l = c .before .before .loop in (
-      omega arith,
-      simp length-set (l .inv .1),
-      ap (λ xs. set xs (a .to + (l .i - 1)) (getD xs (a .start + (l .i - 1)) 0)) (l .inv .2)
-          ∙ up-more 0 (a .column .now) (a .to) (a .start) (a .count) (l .i) (l .i - 1) (omega arith) (omega arith) (omega arith) (omega arith),
-    ))
+    -- fours-up-requires
+    (λ c κs. search needs)
+    -- words-up-requires
+    (λ c κs. search needs)
     -- same-length
     (λ c. search needs)
     -- returns
     (λ c.
-    let a = c .before .before .args in
-    let i = c .before .loop .i in
-    let t : a .to + i ≡ a .to = omega arith in
-    let s : a .start + i ≡ a .start = omega arith in
-    let n : a .count - i ≡ a .count = omega arith in
-    c .before .loop .inv .2 ∙ rw (t, s, n)))
+    let a = c .before .before .before .before .before .before .before .before .before .args in
+    let done = 4 * (a .count / 4) in
+    let rest = a .count - done in
+    let all : rest + done ≡ a .count = omega arith in
+    c .before .before .words-up .ensures ∙ ap (λ xs. copied xs (a .to) (a .start) rest) (c .before .before .before .before .before .before .fours-up .ensures)
+    ∙ copied-before (a .column .now) (a .to) (a .start) rest done (omega arith) (omega arith) ∙ ap (copied (a .column .now) (a .to) (a .start)) all))

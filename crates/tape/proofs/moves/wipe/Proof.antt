@@ -15,7 +15,7 @@ use Rattle.tape.proofs.moves.wipe.Tie as tie
 -- so many blocks are 0
 record Wiped (column₀ column : List ℕ) (at : ℕ) : Type 0 where
   blocks : ℕ
-  place : at ≡ blocks * 256
+  place : at ≡ blocks * 128
   few : at ≤ rows
   long : length column ≡ length column₀
   is : column ≡ replaced column₀ 0 at (replicate at 0)
@@ -23,14 +23,14 @@ record Wiped (column₀ column : List ℕ) (at : ℕ) : Type 0 where
 wiped-none : (xs : List ℕ) → Wiped xs xs 0
 wiped-none xs = record { blocks = 0; place = omega arith; few = omega arith; long = refl; is = sym (filled-none 0 xs 0) }
 
-wiped-more : {xs ys zs : List ℕ} {at : ℕ} → Wiped xs ys at → at < rows → rows ≤ length xs → zs ≡ cleared ys at 256 → length zs ≡ length ys → Wiped xs zs (at + 256)
+wiped-more : {xs ys zs : List ℕ} {at : ℕ} → Wiped xs ys at → at < rows → rows ≤ length xs → zs ≡ cleared ys at 128 → length zs ≡ length ys → Wiped xs zs (at + 128)
 wiped-more {xs} {at = at} w before long e same =
     record {
       blocks = suc (w .blocks);
       place = omega (arith, w .place);
       few = omega (arith, w .place);
       long = same ∙ w .long;
-      is = e ∙ ap (λ t. cleared t at 256) (w .is) ∙ filled-further 0 xs at 256 (omega (arith, w .place));
+      is = e ∙ ap (λ t. cleared t at 128) (w .is) ∙ filled-further 0 xs at 128 (omega (arith, w .place));
     }
 
 -- n is the number of rows

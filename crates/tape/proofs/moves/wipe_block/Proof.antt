@@ -11,11 +11,11 @@ wipe-block-spec =
     tie.close
     (tie.spec
     -- returns
-    (λ c. let a = c .before .before .args in sym (filled-out (a .column .now) 0 (a .start) 256 (omega arith)))
+    (λ c. let a = c .before .before .args in sym (filled-out (a .column .now) 0 (a .start) 128 (omega arith)))
     -- sub-if2
     (λ c. search needs)
     -- returns-2
-    (λ c. let a = c .before .before .before .args in sym (filled-out (a .column .now) 0 (a .start) 256 (omega arith)))
+    (λ c. let a = c .before .before .before .args in sym (filled-out (a .column .now) 0 (a .start) 128 (omega arith)))
     -- is-clear-requires
     (λ c κs. search needs)
     -- same-length
