@@ -16,8 +16,8 @@ use Rattle.tape.proofs.Rows.{kind-here, payload-here, inside-here}
 use Rattle.tape.proofs.Held.{Remaining, remaining-all, remaining-next, remaining-none, remaining-first, held-node, held-from, name-here}
 use Rattle.tape.proofs.Map.{map-from, count-map}
 use Rattle.table.specs.Meaning.{entryOf, members, Hashed}
-use Rattle.table.specs.Sound.{Sound, NodeHeld}
-use Rattle.table.specs.Find.{Asked, Found, found, missing}
+use Rattle.table.specs.Sound.{Sound, NodeHeld, RowsHeld}
+use Rattle.table.specs.Find.{Found, found, missing}
 use Rattle.table.specs.declared.find.Member.the-variants.{At, Missing}
 use Rattle.table.proofs.AllLaws.{all-first, all-kids, all-rest, all-from}
 use Rattle.equality.specs.Compare.{Labelled}
@@ -84,7 +84,7 @@ module _ {D P : Bytes} {vs ns : List ℕ} where
 
   -- ---- a member found among them by its name
   module _ {start end : ℕ} {f : Forest Cell} (s : Siblings D P vs ns start end f) where
-    pub siblings-asked : Asked D P vs ns start end f
+    pub siblings-asked : RowsHeld D P vs ns start end f
     siblings-asked = record { held = s .left .held; ends = s .left .ends; sound = s .sound }
 
     pub member-found : {C : Type 0} {name : Text} {row : ℕ} → Found D P start f name (At row)

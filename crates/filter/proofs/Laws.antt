@@ -1,15 +1,15 @@
 -- Laws of a set of bits: what is past the column is not in the set, and adding a key keeps the others.
 use Prim.Native.Nat.{ℕ, _+_, _*_, _^_, _/_, _%_, _≤_, _<_, max}
-use mathlib.Core.Path.{_≡_, refl, ap, sym, _∙_}
-use mathlib.Core.Bool.{Bool, true, false}
+use mathlib.Core.Path.{_≡_, refl, _∙_}
+use mathlib.Core.Bool.{true, false}
 use mathlib.Core.List.{List}
-use native.Mathlib.Nat.{mod-eq-of-lt, div-self, mod-lt, zero-div, one-mul}
+use native.Mathlib.Nat.{mod-eq-of-lt, div-self, zero-div, one-mul}
 use native.Mathlib.Omega.{arith}
 use native.Mathlib.Decide.{ℕ-discrete}
 use lib.Pow.{pow-pos, pow-lt}
 use lib.Bits.{bitOr, or-shr, or-step}
 use lib.Dec.{eqb}
-use lib.ListN.{length, take, drop, getD, set, length-set, List·getD-eq-default}
+use lib.ListN.{length, getD, set, length-set, List·getD-eq-default}
 use lib.Seq.{getD-set-same, getD-set-other, take-set-le, drop-set-lt}
 use borrow.Author.Tests.{eq-eqb, eqb-true}
 use Rattle.filter.specs.Filter.{wordOf, found, Added}

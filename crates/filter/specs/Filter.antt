@@ -1,5 +1,5 @@
 -- A set of keys as bits of a column's words: key k is bit k % 64 of the word k / 64 % 1024 from the base on.
-use Prim.Native.Nat.{ℕ, _+_, _^_, _/_, _%_, _≤_, _<_}
+use Prim.Native.Nat.{ℕ, _+_, _^_, _/_, _%_, _<_}
 use mathlib.Core.Path.{_≡_}
 use mathlib.Core.Bool.{Bool, true}
 use mathlib.Core.List.{List}

@@ -13,9 +13,7 @@ use Rattle.spec.specs.Outcome.{Outcome, ok, refused, _>>=_, if_then_else_}
 use Rattle.spec.specs.Refusal.{not-json, repeated-name, too-deep, too-many-nodes, number-over-limit}
 use Rattle.spec.specs.Limits.{maxDepth, maxNodes}
 use Rattle.spec.specs.Bytes.{Bytes, Text, ascii, byte}
-use Rattle.spec.specs.Numbers as Numbers
 use Rattle.spec.specs.Numbers.{isDigit}
-use Rattle.spec.specs.Strings as Strings
 use Rattle.spec.specs.Forest as Forest
 use Rattle.spec.specs.Forest.{size, single, _⧺_}
 use Rattle.spec.specs.Value as Value

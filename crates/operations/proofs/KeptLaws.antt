@@ -8,17 +8,17 @@ use lib.Seq.{take-take, take-at, drop-drop, drop-set-lt}
 use Rattle.spec.specs.Limits.{maxNodes}
 use Rattle.spec.specs.Bytes.{Bytes}
 use Rattle.spec.specs.Forest.{Forest, none, tree, size}
+use Rattle.spec.proofs.ListLaws.{drop-take}
 use Rattle.tape.specs.Layout.{patchRow, scratchRow, rows}
 use Rattle.tape.specs.Columns.{usedAfter, spliced}
 use Rattle.tape.specs.Tape.{tape, Holds}
 use Rattle.tape.specs.Cell.{Cell, word, nameWord, Formed, Held}
 use Rattle.tape.proofs.Columns.{Room, drop-spliced}
 use Rattle.tape.proofs.Cells.{formed-fit, formed-kids, formed-single}
-use Rattle.tape.proofs.Loops.{drop-take}
 use Rattle.tape.proofs.Tape.{length-tape, tape-tree, tape-single}
-use Rattle.shape.specs.Patch.{RowsHeld}
 use Rattle.operations.specs.Site.{Offered, SameBehind}
 use Rattle.operations.specs.Perform.{SamePatch}
+use Rattle.table.specs.Sound.{RowsHeld}
 
 -- ---- a tree without those behind it
 pub formed-alone : {c : Cell} {kids rest : Forest Cell} → Formed (tree c kids rest) → Formed (tree c kids none)

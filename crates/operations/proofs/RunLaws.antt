@@ -27,7 +27,6 @@ use Rattle.tape.proofs.Rows.{no-node, end-here}
 use Rattle.tape.proofs.Held.{held-node}
 use Rattle.table.specs.Meaning.{members, meant}
 use Rattle.walk.specs.Names.{Short}
-use Rattle.shape.specs.Patch.{RowsHeld}
 use Rattle.shape.proofs.RunLaws.{rows-children, rows-first, first-node, rows-next}
 use Rattle.operations.specs.Document.{Document}
 use Rattle.operations.specs.Perform.{Performed, performed, failed, Listed, PerformIs}
@@ -37,6 +36,7 @@ use Rattle.operations.specs.declared.answers.Altered.the-variants as Alt
 use Rattle.operations.specs.declared.run.Ran.{Ran}
 use Rattle.operations.specs.declared.run.Ran.the-variants as Ran
 use Rattle.operations.proofs.KeptLaws.{rows-kept}
+use Rattle.table.specs.Sound.{RowsHeld}
 
 -- ---- the first of the operations
 -- where there are operations, of a first outcome and of the others, what they are

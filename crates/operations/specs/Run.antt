@@ -13,9 +13,8 @@ use Rattle.claims.specs.Proper.{Proper, ProperItems}
 use Rattle.tape.specs.Layout.{patchRow, scratchRow}
 use Rattle.tape.specs.Cell.{Cell}
 use Rattle.table.specs.Meaning.{members, meant}
-use Rattle.table.specs.Sound.{NodeHeld}
+use Rattle.table.specs.Sound.{NodeHeld, RowsHeld}
 use Rattle.walk.specs.Names.{Short}
-use Rattle.shape.specs.Patch.{RowsHeld}
 use Rattle.operations.specs.Document.{Document}
 use Rattle.operations.specs.declared.run.Ran.{Ran}
 use Rattle.operations.specs.declared.run.Ran.the-variants.{Done, Refused}

@@ -7,7 +7,7 @@ use mathlib.Core.Path.{_≡_, refl, sym, ap, _∙_}
 use mathlib.Core.List.{List, [], _∷_, _++_}
 use lib.ListN.{length, take, drop, set, take-append-drop}
 use lib.Seq.{take-take, drop-drop, take-add, take-set-le, drop-set-lt, take-set-lt, set-split, drop-at, length-take-le, drop-append-le}
-use Rattle.tape.proofs.Loops.{drop-take}
+use Rattle.spec.proofs.ListLaws.{drop-take}
 use Rattle.reader.specs.Filled.{Between}
 
 -- ---- the words from one row up to another

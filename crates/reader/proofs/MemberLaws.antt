@@ -24,8 +24,9 @@ use Rattle.tape.specs.Layout.{scratchRow}
 use Rattle.tape.proofs.Map.{count-map}
 use Rattle.table.specs.Meaning.{sourceText, nameText, entryOf, members, Hashed}
 use Rattle.table.specs.Find as Find
-use Rattle.table.specs.Find.{Found, FindIs, Asked}
+use Rattle.table.specs.Find.{Found, FindIs}
 use Rattle.table.specs.declared.find.Member.{Member}
+use Rattle.table.specs.Sound.{RowsHeld}
 use Rattle.table.specs.declared.find.Member.the-variants.{At, Missing}
 use Rattle.reader.specs.Words.{Titles}
 use Rattle.reader.specs.Filled.{Added, Filled, keyOf, Marked, marked-none, marked-tree}
@@ -66,7 +67,7 @@ module _ {source : ℕ} {s : Bytes} {start end : ℕ} {all : Members} {vs ns : L
   one : sourceText s s source ≡ s
   one = one-text s source
 
-  asked : Asked s s vs ns start end (f .cells)
+  asked : RowsHeld s s vs ns start end (f .cells)
   asked = record { held = filled-held room long-vs long-ns f; ends = f .ends; sound = f .sound s s one }
 
   hashed : Hashed s s name

@@ -8,7 +8,7 @@ use borrow.Author.Tests.{lt-ltb, le-ltb, ne-eqb}
 use Rattle.spec.specs.Outcome.{Outcome, ok, refused, _>>=_}
 use Rattle.spec.specs.Refusal.{wrong-shape}
 use Rattle.spec.specs.Bytes.{Bytes, Text}
-use Rattle.spec.specs.Forest.{Forest, none, tree, Tree, count, from, nth}
+use Rattle.spec.specs.Forest.{Forest, count, from, nth}
 use Rattle.spec.specs.Value as Value
 use Rattle.spec.specs.Value.{Label, leaf, named, valueOf, find, isString, tag, content}
 use Rattle.spec.specs.Pointer.{child}
@@ -18,14 +18,14 @@ use Rattle.tape.specs.Packing.{kindOf, payloadOf}
 use Rattle.tape.specs.Cell.{Cell}
 use Rattle.tape.specs.Rows.{endOf, childRow}
 use Rattle.tape.specs.Map.{mapForest, mapTree}
-use Rattle.tape.proofs.Cells.{formed-fit}
+use Rattle.tape.proofs.Cells.{formed-fit, blank}
 use Rattle.tape.proofs.Rows.{kind-here, payload-here, end-here}
 use Rattle.tape.proofs.Held.{held-node, held-kids, held-child}
 use Rattle.tape.proofs.Map.{count-map, map-nth}
 use Rattle.table.specs.Meaning.{partOf, spelled, labelOf, entryOf, members, meant}
-use Rattle.table.specs.Sound.{NodeHeld}
+use Rattle.table.specs.Sound.{NodeHeld, RowsHeld}
 use Rattle.table.specs.Find as Find
-use Rattle.table.specs.Find.{Asked, Found}
+use Rattle.table.specs.Find.{Found}
 use Rattle.table.specs.declared.find.Member.{Member}
 use Rattle.table.specs.declared.find.Member.the-variants as Member
 use Rattle.table.proofs.AllLaws.{all-first, all-kids, all-nth}
@@ -33,14 +33,10 @@ use Rattle.table.proofs.MeaningLaws.{isString-label}
 use Rattle.shape.specs.Members.{Sought, found, missing, textOutcome, TextIs}
 use Rattle.shape.specs.declared.members.Spelled.the-variants as Spelled
 
--- any tree
-abbrev blank : Tree Cell
-blank = record { root = record { kind = 0; payload = 0; name = 0 }; kids = none }
-
 -- ---- a member
 module _ {D P : Bytes} {values names : List ℕ} {row : ℕ} {c : Cell} {kids : Forest Cell} (n : NodeHeld D P values names row c kids) where
   -- where the members stand
-  pub members-asked : (end : ℕ) → end ≡ endOf values row → Asked D P values names (row + 1) end kids
+  pub members-asked : (end : ℕ) → end ≡ endOf values row → RowsHeld D P values names (row + 1) end kids
   members-asked end e = record { held = held-kids (n .held); ends = sym (e ∙ end-here (held-node (n .held))); sound = n .sound }
 
   blank-means : mapTree (entryOf D P) blank ≡ named [] (leaf Label.null-literal)

@@ -22,11 +22,11 @@ use Rattle.tape.proofs.Rows.{kind-here, inside-here, end-here}
 use Rattle.tape.proofs.Held.{Remaining, remaining-next, held-node, held-kids}
 use Rattle.tape.proofs.Map.{count-map}
 use Rattle.table.specs.Meaning.{entryOf, members, meant}
-use Rattle.table.specs.Sound.{NodeHeld}
+use Rattle.table.specs.Sound.{NodeHeld, RowsHeld}
 use Rattle.table.proofs.AllLaws.{all-first, all-kids, all-rest}
 use Rattle.table.proofs.MeaningLaws.{isArray-label}
 use Rattle.shape.specs.Operation.{OperationIs}
-use Rattle.shape.specs.Patch.{ShapeIs, right, wrong, RowsHeld, ElementsAre}
+use Rattle.shape.specs.Patch.{ShapeIs, right, wrong, ElementsAre}
 use Rattle.shape.specs.declared.patch.Shape.{Shape}
 use Rattle.shape.specs.declared.patch.Shape.the-variants as Shape
 use Rattle.shape.proofs.AnswerLaws.{answers-ok, answers-refused}

@@ -1,14 +1,13 @@
 -- What the code answers of a whole patch.
-use Prim.Native.Nat.{ℕ, _+_}
-use mathlib.Core.Path.{_≡_}
+use Prim.Native.Nat.{ℕ}
 use mathlib.Core.List.{List}
 use Rattle.spec.specs.Bytes.{Bytes}
-use Rattle.spec.specs.Forest.{Forest, size}
+use Rattle.spec.specs.Forest.{Forest}
 use Rattle.spec.specs.Operation as Operation
 use Rattle.spec.specs.Patch.{Run, finished, stopped, operations, shape}
-use Rattle.tape.specs.Cell.{Cell, Held}
+use Rattle.tape.specs.Cell.{Cell}
 use Rattle.table.specs.Meaning.{members}
-use Rattle.table.specs.Sound.{Sound}
+use Rattle.table.specs.Sound.{RowsHeld}
 use Rattle.shape.specs.Members.{ForNode}
 use Rattle.shape.specs.declared.patch.Shape.{Shape}
 use Rattle.shape.specs.declared.patch.Shape.the-variants as Shape
@@ -18,12 +17,7 @@ pub data ShapeIs : Run (List Operation.Operation) → Shape → Type 0 where
   right : (os : List Operation.Operation) → ShapeIs (finished os) Shape.Right
   wrong : (number op : ℕ) → ShapeIs (stopped number op) (Shape.Refused number op)
 
--- the trees that the columns hold in the rows from one to another, as `NodeHeld` has a node
-pub record RowsHeld (D P : Bytes) (values names : List ℕ) (row end : ℕ) (f : Forest Cell) : Type 0 where
-  pub held : Held values names row f
-  pub ends : row + size f ≡ end
-  pub sound : Sound D P f
-
+-- the operations in the rows from one up to another
 abbrev pub ElementsAre : Bytes → Bytes → List ℕ → List ℕ → ℕ → ℕ → Shape → Type 0
 ElementsAre D P values names start end r =
     (f : Forest Cell) → RowsHeld D P values names start end f → ShapeIs (operations 1 (members D P f)) r

@@ -6,7 +6,6 @@ use tape::moves::load;
 use tape::nodes::end_of;
 use tape::words::kind;
 use tape::words::payload;
-ghost use mathlib.Core.Path.{_≡_};
 ghost use Rattle.shape.specs.Members.{MemberIs, StringIs};
 
 // A string by where it stands.

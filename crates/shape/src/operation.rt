@@ -15,7 +15,6 @@ use table::spellings::part;
 use tape::layout::OBJECT;
 use tape::moves::load;
 use tape::words::kind;
-ghost use mathlib.Core.Path.{_≡_};
 ghost use Rattle.shape.specs.Operation.{KindIs, ValueIs, FromIs, PointersAre, MembersAre, OperationIs};
 
 // Numbers of refusals. A function that answers a number answers 0 where nothing is refused.

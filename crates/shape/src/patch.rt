@@ -6,7 +6,6 @@ use tape::moves::load;
 use tape::nodes::arity;
 use tape::nodes::end_of;
 use tape::words::kind;
-ghost use mathlib.Core.Path.{_≡_};
 ghost use Rattle.shape.specs.Patch.{ElementsAre, PatchIs};
 
 pub const TOO_MANY_OPERATIONS: u8 = 9;

@@ -5,23 +5,24 @@ use mathlib.Core.Bool.{Bool, true, false, _||_, true≢false}
 use mathlib.Core.List.{List, [], _∷_, _++_, append-assoc, append-nil}
 use Prim.Native.Nat.{ℕ, zero, suc, _+_, _-_, _<_, _≤_}
 use Prim.Native.Char.{code}
-use native.Mathlib.Nat.{sub-zero, zero-add}
+use native.Mathlib.Nat.{zero-add}
 use native.Mathlib.Decide.{decLt}
 use native.Mathlib.Numerals.{add-one}
 use native.Mathlib.Omega.{arith}
 use lib.ListN.{take-append-drop, length, take, drop, length-take, length-drop}
-use lib.Seq.{drop-length, take-nil, drop-cons, getD-take, getD-drop, take-take, drop-drop}
+use lib.Seq.{drop-length, drop-cons, getD-take, getD-drop, take-take, drop-drop}
 use lib.Dec.{eqb, leb}
-use borrow.Author.Tests.{eqb-true, eq-eqb, leb-true}
+use borrow.Author.Tests.{eqb-true, leb-true}
 use Rattle.spec.specs.Outcome.{if_then_else_, Outcome, ok, refused, _>>=_}
 use Rattle.spec.specs.Bytes.{Bytes, byte, byteIn, within}
 use Rattle.spec.specs.Numbers.{isDigit}
 use Rattle.spec.specs.Limits.{maxDepth}
 use Rattle.spec.specs.Forest.{none, tree, single, size, _⧺_}
 use Rattle.spec.specs.Value as Value
-use Rattle.spec.specs.Value.{Label, Members, named, tag, isArray, isContainer, depth, depths, levels}
+use Rattle.spec.specs.Value.{Label, Members, named, tag, isArray, isContainer, depth, levels}
 use Rattle.spec.specs.Read.{isBlank, blanksFrom, blanks, roomFor, nameFor, containerLabel, closingBracket, items, contents, container, scalar, value, read}
 use Rattle.spec.specs.Elements.{Alone, Each, nothing, one, allBlank, Listed, last, more, Layout, empty, filled}
+use Rattle.spec.proofs.ListLaws.{drop-take}
 use Rattle.spec.proofs.OutcomeLaws.{refused≢ok, both-ok, first-ok, second-ok}
 use Rattle.spec.proofs.TextLaws.{both-true}
 use Rattle.spec.proofs.ReadLaws.{scalar-depth}
@@ -61,12 +62,6 @@ pub record Laid (s : Bytes) (es : List Bytes) (vs : List Value.Value) : Type 0 w
   pub alone : Each Alone es vs
 
 -- the part of a text is cut out of it
-drop-take : (p m : ℕ) (l : Bytes) → drop p (take m l) ≡ take (m - p) (drop p l)
-drop-take zero m l = rw sub-zero
-drop-take (suc p) zero l = let none : 0 - suc p ≡ 0 = omega arith in rw none
-drop-take (suc p) (suc m) [] = sym (take-nil (suc m - suc p))
-drop-take (suc p) (suc m) (b ∷ l) = let one-less : suc m - suc p ≡ m - p = omega arith in rw one-less (drop-take p m l)
-
 part-length : (s : Bytes) (at next : ℕ) → next ≤ length s → length (part s at next) ≡ next - at
 unfolding part
 part-length s at next m = omega (arith, length-take (next - at) (drop at s), length-drop at s)

@@ -11,12 +11,12 @@ use lib.Dec.{eqb, leb, ltb}
 use borrow.Author.Tests.{ltb-true, ltb-false, lt-ltb, le-ltb}
 use Rattle.spec.specs.Outcome.{if_then_else_, Outcome, ok, refused, _>>=_}
 use Rattle.spec.specs.Bytes.{Bytes, Text, byte, within, byteIn}
-use Rattle.spec.specs.Strings.{hexValue, hexIn, lowSurrogate, afterHigh, secondLimit, unicodeEscape, shortEscape, escape, tail, multibyte, character, characters, string}
+use Rattle.spec.specs.Strings.{hexValue, hexIn, lowSurrogate, afterHigh, unicodeEscape, shortEscape, escape, tail, multibyte, character, characters, string}
 use Rattle.spec.specs.Numbers.{isDigit, isE, counted, digits, someDigits, exponentDigits, int, frac, sign, signedDigits, exp, minus, number}
 use Rattle.spec.specs.Forest.{size, single, _⧺_}
 use Rattle.spec.specs.Value as Value
 use Rattle.spec.specs.Value.{Label, Members, leaf, named, has}
-use Rattle.spec.specs.Read.{isBlank, blanksFrom, blanks, spelled, roomFor, fresh, nameFor, literalValue, numberValue, stringValue, scalar, closingBracket, containerLabel, items, contents, container, value}
+use Rattle.spec.specs.Read.{isBlank, blanksFrom, blanks, spelled, roomFor, fresh, nameFor, literalValue, numberValue, stringValue, scalar, closingBracket, items, contents, container, value}
 use Rattle.spec.specs.Forest as Forest
 use Rattle.spec.proofs.OutcomeLaws.{refused≢ok}
 use Rattle.spec.proofs.Tracking.{Cut, refuses, ended-at, before, past-place, gives-equal, gives-same, At, on, Tracks, place, pair, none, result, later, under, split, choose, stop, andThen, andMore, step, check, from-place, chosen, past-end, same-byte, same, fails}

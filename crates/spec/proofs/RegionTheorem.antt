@@ -2,32 +2,31 @@
 -- From texts to operations: a shuffle of elements' bytes is one of the values that they are, and so of the operations that they mean. The
 -- runs of operations are RunTheorem's, the limit on nodes is LimitTheorem's, and here they are put together for the whole call.
 use mathlib.Core.Path.{_≡_, refl, ap, sym, _∙_}
-use mathlib.Core.Bool.{Bool, true, false, _&&_}
-use mathlib.Core.List.{List, [], _∷_, _++_}
+use mathlib.Core.Bool.{Bool, true, false}
+use mathlib.Core.List.{List, [], _∷_}
 use mathlib.Core.Option.{Option, none, some}
-use Prim.Native.Nat.{ℕ, _+_, _≤_}
+use Prim.Native.Nat.{ℕ, _+_}
 use lib.ListN.{length}
 use lib.Dec.{leb}
 use borrow.Author.Tests.{le-leb}
 use Rattle.spec.specs.Outcome.{Outcome, ok, refused, if_then_else_}
-use Rattle.spec.specs.Refusal.{too-many-operations, wrong-shape, too-many-nodes, output-too-short}
+use Rattle.spec.specs.Refusal.{too-many-operations, wrong-shape, output-too-short}
 use Rattle.spec.specs.Limits.{maxBytes, maxOperations}
 use Rattle.spec.specs.Bytes.{Bytes}
 use Rattle.spec.specs.Forest as Forest
 use Rattle.spec.specs.Forest.{count}
 use Rattle.spec.specs.Value as Value
 use Rattle.spec.specs.Value.{Members, isArray}
-use Rattle.spec.specs.Read.{read}
 use Rattle.spec.specs.Write.{write}
 use Rattle.spec.specs.Pointer.{Tokens}
 use Rattle.spec.specs.Operation.{Operation, limited}
 use Rattle.spec.specs.Patch.{Run, finished, stopped, atOp, onFinish, operation, operations, shape, run}
-use Rattle.spec.specs.Answer.{Answer, Lent, success, refusal, workSuffices, fitting, answer, answerOf, patched, onPatch, onDocument}
+use Rattle.spec.specs.Answer.{Lent, success, workSuffices, fitting, answer, answerOf, patched, onPatch, onDocument}
 use Rattle.spec.specs.Elements.{Alone, Each, nothing, one, ElementsOf}
 use Rattle.spec.specs.Region.{Shuffle, done, left, right, Accepted, WellFormed, Enough, SucceedsWith, succeeds, bareRun, hereOr, endsAt, firstEnd, firstTooLarge, Situation, RegionStatement}
 use Rattle.spec.proofs.OutcomeLaws.{first-ok}
 use Rattle.spec.proofs.ReadLaws.{read-depth}
-use Rattle.spec.proofs.ElementsThere.{slices, elements, Laid, slices-read}
+use Rattle.spec.proofs.ElementsThere.{slices, elements, slices-read}
 use Rattle.spec.proofs.ElementsUnique.{slices-unique}
 use Rattle.spec.proofs.LimitTheorem.{largeAt, limited-run}
 use Rattle.spec.proofs.RunTheorem.{Separate, all-finish, first-stops, finished≢stopped}

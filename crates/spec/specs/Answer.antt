@@ -1,7 +1,7 @@
 -- The answer of the whole call: document 01, "The answer".
 use Prim.Native.Nat.{ℕ}
 use mathlib.Core.List.{[]}
-use mathlib.Core.Bool.{Bool, true, false, _&&_}
+use mathlib.Core.Bool.{Bool, _&&_}
 use lib.ListN.{length}
 use lib.Dec.{leb}
 use Rattle.spec.specs.Outcome.{Outcome, ok, refused, if_then_else_}

@@ -1,6 +1,4 @@
 -- Equality of values: RFC 6902, section 4.6, as document 01 reads it under "Walking and the six operations".
-use Prim.Native.Nat.{ℕ}
-use mathlib.Core.List.{[], _∷_}
 use mathlib.Core.Bool.{Bool, true, false, _&&_, not}
 use lib.Dec.{eqb}
 use lib.IntN.{ℤ, pos, negsuc}

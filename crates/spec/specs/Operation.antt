@@ -1,7 +1,6 @@
 -- The six operations: RFC 6902, section 4, as document 01 reads it under "Walking and the six operations".
 use Prim.Native.Nat.{ℕ, suc}
-use mathlib.Core.List.{List, [], _∷_}
-use mathlib.Core.Bool.{Bool, true, false}
+use mathlib.Core.List.{[], _∷_}
 use lib.Dec.{leb}
 use Rattle.spec.specs.Outcome.{Outcome, ok, refused, _>>=_, if_then_else_}
 use Rattle.spec.specs.Refusal.{location-missing, remove-of-root, test-differs, too-deep, too-many-nodes}

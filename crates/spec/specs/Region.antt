@@ -10,7 +10,7 @@ use lib.Dec.{leb, eqb}
 use Rattle.spec.specs.Outcome.{Outcome, ok, refused, _>>=_, if_then_else_}
 use Rattle.spec.specs.Refusal.{work-too-short, too-many-nodes, output-too-short}
 use Rattle.spec.specs.Limits.{maxBytes, maxNodes}
-use Rattle.spec.specs.Bytes.{Bytes, Text}
+use Rattle.spec.specs.Bytes.{Bytes}
 use Rattle.spec.specs.Value as Value
 use Rattle.spec.specs.Value.{sameText, nodes}
 use Rattle.spec.specs.Read.{read}

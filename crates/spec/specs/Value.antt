@@ -1,6 +1,6 @@
 -- JSON values: RFC 8259, section 3. A value has a label and the values in it; a container's are its elements or members, in order.
 use Prim.Native.Nat.{ℕ, suc, max}
-use mathlib.Core.List.{List, [], _∷_}
+use mathlib.Core.List.{[], _∷_}
 use mathlib.Core.Bool.{Bool, true, false, _&&_}
 use lib.Dec.{leb, ltb, eqb}
 use Rattle.spec.specs.Outcome.{if_then_else_}

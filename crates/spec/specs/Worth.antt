@@ -1,9 +1,9 @@
 -- What a number is worth: document 01, "Numbers by exact value: drop zeros on both ends of the digits and adjust a signed power of ten."
 -- So 4400 and 4.4e3 are both the digits 44 and the power 2.
-use Prim.Native.Nat.{ℕ, zero, suc, _+_, _-_, _*_}
+use Prim.Native.Nat.{ℕ, _+_, _-_, _*_}
 use Prim.Native.Char.{code}
 use mathlib.Core.List.{[], _∷_, reverse}
-use mathlib.Core.Bool.{Bool, true, false}
+use mathlib.Core.Bool.{Bool, false}
 use lib.ListN.{length}
 use lib.Dec.{eqb}
 use lib.IntN.{ℤ, pos, negℤ, _+ℤ_, _-ℤ_}

@@ -1,7 +1,7 @@
 -- Writing a value: document 01, "Writing". "Compact, no blanks, members in order. Numbers as their source text."
 use Prim.Native.Nat.{ℕ, _+_, _-_, _/_, _%_}
 use Prim.Native.Char.{code}
-use mathlib.Core.List.{List, [], _∷_, _++_}
+use mathlib.Core.List.{[], _∷_, _++_}
 use mathlib.Core.Bool.{Bool, true, false}
 use lib.Dec.{leb, ltb, eqb}
 use Rattle.spec.specs.Outcome.{if_then_else_}

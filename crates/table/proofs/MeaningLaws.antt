@@ -1,12 +1,11 @@
 -- Laws of what cells mean: a node's kind is its label's tag, so tests on kinds are tests on labels, and depth and nodes are counted on cells.
-use Prim.Native.Nat.{ℕ, zero, suc, _+_, _≤_}
-use mathlib.Core.Path.{_≡_, refl, ap, sym, _∙_}
-use mathlib.Core.Bool.{Bool}
+use Prim.Native.Nat.{ℕ, zero, suc, _≤_}
+use mathlib.Core.Path.{_≡_, refl, ap}
 use native.Mathlib.Omega.{arith}
 use lib.Dec.{eqb, leb}
 use Rattle.spec.specs.Bytes.{Bytes}
-use Rattle.spec.specs.Forest.{Forest, none, tree, Tree, single, size, before, from, insertAt, removeAt, replaceAt, nth, count, _⧺_}
-use Rattle.spec.specs.Value.{Label, tag, isNumber, isString, isArray, isObject, isContainer, depth, nodes}
+use Rattle.spec.specs.Forest.{Forest, size}
+use Rattle.spec.specs.Value.{tag, isNumber, isString, isArray, isObject, isContainer, depth, nodes}
 use Rattle.tape.specs.Cell.{Cell, Formed, level, deep}
 use Rattle.tape.proofs.Map.{size-map, levels-map, depths-map}
 use Rattle.table.specs.Meaning.{labelOf, entryOf, meant}

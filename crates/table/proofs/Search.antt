@@ -8,7 +8,7 @@ use mathlib.Core.Bool.{Bool, true, false}
 use mathlib.Core.List.{List}
 use lib.ListN.{length, getD}
 use Rattle.spec.specs.Bytes.{Bytes, Text}
-use Rattle.spec.specs.Forest.{Forest, none, tree, Tree, count, size, before, from, nth, _⧺_}
+use Rattle.spec.specs.Forest.{Forest, tree, count, size, before, from, nth, _⧺_}
 use Rattle.spec.specs.Value.{sameText}
 use Rattle.spec.proofs.TextLaws.{sameText-true}
 use Rattle.lexer.specs.Hash.{hash}
@@ -17,14 +17,15 @@ use Rattle.tape.specs.Packing.{kindOf, spanOf, hashOf}
 use Rattle.tape.specs.Cell.{Cell, Held}
 use Rattle.tape.specs.Map.{position}
 use Rattle.tape.proofs.Forests.{count-from, from-nth, size-cut, size-before-suc, before-all, count-le-size}
-use Rattle.tape.proofs.Cells.{formed-fit}
+use Rattle.tape.proofs.Cells.{formed-fit, blank}
 use Rattle.tape.proofs.Held.{held-from, held-node, name-inside, name-here}
 use Rattle.tape.proofs.Rows.{inside-here, kind-here, span-here}
 use Rattle.tape.proofs.Map.{find-map, position-found, position-next, position-none}
 use Rattle.table.specs.Meaning.{nameText, entryOf, Hashed}
-use Rattle.table.specs.Find.{SameNameIs, NamedIs, limitOf, AllQuiet, Found, found, missing, Asked}
+use Rattle.table.specs.Find.{SameNameIs, NamedIs, limitOf, AllQuiet, Found, found, missing}
 use Rattle.table.specs.declared.find.Member.the-variants.{At, Missing}
 use Rattle.table.proofs.AllLaws.{all-first, all-from}
+use Rattle.table.specs.Sound.{RowsHeld}
 
 -- names whose hashes differ are not the same
 pub other-hash : {D P : Bytes} {a b : ℕ} → (hashOf a ≡ hashOf b → ⊥) → SameNameIs D P a b false
@@ -42,12 +43,9 @@ other-text {D} {P} {word} {h} name differ hashed is = go (sameText (nameText D P
     go true e = absurd (differ (hashed .is ∙ ap hash (sameText-true _ _ e) ∙ sym is))
     go false e = sym e
 
--- the test of the search, and any tree
+-- the test of the search
 abbrev named : Bytes → Bytes → Text → Cell → Bool
 named D P name c = sameText (nameText D P (c .name)) name
-
-abbrev blank : Tree Cell
-blank = record { root = record { kind = 0; payload = 0; name = 0 }; kids = none }
 
 -- k trees are passed, none of which has the name, and the next one, or the end, is in a row
 pub record Seeking (D P : Bytes) (start : ℕ) (f : Forest Cell) (name : Text) (row : ℕ) : Type 0 where
@@ -58,7 +56,7 @@ pub record Seeking (D P : Bytes) (start : ℕ) (f : Forest Cell) (name : Text) (
 
 -- of whatever trees the columns hold
 abbrev pub SeekingAny : Bytes → Bytes → List ℕ → List ℕ → ℕ → ℕ → Text → ℕ → Type 0
-SeekingAny D P values names start end name row = (f : Forest Cell) → Asked D P values names start end f → Seeking D P start f name row
+SeekingAny D P values names start end name row = (f : Forest Cell) → RowsHeld D P values names start end f → Seeking D P start f name row
 
 pub seeking-all : (D P : Bytes) (values names : List ℕ) (start end : ℕ) (name : Text) → SeekingAny D P values names start end name start
 unfolding before from size
@@ -72,7 +70,7 @@ at-end {f = f} s h = go (decLt (s .k) (count f))
     go (yes l) = absurd (omega (arith, s .place, size-cut (s .k) f, count-from (s .k) f (s .few), count-le-size (from (s .k) f)))
     go (no l) = omega arith
 
-module _ {D P : Bytes} {values names : List ℕ} {start end : ℕ} {f : Forest Cell} {name : Text} {row : ℕ} (a : Asked D P values names start end f) (s : Seeking D P start f name row) where
+module _ {D P : Bytes} {values names : List ℕ} {start end : ℕ} {f : Forest Cell} {name : Text} {row : ℕ} (a : RowsHeld D P values names start end f) (s : Seeking D P start f name row) where
   pub seek-none : end ≤ row → Found D P start f name Missing
   seek-none h =
       let all = at-end s (omega (arith, a .ends)) in
@@ -136,7 +134,7 @@ module _ {D P : Bytes} {values names : List ℕ} {start end : ℕ} {f : Forest C
       go (no h) = seek-none (omega arith)
 
 -- quiet rows are passed
-module _ {D P : Bytes} {values names : List ℕ} {start end : ℕ} {f : Forest Cell} {name row : ℕ} (a : Asked D P values names start end f) (h : Hashed D P name) where
+module _ {D P : Bytes} {values names : List ℕ} {start end : ℕ} {f : Forest Cell} {name row : ℕ} (a : RowsHeld D P values names start end f) (h : Hashed D P name) where
   pub seek-quiet : (n : ℕ) → row + n ≤ end → AllQuiet values names name row n → Seeking D P start f (nameText D P name) row
       → Seeking D P start f (nameText D P name) (row + n)
   seek-quiet zero l q s = rw (add-zero row) s

@@ -9,9 +9,9 @@ use Rattle.spec.specs.Forest.{Forest, count, size, before}
 use Rattle.spec.specs.Value.{sameText, find}
 use Rattle.lexer.specs.Hash.{hash}
 use Rattle.tape.specs.Packing.{spanOf, hashOf}
-use Rattle.tape.specs.Cell.{Cell, Held}
+use Rattle.tape.specs.Cell.{Cell}
 use Rattle.table.specs.Meaning.{nameText, members, Hashed}
-use Rattle.table.specs.Sound.{Sound}
+use Rattle.table.specs.Sound.{RowsHeld}
 use Rattle.table.specs.declared.find.Member.{Member}
 use Rattle.table.specs.declared.find.Member.the-variants.{At, Missing}
 
@@ -48,18 +48,13 @@ pub data Found (document patch : Bytes) (start : ℕ) (f : Forest Cell) (name : 
   found : (k row : ℕ) → find name (members document patch f) ≡ k → k < count f → row ≡ start + size (before k f) → Found document patch start f name (At row)
   missing : find name (members document patch f) ≡ count f → Found document patch start f name Missing
 
--- a search's question, as the columns answer it: the trees in the rows from one to another
-pub record Asked (document patch : Bytes) (values names : List ℕ) (start end : ℕ) (f : Forest Cell) : Type 0 where
-  pub held : Held values names start f
-  pub ends : start + size f ≡ end
-  pub sound : Sound document patch f
-
+-- what a search answers among the trees in the rows from one up to another
 abbrev pub FindIs : Bytes → Bytes → List ℕ → List ℕ → ℕ → ℕ → ℕ → Member → Type 0
 FindIs document patch values names start end name r =
-    (f : Forest Cell) → Asked document patch values names start end f → Hashed document patch name → Found document patch start f (nameText document patch name) r
+    (f : Forest Cell) → RowsHeld document patch values names start end f → Hashed document patch name → Found document patch start f (nameText document patch name) r
 
 abbrev pub FindAsciiIs : Bytes → Bytes → List ℕ → List ℕ → ℕ → ℕ → Text → Member → Type 0
-FindAsciiIs document patch values names start end name r = (f : Forest Cell) → Asked document patch values names start end f → Found document patch start f name r
+FindAsciiIs document patch values names start end name r = (f : Forest Cell) → RowsHeld document patch values names start end f → Found document patch start f name r
 
 -- whatever the columns hold, the row is in the column and among those that were asked for
 abbrev pub Between : ℕ → ℕ → List ℕ → Member → Type 0

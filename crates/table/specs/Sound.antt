@@ -1,11 +1,11 @@
 -- What the words of the node table are beside a tree: each name has its hash, each number is within the limits, and each string stands between
 -- quotation marks in one of the two texts. The reader lays down no other words, and every operation keeps them so.
-use Prim.Native.Nat.{ℕ, _≤_}
+use Prim.Native.Nat.{ℕ, _+_, _≤_}
 use mathlib.Core.Path.{_≡_}
 use mathlib.Core.Bool.{true}
 use mathlib.Core.List.{List}
 use Rattle.spec.specs.Bytes.{Bytes}
-use Rattle.spec.specs.Forest.{Forest, tree}
+use Rattle.spec.specs.Forest.{Forest, tree, size}
 use Rattle.spec.specs.Write.{writeCharacters}
 use Rattle.decimal.specs.Normal.{withinLimits}
 use Rattle.tape.specs.Layout.{numberKind, stringKind, plainString, escapedString}
@@ -50,6 +50,12 @@ pub record NodeHeld (document patch : Bytes) (values names : List ℕ) (row : �
   pub held : Held values names row (tree c kids rest)
   pub label : LabelFits document patch (c .kind) (c .payload)
   pub sound : Sound document patch kids
+
+-- both columns hold a forest in the rows from one up to another, and it is so with all its nodes
+pub record RowsHeld (document patch : Bytes) (values names : List ℕ) (row end : ℕ) (f : Forest Cell) : Type 0 where
+  pub held : Held values names row f
+  pub ends : row + size f ≡ end
+  pub sound : Sound document patch f
 
 -- what holds of whatever node the columns hold in a row
 abbrev pub ForHeld : Bytes → Bytes → List ℕ → List ℕ → ℕ → (Cell → Forest Cell → Type 0) → Type 0

@@ -5,12 +5,16 @@ use mathlib.Core.Path.{_≡_, refl, ap, _∙_, subst}
 use mathlib.Core.Bool.{Bool, true, false}
 use lib.Dec.{leb}
 use borrow.Author.Tests.{leb-true, leb-false}
-use Rattle.spec.specs.Forest.{Forest, tree, Tree, single, count, size, before, from, nth, insertAt, removeAt, replaceAt, _⧺_}
+use Rattle.spec.specs.Forest.{Forest, none, tree, Tree, single, count, size, before, from, nth, insertAt, removeAt, replaceAt, _⧺_}
 use Rattle.tape.specs.Layout.{arrayKind, kinds, spans, spellings}
 use Rattle.tape.specs.Packing.{packed, kindOf, spanOf, payloadOf, withSpan}
 use Rattle.tape.specs.Cell.{Cell, word, nameWord, Fit, Formed, formed-none, formed-tree}
 use Rattle.tape.proofs.Forests.{from-nth}
 use Rattle.tape.proofs.Packing.{kind-packed, span-packed, payload-packed, withSpan-packed, packed-fits}
+
+-- any tree, where a law asks for one
+abbrev pub blank : Tree Cell
+blank = record { root = record { kind = 0; payload = 0; name = 0 }; kids = none }
 
 -- ---- a node's word
 module _ {c : Cell} {kids : Forest Cell} (fit : Fit c kids) where

@@ -1,13 +1,14 @@
 -- Laws of the loops that move words and clear them, and of the two moves that make a splice. `z` is what `getD` gives behind the end of a column.
-use Prim.Native.Nat.{ℕ, zero, suc, _+_, _-_, _≤_, _<_}
+use Prim.Native.Nat.{ℕ, suc, _+_, _-_, _≤_, _<_}
 use native.Mathlib.Numerals.{add-one}
 use native.Mathlib.Omega.{arith}
 use mathlib.Core.Path.{_≡_, sym, ap, _∙_}
 use mathlib.Core.List.{List, [], _∷_, _++_, append-assoc}
 use lib.ListN.{length, take, drop, getD, set, replicate, replicate-append-replicate, length-drop, length-replicate, take-append-drop}
-use lib.Seq.{paste-zero, sets-eq, take-nil, drop-cons, take-suc, getD-drop, take-take, drop-drop, take-add}
+use lib.Seq.{paste-zero, sets-eq, drop-cons, take-suc, getD-drop, take-take, drop-drop, take-add}
 use Rattle.tape.specs.Columns.{replaced, copied, moved, usedAfter, spliced, filled}
 use lib.Bits.{bitOr, or-add-and, and-le-l, and-le-r}
+use Rattle.spec.proofs.ListLaws.{drop-take}
 use Rattle.tape.proofs.Columns.{Room, moved-in, spliced-in, filled-in, length-replaced, take-replaced, words-replaced, drop-replaced, replaced-one, replaced-further, replaced-before, length-words}
 
 -- ---- a copy
@@ -51,12 +52,6 @@ module _ {W : Type 0} (xs : List W) (to start : ℕ) where
       (sets-eq (getD xs start z ∷ getD xs (suc start) z ∷ getD xs (suc (suc start)) z ∷ getD xs (suc (suc (suc start))) z ∷ []) xs to (omega arith))
 
 -- ---- a copy in two steps
-pub drop-take : {W : Type 0} (m n : ℕ) (xs : List W) → drop m (take n xs) ≡ take (n - m) (drop m xs)
-drop-take zero n xs = let e : n - 0 ≡ n = omega arith in rw e
-drop-take (suc m) zero xs = let e : 0 - suc m ≡ 0 = omega arith in rw e
-drop-take (suc m) (suc n) [] = sym (take-nil (suc n - suc m))
-drop-take (suc m) (suc n) (x ∷ xs) = let e : suc n - suc m ≡ n - m = omega arith in rw e (drop-take m n xs)
-
 module _ {W : Type 0} (xs : List W) (to start m n : ℕ) where
   words-further : take (m + n) (drop start xs) ≡ take m (drop start xs) ++ take n (drop (start + m) xs)
   words-further = rw (take-add, drop-drop)

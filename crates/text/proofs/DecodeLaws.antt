@@ -5,9 +5,9 @@ use mathlib.Core.List.{[], _∷_, _++_}
 use Prim.Native.Nat.{ℕ, zero, suc, _+_, _-_, _≤_, _<_}
 use Prim.Native.Char.{code}
 use native.Mathlib.Omega.{arith}
-use native.Mathlib.Nat.{sub-zero, sub-self}
+use native.Mathlib.Nat.{sub-self}
 use lib.ListN.{length, take, drop, length-take, length-drop}
-use lib.Seq.{take-nil, getD-take, getD-drop, take-take, drop-drop}
+use lib.Seq.{getD-take, getD-drop, take-take, drop-drop}
 use lib.Dec.{eqb}
 use borrow.Author.Tests.{eqb-true}
 use Rattle.spec.specs.Outcome.{Outcome, ok, refused, _>>=_, if_then_else_}
@@ -17,6 +17,7 @@ use Rattle.spec.specs.Strings.{character, characters, string}
 use Rattle.spec.proofs.OutcomeLaws.{refused≢ok, both-ok, first-ok, second-ok}
 use Rattle.spec.proofs.Tracking.{Cut, At, Tracks, pair, landed, got, past-end, nothing-ends, none, choose, same}
 use Rattle.spec.proofs.ReadersTrack.{character-tracks}
+use Rattle.spec.proofs.ListLaws.{drop-take}
 use Rattle.lexer.specs.Names.{part}
 use Rattle.lexer.proofs.ByteLaws.{here}
 use Rattle.lexer.proofs.StringLaws.{character-ok-past, character-past-end}
@@ -43,12 +44,6 @@ pub in-past : (s : Bytes) (at : ℕ) {c next : ℕ} → characterIn s at ≡ ok 
 in-past s at {c} {next} h = character-ok-past s at (c, next) (in-character s at h .1)
 
 -- the bytes from one place up to another are cut out of their text
-drop-take : (p m : ℕ) (l : Bytes) → drop p (take m l) ≡ take (m - p) (drop p l)
-drop-take zero m l = rw sub-zero
-drop-take (suc p) zero l = let none : 0 - suc p ≡ 0 = omega arith in rw none
-drop-take (suc p) (suc m) [] = sym (take-nil (suc m - suc p))
-drop-take (suc p) (suc m) (b ∷ l) = let one-less : suc m - suc p ≡ m - p = omega arith in rw one-less (drop-take p m l)
-
 pub part-length : (s : Bytes) (from to : ℕ) → to ≤ length s → length (part s from to) ≡ to - from
 unfolding part
 part-length s from to m = omega (arith, length-take (to - from) (drop from s), length-drop from s)

@@ -13,7 +13,6 @@ use Rattle.spec.specs.Bytes.{Bytes, Text, ascii, byte, within}
 use Rattle.spec.specs.Strings.{secondLimit, shortEscape, escape, lowSurrogate, afterHigh, unicodeEscape, character}
 use Rattle.spec.specs.Write.{utf8, writeCharacter, writeCharacters}
 use Rattle.spec.proofs.OutcomeLaws.{refused≢ok, both-ok}
-use Rattle.lexer.specs.Names.{part}
 use Rattle.lexer.proofs.Always as Always
 use Rattle.lexer.proofs.Always.{Always, refuses, gives, result, next}
 use Rattle.lexer.proofs.Tests.{within-bounds}

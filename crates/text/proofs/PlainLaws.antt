@@ -15,7 +15,6 @@ use Rattle.lexer.specs.Names.{part, noBackslash}
 use Rattle.lexer.proofs.Always.{result}
 use Rattle.lexer.proofs.NameLaws.{part-cons, part-empty, part-append, no-backslash-append}
 use Rattle.text.specs.Decode.{characterIn}
-use Rattle.text.specs.Written.{written}
 use Rattle.text.proofs.DecodeLaws.{in-character, in-past, Reads, nothing, one-more, reads-past, string-read}
 use Rattle.text.proofs.Utf8Laws.{Same, character-same}
 

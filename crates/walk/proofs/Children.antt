@@ -8,7 +8,7 @@ use Rattle.spec.specs.Forest.{Forest, none, tree, Tree, count, size, from, nth,
 use Rattle.spec.specs.Value.{Label, leaf, named}
 use Rattle.spec.specs.Pointer.{child}
 use Rattle.text.specs.Decode.{textFrom, textOf}
-use Rattle.tape.specs.Cell.{Cell, Held}
+use Rattle.tape.specs.Cell.{Cell}
 use Rattle.tape.specs.Rows.{childRow}
 use Rattle.tape.specs.Map.{mapForest, mapTree}
 use Rattle.tape.proofs.Forests.{from-nth, size-kth}

@@ -1,5 +1,5 @@
 -- The name that is made of a token spells the token's bytes where they stand.
-use Prim.Native.Nat.{ℕ, zero, suc, _+_, _-_, _%_, _<_, _≤_, min}
+use Prim.Native.Nat.{ℕ, zero, suc, _+_, _-_, _%_, _<_, _≤_}
 use native.Mathlib.Omega.{arith}
 use mathlib.Core.Path.{_≡_, refl, ap, sym, _∙_}
 use mathlib.Core.Bool.{Bool, true, false}
@@ -9,6 +9,7 @@ use lib.ListN.{length, take, drop, length-take, length-drop}
 use lib.Seq.{drop-drop}
 use Rattle.spec.specs.Outcome.{if_then_else_}
 use Rattle.spec.specs.Bytes.{Bytes}
+use Rattle.spec.proofs.ListLaws.{drop-take}
 use Rattle.lexer.specs.Hash.{hash}
 use Rattle.lexer.specs.Names.{part}
 use Rattle.lexer.proofs.NameLaws.{hash-bound}
@@ -16,8 +17,7 @@ use Rattle.text.specs.Decode.{textOf}
 use Rattle.tape.specs.Layout.{forms, sources, places, spellings, hashes}
 use Rattle.tape.specs.Packing.{spelling, formOf, sourceOf, startOf, lengthOf, nameOf, spellingOf, hashOf}
 use Rattle.tape.proofs.Packing.{form-spelling, source-spelling, start-spelling, length-spelling, spelling<, spelling-fits, spelling-name, hash-name, name-fits}
-use Rattle.tape.proofs.Loops.{drop-take}
-use Rattle.table.specs.Meaning.{sourceText, partOf, spelled, nameText, Hashed}
+use Rattle.table.specs.Meaning.{sourceText, partOf, spelled, nameText}
 use Rattle.pointer.specs.Tokens.{tokenBytes, endOf}
 use Rattle.pointer.specs.declared.answers.Token.{Token}
 use Rattle.walk.specs.Names.{NamesToken, Short, TokenNameIs}

@@ -4,9 +4,9 @@ use native.Mathlib.Omega.{arith}
 use mathlib.Core.Path.{_≡_, refl, ap, sym, _∙_, subst}
 use mathlib.Core.List.{List, [], _∷_}
 use lib.ListN.{length}
-use Rattle.spec.specs.Outcome.{Outcome, ok, refused}
-use Rattle.spec.specs.Bytes.{Bytes, Text}
-use Rattle.spec.specs.Forest.{Forest, count, size, nth}
+use Rattle.spec.specs.Outcome.{Outcome, ok}
+use Rattle.spec.specs.Bytes.{Bytes}
+use Rattle.spec.specs.Forest.{Forest, size, nth}
 use Rattle.spec.specs.Value as Value
 use Rattle.spec.specs.Value.{valueOf}
 use Rattle.spec.specs.Pointer.{Tokens, childAt, walk}
@@ -21,10 +21,10 @@ use Rattle.pointer.specs.declared.answers.First.the-variants as First
 use Rattle.pointer.specs.declared.answers.Token.{Token}
 use Rattle.pointer.specs.declared.answers.Token.the-variants as Token
 use Rattle.pointer.proofs.WalkLaws.{Unfolds, first-root, first-at, first-inside, first-malformed, first-token, next-order, tokensBehind, behind-last, behind-next}
-use Rattle.walk.specs.Names.{Short, IsToken, NamesToken, TokenNameIs}
+use Rattle.walk.specs.Names.{Short, NamesToken, TokenNameIs}
 use Rattle.table.specs.Sound.{NodeHeld, ForHeld}
 use Rattle.walk.specs.Step.{Stepped, stepped, missed, StepIs}
-use Rattle.walk.specs.Path.{PathIs, TokensFrom, Walked, reached, lost, WalkFromIs, WalkIs}
+use Rattle.walk.specs.Path.{TokensFrom, Walked, reached, lost, WalkFromIs, WalkIs}
 use Rattle.walk.specs.declared.steps.Child.{Child}
 use Rattle.walk.specs.declared.steps.Child.the-variants.{At, Refused}
 use Rattle.walk.proofs.Children.{blank, child-meant, child-held, child-inside}

@@ -3,21 +3,19 @@ use Prim.Native.Nat.{ℕ, _+_, _<_, _≤_}
 use native.Mathlib.Nat.{le-of-lt}
 use native.Mathlib.Omega.{arith}
 use mathlib.Core.Path.{_≡_, refl, ap, sym, _∙_, subst}
-use mathlib.Core.Bool.{Bool, true, false}
 use mathlib.Core.List.{List}
-use lib.Dec.{eqb, ltb}
 use lib.ListN.{length, getD}
 use borrow.Author.Tests.{lt-ltb, le-ltb, eq-eqb, ne-eqb}
-use Rattle.spec.specs.Outcome.{Outcome, ok, refused, if_then_else_}
+use Rattle.spec.specs.Outcome.{Outcome, ok, refused}
 use Rattle.spec.specs.Refusal.{location-missing, no-index}
 use Rattle.spec.specs.Bytes.{Bytes, Text}
-use Rattle.spec.specs.Forest.{Forest, tree, count, size, before}
-use Rattle.spec.specs.Value.{find, has}
+use Rattle.spec.specs.Forest.{Forest, count}
+use Rattle.spec.specs.Value.{find}
 use Rattle.spec.specs.Pointer.{childAt, elementBelow, memberNamed}
 use Rattle.text.specs.Decode.{textOf}
-use Rattle.tape.specs.Layout.{arrayKind, objectKind, spans}
+use Rattle.tape.specs.Layout.{arrayKind, objectKind}
 use Rattle.tape.specs.Packing.{kindOf, spellingOf}
-use Rattle.tape.specs.Cell.{Cell, Node, Fit}
+use Rattle.tape.specs.Cell.{Cell, Fit}
 use Rattle.tape.specs.Rows.{endOf, childRow, ForNode, ChildIs, Bounded}
 use Rattle.tape.specs.declared.nodes.Located.{Located}
 use Rattle.tape.specs.declared.nodes.Located.the-variants as Located
@@ -27,7 +25,7 @@ use Rattle.tape.proofs.Held.{held-node, held-kids}
 use Rattle.tape.proofs.Rows.{kind-here, end-here, no-node, childOf-at, childOf-fewer}
 use Rattle.tape.proofs.Map.{count-map}
 use Rattle.table.specs.Meaning.{entryOf, nameText, members, meant, spelled, partOf}
-use Rattle.table.specs.Find.{Asked, Found, found, missing, FindIs, Between}
+use Rattle.table.specs.Find.{Found, found, missing, FindIs, Between}
 use Rattle.table.specs.declared.find.Member.{Member}
 use Rattle.table.specs.declared.find.Member.the-variants as Member
 use Rattle.table.proofs.MeaningLaws.{isArray-label, isObject-label}
@@ -36,7 +34,7 @@ use Rattle.pointer.specs.declared.answers.Index.{Index}
 use Rattle.pointer.specs.declared.answers.Index.the-variants as Index
 use Rattle.pointer.proofs.IndexLaws.{element-below}
 use Rattle.walk.specs.Names.{IsToken}
-use Rattle.table.specs.Sound.{NodeHeld, ForHeld}
+use Rattle.table.specs.Sound.{NodeHeld, RowsHeld}
 use Rattle.walk.specs.Step.{Stepped, stepped, missed, NthIs, ElementIs, MemberIs, StepIs, Ahead}
 use Rattle.walk.specs.declared.steps.Child.{Child}
 use Rattle.walk.specs.declared.steps.Child.the-variants.{At, Refused}
@@ -110,7 +108,7 @@ module _ {D P : Bytes} {values names : List ℕ} {row token : ℕ} where
   member-outside h t c kids n = no-node (held-node (n .held)) h
 
   module _ (end : ℕ) (ends : end ≡ endOf values row) (m : Member) (is : FindIs D P values names (row + 1) end token m) where
-    pub asked : {c : Cell} {kids : Forest Cell} → NodeHeld D P values names row c kids → Asked D P values names (row + 1) end kids
+    pub asked : {c : Cell} {kids : Forest Cell} → NodeHeld D P values names row c kids → RowsHeld D P values names (row + 1) end kids
     asked n = record { held = held-kids (n .held); ends = sym (ends ∙ end-here (held-node (n .held))); sound = n .sound }
 
     answer : {kids : Forest Cell} {m : Member} → Found D P (row + 1) kids (nameText D P token) m → (at : ℕ) → m ≡ Member.At at

@@ -5,9 +5,9 @@ use mathlib.Core.List.{List}
 use lib.ListN.{length}
 use Rattle.spec.specs.Outcome.{Outcome, ok, refused}
 use Rattle.spec.specs.Bytes.{Bytes}
-use Rattle.spec.specs.Forest.{Forest, tree, count}
+use Rattle.spec.specs.Forest.{Forest, count}
 use Rattle.spec.specs.Pointer.{childAt, elementBelow, memberNamed}
-use Rattle.tape.specs.Cell.{Cell, Node, Held}
+use Rattle.tape.specs.Cell.{Cell}
 use Rattle.tape.specs.Rows.{childRow, ForNode}
 use Rattle.table.specs.Meaning.{nameText, members, meant}
 use Rattle.table.specs.Sound.{ForHeld}

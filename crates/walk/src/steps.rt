@@ -12,7 +12,6 @@ use tape::nodes::child;
 use tape::nodes::end_of;
 use tape::words::kind;
 use tape::words::spelling;
-ghost use mathlib.Core.Path.{_≡_};
 ghost use Prim.Native.Nat.{_<_};
 ghost use Rattle.walk.specs.Step.{NthIs, ElementIs, MemberIs, StepIs, Ahead};
 

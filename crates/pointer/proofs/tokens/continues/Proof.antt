@@ -1,4 +1,3 @@
-use mathlib.Core.Bool.{not}
 use Rattle.lexer.proofs.Tests.{below-within, above-within, between-within}
 use Rattle.pointer.specs.Tokens.{continues}
 use Rattle.pointer.proofs.tokens.continues.Statement.{statement}

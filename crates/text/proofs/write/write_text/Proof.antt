@@ -1,5 +1,4 @@
 use borrow.Author.Tests.{ne-eqb}
-use native.Mathlib.Omega.{arith}
 use Rattle.text.specs.Written.{written}
 use Rattle.text.proofs.Auto.{auto}
 use Rattle.text.proofs.StoreLaws.{front}

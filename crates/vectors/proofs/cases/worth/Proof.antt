@@ -1,7 +1,6 @@
 -- `worth` ends, and its number stays small.
 use Prim.Native.Nat.{_≤_, _-_}
 use borrow.Author.Needs.{needs}
-use native.Mathlib.Omega.{arith}
 use lib.ListN.{length}
 use Rattle.vectors.proofs.cases.worth.Statement.{statement}
 use Rattle.vectors.proofs.cases.worth.Tie as tie
