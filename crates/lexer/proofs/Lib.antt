@@ -5,7 +5,9 @@ pub mod ByteLaws
 pub mod AnswerLaws
 pub mod StringLaws
 pub mod SequenceLaws
+pub mod TableLaws
 pub mod StringLoop
+pub mod VerbatimLaws
 pub mod NameLaws
 pub mod NumberLoop
 pub mod NumberLaws

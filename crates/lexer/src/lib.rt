@@ -11,6 +11,7 @@ pub mod strings; // Cursor::quoted and string, and Cursor::name, which keeps a h
 pub mod hash; // the hash of a text
 mod escapes; // a character that is written as an escape
 mod utf8; // a character of two to four bytes
+mod verbatim; // characters that stand in a text as they are written
 
 pub use characters::Character;
 pub use cursor::Bounded;
@@ -25,3 +26,4 @@ pub use strings::Name;
 pub use strings::Quoted;
 pub use strings::stands_for_itself;
 pub use utf8::sequence;
+pub use verbatim::verbatim_end;
