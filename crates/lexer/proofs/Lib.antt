@@ -4,7 +4,6 @@ pub mod Always
 pub mod ByteLaws
 pub mod AnswerLaws
 pub mod StringLaws
-pub mod SequenceLaws
 pub mod TableLaws
 pub mod StringLoop
 pub mod VerbatimLaws

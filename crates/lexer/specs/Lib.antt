@@ -1,5 +1,4 @@
 pub mod Answers
 pub mod Hash
 pub mod Names
-pub mod Sequences
 pub mod Verbatim

@@ -25,5 +25,4 @@ pub use hash::mix;
 pub use strings::Name;
 pub use strings::Quoted;
 pub use strings::stands_for_itself;
-pub use utf8::sequence;
 pub use verbatim::verbatim_end;

@@ -18,7 +18,7 @@ const END: u64 = 63;
 // The class of each byte, sixteen to a row, beside table 3-7 of the Unicode standard. A byte that stands for itself is a point, or a colon where
 // it is a letter of an escape that is written as it is read; the quotation mark and the backslash are ' and /. Later bytes of characters are 8,
 // 9 and A, up to BF. First ones are 2, 3 and 4 by the number of bytes, but for E0, ED, F0 and F4: E, -, F and L. All others are 0.
-const CLASSES: [u8; 256] = *b"\
+pub const CLASSES: [u8; 256] = *b"\
     0000000000000000\
     0000000000000000\
     ..'.............\
@@ -38,7 +38,7 @@ const CLASSES: [u8; 256] = *b"\
 
 // For each class, by the last four bits of its letter, the next state of each state, of two octal digits: from the right those of 0, 6, 12 and
 // so on.
-const STEPS: [u64; 16] = [
+pub const STEPS: [u64; 16] = [
     0o77_77_77_77_77_77_77_77_77, // 0
     0o77_77_14_77_06_14_06_00_77, // A
     0o77_77_77_77_77_77_77_77_06, // 2
@@ -81,7 +81,7 @@ fn limit(escapes: bool) -> u64
 }
 
 // The end of the characters from a place on. The tables are lent, since a constant table is made anew wherever it is used.
-fn passed_end(
+pub fn passed_end(
     s: &[u8],
     start: usize,
     escapes: bool,
