@@ -55,9 +55,10 @@ module _ {s : Bytes} {start at : ℕ} (r : Run s start at) where
   run-escape b k =
       let read = unquoted s at (λ q. omega arith) ∙ short-read s at b k in
       let n = in-past s at read in
+      let two : at + 1 + 1 ≡ at + 2 = omega arith in
       more r read
       (kept-written (byte s (at + 1)) k
-      ∙ rw (part-cons s at (at + 2) (omega arith) (omega arith), part-cons s (at + 1) (at + 2) (omega arith) (omega arith), part-two, part-empty s (at + 2), b))
+      ∙ rw (part-cons s at (at + 2) (omega arith) (omega arith), part-cons s (at + 1) (at + 2) (omega arith) (omega arith), two, part-empty s (at + 2), b))
 
 -- characters that are passed as they stand are a run
 pub verbatim-run : {escapes : Bool} {s : Bytes} {start at : ℕ} → Verbatim escapes s start at → Run s start at
