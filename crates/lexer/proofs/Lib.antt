@@ -7,6 +7,7 @@ pub mod StringLaws
 pub mod TableLaws
 pub mod StringLoop
 pub mod VerbatimLaws
+pub mod StateLaws
 pub mod NameLaws
 pub mod NumberLoop
 pub mod NumberLaws

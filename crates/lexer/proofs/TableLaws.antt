@@ -9,7 +9,8 @@ use lib.Dec.{eqb}
 use lib.ListN.{length, getD}
 use Rattle.spec.specs.Bytes.{within}
 use Rattle.lexer.specs.Names.{standsForItself}
-use Rattle.lexer.specs.Verbatim.{keptEscape, Awaits, one, two, three, after-E0, after-ED, after-F0, after-F4, first, begins, later, escaped, look, Tables}
+use Rattle.lexer.specs.Verbatim.{keptEscape}
+use Rattle.lexer.specs.States.{Awaits, one, two, three, after-E0, after-ED, after-F0, after-F4, first, begins, later, escaped, look, Tables}
 use Rattle.lexer.proofs.Tests.{and-both}
 
 -- ---- any table

@@ -2,3 +2,4 @@ pub mod Answers
 pub mod Hash
 pub mod Names
 pub mod Verbatim
+pub mod States

@@ -6,7 +6,8 @@ ghost use lib.ListN.{length};
 ghost use lib.Dec.{eqb};
 ghost use Rattle.spec.specs.Strings.{characters, string};
 ghost use Rattle.lexer.specs.Names.{standsForItself, plainOf, keptOf};
-ghost use Rattle.lexer.specs.Verbatim.{Verbatim, Tables};
+ghost use Rattle.lexer.specs.Verbatim.{Verbatim};
+ghost use Rattle.lexer.specs.States.{Tables};
 ghost use Rattle.lexer.specs.Answers.{scanOutcome, endOf, quotedOutcome, nameOutcome, refusedAt};
 use crate::characters::Character;
 use crate::cursor::Bounded;
@@ -77,8 +78,8 @@ fn still_plain(plain: bool, b: u8) -> bool
     plain
 }
 
-// The characters from a place to the closing quotation mark, by tables, given that those before another place are written with no escape.
-// While the string is plain an escape is looked at; after the first one only those are that are not written as they are read.
+// The characters from a place to the closing quotation mark, by tables; those before `first` are known to be written with no escape. Once the
+// string is not plain, an escape that is written as it is read is passed with the others.
 fn mixed_characters(
     s: &[u8],
     start: usize,
@@ -108,7 +109,7 @@ fn mixed_characters(
     }
 }
 
-// The same, with the tables made.
+// The same, with the tables.
 fn other_characters(s: &[u8], start: usize, first: usize) -> Quoted
     requires { ⌜ Verbatim false (now s) start first ⌝ }
     ensures { λ r. ⌜ quotedOutcome r ≡ plainOf (now (s .entry)) start (characters (length (now (s .entry))) (now (s .entry)) start) ⌝ }

@@ -5,7 +5,8 @@ ghost use mathlib.Core.Bool.{true};
 ghost use Prim.Native.Nat.{_<_};
 ghost use lib.Dec.{eqb};
 ghost use Rattle.spec.specs.Outcome.{if_then_else_};
-ghost use Rattle.lexer.specs.Verbatim.{look, Tables, limit, VerbatimTo};
+ghost use Rattle.lexer.specs.Verbatim.{VerbatimTo};
+ghost use Rattle.lexer.specs.States.{look, Tables, limit};
 
 // Where a byte leads is a state, and its number how far a word of STEPS is shifted. 0 is between characters; 6, 12 and 18 have one, two and three
 // bytes of a character to come; 24, 30, 36 and 42 stand after E0, ED, F0 and F4; 48 after a backslash; 63 is the end.
@@ -73,14 +74,15 @@ fn whole_end(state: u64, at: usize, end: usize) -> usize
     if state == BETWEEN { at } else { end }
 }
 
-// The first state that is no more passed.
+// The first state at which the characters end.
 fn limit(escapes: bool) -> u64
     ensures { λ r. ⌜ r ≡ limit escapes ⌝ }
 {
     if escapes { END } else { ESCAPE }
 }
 
-// The end of the characters from a place on. The tables are lent, since a constant table is made anew wherever it is used.
+// The end of the characters from a place on that are written as they stand, with or without escapes among them. The tables are lent, since a
+// constant table is laid out anew wherever it is used.
 pub fn passed_end(
     s: &[u8],
     start: usize,
@@ -106,7 +108,7 @@ pub fn passed_end(
     end
 }
 
-// The end of the characters from a place on that are written byte for byte as they are read.
+// The end of the characters from a place on that are written byte for byte as they are read, escapes among them.
 pub fn verbatim_end(s: &[u8], start: usize) -> usize
     ensures { λ r. ⌜ VerbatimTo true (now (s .entry)) start r ⌝ }
 {

@@ -1,17 +1,15 @@
 -- Runs of characters that are written as they are read: what one is made of, and what its text is.
-use mathlib.Core.Path.{_≡_, refl, sym, ap, subst, _∙_}
-use mathlib.Core.Bool.{Bool, true, false, true≢false}
+use mathlib.Core.Path.{_≡_, refl, sym, ap, _∙_}
+use mathlib.Core.Bool.{Bool, true}
 use mathlib.Core.List.{[], _∷_, _++_, append-assoc}
-use Prim.Native.Nat.{ℕ, _+_, _-_, _≤_, _<_}
+use Prim.Native.Nat.{ℕ, _+_, _-_, _≤_}
 use Prim.Native.Char.{code}
 use native.Mathlib.Omega.{arith}
-use native.Mathlib.Nat.{add-zero}
 use lib.ListN.{length, length-append}
-use lib.Dec.{eqb}
-use borrow.Author.Tests.{eqb-true, eq-eqb, ne-eqb}
-use Rattle.spec.specs.Outcome.{ok, if_then_else_}
+use borrow.Author.Tests.{ne-eqb}
+use Rattle.spec.specs.Outcome.{ok}
 use Rattle.spec.specs.Bytes.{Bytes, byte, ascii}
-use Rattle.spec.specs.Strings.{shortEscape, escape, character}
+use Rattle.spec.specs.Strings.{shortEscape, character}
 use Rattle.spec.specs.Write.{utf8, writeCharacter, writeCharacters}
 use Rattle.lexer.specs.declared.cursor.Cursor.{Cursor}
 use Rattle.lexer.specs.declared.characters.Character.{Character}
@@ -29,7 +27,7 @@ use Rattle.text.specs.Runs.{Run, none, more}
 use Rattle.text.proofs.DecodeLaws.{in-past, decode-more, part-length}
 use Rattle.text.proofs.LetterLaws.{scalar-text, scalar-inside}
 use Rattle.text.proofs.PlainLaws.{in-same}
-use Rattle.text.proofs.LengthLaws.{escape-here, text-short, length-more, length-ends}
+use Rattle.text.proofs.LengthLaws.{text-short, length-more, length-ends}
 use Rattle.text.proofs.StoreLaws.{Laying, laying-starts, laying-bound, laying-on, laying-more, laying-ends}
 
 unquoted : (s : Bytes) (at : ℕ) → (byte s at ≡ code "\"" → ⊥) → characterIn s at ≡ character s at

@@ -1,5 +1,4 @@
 // A run of characters that are written byte for byte as they are read.
-ghost use mathlib.Core.Path.{_≡_};
 ghost use Rattle.text.specs.Runs.{Run};
 use lexer::verbatim_end;
 

@@ -1,5 +1,5 @@
 use borrow.Author.Needs.{needs}
-use Rattle.lexer.specs.Verbatim.{limit}
+use Rattle.lexer.specs.States.{limit}
 use Rattle.lexer.proofs.verbatim.limit.Statement.{statement}
 use Rattle.lexer.proofs.verbatim.limit.Tie as tie
 

@@ -1,5 +1,5 @@
 use borrow.Author.Needs.{needs}
-use Rattle.lexer.specs.Verbatim.{look}
+use Rattle.lexer.specs.States.{look}
 use Rattle.lexer.proofs.verbatim.next_state.Statement.{statement}
 use Rattle.lexer.proofs.verbatim.next_state.Tie as tie
 

@@ -1,11 +1,9 @@
 use borrow.Author.Needs.{needs}
 use Prim.Native.Nat.{_-_, _<_}
-use mathlib.Core.Path.{_≡_, sym, _∙_}
 use native.Mathlib.Omega.{arith}
 use lib.ListN.{length}
 use Rattle.spec.specs.Bytes.{byte}
-use Rattle.lexer.specs.Verbatim.{look}
-use Rattle.lexer.proofs.VerbatimLaws.{Going, going-starts, look-small, turn, stops, past}
+use Rattle.lexer.proofs.StateLaws.{Going, going-starts, look-small, turn, stops, past}
 use Rattle.lexer.proofs.verbatim.passed_end.Statement.{statement}
 use Rattle.lexer.proofs.verbatim.passed_end.Tie as tie
 
