@@ -4,8 +4,10 @@ pub mod Always
 pub mod ByteLaws
 pub mod AnswerLaws
 pub mod StringLaws
-pub mod SequenceLaws
+pub mod TableLaws
 pub mod StringLoop
+pub mod VerbatimLaws
+pub mod StateLaws
 pub mod NameLaws
 pub mod NumberLoop
 pub mod NumberLaws

@@ -3,11 +3,11 @@ use Prim.Native.Nat.{ℕ, zero, suc, _+_, _-_, _≤_, _<_}
 use Prim.Native.Char.{code}
 use mathlib.Core.List.{[], _∷_, _++_}
 use mathlib.Core.Path.{_≡_, refl, sym, _∙_, ap}
-use mathlib.Core.Bool.{Bool, true, false, not, _&&_, and-true}
+use mathlib.Core.Bool.{Bool, true, false, not, _&&_, and-true, and-false}
 use native.Mathlib.Decide.{decLt}
 use native.Mathlib.Numerals.{add-one}
 use native.Mathlib.Omega.{arith}
-use borrow.Author.Tests.{ne-eqb}
+use borrow.Author.Tests.{eq-eqb, ne-eqb}
 use lib.ListN.{length, drop}
 use lib.Dec.{eqb}
 use lib.Seq.{take-add, drop-drop, drop-cons}
@@ -23,11 +23,12 @@ use Rattle.lexer.specs.declared.strings.Quoted.the-variants as Quoted
 use Rattle.lexer.specs.Answers.{quotedOutcome, nameOutcome}
 use Rattle.lexer.specs.Hash.{mix, hashFrom, hash}
 use Rattle.lexer.specs.Names.{standsForItself, noBackslash, part, plainOf, kept, keptOf}
-use Rattle.lexer.specs.Sequences.{Sequence, ascii, unread, read}
 use Rattle.lexer.proofs.Always.{Always, refuses, gives, result, either, next, weaken}
 use Rattle.lexer.proofs.Fuel.{Runs, starts}
 use Rattle.lexer.proofs.AnswerLaws.{byte-taken, byte-is}
 use Rattle.lexer.proofs.StringLaws.{character-ok-past, escape-past}
+use Rattle.lexer.specs.Verbatim.{Verbatim, none, raw, short}
+use Rattle.lexer.proofs.VerbatimLaws.{short-read}
 use Rattle.lexer.proofs.StringLoop.{cons, self-no-quote, self-no-backslash, self-character, turn-character, turn-quote, turn-refused}
 
 pub mix-bound : (h c : ℕ) → mix h c < 0x1000_0000
@@ -158,11 +159,9 @@ module _ {s : Bytes} {start at : ℕ} {plain : Bool} (k : Spanned s start at pla
 still : (s : Bytes) (at : ℕ) (plain : Bool) → (byte s at ≡ code "\\" → ⊥) → plain ≡ (plain && not (eqb (byte s at) (code "\\")))
 still s at plain n = rw (ne-eqb (byte s at) (code "\\") n) (sym (and-true plain))
 
--- a character of two to four bytes takes at least one, and none past the end
-pub sequence-past : {s : Bytes} {at n : ℕ} → Sequence s at n → (n ≡ 0 → ⊥) → (at < at + n) × (at + n ≤ length s)
-sequence-past (ascii l) n = absurd (n refl)
-sequence-past (unread place l e) n = absurd (n refl)
-sequence-past {s} {at} (read c n l e) _ = character-ok-past s at (c, at + n) e
+-- and one that begins with it does not
+pub no-more : (s : Bytes) (at : ℕ) (plain : Bool) → byte s at ≡ code "\\" → false ≡ (plain && not (eqb (byte s at) (code "\\")))
+no-more s at plain b = rw (eq-eqb (byte s at) (code "\\") b) (sym (and-false plain))
 
 -- In the midst of a string: what is left of it from a place on gives v.
 pub record Passing (s : Bytes) (start at : ℕ) (plain : Bool) (v : Outcome (ℕ × Bool)) : Type 0 where
@@ -183,14 +182,6 @@ module _ {s : Bytes} {start at : ℕ} {plain : Bool} {v : Outcome (ℕ × Bool)}
   passing-more u n e p k =
       record { span = spanned-more (k .span) u e p; left = turn-character (plainOf s start) s at (plainOf s start) u (plain-cons s start (u .0)) n e (k .left) }
 
-  pub passing-self : standsForItself (byte s at) ≡ true → Passing s start at plain v → Passing s start (at + 1) plain v
-  passing-self t = passing-more (byte s at, at + 1) (self-no-quote s at t) (self-character s at t) (still s at plain (self-no-backslash s at t))
-
-  pub passing-sequence : {n : ℕ} → Sequence s at n → (n ≡ 0 → ⊥) → Passing s start at plain v → Passing s start (at + n) plain v
-  passing-sequence (ascii l) n k = absurd (n refl)
-  passing-sequence (unread place l e) n k = absurd (n refl)
-  passing-sequence (read c n l e) _ k = passing-more (c, at + n) (λ q. omega arith) e (still s at plain (λ q. omega arith)) k
-
   pub passing-quote : byte s at ≡ code "\"" → Passing s start at plain v → ok (at + 1, plain) ≡ v
   unfolding plainOf _>>=_
   passing-quote q k =
@@ -200,6 +191,15 @@ module _ {s : Bytes} {start at : ℕ} {plain : Bool} {v : Outcome (ℕ × Bool)}
   pub passing-refused : (number place : ℕ) → (byte s at ≡ code "\"" → ⊥) → character s at ≡ refused number place → Passing s start at plain v → refused number place ≡ v
   unfolding plainOf _>>=_
   passing-refused number place n e k = turn-refused (plainOf s start) s at number place n e (k .left)
+
+-- verbatim characters, none of them an escape while the string is plain
+pub passing-verbatim : {escapes plain : Bool} {s : Bytes} {start from at : ℕ} {v : Outcome (ℕ × Bool)} → Verbatim escapes s from at → (escapes ≡ true → plain ≡ false) →
+    Passing s start from plain v → Passing s start at plain v
+passing-verbatim none f k = k
+passing-verbatim {plain = plain} {s} (raw {at} {c} {next} p n m e) f k = passing-more (c, next) n e (still s at plain m) (passing-verbatim p f k)
+passing-verbatim {plain = plain} {s} (short {at} p t b r) f k =
+    let n : byte s at ≡ code "\"" → ⊥ = λ q. omega arith in
+    passing-more _ n (short-read s at b r) (rw (f t)) (passing-verbatim p f k)
 
 -- In the midst of a name: the hash is that of the characters before a place, and what is left of it from there on gives v.
 pub record Keeping (s : Bytes) (start at h : ℕ) (plain : Bool) (v : Outcome (ℕ × ℕ × Bool)) : Type 0 where

@@ -1,4 +1,5 @@
 pub mod Answers
 pub mod Hash
 pub mod Names
-pub mod Sequences
+pub mod Verbatim
+pub mod States

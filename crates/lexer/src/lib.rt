@@ -1,6 +1,6 @@
 // The lexical layer of JSON text: blanks, literals, numbers, characters, strings and names, each read at a cursor that moves on by value.
 // Every public function is total: a cursor may stand anywhere, past the end of the text too. Each contract is an equation with a definition of
-// crate `spec`; specs/Answers.antt says what outcome each answer stands for.
+// crate `spec`; specs/Answers.antt says what outcome each answer stands for. That of `verbatim_end` is a relation, in specs/Verbatim.antt.
 
 pub mod cursor; // a place in a text, what reading there answers, and the byte there
 pub mod blanks; // Cursor::blanks
@@ -11,6 +11,7 @@ pub mod strings; // Cursor::quoted and string, and Cursor::name, which keeps a h
 pub mod hash; // the hash of a text
 mod escapes; // a character that is written as an escape
 mod utf8; // a character of two to four bytes
+mod verbatim; // characters that stand in a text as they are written
 
 pub use characters::Character;
 pub use cursor::Bounded;
@@ -24,4 +25,4 @@ pub use hash::mix;
 pub use strings::Name;
 pub use strings::Quoted;
 pub use strings::stands_for_itself;
-pub use utf8::sequence;
+pub use verbatim::verbatim_end;

@@ -1,11 +1,13 @@
 // Strings: RFC 8259, section 7. A name is read as any other string is, and what makes two names quick to compare is kept on the way.
 ghost use mathlib.Core.Path.{_≡_};
 ghost use Prim.Native.Nat.{_+_};
-ghost use mathlib.Core.Bool.{_&&_, not};
+ghost use mathlib.Core.Bool.{false, _&&_, not};
 ghost use lib.ListN.{length};
 ghost use lib.Dec.{eqb};
 ghost use Rattle.spec.specs.Strings.{characters, string};
 ghost use Rattle.lexer.specs.Names.{standsForItself, plainOf, keptOf};
+ghost use Rattle.lexer.specs.Verbatim.{Verbatim};
+ghost use Rattle.lexer.specs.States.{Tables};
 ghost use Rattle.lexer.specs.Answers.{scanOutcome, endOf, quotedOutcome, nameOutcome, refusedAt};
 use crate::characters::Character;
 use crate::cursor::Bounded;
@@ -15,7 +17,9 @@ use crate::cursor::Scan;
 use crate::cursor::byte_in;
 use crate::cursor::peek;
 use crate::hash::mix;
-use crate::utf8::sequence;
+use crate::verbatim::CLASSES;
+use crate::verbatim::STEPS;
+use crate::verbatim::passed_end;
 
 // A name's cursor after it, the hash of its characters, and whether it is plain: written with no escape; or the place of a refusal, whose
 // number is 3.
@@ -74,36 +78,60 @@ fn still_plain(plain: bool, b: u8) -> bool
     plain
 }
 
-// The characters from a place to the closing quotation mark.
-fn characters(s: &[u8], start: usize) -> Quoted
+// The characters from a place to the closing quotation mark, by tables; those before `first` are known to be written with no escape. Once the
+// string is not plain, an escape that is written as it is read is passed with the others.
+fn mixed_characters(
+    s: &[u8],
+    start: usize,
+    first: usize,
+    classes: &[u8; 256],
+    steps: &[u64; 16],
+) -> Quoted
+    requires { ⌜ Verbatim false (now s) start first × Tables (now classes) (now steps) ⌝ }
     ensures { λ r. ⌜ quotedOutcome r ≡ plainOf (now (s .entry)) start (characters (length (now (s .entry))) (now (s .entry)) start) ⌝ }
 {
-    let mut at = start;
+    let mut at = first;
     let mut plain = true;
     loop {
-        let b = peek(s, at);
-        if stands_for_itself(b) {
-            at += 1;
-            continue;
-        }
-        if b == b'"' {
+        at = passed_end(s, at, !plain, classes, steps);
+        if peek(s, at) == b'"' {
             return Quoted::Read {
                 next: Cursor { at: at + 1 },
                 plain,
             };
         }
-        let n = sequence(s, at);
-        if n != 0 {
-            at += n;
-            continue;
-        }
         let read = (Cursor { at }).character(s);
         let Character::Scalar(_, next) = read else {
             return Quoted::Refused(refused_at(read));
         };
-        plain = still_plain(plain, b);
+        plain = false; // what can be read here begins with a backslash
         at = next.at;
     }
+}
+
+// The same, with the tables.
+fn other_characters(s: &[u8], start: usize, first: usize) -> Quoted
+    requires { ⌜ Verbatim false (now s) start first ⌝ }
+    ensures { λ r. ⌜ quotedOutcome r ≡ plainOf (now (s .entry)) start (characters (length (now (s .entry))) (now (s .entry)) start) ⌝ }
+{
+    mixed_characters(s, start, first, &CLASSES, &STEPS)
+}
+
+// The characters from a place to the closing quotation mark. Most strings have only bytes that stand for themselves, and need no tables.
+fn characters(s: &[u8], start: usize) -> Quoted
+    ensures { λ r. ⌜ quotedOutcome r ≡ plainOf (now (s .entry)) start (characters (length (now (s .entry))) (now (s .entry)) start) ⌝ }
+{
+    let mut at = start;
+    while stands_for_itself(peek(s, at)) {
+        at += 1;
+    }
+    if peek(s, at) == b'"' {
+        return Quoted::Read {
+            next: Cursor { at: at + 1 },
+            plain: true,
+        };
+    }
+    other_characters(s, start, at)
 }
 
 // The characters from a place to the closing quotation mark, with what is kept of them.

@@ -113,7 +113,7 @@ module _ (s : Bytes) (at : ℕ) where
       Always.either (eqb (shortEscape b) 0) (λ _. refuses) (λ t.
       gives (shortEscape b, at + 1 + 1) (record { room = omega (arith, short-brief b .fits t); bound = short-brief b .bound })))
 
-pub escape-here : (s : Bytes) (at : ℕ) → eqb (byte s at) (code "\\") ≡ true → character s at ≡ escape s (at + 1)
+escape-here : (s : Bytes) (at : ℕ) → eqb (byte s at) (code "\\") ≡ true → character s at ≡ escape s (at + 1)
 unfolding character
 escape-here s at t = rw t
 

@@ -1,71 +1,43 @@
 -- Runs of characters that are written as they are read: what one is made of, and what its text is.
-use mathlib.Core.Path.{_≡_, refl, sym, ap, subst, _∙_}
-use mathlib.Core.Bool.{Bool, true, false, true≢false}
+use mathlib.Core.Path.{_≡_, refl, sym, ap, _∙_}
+use mathlib.Core.Bool.{Bool, true}
 use mathlib.Core.List.{[], _∷_, _++_, append-assoc}
 use Prim.Native.Nat.{ℕ, _+_, _-_, _≤_}
 use Prim.Native.Char.{code}
 use native.Mathlib.Omega.{arith}
-use native.Mathlib.Nat.{add-zero}
 use lib.ListN.{length, length-append}
-use lib.Dec.{eqb}
-use borrow.Author.Tests.{eqb-true, eq-eqb, ne-eqb}
-use Rattle.spec.specs.Outcome.{ok, if_then_else_}
+use borrow.Author.Tests.{ne-eqb}
+use Rattle.spec.specs.Outcome.{ok}
 use Rattle.spec.specs.Bytes.{Bytes, byte, ascii}
-use Rattle.spec.specs.Strings.{shortEscape, escape, character}
+use Rattle.spec.specs.Strings.{shortEscape, character}
 use Rattle.spec.specs.Write.{utf8, writeCharacter, writeCharacters}
 use Rattle.lexer.specs.declared.cursor.Cursor.{Cursor}
 use Rattle.lexer.specs.declared.characters.Character.{Character}
 use Rattle.lexer.specs.declared.characters.Character.the-variants as Character
 use Rattle.lexer.specs.Answers.{characterOutcome}
-use Rattle.lexer.specs.Names.{part, standsForItself}
-use Rattle.lexer.specs.Sequences as Sequences
-use Rattle.lexer.specs.Sequences.{Sequence, unread, read}
-use Rattle.lexer.proofs.StringLoop.{self-no-quote, self-no-backslash, self-character}
+use Rattle.lexer.specs.Names.{part}
+use Rattle.lexer.specs.Verbatim as Verbatim
+use Rattle.lexer.specs.Verbatim.{keptEscape, Verbatim, raw, short}
+use Rattle.lexer.proofs.VerbatimLaws.{kept-cases, short-read}
 use Rattle.lexer.proofs.NameLaws.{part-cons, part-empty, part-append}
 use Rattle.text.specs.Decode.{characterIn, textFrom, textOf}
 use Rattle.text.specs.Letters.{letterAt}
 use Rattle.text.specs.Written.{Stored, LaidDown}
-use Rattle.text.specs.Runs.{keptEscape, Run, none, more}
+use Rattle.text.specs.Runs.{Run, none, more}
 use Rattle.text.proofs.DecodeLaws.{in-past, decode-more, part-length}
 use Rattle.text.proofs.LetterLaws.{scalar-text, scalar-inside}
 use Rattle.text.proofs.PlainLaws.{in-same}
-use Rattle.text.proofs.LengthLaws.{escape-here, text-short, length-more, length-ends}
+use Rattle.text.proofs.LengthLaws.{text-short, length-more, length-ends}
 use Rattle.text.proofs.StoreLaws.{Laying, laying-starts, laying-bound, laying-on, laying-more, laying-ends}
 
 unquoted : (s : Bytes) (at : ℕ) → (byte s at ≡ code "\"" → ⊥) → characterIn s at ≡ character s at
 unfolding characterIn
 unquoted s at n = rw (ne-eqb (byte s at) (code "\"") n)
 
--- ---- the escapes that are written as they are read
-
-record Kept (b : ℕ) : Type 0 where
-  short : eqb b (code "u") ≡ false
-  read : eqb (shortEscape b) 0 ≡ false
-  written : writeCharacter (shortEscape b) ≡ code "\\" ∷ b ∷ []
-
-module _ (b : ℕ) where
-  is : (n : ℕ) → Kept n → eqb b n ≡ true → Kept b
-  is n k e = subst Kept (sym (eqb-true b n e)) k
-
-  case : (t : Bool) {rest : Bool} → (t ≡ true → Kept b) → (rest ≡ true → Kept b) → (if t then true else rest) ≡ true → Kept b
-  case true f g e = f refl
-  case false f g e = g e
-
-  kept : keptEscape b ≡ true → Kept b
-  unfolding keptEscape shortEscape writeCharacter utf8 ascii
-  kept =
-      case (eqb b (code "\"")) (is (code "\"") (record { short = refl; read = refl; written = refl }))
-      (case (eqb b (code "\\")) (is (code "\\") (record { short = refl; read = refl; written = refl }))
-      (case (eqb b (code "b")) (is (code "b") (record { short = refl; read = refl; written = refl }))
-      (case (eqb b (code "f")) (is (code "f") (record { short = refl; read = refl; written = refl }))
-      (case (eqb b (code "n")) (is (code "n") (record { short = refl; read = refl; written = refl }))
-      (case (eqb b (code "r")) (is (code "r") (record { short = refl; read = refl; written = refl }))
-      (case (eqb b (code "t")) (is (code "t") (record { short = refl; read = refl; written = refl }))
-      (λ e. absurd (true≢false (sym e)))))))))
-
-escape-read : (s : Bytes) (at : ℕ) → Kept (byte s at) → escape s at ≡ ok (shortEscape (byte s at), at + 1)
-unfolding escape
-escape-read s at k = rw (k .short, k .read)
+-- an escape that is written as it is read: its two bytes
+kept-written : (b : ℕ) → keptEscape b ≡ true → writeCharacter (shortEscape b) ≡ code "\\" ∷ b ∷ []
+unfolding shortEscape writeCharacter utf8 ascii
+kept-written b = kept-cases (λ n. writeCharacter (shortEscape n) ≡ code "\\" ∷ n ∷ []) b refl refl refl refl refl refl refl
 
 -- ---- what a run is made of
 
@@ -76,29 +48,21 @@ module _ {s : Bytes} {start at : ℕ} (r : Run s start at) where
       let read = unquoted s at n ∙ e in
       more r read (in-same s at c next read (ne-eqb (byte s at) (code "\\") m) .bytes)
 
-  -- a byte that stands for itself
-  pub run-self : standsForItself (byte s at) ≡ true → Run s start (at + 1)
-  run-self t = run-raw (byte s at) (at + 1) (self-no-quote s at t) (self-no-backslash s at t) (self-character s at t)
-
-  -- nothing more
-  pub run-same : Run s start (at + 0)
-  run-same = rw (add-zero at) r
-
-  -- a character of two to four bytes, or nothing
-  pub run-sequence : {n : ℕ} → Sequence s at n → Run s start (at + n)
-  run-sequence (Sequences.ascii l) = run-same
-  run-sequence (unread place l e) = run-same
-  run-sequence (read c n l e) = run-raw c (at + n) (λ q. omega arith) (λ q. omega arith) e
-
   -- an escape that is written as it is read
-  pub run-escape : byte s at ≡ code "\\" → keptEscape (byte s (at + 1)) ≡ true → Run s start (at + 2)
+  run-escape : byte s at ≡ code "\\" → keptEscape (byte s (at + 1)) ≡ true → Run s start (at + 2)
   run-escape b k =
-      let o = kept (byte s (at + 1)) k in
-      let read : characterIn s at ≡ ok (shortEscape (byte s (at + 1)), at + 1 + 1) = unquoted s at (λ q. omega arith) ∙ escape-here s at (eq-eqb (byte s at) (code "\\") b) ∙ escape-read s (at + 1) o in
+      let read = unquoted s at (λ q. omega arith) ∙ short-read s at b k in
       let n = in-past s at read in
-      let two : at + 2 ≡ at + 1 + 1 = omega arith in
-      rw two
-      (more r read (o .written ∙ rw (part-cons s at (at + 1 + 1) (omega arith) (omega arith), part-cons s (at + 1) (at + 1 + 1) (omega arith) (omega arith), part-empty s (at + 1 + 1), b)))
+      let two : at + 1 + 1 ≡ at + 2 = omega arith in
+      more r read
+      (kept-written (byte s (at + 1)) k
+      ∙ rw (part-cons s at (at + 2) (omega arith) (omega arith), part-cons s (at + 1) (at + 2) (omega arith) (omega arith), two, part-empty s (at + 2), b))
+
+-- characters that are passed as they stand are a run
+pub verbatim-run : {escapes : Bool} {s : Bytes} {start at : ℕ} → Verbatim escapes s start at → Run s start at
+verbatim-run Verbatim.none = none
+verbatim-run (raw {c = c} {next} p n m e) = run-raw (verbatim-run p) c next n m e
+verbatim-run (short p t b k) = run-escape (verbatim-run p) b k
 
 -- one run after another
 pub run-append : {s : Bytes} {start at to : ℕ} → Run s start at → Run s at to → Run s start to

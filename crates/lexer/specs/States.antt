@@ -1,0 +1,64 @@
+-- The end of verbatim characters is found byte by byte, from state to state. The states by number: 0 between characters; 6, 12 and 18 with one,
+-- two and three bytes of a character to come, each 80 to BF; 24 after E0, 30 after ED, 36 after F0 and 42 after F4, whose second bytes have
+-- bounds of their own; 48 after a backslash; 63 where no character goes on.
+use Prim.Native.Nat.{ℕ, _*_, _/_, _%_, _^_, _<_}
+use Prim.Native.Char.{code}
+use mathlib.Core.List.{List}
+use mathlib.Core.Path.{_≡_}
+use mathlib.Core.Bool.{Bool}
+use lib.ListN.{getD}
+use lib.Dec.{eqb}
+use Rattle.spec.specs.Outcome.{if_then_else_}
+use Rattle.spec.specs.Bytes.{within}
+use Rattle.lexer.specs.Names.{standsForItself}
+use Rattle.lexer.specs.Verbatim.{keptEscape}
+
+-- of each state within a character: how many bytes are to come after the next, and the next one's bounds
+pub data Awaits : ℕ → ℕ → ℕ → ℕ → Type 0 where
+  one : Awaits 6 0 0x80 0xBF
+  two : Awaits 12 1 0x80 0xBF
+  three : Awaits 18 2 0x80 0xBF
+  after-E0 : Awaits 24 1 0xA0 0xBF
+  after-ED : Awaits 30 1 0x80 0x9F
+  after-F0 : Awaits 36 2 0x90 0xBF
+  after-F4 : Awaits 42 2 0x80 0x8F
+
+-- the state after the first byte of a character of two to four bytes: table 3-7 of the Unicode standard, row by row
+unfoldable pub first : ℕ → ℕ
+first b =
+    if within 0xC2 0xDF b then 6 else
+    if within 0xE0 0xE0 b then 24 else
+    if within 0xE1 0xEC b then 12 else
+    if within 0xED 0xED b then 30 else
+    if within 0xEE 0xEF b then 12 else
+    if within 0xF0 0xF0 b then 36 else
+    if within 0xF1 0xF3 b then 18 else
+    if within 0xF4 0xF4 b then 42 else 63
+
+-- after the first byte of any character
+unfoldable pub begins : ℕ → ℕ
+begins b =
+    if standsForItself b then 0 else
+    if eqb b (code "\\") then 48 else first b
+
+-- after a later byte, which must lie between two bounds, when so many are to come after it
+unfoldable pub later : ℕ → ℕ → ℕ → ℕ → ℕ
+later more low high b = if within low high b then 6 * more else 63
+
+-- after a backslash and a letter
+unfoldable pub escaped : ℕ → ℕ
+escaped b = if keptEscape b then 0 else 63
+
+-- the first state at which the characters end
+unfoldable pub limit : Bool → ℕ
+limit escapes = if escapes then 63 else 48
+
+-- What two tables say that the state after a byte is: the first gives the byte's class, and the second, of that class, six bits for each state.
+unfoldable pub look : List ℕ → List ℕ → ℕ → ℕ → ℕ
+look classes steps state b = getD steps (getD classes b 0 % 16) 0 / 2 ^ state % 64
+
+-- they are right
+pub record Tables (classes steps : List ℕ) : Type 0 where
+  pub between : (b : ℕ) → b < 256 → look classes steps 0 b ≡ begins b
+  pub inside : {state more low high : ℕ} → Awaits state more low high → (b : ℕ) → b < 256 → look classes steps state b ≡ later more low high b
+  pub after : (b : ℕ) → b < 256 → look classes steps 48 b ≡ escaped b
