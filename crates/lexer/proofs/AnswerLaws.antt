@@ -6,7 +6,7 @@ use native.Mathlib.Omega.{arith}
 use lib.ListN.{length}
 use Rattle.spec.specs.Outcome.{Outcome, ok, refused, _>>=_, if_then_else_}
 use Rattle.spec.specs.Refusal.{not-json}
-use Rattle.spec.specs.Bytes.{Bytes, Text, byte, within, byteIn}
+use Rattle.spec.specs.Bytes.{Bytes, byte, within, byteIn}
 use Rattle.spec.specs.Strings.{hexValue, hexIn}
 use Rattle.lexer.specs.declared.cursor.Cursor.{Cursor}
 use Rattle.lexer.specs.declared.cursor.Bounded.{Bounded}
@@ -15,7 +15,7 @@ use Rattle.lexer.specs.declared.cursor.Scan.{Scan}
 use Rattle.lexer.specs.declared.cursor.Scan.the-variants as Scan
 use Rattle.lexer.specs.declared.characters.Character.{Character}
 use Rattle.lexer.specs.declared.characters.Character.the-variants as Character
-use Rattle.lexer.specs.Answers.{boundedOutcome, characterOutcome, refusedAt, scanOutcome, endOf}
+use Rattle.lexer.specs.Answers.{boundedOutcome, characterOutcome, refusedAt, scanOutcome}
 use Rattle.lexer.proofs.Tests.{within-bounds, below-within, above-within}
 use Rattle.lexer.proofs.ByteLaws.{inside}
 
@@ -51,21 +51,6 @@ to-ok next e t = sym e ∙ ap scanOutcome t
 pub scan-refused : (number place : ℕ) {r : Scan} {d : Outcome ℕ} → scanOutcome r ≡ d → r ≡ Scan.Refused number place → d ≡ refused number place
 unfolding scanOutcome
 scan-refused number place e t = sym e ∙ ap scanOutcome t
-
--- where a text ends, said of the reader that gave it
-pub record Ended (o : Outcome (Text × ℕ)) (next : ℕ) : Type 0 where
-  pub text : Text
-  pub reads : o ≡ ok (text, next)
-
-pub end-ok : (o : Outcome (Text × ℕ)) (next : ℕ) → endOf o ≡ ok next → Ended o next
-unfolding endOf _>>=_
-end-ok (ok (cs, n)) next e = let same : n ≡ next = cc in record { text = cs; reads = rw same }
-end-ok (refused number place) next e = let z : _≡_ {A = ℕ} 0 1 = cc in absurd (omega arith)
-
-pub end-refused : (o : Outcome (Text × ℕ)) (number place : ℕ) → endOf o ≡ refused number place → o ≡ refused number place
-unfolding endOf _>>=_
-end-refused (ok t) number place e = let z : _≡_ {A = ℕ} 0 1 = cc in absurd (omega arith)
-end-refused (refused m p) number place e = cc
 
 -- a step of a definition, at a number within its bounds, and at one outside
 pub step-within : {A : Type 0} (v : Outcome A) (d : Outcome ℕ) (next : ℕ → Outcome A) (at n : ℕ) (r : Bounded) →

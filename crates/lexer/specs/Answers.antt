@@ -1,9 +1,8 @@
 -- What each answer of the code stands for: the outcome of the definition that it is held to.
 use Prim.Native.Nat.{ℕ}
 use mathlib.Core.Bool.{Bool}
-use Rattle.spec.specs.Outcome.{Outcome, ok, refused, _>>=_}
+use Rattle.spec.specs.Outcome.{Outcome, ok, refused}
 use Rattle.spec.specs.Refusal.{not-json}
-use Rattle.spec.specs.Bytes.{Text}
 use Rattle.lexer.specs.declared.cursor.Bounded.{Bounded}
 use Rattle.lexer.specs.declared.cursor.Bounded.the-variants as Bounded
 use Rattle.lexer.specs.declared.cursor.Scan.{Scan}
@@ -40,7 +39,3 @@ quotedOutcome (Quoted.Refused place) = refused not-json place
 unfoldable pub nameOutcome : Name → Outcome (ℕ × ℕ × Bool)
 nameOutcome (Name.Read next hash plain) = ok (next .at, hash, plain)
 nameOutcome (Name.Refused place) = refused not-json place
-
--- where a text that was read ends
-unfoldable pub endOf : Outcome (Text × ℕ) → Outcome ℕ
-endOf o = o >>= λ t. ok (t .1)

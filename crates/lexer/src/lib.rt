@@ -7,7 +7,7 @@ pub mod blanks; // Cursor::blanks
 pub mod literals; // Cursor::null_literal, true_literal and false_literal
 pub mod numbers; // Cursor::number
 pub mod characters; // Cursor::character
-pub mod strings; // Cursor::quoted and string, and Cursor::name, which keeps a hash too
+pub mod strings; // Cursor::quoted, and Cursor::name, which keeps a hash too
 pub mod hash; // the hash of a text
 mod escapes; // a character that is written as an escape
 mod utf8; // a character of two to four bytes

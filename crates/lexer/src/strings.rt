@@ -8,12 +8,10 @@ ghost use Rattle.spec.specs.Strings.{characters, string};
 ghost use Rattle.lexer.specs.Names.{standsForItself, plainOf, keptOf};
 ghost use Rattle.lexer.specs.Verbatim.{Verbatim};
 ghost use Rattle.lexer.specs.States.{Tables};
-ghost use Rattle.lexer.specs.Answers.{scanOutcome, endOf, quotedOutcome, nameOutcome, refusedAt};
+ghost use Rattle.lexer.specs.Answers.{quotedOutcome, nameOutcome, refusedAt};
 use crate::characters::Character;
 use crate::cursor::Bounded;
 use crate::cursor::Cursor;
-use crate::cursor::NOT_JSON;
-use crate::cursor::Scan;
 use crate::cursor::byte_in;
 use crate::cursor::peek;
 use crate::hash::mix;
@@ -175,17 +173,6 @@ impl Cursor {
             return Quoted::Refused(at);
         };
         characters(s, at + 1)
-    }
-
-    // The string at the cursor, with its quotation marks.
-    pub fn string(self, s: &[u8]) -> Scan
-        ensures { λ r. ⌜ scanOutcome r ≡ endOf (string (now (s .entry)) (self .at)) ⌝ }
-    {
-        let quoted = self.quoted(s);
-        match quoted {
-            Quoted::Read { next, plain: _ } => Scan::To(next),
-            Quoted::Refused(place) => Scan::Refused(NOT_JSON, place),
-        }
     }
 
     // The string at the cursor, with its quotation marks, and what is kept of it as a name.

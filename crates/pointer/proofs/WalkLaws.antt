@@ -3,7 +3,7 @@ use mathlib.Core.Path.{_≡_, refl, sym, ap, _∙_}
 use mathlib.Core.Bool.{false}
 use mathlib.Core.List.{List, [], _∷_}
 use Prim.Native.Nat.{ℕ, _-_, _<_, _≤_}
-use lib.ListN.{length, take, drop}
+use lib.ListN.{length}
 use Rattle.spec.specs.Outcome.{Outcome, ok}
 use Rattle.spec.specs.Bytes.{Bytes, Text}
 use Rattle.spec.specs.Pointer.{Tokens, tokens, unescape, unescapeAll}
@@ -15,7 +15,7 @@ use Rattle.pointer.specs.declared.answers.First.{First}
 use Rattle.pointer.specs.declared.answers.First.the-variants as First
 use Rattle.pointer.specs.declared.answers.Token.{Token}
 use Rattle.pointer.specs.declared.answers.Token.the-variants as Token
-use Rattle.pointer.specs.Tokens.{tokensFrom, tokensAfter, Inside, FirstOf, tokenBytes, endOf, segmentsAfter, InOrder, TokenAt}
+use Rattle.pointer.specs.Tokens.{tokensFrom, tokensAfter, Inside, FirstOf, tokenBytes, segmentsAfter, InOrder, TokenAt}
 
 -- ---- where the tokens begin
 
@@ -89,19 +89,6 @@ module _ (s : Bytes) (at : ℕ) (t : Token) (right : TokenAt s at t) where
       let f = first-token s at t ts right h in
       record { rest = f .rest; is = f .is; from = sym (behind-next s t end next e) ∙ f .from }
 
-  pub last-order : (end : ℕ) → t ≡ Token.Last end → (at ≤ end) × (at ≤ length s → end ≤ length s)
-  unfolding InOrder
-  last-order end e = rw e at (right .in-order)
-
   pub next-order : (end next : ℕ) → t ≡ Token.Next end next → (at ≤ end) × (end < next) × (next ≤ length s)
   unfolding InOrder
   next-order end next e = rw e at (right .in-order)
-
--- the bytes of a token, as a slice from its place to its end
-pub last-bytes : (s : Bytes) (at : ℕ) (t : Token) (end : ℕ) → t ≡ Token.Last end → tokenBytes s at t ≡ take (end - at) (drop at s)
-unfolding tokenBytes endOf part
-last-bytes s at t end e = rw e
-
-pub next-bytes : (s : Bytes) (at : ℕ) (t : Token) (end next : ℕ) → t ≡ Token.Next end next → tokenBytes s at t ≡ take (end - at) (drop at s)
-unfolding tokenBytes endOf part
-next-bytes s at t end next e = rw e

@@ -1,7 +1,7 @@
 -- Laws of what holds of every node of a forest: it holds of the forest's parts, and of what is put together from such.
 use Prim.Native.Nat.{ℕ, zero, suc, _<_}
 use native.Mathlib.Omega.{arith}
-use Rattle.spec.specs.Forest.{Forest, tree, Tree, single, count, before, from, nth, insertAt, removeAt, replaceAt, _⧺_}
+use Rattle.spec.specs.Forest.{Forest, tree, Tree, single, count, before, from, nth, replaceAt, _⧺_}
 use Rattle.table.specs.All.{All, all-none, all-tree}
 
 module _ {A : Type 0} {Q : A → Type 0} where
@@ -43,15 +43,7 @@ module _ {A : Type 0} {Q : A → Type 0} where
 
   -- the three changes
   module _ (k : ℕ) {f : Forest A} (m : All Q f) where
-    pub all-removeAt : All Q (removeAt k f)
-    unfolding removeAt
-    all-removeAt = all-⧺ (all-before k m) (all-from (suc k) m)
-
     module _ (t : Tree A) (n : All Q (single t)) where
-      pub all-insertAt : All Q (insertAt k t f)
-      unfolding insertAt
-      all-insertAt = all-⧺ (all-before k m) (all-⧺ n (all-from k m))
-
       pub all-replaceAt : All Q (replaceAt k t f)
       unfolding replaceAt
       all-replaceAt = all-⧺ (all-before k m) (all-⧺ n (all-from (suc k) m))

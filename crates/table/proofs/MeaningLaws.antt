@@ -5,7 +5,7 @@ use native.Mathlib.Omega.{arith}
 use lib.Dec.{eqb, leb}
 use Rattle.spec.specs.Bytes.{Bytes}
 use Rattle.spec.specs.Forest.{Forest, size}
-use Rattle.spec.specs.Value.{tag, isNumber, isString, isArray, isObject, isContainer, depth, nodes}
+use Rattle.spec.specs.Value.{tag, isString, isArray, isObject, isContainer, depth, nodes}
 use Rattle.tape.specs.Cell.{Cell, Formed, level, deep}
 use Rattle.tape.proofs.Map.{size-map, levels-map, depths-map}
 use Rattle.table.specs.Meaning.{labelOf, entryOf, meant}
@@ -23,10 +23,6 @@ module _ (D P : Bytes) where
   tag-label (suc (suc (suc (suc (suc (suc (suc k))))))) payload h = absurd (omega arith)
 
   module _ (kind payload : ℕ) (h : kind ≤ 6) where
-    pub isNumber-label : isNumber (labelOf D P kind payload) ≡ eqb kind 3
-    unfolding isNumber
-    isNumber-label = ap (λ t. eqb t 3) (tag-label kind payload h)
-
     pub isString-label : isString (labelOf D P kind payload) ≡ eqb kind 4
     unfolding isString
     isString-label = ap (λ t. eqb t 4) (tag-label kind payload h)

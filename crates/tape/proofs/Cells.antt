@@ -5,7 +5,7 @@ use mathlib.Core.Path.{_≡_, refl, ap, _∙_, subst}
 use mathlib.Core.Bool.{Bool, true, false}
 use lib.Dec.{leb}
 use borrow.Author.Tests.{leb-true, leb-false}
-use Rattle.spec.specs.Forest.{Forest, none, tree, Tree, single, count, size, before, from, nth, insertAt, removeAt, replaceAt, _⧺_}
+use Rattle.spec.specs.Forest.{Forest, none, tree, Tree, single, count, size, before, from, nth, replaceAt, _⧺_}
 use Rattle.tape.specs.Layout.{arrayKind, kinds, spans, spellings}
 use Rattle.tape.specs.Packing.{packed, kindOf, spanOf, payloadOf, withSpan}
 use Rattle.tape.specs.Cell.{Cell, word, nameWord, Fit, Formed, formed-none, formed-tree}
@@ -97,21 +97,9 @@ pub formed-child : {f : Forest Cell} (t : Tree Cell) (k : ℕ) → k < count f �
 unfolding _⧺_
 formed-child {f} t k h o = subst Formed (from-nth t k f h) (formed-from k o)
 
--- the k-th tree alone
-pub formed-nth : {f : Forest Cell} (t : Tree Cell) (k : ℕ) → k < count f → Formed f → Formed (single (nth t k f))
-formed-nth {f} t k h o = let c = formed-child t k h o in formed-tree (formed-fit c) (formed-kids c) formed-none
-
 -- the three changes
 module _ {f : Forest Cell} (k : ℕ) (formed : Formed f) where
-  pub formed-removeAt : Formed (removeAt k f)
-  unfolding removeAt
-  formed-removeAt = formed-⧺ (formed-before k formed) (formed-from (suc k) formed)
-
   module _ (t : Tree Cell) (new : Formed (single t)) where
-    pub formed-insertAt : Formed (insertAt k t f)
-    unfolding insertAt
-    formed-insertAt = formed-⧺ (formed-before k formed) (formed-⧺ new (formed-from k formed))
-
     pub formed-replaceAt : Formed (replaceAt k t f)
     unfolding replaceAt
     formed-replaceAt = formed-⧺ (formed-before k formed) (formed-⧺ new (formed-from (suc k) formed))

@@ -6,17 +6,17 @@ use mathlib.Core.Path.{_≡_, sym, ap, _∙_}
 use mathlib.Core.List.{List, [], _∷_, _++_, append-assoc}
 use lib.ListN.{length, take, drop, getD, set, length-append, length-take, take-append-drop}
 use lib.Seq.{take-at, drop-at, drop-append-seam, getD-append-seam, set-append-seam, take-set-lt, drop-drop}
-use Rattle.spec.specs.Forest.{Forest, none, tree, Tree, single, count, size, before, from, nth, insertAt, removeAt, replaceAt, _⧺_}
-use Rattle.tape.specs.Columns.{replaced, moved, usedAfter, spliced}
-use Rattle.tape.specs.Tape.{tape, words, Holds, Laid}
+use Rattle.spec.specs.Forest.{Forest, tree, Tree, count, size, before, from, nth, replaceAt, _⧺_}
+use Rattle.tape.specs.Columns.{replaced, usedAfter, spliced}
+use Rattle.tape.specs.Tape.{tape, Holds, Laid}
 use Rattle.tape.specs.Layout.{spans}
 use Rattle.tape.specs.Packing.{withSpan}
 use Rattle.tape.specs.Cell.{Cell, word, nameWord, Fit}
 use Rattle.tape.specs.Rows.{childRow}
-use Rattle.tape.proofs.Columns.{Room, replaced-within, take-moved, take-spliced}
-use Rattle.tape.proofs.Forests.{size-single, size-cut, size-kth, before-from, from-nth}
+use Rattle.tape.proofs.Columns.{Room, replaced-within, take-spliced}
+use Rattle.tape.proofs.Forests.{from-nth}
 use Rattle.tape.proofs.Cells.{withSpan-word, nameWord-same}
-use Rattle.tape.proofs.Tape.{length-tape, tape-⧺, tape-single, tape-cut}
+use Rattle.tape.proofs.Tape.{length-tape, tape-⧺, tape-cut}
 
 -- ---- the words of a changed forest
 module _ {A W : Type 0} (w : A → Forest A → W) where
@@ -30,24 +30,6 @@ module _ {A W : Type 0} (w : A → Forest A → W) where
       let back : drop (size left + size old) (tape w f) ≡ tape w right =
       rw (← drop-drop, e, three old, drop-at (tape w left) (tape w old ++ tape w right) (size left) (length-tape w left)) (drop-at (tape w old) (tape w right) (size old) (length-tape w old)) in
       rw (three new, front, back) (sym (append-assoc (tape w left) (tape w new) (tape w right)))
-
-  -- the three changes, at the place of the k-th tree; t is any tree
-  pub tape-insertAt : (k : ℕ) (new : Tree A) (f : Forest A) → tape w (insertAt k new f) ≡ replaced (tape w f) (size (before k f)) 0 (words w new)
-  unfolding insertAt _⧺_ size
-  tape-insertAt k new f = tape-exchange (before k f) none (single new) (from k f) f (sym (before-from k f)) ∙ rw (tape-single w new)
-
-  module _ (t : Tree A) (k : ℕ) (f : Forest A) (there : k < count f) where
-    cut-kth : f ≡ before k f ⧺ single (nth t k f) ⧺ from (suc k) f
-    cut-kth = sym (before-from k f) ∙ ap (λ g. before k f ⧺ g) (from-nth t k f there)
-
-    pub tape-removeAt : tape w (removeAt k f) ≡ replaced (tape w f) (size (before k f)) (suc (size (nth t k f .kids))) []
-    unfolding removeAt _⧺_ tape
-    tape-removeAt = tape-exchange (before k f) (single (nth t k f)) none (from (suc k) f) f cut-kth ∙ rw (size-single (nth t k f))
-
-    pub tape-replaceAt : (new : Tree A)
-        → tape w (replaceAt k new f) ≡ replaced (tape w f) (size (before k f)) (suc (size (nth t k f .kids))) (words w new)
-    unfolding replaceAt
-    tape-replaceAt new = tape-exchange (before k f) (single (nth t k f)) (single new) (from (suc k) f) f cut-kth ∙ rw (size-single (nth t k f), tape-single w new)
 
 -- ---- the words in use
 module _ {A W : Type 0} {w : A → Forest A → W} {xs : List W} {used : ℕ} {front : List W} where
@@ -109,12 +91,6 @@ module _ {A W : Type 0} {w : A → Forest A → W} {xs : List W} {used : ℕ} {f
             take-spliced xs used row removed source n in-use room ∙ ap (λ ys. replaced ys row removed (take n (drop source xs))) (l .is) ∙ within ∙ rw new;
       }
 
-  -- a move to rows behind the words in use
-  pub laid-moved : {f : Forest A} {back : List W} (to start n : ℕ) → Laid w xs used front f back → used ≤ to → to + n ≤ length xs
-      → start + n ≤ length xs
-      → Laid w (moved xs to start n) used front f back
-  laid-moved to start n l h target there = record { is = take-moved xs to start n target there used h ∙ l .is }
-
 -- ---- down to the k-th child, and up again with another in its place; t is any tree
 module _ {A W : Type 0} {w : A → Forest A → W} {xs : List W} {used : ℕ} {front : List W} where
   pub laid-child : {a : A} {kids rest : Forest A} {back : List W} (t : Tree A) (k : ℕ) → k < count kids → Laid w xs used front (tree a kids rest) back
@@ -133,35 +109,6 @@ pub child-front : {A W : Type 0} (w : A → Forest A → W) (front : List W) (x 
     → length ((front ++ (x ∷ [])) ++ tape w (before k kids)) ≡ childRow (length front) k kids
 unfolding childRow
 child-front w front x k kids = simp length-append (ap (_+_ (length front + 1)) (length-tape w (before k kids)))
-
--- ---- the three changes of a node's children; the node's own word is then stored anew (laid-store), or does not tell of them (laid-tree)
-module _ {A W : Type 0} {w : A → Forest A → W} {xs : List W} {used : ℕ} {front : List W} {a : A} {kids rest : Forest A} {back : List W} (l : Laid w xs used front (tree a kids rest) back) where
-  place-of : (k row : ℕ) → row ≡ childRow (length front) k kids → row ≡ length (front ++ (w a kids ∷ [])) + size (before k kids)
-  unfolding childRow
-  place-of k row e = e ∙ simp length-append
-
-  module _ (k row source n : ℕ) (row-is : row ≡ childRow (length front) k kids) where
-    pub laid-insertAt : (new : Tree A) → take n (drop source xs) ≡ words w new → Room xs used 0 source n
-        → Laid w (spliced xs used row 0 source n) (usedAfter used 0 n) (front ++ (w a kids ∷ [])) (insertAt k new kids) (tape w rest ++ back)
-    laid-insertAt new given room =
-        laid-splice (insertAt k new kids) row (size (before k kids)) 0 source n (laid-kids l) (place-of k row row-is) (omega (arith, size-cut k kids)) room
-        (tape-insertAt w k new kids ∙ rw given)
-
-    module _ (t : Tree A) (kth : k < count kids) (removed : ℕ) (removed-is : removed ≡ suc (size (nth t k kids .kids))) where
-      fits : size (before k kids) + removed ≤ size kids
-      fits = omega (arith, size-kth t k kids kth)
-
-      pub laid-replaceAt : (new : Tree A) → take n (drop source xs) ≡ words w new → Room xs used removed source n
-          → Laid w (spliced xs used row removed source n) (usedAfter used removed n) (front ++ (w a kids ∷ [])) (replaceAt k new kids) (tape w rest ++ back)
-      laid-replaceAt new given room =
-          laid-splice (replaceAt k new kids) row (size (before k kids)) removed source n (laid-kids l) (place-of k row row-is) fits room
-          (tape-replaceAt w t k kids kth new ∙ rw (given, removed-is))
-
-      pub laid-removeAt : n ≡ 0 → Room xs used removed source n
-          → Laid w (spliced xs used row removed source n) (usedAfter used removed n) (front ++ (w a kids ∷ [])) (removeAt k kids) (tape w rest ++ back)
-      laid-removeAt none-new room =
-          laid-splice (removeAt k kids) row (size (before k kids)) removed source n (laid-kids l) (place-of k row row-is) fits room
-          (tape-removeAt w t k kids kth ∙ rw (none-new, removed-is))
 
 -- the word before a forest
 pub laid-word : {A W : Type 0} {w : A → Forest A → W} {xs : List W} {used : ℕ} {f : Forest A} {back : List W} (front : List W) (x z : W)

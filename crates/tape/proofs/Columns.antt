@@ -110,10 +110,6 @@ module _ {W : Type 0} (xs : List W) (to start n : ℕ) (target : to + n ≤ leng
   unfolding copied
   take-moved row h = rw (moved-in xs to start n target there) (take-replaced xs to n (take n (drop start xs)) (omega arith) row h)
 
-  pub drop-moved : (row : ℕ) → to + n ≤ row → drop row (moved xs to start n) ≡ drop row xs
-  unfolding copied
-  drop-moved row h = rw (moved-in xs to start n target there) (drop-replaced xs to n (take n (drop start xs)) (omega arith) length-words row h)
-
   pub words-moved : drop to (moved xs to start n) ≡ take n (drop start xs) ++ drop (to + n) xs
   unfolding copied
   words-moved = rw (moved-in xs to start n target there) (words-replaced xs to n (take n (drop start xs)) (omega arith))

@@ -3,7 +3,7 @@ use Prim.Native.Nat.{ℕ, zero, suc, _+_, _≤_, _<_}
 use native.Mathlib.Nat.{not-suc-le-zero, le-of-suc-le-suc, suc-add, zero-add}
 use native.Mathlib.Omega.{arith}
 use mathlib.Core.Path.{_≡_, refl, sym, ap, _∙_}
-use Rattle.spec.specs.Forest.{Forest, none, tree, Tree, single, count, size, before, from, nth, insertAt, removeAt, replaceAt, _⧺_}
+use Rattle.spec.specs.Forest.{Forest, none, tree, Tree, single, count, size, before, from, nth, removeAt, replaceAt, _⧺_}
 
 module _ {A : Type 0} where
   -- ---- joined
@@ -117,17 +117,7 @@ module _ {A : Type 0} where
   count-le-size none = omega arith
   count-le-size (tree a kids rest) = omega (arith, count-le-size rest)
 
-  pub count-pos : (f : Forest A) → 0 < size f → 0 < count f
-  unfolding count size
-  count-pos none h = h
-  count-pos (tree a kids rest) h = omega arith
-
   -- ---- the three changes; t is any tree
-  pub size-insertAt : (k : ℕ) (new : Tree A) (f : Forest A) → size (insertAt k new f) ≡ size f + suc (size (new .kids))
-  unfolding insertAt
-  size-insertAt k new f =
-      omega (arith, size-⧺ (before k f) (single new ⧺ from k f), size-⧺ (single new) (from k f), size-single new, size-cut k f)
-
   module _ (t : Tree A) (k : ℕ) (f : Forest A) (there : k < count f) where
     -- what stands before, at and behind the k-th tree
     pub size-kth : size f ≡ size (before k f) + suc (size (nth t k f .kids)) + size (from (suc k) f)

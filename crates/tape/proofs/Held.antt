@@ -81,11 +81,6 @@ module _ {vs ns : List ℕ} where
       first-tree f (omega (arith, r .ends)) (λ c kids rest e. then-it c kids rest e (subst (Remaining vs ns row end) e r))
 
 -- ---- what is held where words in use are laid
-pub node-laid : {xs : List ℕ} {used : ℕ} {front back : List ℕ} {c : Cell} {kids rest : Forest Cell} (at : ℕ) → at ≡ length front
-    → Laid word xs used front (tree c kids rest) back
-    → Formed (tree c kids rest) → Node xs at c kids
-node-laid {xs} {used} {front} {back} {c} {kids} {rest} at e l o = record { rest = rest; after = back ++ drop used xs; held = rw e (laid-holds l); formed = o }
-
 pub held-laid : {vs ns : List ℕ} {used : ℕ} {front back front' back' : List ℕ} {f : Forest Cell} (at : ℕ) → at ≡ length front → at ≡ length front'
     → Laid word vs used front f back → Laid nameWord ns used front' f back' → Formed f → Held vs ns at f
 held-laid {vs} {ns} {used} {front} {back} {front'} {back'} at e d l m o =

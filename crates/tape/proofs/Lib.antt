@@ -8,7 +8,6 @@ pub mod Cells
 pub mod Rows
 pub mod Depth
 pub mod Changes
-pub mod Storing
 pub mod Held
 pub mod Map
 pub mod Examples

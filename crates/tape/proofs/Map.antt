@@ -41,10 +41,6 @@ module _ {A B : Type 0} (f : A → B) where
   map-from (suc k) none = refl
   map-from (suc k) (tree a kids rest) = map-from k rest
 
-  pub map-single : (t : Tree A) → mapForest f (single t) ≡ single (mapTree f t)
-  unfolding mapForest
-  map-single t = refl
-
   pub map-nth : (t : Tree A) (k : ℕ) (g : Forest A) → mapTree f (nth t k g) ≡ nth (mapTree f t) k (mapForest f g)
   unfolding mapForest nth
   map-nth t k none = refl

@@ -4,13 +4,13 @@ use native.Mathlib.Numerals.{add-one}
 use native.Mathlib.Omega.{arith}
 use mathlib.Core.Path.{_≡_, refl, sym, ap, _∙_, subst}
 use mathlib.Core.List.{List, [], _∷_, _++_, append-assoc, append-nil}
-use lib.ListN.{length, take, drop, getD, set, length-append, length-drop}
-use lib.Seq.{drop-drop, drop-at, take-at, drop-set-lt}
+use lib.ListN.{length, take, drop, getD, length-append, length-drop}
+use lib.Seq.{drop-drop, drop-at, take-at}
 use Rattle.spec.specs.Forest.{Forest, none, tree, Tree, single, count, size, before, from, nth, _⧺_}
-use Rattle.tape.specs.Columns.{moved, usedAfter, spliced}
+use Rattle.tape.specs.Columns.{moved}
 use Rattle.tape.specs.Tape.{tape, words, Holds}
 use Rattle.tape.specs.Rows.{childRow}
-use Rattle.tape.proofs.Columns.{Room, words-moved, drop-spliced}
+use Rattle.tape.proofs.Columns.{words-moved}
 use Rattle.tape.proofs.Forests.{before-from, from-nth, size-none, first-tree}
 
 -- ---- a forest's words
@@ -96,15 +96,6 @@ pub holds-words : {A W : Type 0} {w : A → Forest A → W} {xs : List W} {at : 
 unfolding tape
 holds-words {w = w} {a = a} {kids} {rest} {after} n e h =
     rw (e, h .is, append-assoc (tape w kids) (tape w rest) after, take-at (tape w kids) (tape w rest ++ after) (size kids) (length-tape w kids))
-
--- ---- a column that holds a forest, and is changed elsewhere
-module _ {A W : Type 0} {w : A → Forest A → W} {xs : List W} {at : ℕ} {f : Forest A} {after : List W} (h : Holds w xs at f after) where
-  pub holds-set : (row : ℕ) (y : W) → row < at → Holds w (set xs row y) at f after
-  holds-set row y l = record { is = drop-set-lt at xs row y l ∙ h .is }
-
-  pub holds-spliced : (used row removed source n : ℕ) → row + removed ≤ used → Room xs used removed source n → usedAfter used removed n ≤ at
-      → Holds w (spliced xs used row removed source n) at f after
-  holds-spliced used row removed source n in-use room l = record { is = drop-spliced xs used row removed source n in-use room at l ∙ h .is }
 
 -- one tree copied to another row
 pub holds-moved : {A W : Type 0} {w : A → Forest A → W} {xs : List W} {start : ℕ} {a : A} {kids rest : Forest A} {after : List W} (to n : ℕ)

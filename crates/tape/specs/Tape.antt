@@ -3,8 +3,7 @@ use Prim.Native.Nat.{ℕ}
 use mathlib.Core.Path.{_≡_}
 use mathlib.Core.List.{List, [], _∷_, _++_}
 use lib.ListN.{take, drop}
-use Rattle.spec.specs.Forest.{Forest, none, tree, Tree, size}
-use Rattle.tape.specs.Columns.{replaced}
+use Rattle.spec.specs.Forest.{Forest, none, tree, Tree}
 
 module _ {A W : Type 0} (w : A → Forest A → W) where
   unfoldable pub tape : Forest A → List W
@@ -22,7 +21,3 @@ module _ {A W : Type 0} (w : A → Forest A → W) where
   -- the first `used` words of a column are some, those of a forest, and others
   pub record Laid (xs : List W) (used : ℕ) (front : List W) (f : Forest A) (back : List W) : Type 0 where
     pub is : take used xs ≡ front ++ (tape f ++ back)
-
-  -- a column, and the same with a forest's words written from a row on
-  pub record Stored (xs : List W) (at : ℕ) (f : Forest A) (ys : List W) : Type 0 where
-    pub is : ys ≡ replaced xs at (size f) (tape f)

@@ -149,10 +149,6 @@ pub reads-part : {s : Bytes} {from to : ℕ} {cs : Text} → from ≤ length s �
 unfolding decode
 reads-part {s} {from} {to} l r = ap (decodeFrom (part s from to)) (sym (sub-self from)) ∙ reads-within from l (omega arith) r
 
--- a text may be cut at the end of any of its characters
-pub decode-cut : {s : Bytes} {from to : ℕ} {cs : Text} → from ≤ length s → Reads s from cs to → decodeFrom s from ≡ decode (part s from to) ++ decodeFrom s to
-decode-cut {s} {to = to} l r = reads-decode r ∙ ap (λ t. t ++ decodeFrom s to) (sym (reads-part l r))
-
 -- ---- a string that was read, by its part
 
 -- the reader of strings stops at a quotation mark, behind the characters

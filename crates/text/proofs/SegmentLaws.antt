@@ -6,13 +6,13 @@ use Prim.Native.Nat.{ℕ, _≤_}
 use Prim.Native.Char.{code}
 use lib.ListN.{length}
 use lib.Dec.{eqb}
-use Rattle.spec.specs.Outcome.{ok, refused, if_then_else_}
+use Rattle.spec.specs.Outcome.{refused, if_then_else_}
 use Rattle.spec.specs.Bytes.{Bytes, Text}
 use Rattle.spec.specs.Pointer.{prepend, segments}
 use Rattle.spec.proofs.TextLaws.{both-true}
 use Rattle.lexer.specs.Names.{part}
 use Rattle.text.specs.Decode.{characterIn, decodeFrom, decode}
-use Rattle.text.proofs.DecodeLaws.{Reads, reads-decode, reads-part, decode-more, decode-ends}
+use Rattle.text.proofs.DecodeLaws.{Reads, reads-decode, reads-part, decode-ends}
 
 unfoldable pub noSlash : Text → Bool
 noSlash [] = true
@@ -44,10 +44,6 @@ segments-last [] h = refl
 segments-last (c ∷ cs) h = segment-more c cs cs cs [] h (segments-last cs)
 
 module _ {s : Bytes} {from at : ℕ} {cs : Text} (l : from ≤ length s) (r : Reads s from cs at) (h : noSlash cs ≡ true) where
-  pub token-cut : (next : ℕ) → characterIn s at ≡ ok (code "/", next) → segments (decodeFrom s from) ≡ decode (part s from at) ∷ segments (decodeFrom s next)
-  token-cut next e =
-      ap segments (reads-decode r ∙ ap (λ t. cs ++ t) (decode-more s at (code "/") next e)) ∙ segments-slash cs (decodeFrom s next) h ∙ ap (λ t. t ∷ segments (decodeFrom s next)) (sym (reads-part l r))
-
   pub token-last : (number place : ℕ) → characterIn s at ≡ refused number place → segments (decodeFrom s from) ≡ decode (part s from at) ∷ []
   token-last number place e =
       ap segments (reads-decode r ∙ ap (λ t. cs ++ t) (decode-ends s at e) ∙ append-nil cs) ∙ segments-last cs h ∙ ap (λ t. t ∷ []) (sym (reads-part l r))
