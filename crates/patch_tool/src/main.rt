@@ -1,54 +1,30 @@
 // The patch tool: two file names, a document and a patch. It prints the patched document, or the refusal on one line, or `unreadable`.
-use json_patch::Answer;
-use json_patch::apply;
 use libc::STDOUT_FILENO;
 ghost use lib.ListN.{length};
 ghost use Rattle.patch_tool.specs.Contents.{Within};
+ghost use Rattle.patch_tool.specs.Line.{LineIs};
 
 // One byte more than a text may have, so that a longer one is seen to be too long.
 const INPUT: usize = 32_769;
 
-const OUTPUT: usize = 65_536;
+// 65,536 bytes of output, and the newline.
+const LINE: usize = 65_537;
 
 const WORK_WORDS: usize = 6_144;
 
-// A number after a word.
-fn print_field(word: &[u8], n: usize) {
-    io::write_all(STDOUT_FILENO, word);
-    io::print_decimal(STDOUT_FILENO, n as u64);
-}
-
-fn print_refusal(answer: Answer) {
-    print_field(b"refused ", answer.number as usize);
-    print_field(b" text ", answer.text as usize);
-    print_field(b" op ", answer.op);
-    print_field(b" place ", answer.place);
-    io::write_all(STDOUT_FILENO, b"\n");
-}
-
-// The first `length` bytes, and a newline.
-fn print_text(output: &[u8], length: usize) {
-    if output.len() < length {
-        return;
-    }
-    io::write_all(STDOUT_FILENO, &output[..length]);
-    io::write_all(STDOUT_FILENO, b"\n");
-}
-
-fn print_answer(answer: Answer, output: &[u8]) {
-    if answer.number != 0 {
-        print_refusal(answer);
-        return;
-    }
-    print_text(output, answer.length);
+// The line for the two texts, laid down in `line`; the answer is its length.
+fn answer_line<'a>(document: &'a [u8], patch: &'a [u8], line: &mut [u8; LINE]) -> usize
+    ensures { λ r. ⌜ LineIs (now (document .entry)) (now (patch .entry)) (now (line .exit)) r ⌝ }
+{
+    let mut values = [0u64; WORK_WORDS];
+    let mut names = [0u64; WORK_WORDS];
+    report::run(document, patch, line, &mut values, &mut names)
 }
 
 fn run<'a>(document: &'a [u8], patch: &'a [u8]) {
-    let mut output = [0u8; OUTPUT];
-    let mut values = [0u64; WORK_WORDS];
-    let mut names = [0u64; WORK_WORDS];
-    let answer = apply(document, patch, &mut output, &mut values, &mut names);
-    print_answer(answer, &output);
+    let mut line = [0u8; LINE];
+    let n = answer_line(document, patch, &mut line);
+    io::write_all(STDOUT_FILENO, &line[..n]);
 }
 
 pub enum Contents {

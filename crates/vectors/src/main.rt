@@ -25,6 +25,9 @@ const FILE: usize = 1_048_576;
 
 const OUTPUT: usize = 65_536;
 
+// As many bytes, and the newline.
+const LINE: usize = 65_537;
+
 const WORK_WORDS: usize = 6_144;
 
 const SHORT_WORDS: usize = 6_143;
@@ -55,7 +58,7 @@ fn run_case<'a>(name: &'a [u8], room: usize, document: &'a [u8], patch: &'a [u8]
         say(b"there is less room\n");
         return;
     }
-    let mut output = [UNWRITTEN; OUTPUT];
+    let mut output = [UNWRITTEN; LINE];
     let mut values = [rubbish; WORK_WORDS];
     let mut names = [rubbish; WORK_WORDS];
     let answer = lend(document, patch, room, &mut output, &mut values, &mut names);
@@ -71,7 +74,7 @@ fn run_case<'a>(name: &'a [u8], room: usize, document: &'a [u8], patch: &'a [u8]
         say(b"the output is changed behind the text\n");
         return;
     }
-    print_answer(answer, &output);
+    print_answer(answer, &mut output);
 }
 
 fn part<'a>(file: &'a [u8], p: Part) -> &'a [u8]
@@ -143,7 +146,7 @@ fn read_file(buf: &mut [u8]) -> Contents
 
 // The call with a work buffer that is a word too short, which no case can say: 1, before anything else, and the output untouched.
 fn run_short() {
-    let mut output = [UNWRITTEN; 16];
+    let mut output = [UNWRITTEN; 80];
     let mut values = [1u64; SHORT_WORDS];
     let mut names = [1u64; WORK_WORDS];
     let answer = apply(b"[]", b"[]", &mut output, &mut values, &mut names);
@@ -152,7 +155,7 @@ fn run_short() {
         say(b"the output is changed\n");
         return;
     }
-    print_answer(answer, &output);
+    print_answer(answer, &mut output);
 }
 
 // A buffer for the file. The `ensures` gives only the length, which lending it needs.

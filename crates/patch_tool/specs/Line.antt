@@ -1,0 +1,18 @@
+-- What the tool prints of two readable files: document 01, "Examples on each side".
+use Prim.Native.Nat.{ℕ}
+use mathlib.Core.Path.{_≡_}
+use lib.ListN.{take}
+use Rattle.io.specs.Counts.{Counts}
+use Rattle.spec.specs.Limits.{workWords}
+use Rattle.spec.specs.Bytes.{Bytes}
+use Rattle.spec.specs.Answer.{Lent, answer}
+use Rattle.report.specs.Line.{lineOf}
+
+-- "lends 65,536 bytes of output", and a work area of the stated length
+abbrev pub lent : Lent
+lent = record { output = 65_536; values = workWords; names = workWords }
+
+-- the first r bytes are the line, whole
+pub record LineIs (document patch line : Bytes) (r : ℕ) : Type 0 where
+  pub counts : Counts r line
+  pub is : take r line ≡ lineOf (answer document patch lent)

@@ -1,0 +1,38 @@
+-- The line that the patch tool prints: document 01, "It prints the written text and a newline, or `refused`, the number, `text`, its value, `op`,
+-- its value, `place`, its value, on one line".
+use Prim.Native.Nat.{ℕ, zero, suc, _+_, _/_, _%_}
+use Prim.Native.Char.{code}
+use mathlib.Core.List.{[], _∷_, _++_}
+use lib.Dec.{eqb, ltb}
+use Rattle.spec.specs.Outcome.{if_then_else_}
+use Rattle.spec.specs.Bytes.{Bytes, ascii}
+use Rattle.spec.specs.Refusal.{done}
+use Rattle.spec.specs.Answer.{Answer}
+
+-- the digit of a number below 10
+unfoldable pub digit : ℕ → ℕ
+digit n = code "0" + n
+
+-- A number's digits, the last one behind those of its tenth part. Its tenth part is less, so that fuel above the number never runs out.
+unfoldable pub decimalFrom : ℕ → ℕ → Bytes
+decimalFrom zero n = []
+decimalFrom (suc fuel) n = if ltb n 10 then digit n ∷ [] else decimalFrom fuel (n / 10) ++ (digit (n % 10) ∷ [])
+
+unfoldable pub decimal : ℕ → Bytes
+decimal n = decimalFrom (suc n) n
+
+abbrev pub newline : Bytes
+newline = 0x0A ∷ []
+
+-- the line of a refusal with this number, text, op and place
+unfoldable pub refusalLine : ℕ → ℕ → ℕ → ℕ → Bytes
+refusalLine number text op place =
+    ascii "refused " ++ decimal number
+    ++ ascii " text " ++ decimal text
+    ++ ascii " op " ++ decimal op
+    ++ ascii " place " ++ decimal place
+    ++ newline
+
+-- the line of an answer
+unfoldable pub lineOf : Answer → Bytes
+lineOf a = if eqb (a .number) done then a .written ++ newline else refusalLine (a .number) (a .text) (a .op) (a .place)

@@ -1,0 +1,78 @@
+// The pieces of the line, each laid down at the front of `out`, which is the rest of the output: as many bytes as there is room for. The answer
+// is how many.
+ghost use mathlib.Core.Path.{_≡_};
+ghost use mathlib.Core.List.{_++_};
+ghost use Prim.Native.Nat.{min};
+ghost use Rattle.writer.specs.Writing.{Placed};
+ghost use Rattle.report.specs.Line.{decimal, refusalLine};
+ghost use Rattle.report.specs.Report.{ending};
+use json_patch::Answer;
+use text::write_text;
+
+// The form of a text that is written as it stands.
+const PLAIN: u64 = 1;
+
+// The smaller of two numbers.
+fn least(a: usize, b: usize) -> usize
+    ensures { λ r. ⌜ r ≡ min a b ⌝ }
+{
+    if a < b { a } else { b }
+}
+
+fn put_bytes(s: &[u8], out: &mut [u8]) -> usize
+    ensures { λ r. ⌜ Placed (now (s .entry)) 0 (now (out .entry)) (now (out .exit)) r ⌝ }
+{
+    let count = write_text(PLAIN, s, out);
+    least(count, out.len())
+}
+
+// The digits of a number.
+fn put_decimal(n: u64, out: &mut [u8]) -> usize
+    ensures { λ r. ⌜ Placed (decimal n) 0 (now (out .entry)) (now (out .exit)) r ⌝ }
+{
+    let mut digits = [0u8; 20];
+    let count = io::decimal(n, &mut digits);
+    put_bytes(&digits[..count], out)
+}
+
+// A number after a word.
+fn put_field(word: &[u8], n: u64, out: &mut [u8]) -> usize
+    ensures { λ r. ⌜ Placed (now (word .entry) ++ decimal n) 0 (now (out .entry)) (now (out .exit)) r ⌝ }
+{
+    let put = put_bytes(word, out);
+    let more = put_decimal(n, &mut out[put..]);
+    put + more
+}
+
+// Two of them.
+fn put_two_fields(first: &[u8], m: u64, second: &[u8], n: u64, out: &mut [u8]) -> usize
+    ensures { λ r. ⌜ Placed ((now (first .entry) ++ decimal m) ++ (now (second .entry) ++ decimal n)) 0 (now (out .entry)) (now (out .exit)) r ⌝ }
+{
+    let put = put_field(first, m, out);
+    let more = put_field(second, n, &mut out[put..]);
+    put + more
+}
+
+fn put_refusal(answer: Answer, out: &mut [u8]) -> usize
+    ensures { λ r. ⌜ Placed (refusalLine (answer .number) (answer .text) (answer .op) (answer .place)) 0 (now (out .entry)) (now (out .exit)) r ⌝ }
+{
+    let number = answer.number as u64;
+    let text = answer.text as u64;
+    let op = answer.op as u64;
+    let place = answer.place as u64;
+    let mut put = put_two_fields(b"refused ", number, b" text ", text, out);
+    let n = put_two_fields(b" op ", op, b" place ", place, &mut out[put..]);
+    put += n;
+    let last = put_bytes(b"\n", &mut out[put..]);
+    put + last
+}
+
+// What stands in the line behind the written text.
+pub fn put_ending(answer: Answer, out: &mut [u8]) -> usize
+    ensures { λ r. ⌜ Placed (ending answer) 0 (now (out .entry)) (now (out .exit)) r ⌝ }
+{
+    if answer.number == 0 {
+        return put_bytes(b"\n", out);
+    }
+    put_refusal(answer, out)
+}
