@@ -31,7 +31,7 @@ use Rattle.reader.specs.declared.values.Read.{Read}
 use Rattle.reader.specs.declared.values.Read.the-variants as Read
 use Rattle.writer.specs.Writing.{FitsIs, WriteIs}
 use Rattle.writer.proofs.CallerLaws.{fits-is, written-whole}
-use Rattle.operations.specs.Document.{Document}
+use Rattle.changes.specs.Document.{Document}
 use Rattle.operations.specs.Run.{RanTo, ran, halted, RunIs}
 use Rattle.operations.specs.declared.run.Ran.{Ran}
 use Rattle.operations.specs.declared.run.Ran.the-variants as Ran

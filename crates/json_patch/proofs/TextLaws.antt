@@ -27,7 +27,7 @@ use Rattle.reader.specs.Filled.{Changed}
 use Rattle.reader.specs.Texts.{reading, Rooted, TextIs, text-read, text-refused}
 use Rattle.reader.specs.declared.values.Read.{Read}
 use Rattle.reader.specs.declared.values.Read.the-variants as Read
-use Rattle.operations.specs.Document.{Document}
+use Rattle.changes.specs.Document.{Document}
 use Rattle.json_patch.specs.Stages.{PatchHeld}
 
 -- ---- where the text is not too long and the columns are long enough, nothing is refused before the definition's reading

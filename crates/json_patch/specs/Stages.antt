@@ -19,7 +19,7 @@ use Rattle.tape.specs.Cell.{Cell}
 use Rattle.table.specs.Meaning.{meant}
 use Rattle.table.specs.Sound.{NodeHeld}
 use Rattle.walk.specs.Names.{Short}
-use Rattle.operations.specs.Document.{Document}
+use Rattle.changes.specs.Document.{Document}
 use Rattle.json_patch.specs.Call.{Answered, lentOf}
 use Rattle.json_patch.specs.declared.answer.Answer.{Answer}
 

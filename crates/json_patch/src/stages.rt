@@ -3,7 +3,7 @@
 use crate::answer::Answer;
 use crate::answer::refusal;
 use crate::answer::success;
-use operations::paths::MAX_DEPTH;
+use changes::MAX_DEPTH;
 use operations::run::Ran;
 use operations::run::run;
 use reader::Read;

@@ -19,10 +19,11 @@ use Rattle.tape.proofs.Tape.{holds-moved}
 use Rattle.tape.proofs.Rows.{span-here}
 use Rattle.tape.proofs.Held.{held-node}
 use Rattle.table.specs.Sound.{NodeHeld}
-use Rattle.operations.specs.Site.{Offered}
-use Rattle.operations.specs.Document.{Document}
+use Rattle.changes.specs.Site.{Offered}
+use Rattle.changes.specs.Document.{Document}
+use Rattle.changes.proofs.KeptLaws.{formed-alone, held-alone, held-same, same-first}
 use Rattle.operations.specs.Perform.{SamePatch, SetAsideIs}
-use Rattle.operations.proofs.KeptLaws.{formed-alone, held-alone, held-same, same-first, patch-before}
+use Rattle.operations.proofs.PatchLaws.{patch-before}
 
 -- ---- words of the document's rows copied to the scratch rows
 length-moved : {W : Type 0} (xs : List W) (to start n : ℕ) → to + n ≤ length xs → start + n ≤ length xs → length (moved xs to start n) ≡ length xs

@@ -1,14 +1,5 @@
-pub mod LimitLaws
-pub mod CutLaws
-pub mod KeptLaws
-pub mod SiteLaws
-pub mod PutLaws
-pub mod MeantLaws
-pub mod ChangeLaws
-pub mod TokenLaws
-pub mod AlterLaws
-pub mod DocumentLaws
-pub mod PathLaws
+pub mod PatchLaws
+pub mod PerformedLaws
 pub mod RemovalLaws
 pub mod AsideLaws
 pub mod TransferLaws

@@ -41,14 +41,15 @@ use Rattle.shape.specs.declared.members.Spelled.the-variants as Spelled
 use Rattle.shape.proofs.KindLaws.{asks-known}
 use Rattle.shape.proofs.MemberLaws.{sought-missing, sought-at}
 use Rattle.shape.proofs.AnswerLaws.{text-refused, text-decoded}
-use Rattle.operations.specs.Site.{Offered}
-use Rattle.operations.specs.Document.{Document, judged, adds-at, removes-at, replaces-at, ChangeAtIs}
+use Rattle.changes.specs.Site.{Offered}
+use Rattle.changes.specs.Document.{Document, judged, adds-at, removes-at, replaces-at, ChangeAtIs}
+use Rattle.changes.specs.declared.answers.Change.the-variants.{Add, Remove, Replace}
+use Rattle.changes.specs.declared.answers.Altered.{Altered}
+use Rattle.changes.specs.declared.answers.Altered.the-variants.{Done, Refused}
+use Rattle.changes.proofs.DocumentLaws.{document-fits, the-value, no-value}
 use Rattle.operations.specs.Perform.{performed, failed, CopyIs, MoveIs, TestIs, WithValueIs, WithFromIs, OfKindIs, PerformIs}
-use Rattle.operations.specs.declared.answers.Change.the-variants.{Add, Remove, Replace}
-use Rattle.operations.specs.declared.answers.Altered.{Altered}
-use Rattle.operations.specs.declared.answers.Altered.the-variants.{Done, Refused}
-use Rattle.operations.proofs.KeptLaws.{patch-same}
-use Rattle.operations.proofs.DocumentLaws.{document-fits, the-value, no-value, performed-change, same-performed}
+use Rattle.operations.proofs.PatchLaws.{patch-same}
+use Rattle.operations.proofs.PerformedLaws.{performed-change, same-performed}
 use Rattle.operations.proofs.ToldLaws.{told}
 
 -- ---- a test

@@ -15,9 +15,9 @@ use Rattle.spec.specs.Operation.{put, withKids, atParent, removeChild, removeAt
 use Rattle.spec.proofs.OutcomeLaws.{refused≢ok, both-ok}
 use Rattle.spec.proofs.ChildLaws.{child-there, depth-child, depth-put}
 use Rattle.tape.proofs.Forests.{size-removeAt}
-use Rattle.operations.specs.Document.{Document, judged}
-use Rattle.operations.proofs.LimitLaws.{nodes-put, judged-fits, judged-refused}
-use Rattle.operations.proofs.DocumentLaws.{few-nodes}
+use Rattle.changes.specs.Document.{Document, judged}
+use Rattle.changes.proofs.LimitLaws.{nodes-put, judged-fits, judged-refused}
+use Rattle.changes.proofs.DocumentLaws.{few-nodes}
 
 -- a value with no more containers nested, and no more nodes, than another
 record NoLarger (w v : Value.Value) : Type 0 where

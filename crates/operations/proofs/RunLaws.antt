@@ -28,14 +28,14 @@ use Rattle.tape.proofs.Held.{held-node}
 use Rattle.table.specs.Meaning.{members, meant}
 use Rattle.walk.specs.Names.{Short}
 use Rattle.shape.proofs.RunLaws.{rows-children, rows-first, first-node, rows-next}
-use Rattle.operations.specs.Document.{Document}
+use Rattle.changes.specs.Document.{Document}
+use Rattle.changes.specs.declared.answers.Altered.{Altered}
+use Rattle.changes.specs.declared.answers.Altered.the-variants as Altered
 use Rattle.operations.specs.Perform.{Performed, performed, failed, Listed, PerformIs}
 use Rattle.operations.specs.Run.{RanTo, ran, halted, ElementsRunIs, RunIs}
-use Rattle.operations.specs.declared.answers.Altered.{Altered}
-use Rattle.operations.specs.declared.answers.Altered.the-variants as Altered
 use Rattle.operations.specs.declared.run.Ran.{Ran}
 use Rattle.operations.specs.declared.run.Ran.the-variants as Ran
-use Rattle.operations.proofs.KeptLaws.{rows-kept}
+use Rattle.operations.proofs.PatchLaws.{rows-kept}
 use Rattle.table.specs.Sound.{RowsHeld}
 
 -- ---- the first of the operations

@@ -16,14 +16,16 @@ use Rattle.walk.specs.Path.{WalkIs}
 use Rattle.walk.specs.declared.steps.Child.{Child}
 use Rattle.walk.specs.declared.steps.Child.the-variants as Child
 use Rattle.walk.proofs.PathLaws.{first-of}
-use Rattle.operations.specs.Document.{Document, judged, Results, results, refusal, adds-at, removes-at, ChangeAtIs}
+use Rattle.changes.specs.Document.{Document, judged, Results, results, refusal, adds-at, removes-at, ChangeAtIs}
+use Rattle.changes.specs.declared.answers.Change.the-variants.{Add, Remove}
+use Rattle.changes.specs.declared.answers.Altered.{Altered}
+use Rattle.changes.specs.declared.answers.Altered.the-variants.{Done, Refused}
+use Rattle.changes.proofs.KeptLaws.{offered-behind}
+use Rattle.changes.proofs.TokenLaws.{some-token}
+use Rattle.changes.proofs.DocumentLaws.{document-fits, the-value, no-value}
 use Rattle.operations.specs.Perform.{Performed, performed, failed, SetAsideIs, CopyIs, MoveAsideIs, MoveValueIs, MoveIs}
-use Rattle.operations.specs.declared.answers.Change.the-variants.{Add, Remove}
-use Rattle.operations.specs.declared.answers.Altered.{Altered}
-use Rattle.operations.specs.declared.answers.Altered.the-variants.{Done, Refused}
-use Rattle.operations.proofs.KeptLaws.{offered-behind, patch-same, patch-behind}
-use Rattle.operations.proofs.TokenLaws.{some-token}
-use Rattle.operations.proofs.DocumentLaws.{document-fits, the-value, no-value, performed-change, performed-after}
+use Rattle.operations.proofs.PatchLaws.{patch-same, patch-behind}
+use Rattle.operations.proofs.PerformedLaws.{performed-change, performed-after}
 use Rattle.operations.proofs.RemovalLaws.{document-removed}
 use Rattle.operations.proofs.AsideLaws.{values-kept, names-kept, aside-offered, aside-document}
 

@@ -1,7 +1,2 @@
-pub mod Limited
-pub mod Site
-pub mod Cut
-pub mod Change
-pub mod Document
 pub mod Perform
 pub mod Run

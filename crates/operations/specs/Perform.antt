@@ -26,10 +26,10 @@ use Rattle.walk.specs.Names.{Short}
 use Rattle.walk.specs.Path.{PathIs}
 use Rattle.shape.specs.Operation.{Knows}
 use Rattle.shape.specs.declared.kinds.Kind.{Kind}
-use Rattle.operations.specs.Site.{Offered}
-use Rattle.operations.specs.Document.{Document, judged}
-use Rattle.operations.specs.declared.answers.Altered.{Altered}
-use Rattle.operations.specs.declared.answers.Altered.the-variants.{Done, Refused}
+use Rattle.changes.specs.Site.{Offered}
+use Rattle.changes.specs.Document.{Document, judged}
+use Rattle.changes.specs.declared.answers.Altered.{Altered}
+use Rattle.changes.specs.declared.answers.Altered.the-variants.{Done, Refused}
 
 -- a column, and the same with other words in the rows of the document and of scratch: those of the patch are kept
 pub record SamePatch (xs ys : List ℕ) : Type 0 where

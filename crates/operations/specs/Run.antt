@@ -15,7 +15,7 @@ use Rattle.tape.specs.Cell.{Cell}
 use Rattle.table.specs.Meaning.{members, meant}
 use Rattle.table.specs.Sound.{NodeHeld, RowsHeld}
 use Rattle.walk.specs.Names.{Short}
-use Rattle.operations.specs.Document.{Document}
+use Rattle.changes.specs.Document.{Document}
 use Rattle.operations.specs.declared.run.Ran.{Ran}
 use Rattle.operations.specs.declared.run.Ran.the-variants.{Done, Refused}
 

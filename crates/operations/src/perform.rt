@@ -1,10 +1,10 @@
 // One operation of the patch. Its members are found again in the rows of the patch.
-use crate::answers::Altered;
-use crate::answers::Change;
-use crate::paths::MAX_DEPTH;
-use crate::paths::change_at;
 use crate::transfers::copy;
 use crate::transfers::move_to;
+use changes::Altered;
+use changes::Change;
+use changes::MAX_DEPTH;
+use changes::change_at;
 use equality::equal;
 use shape::kinds::Kind;
 use shape::kinds::uses_from;

@@ -1,6 +1,6 @@
 // The operations of a patch, one after another.
-use crate::answers::Altered;
 use crate::perform::perform;
+use changes::Altered;
 use tape::layout::PATCH;
 use tape::nodes::end_of;
 ghost use Rattle.operations.specs.Run.{ElementsRunIs, RunIs};

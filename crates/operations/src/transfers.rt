@@ -1,8 +1,8 @@
 // A value of the document moved or copied to another location, by way of the scratch rows.
-use crate::answers::Altered;
-use crate::answers::Change;
-use crate::paths::change_at;
-use crate::trees::size;
+use changes::Altered;
+use changes::Change;
+use changes::change_at;
+use changes::size;
 use pointer::First;
 use pointer::first;
 use table::spellings::part;

@@ -1,0 +1,11 @@
+pub mod LimitLaws
+pub mod CutLaws
+pub mod KeptLaws
+pub mod SiteLaws
+pub mod PutLaws
+pub mod MeantLaws
+pub mod ChangeLaws
+pub mod TokenLaws
+pub mod AlterLaws
+pub mod DocumentLaws
+pub mod PathLaws

@@ -1,0 +1,29 @@
+use Rattle.changes.proofs.ChangeLaws.{remove-done, remove-refused}
+use borrow.Author.Needs.{needs}
+use Rattle.changes.proofs.children.remove.Statement.{statement}
+use Rattle.changes.proofs.children.remove.Tie as tie
+
+pub remove-spec : {M : Type 1} → statement M
+remove-spec =
+    tie.close
+    (tie.spec
+    -- step-requires
+    (λ c κs. search needs)
+    -- enum-known-at
+    (λ c. search needs)
+    -- take-out-requires
+    (λ c κs. search needs)
+    -- same-length
+    (λ c. search needs)
+    -- same-length-2
+    (λ c. search needs)
+    -- returns
+    (λ c. (remove-done _ (c .before .before .before .before .before .before .before .before .before .before .step .ensures .0) _ (c .before .before .before .before .before .before .before .before .at .given .1) (c .before .before .before .before .take-out .ensures .0), c .before .before .before .before .take-out .ensures .1))
+    -- enum-known-n
+    (λ c. search needs)
+    -- same-length-3
+    (λ c. search needs)
+    -- same-length-4
+    (λ c. search needs)
+    -- returns-2
+    (λ c. (remove-refused _ (c .before .before .before .step .ensures .0) _ (c .before .n .given .1), tt)))

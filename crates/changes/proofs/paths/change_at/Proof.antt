@@ -1,0 +1,37 @@
+use borrow.Author.Needs.{needs}
+use Rattle.changes.proofs.PathLaws.{change-root, change-below, change-malformed}
+use Rattle.changes.proofs.paths.change_at.Statement.{statement}
+use Rattle.changes.proofs.paths.change_at.Tie as tie
+
+pub change-at-spec : {M : Type 1} → statement M
+change-at-spec =
+    tie.close
+    (tie.spec
+    -- part-requires
+    (λ c κs. search needs)
+    -- first-requires
+    (λ c κs. search needs)
+    -- enum-told
+    (λ c. search needs)
+    -- change-document-requires
+    (λ c κs. search needs)
+    -- same-length
+    (λ c. search needs)
+    -- same-length-2
+    (λ c. search needs)
+    -- returns
+    (λ c. change-root _ (c .before .before .before .before .before .before .before .before .before .before .part .ensures) _ (c .before .before .before .before .before .before .before .before .before .first .ensures) (c .before .before .before .before .before .before .before .enum-told .given .1) (c .before .before .before .before .change-document .ensures))
+    -- enum-known-at
+    (λ c. search needs)
+    -- alter-requires
+    (λ c κs. search needs)
+    -- same-length-3
+    (λ c. search needs)
+    -- same-length-4
+    (λ c. search needs)
+    -- returns-2
+    (λ c. change-below _ (c .before .before .before .before .before .before .before .before .before .before .before .part .ensures) _ (c .before .before .before .before .before .before .before .before .before .before .first .ensures) _ (c .before .before .before .before .before .before .before .before .at .given .1) (c .before .before .before .before .alter .ensures .0) (c .before .before .before .before .alter .ensures .1))
+    -- enum-told-2
+    (λ c. search needs)
+    -- returns-3
+    (λ c. change-malformed _ (c .before .before .before .part .ensures) _ (c .before .before .first .ensures) (c .enum-told2 .given .1)))

@@ -1,0 +1,5 @@
+pub mod Limited
+pub mod Site
+pub mod Cut
+pub mod Change
+pub mod Document
