@@ -7,7 +7,6 @@ use lib.Dec.{eqb}
 use Rattle.spec.specs.Outcome.{if_then_else_}
 use Rattle.spec.specs.Bytes.{Bytes}
 use Rattle.spec.specs.Refusal.{done}
-use Rattle.spec.specs.Answer as Spec
 use Rattle.spec.specs.Answer.{Lent, answer, workSuffices}
 use Rattle.writer.specs.Writing.{Placed}
 use Rattle.json_patch.specs.Call.{wiped}

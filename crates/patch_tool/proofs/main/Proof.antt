@@ -3,12 +3,6 @@ use borrow.Author.Needs.{needs}
 use Rattle.patch_tool.proofs.ContentsLaws.{bytes-within, bytes-counted}
 use Rattle.patch_tool.proofs.main.Statement.{statement}
 use Rattle.patch_tool.proofs.main.Tie as tie
-use Rattle.patch_tool.proofs.main.Reads as reads
-use Rattle.patch_tool.proofs.main.Lts as lts
-use Rattle.os.proofs.arg_count.Reads as arg-count-reads
-use Rattle.patch_tool.proofs.read_file.Reads as read-file-reads
-use Rattle.patch_tool.proofs.run.Reads as run-reads
-use Rattle.patch_tool.proofs.unreadable.Reads as unreadable-reads
 
 -- src/main.rt:95:8
 arg-count-requires : tie.Need-arg-count-requires
