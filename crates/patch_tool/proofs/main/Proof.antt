@@ -4,87 +4,66 @@ use Rattle.patch_tool.proofs.ContentsLaws.{bytes-within, bytes-counted}
 use Rattle.patch_tool.proofs.main.Statement.{statement}
 use Rattle.patch_tool.proofs.main.Tie as tie
 
--- src/main.rt:95:8
 arg-count-requires : tie.Need-arg-count-requires
 arg-count-requires c κs = search needs
 
--- src/main.rt:96:9
 unreadable-requires : tie.Need-unreadable-requires
 unreadable-requires c κs = search needs
 
--- src/main.rt:97:9
 returns : tie.Need-returns
 returns c = search needs
 
--- src/main.rt:101:43
 slice-aggregate-read-file : tie.Need-slice-aggregate-read-file
 slice-aggregate-read-file c = search needs
 
--- src/main.rt:101:30
 read-file-requires : tie.Need-read-file-requires
 read-file-requires c κs = search needs
 
--- src/main.rt:101:25
 enum-known-d : tie.Need-enum-known-d
 enum-known-d c = search needs
 
--- src/main.rt:102:9
 enum-told : tie.Need-enum-told
 enum-told c = search needs
 
--- src/main.rt:102:9
 unreadable-requires-2 : tie.Need-unreadable-requires-2
 unreadable-requires-2 c κs = search needs
 
--- src/main.rt:103:9
 returns-2 : tie.Need-returns-2
 returns-2 c = search needs
 
--- src/main.rt:105:43
 slice-aggregate-read-file-2 : tie.Need-slice-aggregate-read-file-2
 slice-aggregate-read-file-2 c = search needs
 
--- src/main.rt:105:30
 read-file-requires-2 : tie.Need-read-file-requires-2
 read-file-requires-2 c κs = search needs
 
--- src/main.rt:105:25
 enum-known-p : tie.Need-enum-known-p
 enum-known-p c = search needs
 
--- src/main.rt:106:9
 enum-told-2 : tie.Need-enum-told-2
 enum-told-2 c = search needs
 
--- src/main.rt:106:9
 unreadable-requires-3 : tie.Need-unreadable-requires-3
 unreadable-requires-3 c κs = search needs
 
--- src/main.rt:107:9
 returns-3 : tie.Need-returns-3
 returns-3 c = search needs
 
--- src/main.rt:109:9
 array-share-prefix-document : tie.Need-array-share-prefix-document
 array-share-prefix-document c = bytes-within (c .before .before .before .before .before .before .before .before .before .before .read-file .last .1 .0) (c .before .before .before .before .before .before .before .d .given .1) (c .before .before .before .before .before .before .before .before .before .before .read-file .ensures)
 
--- src/main.rt:109:9
 slice-aggregate-run : tie.Need-slice-aggregate-run
 slice-aggregate-run c = bytes-counted _ (c .before .before .before .before .before .before .before .before .d .given .1) (c .before .before .before .before .before .before .before .before .before .before .before .read-file .ensures)
 
--- src/main.rt:109:25
 array-share-prefix-patch : tie.Need-array-share-prefix-patch
 array-share-prefix-patch c = bytes-within (c .before .before .before .before .before .read-file2 .last .1 .0) (c .before .before .p .given .1) (c .before .before .before .before .before .read-file2 .ensures)
 
--- src/main.rt:109:25
 slice-aggregate-run-2 : tie.Need-slice-aggregate-run-2
 slice-aggregate-run-2 c = bytes-counted _ (c .before .before .before .p .given .1) (c .before .before .before .before .before .before .read-file2 .ensures)
 
--- src/main.rt:109:5
 run-requires : tie.Need-run-requires
 run-requires c κs = search needs
 
--- src/main.rt:94:1
 returns-4 : tie.Need-returns-4
 returns-4 c = search needs
 
