@@ -2,10 +2,11 @@
 // `used` rows of both columns, no more and no less than its nodes.
 //
 // What is proved: of a document that the columns hold (`Document` of specs), of a pointer and of a change, `change_at` answers as the definitions of
-// the change do, with the limits judged: then the rows of the document hold the result and no others have changed, or the answer is the refusal's number.
+// the change do, with the limits judged: then the document is the result, and the rows from the patch's on are as they were; or the answer is the
+// refusal's number.
 //
-// What a caller should know: every public function is total. The limits are judged before anything moves, 5 before 6.
-// The new value of an addition or a replacement must stand in rows behind the document's, and is copied from there.
+// What a caller should know: every public function is total. The limits are judged before anything moves, 5 before 6. The new value of an addition
+// or a replacement stands in rows behind the document's, and is copied from there.
 
 pub mod answers; // what the functions below take and answer
 mod trees; // a tree put among the children of a node, and taken out
