@@ -7,7 +7,6 @@ ghost use lib.Dec.{eqb};
 ghost use Rattle.spec.specs.Strings.{characters, string};
 ghost use Rattle.lexer.specs.Names.{standsForItself, plainOf, keptOf};
 ghost use Rattle.lexer.specs.Verbatim.{Verbatim};
-ghost use Rattle.lexer.specs.States.{Tables};
 ghost use Rattle.lexer.specs.Answers.{quotedOutcome, nameOutcome, refusedAt};
 use crate::characters::Character;
 use crate::cursor::Bounded;
@@ -15,9 +14,7 @@ use crate::cursor::Cursor;
 use crate::cursor::byte_in;
 use crate::cursor::peek;
 use crate::hash::mix;
-use crate::verbatim::CLASSES;
-use crate::verbatim::STEPS;
-use crate::verbatim::passed_end;
+use crate::verbatim::verbatim_end;
 
 // A name's cursor after it, the hash of its characters, and whether it is plain: written with no escape; or the place of a refusal, whose
 // number is 3.
@@ -78,20 +75,14 @@ fn still_plain(plain: bool, b: u8) -> bool
 
 // The characters from a place to the closing quotation mark, by tables; those before `first` are known to be written with no escape. Once the
 // string is not plain, an escape that is written as it is read is passed with the others.
-fn mixed_characters(
-    s: &[u8],
-    start: usize,
-    first: usize,
-    classes: &[u8; 256],
-    steps: &[u64; 16],
-) -> Quoted
-    requires { ⌜ Verbatim false (now s) start first × Tables (now classes) (now steps) ⌝ }
+fn mixed_characters(s: &[u8], start: usize, first: usize) -> Quoted
+    requires { ⌜ Verbatim false (now s) start first ⌝ }
     ensures { λ r. ⌜ quotedOutcome r ≡ plainOf (now (s .entry)) start (characters (length (now (s .entry))) (now (s .entry)) start) ⌝ }
 {
     let mut at = first;
     let mut plain = true;
     loop {
-        at = passed_end(s, at, !plain, classes, steps);
+        at = verbatim_end(s, at, !plain);
         if peek(s, at) == b'"' {
             return Quoted::Read {
                 next: Cursor { at: at + 1 },
@@ -105,14 +96,6 @@ fn mixed_characters(
         plain = false; // what can be read here begins with a backslash
         at = next.at;
     }
-}
-
-// The same, with the tables.
-fn other_characters(s: &[u8], start: usize, first: usize) -> Quoted
-    requires { ⌜ Verbatim false (now s) start first ⌝ }
-    ensures { λ r. ⌜ quotedOutcome r ≡ plainOf (now (s .entry)) start (characters (length (now (s .entry))) (now (s .entry)) start) ⌝ }
-{
-    mixed_characters(s, start, first, &CLASSES, &STEPS)
 }
 
 // The characters from a place to the closing quotation mark. Most strings have only bytes that stand for themselves, and need no tables.
@@ -129,7 +112,7 @@ fn characters(s: &[u8], start: usize) -> Quoted
             plain: true,
         };
     }
-    other_characters(s, start, at)
+    mixed_characters(s, start, at)
 }
 
 // The characters from a place to the closing quotation mark, with what is kept of them.

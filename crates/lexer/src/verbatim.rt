@@ -19,7 +19,7 @@ const END: u64 = 63;
 // The class of each byte, sixteen to a row, beside table 3-7 of the Unicode standard. A byte that stands for itself is a point, or a colon where
 // it is a letter of an escape that is written as it is read; the quotation mark and the backslash are ' and /. Later bytes of characters are 8,
 // 9 and A, up to BF. First ones are 2, 3 and 4 by the number of bytes, but for E0, ED, F0 and F4: E, -, F and L. All others are 0.
-pub const CLASSES: [u8; 256] = *b"\
+const CLASSES: [u8; 256] = *b"\
     0000000000000000\
     0000000000000000\
     ..'.............\
@@ -39,7 +39,7 @@ pub const CLASSES: [u8; 256] = *b"\
 
 // For each class, by the last four bits of its letter, the next state of each state, of two octal digits: from the right those of 0, 6, 12 and
 // so on.
-pub const STEPS: [u64; 16] = [
+const STEPS: [u64; 16] = [
     0o77_77_77_77_77_77_77_77_77, // 0
     0o77_77_14_77_06_14_06_00_77, // A
     0o77_77_77_77_77_77_77_77_06, // 2
@@ -81,9 +81,8 @@ fn limit(escapes: bool) -> u64
     if escapes { END } else { ESCAPE }
 }
 
-// The end of the characters from a place on that are written as they stand, with or without escapes among them. The tables are lent, since a
-// constant table is laid out anew wherever it is used.
-pub fn passed_end(
+// The end of the characters from a place on that are written as they stand, with or without escapes among them, by tables that are lent.
+fn passed_end(
     s: &[u8],
     start: usize,
     escapes: bool,
@@ -108,9 +107,10 @@ pub fn passed_end(
     end
 }
 
-// The end of the characters from a place on that are written byte for byte as they are read, escapes among them.
-pub fn verbatim_end(s: &[u8], start: usize) -> usize
-    ensures { λ r. ⌜ VerbatimTo true (now (s .entry)) start r ⌝ }
+// The end of the characters from a place on that are written byte for byte as they are read, with or without escapes among them. A constant table is
+// laid out on the stack wherever it is used: here alone, and in no function that calls itself.
+pub fn verbatim_end(s: &[u8], start: usize, escapes: bool) -> usize
+    ensures { λ r. ⌜ VerbatimTo escapes (now (s .entry)) start r ⌝ }
 {
-    passed_end(s, start, true, &CLASSES, &STEPS)
+    passed_end(s, start, escapes, &CLASSES, &STEPS)
 }

@@ -6,5 +6,5 @@ use lexer::verbatim_end;
 pub fn run_end(s: &[u8], start: usize) -> usize
     ensures { λ r. ⌜ Run (now (s .entry)) start r ⌝ }
 {
-    verbatim_end(s, start)
+    verbatim_end(s, start, true)
 }

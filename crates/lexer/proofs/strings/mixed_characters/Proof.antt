@@ -19,22 +19,22 @@ use Rattle.lexer.proofs.strings.mixed_characters.Statement.{statement}
 use Rattle.lexer.proofs.strings.mixed_characters.Tie as tie
 
 abbrev Inv-loop : tie.InvT-loop
-Inv-loop s start first classes steps at₀ plain₀ at plain = Passing s start at plain (plainOf s start (characters (length s) s start))
+Inv-loop s start first at₀ plain₀ at plain = Passing s start at plain (plainOf s start (characters (length s) s start))
 
 abbrev μ-loop : tie.MeasureT-loop
-μ-loop s start first classes steps at₀ plain₀ at plain = length s - at
+μ-loop s start first at₀ plain₀ at plain = length s - at
 
 -- what was passed by the tables
-passed : (c : tie.After-passed-end Inv-loop μ-loop) →
+passed : (c : tie.After-verbatim-end Inv-loop μ-loop) →
     let loop = c .before in
     let start = loop .before .before in
     let s = start .args .s .now in
-    Passing s (start .args .start) (c .passed-end .result) (loop .loop .plain) (plainOf s (start .args .start) (characters (length s) s (start .args .start)))
-passed c = passing-verbatim (c .passed-end .ensures .passed) (not-true _) (c .before .loop .inv)
+    Passing s (start .args .start) (c .verbatim-end .result) (loop .loop .plain) (plainOf s (start .args .start) (characters (length s) s (start .args .start)))
+passed c = passing-verbatim (c .verbatim-end .ensures .passed) (not-true _) (c .before .loop .inv)
 
 no-quote : (c : tie.Else1 Inv-loop μ-loop) →
     let passed = c .before .before in
-    byte (passed .before .before .before .args .s .now) (passed .passed-end .result) ≡ 0x22 → ⊥
+    byte (passed .before .before .before .args .s .now) (passed .verbatim-end .result) ≡ 0x22 → ⊥
 no-quote c e = c .if1 .left (c .before .peek .ensures ∙ e)
 
 pub mixed-characters-spec : {M : Type 1} → statement M
@@ -45,7 +45,7 @@ mixed-characters-spec =
     Inv-loop
     μ-loop
     -- loop-holds
-    (λ c. passing-verbatim (c .before .pre .0) (λ e. absurd (true≢false (sym e))) (passing-starts _ _))
+    (λ c. passing-verbatim (c .before .pre) (λ e. absurd (true≢false (sym e))) (passing-starts _ _))
     (λ c κs. search auto)
     (λ c κs. search auto)
     (λ c. omega (arith, here _ _ _ (sym (c .before .peek .ensures)) (omega arith)))
@@ -65,11 +65,11 @@ mixed-characters-spec =
     let taken = c .before in
     let read = taken .before .before in
     omega
-    (arith, character-ok-past _ _ _ (scalar-ok _ _ (read .character .ensures) (taken .read .given .1)), verbatim-past (read .before .before .before .passed-end .ensures .passed)))
+    (arith, character-ok-past _ _ _ (scalar-ok _ _ (read .character .ensures) (taken .read .given .1)), verbatim-past (read .before .before .before .verbatim-end .ensures .passed)))
     (λ c.
     let taken = c .before in
     let read = taken .before .before in
     let end = read .before .before .before in
     let e = scalar-ok _ _ (read .character .ensures) (taken .read .given .1) in
     let n = no-quote (read .before) in
-    passing-more _ n e (no-more _ _ (end .before .loop .plain) (ends-backslash (end .passed-end .ensures .ends) n e)) (passed end)))
+    passing-more _ n e (no-more _ _ (end .before .loop .plain) (ends-backslash (end .verbatim-end .ensures .ends) n e)) (passed end)))
