@@ -208,21 +208,31 @@ SHAPES = [
 ]
 
 
-def measure(driver, document, patch, folder):
-    """Microseconds a call, or None if the call is refused."""
-    files = [os.path.join(folder, name) for name in ("document", "patch")]
-    for name, content in zip(files, (document, patch)):
-        with open(name, "w", encoding="utf-8") as file:
-            file.write(content)
+def time(driver, files, calls):
+    """Microseconds a call."""
+    result = subprocess.run([driver, *files, str(calls)], capture_output=True, text=True)
+    if result.stderr:
+        sys.exit("growth.py: %s" % result.stderr)
+    return float(result.stdout.split()[3]) / 1000
 
-    def run(calls):
-        result = subprocess.run([driver, *files, str(calls)], capture_output=True, text=True)
-        if result.stderr:
-            sys.exit("growth.py: %s" % result.stderr)
-        return float(result.stdout.split()[3]) / 1000
 
-    calls = max(3, int(TARGET * 1e6 / run(5)))
-    return min(run(calls) for _ in range(RUNS))
+def measure(driver, folder):
+    """For each shape its sizes with their times.  All points are measured in turn,
+    and that several times, so that a burst of noise spoils no point for good."""
+    points = []
+    for shape, most, _ in SHAPES:
+        for step in range(1, STEPS + 1):
+            size = most * step // STEPS
+            files = [os.path.join(folder, "%s.%d.%s" % (shape.__name__, step, part)) for part in ("document", "patch")]
+            for name, content in zip(files, shape(size)):
+                with open(name, "w", encoding="utf-8") as file:
+                    file.write(content)
+            points.append([size, time(driver, files, 5), files])
+    for _ in range(RUNS):
+        for point in points:
+            calls = max(3, int(TARGET * 1e6 / point[1]))
+            point[1] = min(point[1], time(driver, point[2], calls))
+    return [[(size, least) for size, least, _ in points[i:i + STEPS]] for i in range(0, len(points), STEPS)]
 
 
 def picture(results):
@@ -234,10 +244,10 @@ def picture(results):
     for index, (name, unit, points) in enumerate(results):
         left, top = index % columns * width + 40, index // columns * height + 24
         w, h = width - 56, height - 62
-        most, longest = points[-1][0], max(time for _, time in points)
+        most, longest = points[-1][0], max(took for _, took in points)
 
-        def place(size, time):
-            return left + w * size / most, top + h - h * time / longest
+        def place(size, took):
+            return left + w * size / most, top + h - h * took / longest
 
         out += ['<g stroke="#bbb" fill="none"><path d="M%d %dv%dh%d"/>' % (left, top, h, w),
                 '<path stroke-dasharray="3 3" d="M%.1f %.1fL%.1f %.1f"/></g>' % (*place(*points[0]), *place(*points[-1])),
@@ -258,17 +268,13 @@ def main():
                                     % (shape.__name__.encode(), len(document), len(patch), document, patch))
         return
     driver, svg = sys.argv[1:]
-    results = []
-    print("| shape | full size | µs | growth from half |\n|---|---|---|---|")
     with tempfile.TemporaryDirectory() as folder:
-        for shape, most, unit in SHAPES:
-            points = []
-            for step in range(1, STEPS + 1):
-                size = most * step // STEPS
-                points.append((size, measure(driver, *shape(size), folder)))
-            results.append((shape.__name__, unit, points))
-            full, half = points[-1][1], points[STEPS // 2 - 1][1]
-            print("| %s | %d %s | %.1f | %.2f |" % (shape.__name__.replace("_", " "), most, unit, full, full / half), flush=True)
+        measured = measure(driver, folder)
+    results = [(shape.__name__, unit, points) for (shape, _, unit), points in zip(SHAPES, measured)]
+    print("| shape | full size | µs | growth from half |\n|---|---|---|---|")
+    for name, unit, points in results:
+        (size, full), half = points[-1], points[STEPS // 2 - 1][1]
+        print("| %s | %d %s | %.1f | %.2f |" % (name.replace("_", " "), size, unit, full, full / half))
     with open(svg, "w", encoding="utf-8") as file:
         file.write(picture(results))
 
