@@ -7,10 +7,8 @@ ghost use Rattle.writer.specs.Writing.{Placed};
 ghost use Rattle.report.specs.Line.{decimal, refusalLine};
 ghost use Rattle.report.specs.Report.{ending};
 use json_patch::Answer;
+use tape::layout::PLAIN_STRING;
 use text::write_text;
-
-// The form of a text that is written as it stands.
-const PLAIN: u64 = 1;
 
 // The smaller of two numbers.
 fn least(a: usize, b: usize) -> usize
@@ -22,7 +20,7 @@ fn least(a: usize, b: usize) -> usize
 fn put_bytes(s: &[u8], out: &mut [u8]) -> usize
     ensures { λ r. ⌜ Placed (now (s .entry)) 0 (now (out .entry)) (now (out .exit)) r ⌝ }
 {
-    let count = write_text(PLAIN, s, out);
+    let count = write_text(PLAIN_STRING, s, out);
     least(count, out.len())
 }
 
