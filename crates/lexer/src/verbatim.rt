@@ -1,7 +1,6 @@
 // Characters that stand in a text as they are written, passed by tables. The processor foresees badly of what kind the next character is, so that
 // here every byte, be it a character or a part of one, takes the same few steps.
 ghost use mathlib.Core.Path.{_≡_};
-ghost use mathlib.Core.Bool.{true};
 ghost use Prim.Native.Nat.{_<_};
 ghost use lib.Dec.{eqb};
 ghost use Rattle.spec.specs.Outcome.{if_then_else_};

@@ -7,11 +7,6 @@ use Rattle.spec.specs.Forest.{Forest, none, tree, Tree, single, count, size, be
 
 module _ {A : Type 0} where
   -- ---- joined
-  pub ⧺-none : (f : Forest A) → f ⧺ none ≡ f
-  unfolding _⧺_
-  ⧺-none none = refl
-  ⧺-none (tree a kids rest) = ap (tree a kids) (⧺-none rest)
-
   pub ⧺-assoc : (f g h : Forest A) → (f ⧺ g) ⧺ h ≡ f ⧺ g ⧺ h
   unfolding _⧺_
   ⧺-assoc none g h = refl
@@ -40,12 +35,6 @@ module _ {A : Type 0} where
 
   pub size-cut : (k : ℕ) (f : Forest A) → size (before k f) + size (from k f) ≡ size f
   size-cut k f = sym (size-⧺ (before k f) (from k f)) ∙ ap size (before-from k f)
-
-  pub count-before : (k : ℕ) (f : Forest A) → k ≤ count f → count (before k f) ≡ k
-  unfolding before count
-  count-before zero f h = refl
-  count-before (suc k) none h = absurd (not-suc-le-zero h)
-  count-before (suc k) (tree a kids rest) h = ap suc (count-before k rest (le-of-suc-le-suc h))
 
   pub count-from : (k : ℕ) (f : Forest A) → k ≤ count f → k + count (from k f) ≡ count f
   unfolding count from
@@ -83,15 +72,6 @@ module _ {A : Type 0} where
 
   pub size-before-suc : (t : Tree A) (k : ℕ) (f : Forest A) → k < count f → size (before (suc k) f) ≡ size (before k f) + suc (size (nth t k f .kids))
   size-before-suc t k f h = ap size (before-nth t k f h) ∙ size-⧺ (before k f) (single (nth t k f)) ∙ ap (_+_ (size (before k f))) (size-single (nth t k f))
-
-  -- the k-th tree begins where it is among the trees from the k-th on
-  pub nth-from : (t : Tree A) (k : ℕ) (f : Forest A) (a : A) (kids rest : Forest A) → from k f ≡ tree a kids rest
-      → nth t k f ≡ record { root = a; kids = kids }
-  unfolding from nth
-  nth-from t zero none a kids rest e = absurd (let z : _≡_ {A = ℕ} 0 1 = cc in omega arith)
-  nth-from t zero (tree b ks r) a kids rest e = cc
-  nth-from t (suc k) none a kids rest e = absurd (let z : _≡_ {A = ℕ} 0 1 = cc in omega arith)
-  nth-from t (suc k) (tree b ks r) a kids rest e = nth-from t k r a kids rest e
 
   pub from-suc : (k : ℕ) (f : Forest A) (a : A) (kids rest : Forest A) → from k f ≡ tree a kids rest → from (suc k) f ≡ rest
   unfolding from

@@ -127,11 +127,6 @@ pub reads-past : {s : Bytes} {at to : ℕ} {cs : Text} → at ≤ length s → R
 reads-past l nothing = omega arith
 reads-past {s} {at} l (one-more e r) = let n = in-past s at e in omega (arith, reads-past (n .1) r)
 
--- one reading after another
-pub reads-append : {s : Bytes} {from at to : ℕ} {cs ds : Text} → Reads s from cs at → Reads s at ds to → Reads s from (cs ++ ds) to
-reads-append nothing r = r
-reads-append (one-more e q) r = one-more e (reads-append q r)
-
 -- what is decoded from the first place is what was read, and then what is decoded from the second
 pub reads-decode : {s : Bytes} {at to : ℕ} {cs : Text} → Reads s at cs to → decodeFrom s at ≡ cs ++ decodeFrom s to
 reads-decode nothing = refl

@@ -64,11 +64,6 @@ verbatim-run Verbatim.none = none
 verbatim-run (raw {c = c} {next} p n m e) = run-raw (verbatim-run p) c next n m e
 verbatim-run (short p t b k) = run-escape (verbatim-run p) b k
 
--- one run after another
-pub run-append : {s : Bytes} {start at to : ℕ} → Run s start at → Run s at to → Run s start to
-run-append r none = r
-run-append r (more q e f) = more (run-append r q) e f
-
 -- ---- what is written of it
 
 pub run-past : {s : Bytes} {start to : ℕ} → Run s start to → start ≤ to

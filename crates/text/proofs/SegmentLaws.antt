@@ -9,7 +9,6 @@ use lib.Dec.{eqb}
 use Rattle.spec.specs.Outcome.{refused, if_then_else_}
 use Rattle.spec.specs.Bytes.{Bytes, Text}
 use Rattle.spec.specs.Pointer.{prepend, segments}
-use Rattle.spec.proofs.TextLaws.{both-true}
 use Rattle.lexer.specs.Names.{part}
 use Rattle.text.specs.Decode.{characterIn, decodeFrom, decode}
 use Rattle.text.proofs.DecodeLaws.{Reads, reads-decode, reads-part, decode-ends}
@@ -17,11 +16,6 @@ use Rattle.text.proofs.DecodeLaws.{Reads, reads-decode, reads-part, dec
 unfoldable pub noSlash : Text → Bool
 noSlash [] = true
 noSlash (c ∷ cs) = not (eqb c (code "/")) && noSlash cs
-
-pub noSlash-append : (cs ds : Text) → noSlash cs ≡ true → noSlash ds ≡ true → noSlash (cs ++ ds) ≡ true
-unfolding noSlash
-noSlash-append [] ds h i = i
-noSlash-append (c ∷ cs) ds h i = let (p, q) = both-true (not (eqb c (code "/"))) (noSlash cs) h in rw (p, noSlash-append cs ds q i)
 
 -- the first character of a segment
 segment-more : (c : ℕ) (cs t u : Text) (ts : List Text) → noSlash (c ∷ cs) ≡ true → (noSlash cs ≡ true → segments u ≡ t ∷ ts) → segments (c ∷ u) ≡ (c ∷ t) ∷ ts
