@@ -166,15 +166,29 @@ ALIKE = [
 ]
 
 
-def one_hash(n):
-    """Names made by hand to have one hash, as an enemy would."""
+def alike(n, before="", after=""):
+    """n names made by hand to have one hash, as an enemy would."""
     names = []
     for factors in itertools.product((0, 1, -1), repeat=len(ALIKE)):
         sums = (sum(f * row[i] for f, row in zip(factors, ALIKE)) for i in range(8))
         name = "".join(chr(80 + s) for s in sums)
         if "\\" not in name:
-            names.append(name)
-    return text({name: 0 for name in names[:n]}), "[]"
+            names.append(before + name + after)
+    return names[:n]
+
+
+def one_hash(n):
+    return text({name: 0 for name in alike(n)}), "[]"
+
+
+def one_hash_long(n):
+    """Names that begin and end alike, too."""
+    return text({name: 0 for name in alike(n, "profile-", ".current")}), "[]"
+
+
+def equal_one_hash(n):
+    there = {name: 0 for name in alike(n)}
+    return text({"a": there}), text([operation("test", "/a", value=dict(reversed(there.items())))])
 
 
 SHAPES = [
@@ -205,6 +219,8 @@ SHAPES = [
     (equal_numbers, 250, "numbers"),
     (equal_escapes, 5400, "characters"),
     (one_hash, 2000, "members"),
+    (one_hash_long, 1000, "members"),
+    (equal_one_hash, 2000, "members"),
 ]
 
 

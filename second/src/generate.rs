@@ -30,6 +30,7 @@ const KINDS: &[(usize, Kind)] = &[
     (16, plain),
     (5, large),
     (7, tests),
+    (3, crowds),
     (7, moves),
     (6, pointers),
     (7, shapes),
@@ -124,6 +125,37 @@ fn tests(random: &mut Random) -> Texts {
         let value = if random.chance(80) { equal_to(random, there) } else { nearly(random, there) };
         drafts.push(Draft { op: "test", path, from: None, value: Some(value) });
     }
+    finish(random, &document, &drafts)
+}
+
+/// Objects of many members, tested in another order, sometimes after a move; now
+/// and then with a name repeated.
+fn crowds(random: &mut Random) -> Texts {
+    const ENDS: &[(&str, &str)] = &[("", ""), ("m", ""), ("", "mAh"), ("a-long-beginning-", "-end")];
+    let mut members = Vec::new();
+    let (before, after) = random.pick(ENDS);
+    for at in 0..random.between(30, 250) {
+        let value = if random.chance(5) { tree(random, 12, 3) } else { Value::Number(at.to_string()) };
+        members.push(Member { name: format!("{before}{at}{after}"), value });
+    }
+    random.shuffle(&mut members);
+    if random.chance(10) {
+        let name = members[random.below(members.len())].name.clone();
+        members.push(Member { name, value: Value::Null });
+    }
+    let crowd = Value::Object(members);
+    let mut drafts = Vec::new();
+    let mut path = "/a".to_string();
+    if random.chance(40) {
+        let op = random.pick(&["move", "copy"]);
+        drafts.push(Draft { op, path: "/b".to_string(), from: Some(path), value: None });
+        path = "/b".to_string();
+    }
+    for _ in 0..random.between(1, 3) {
+        let value = if random.chance(75) { equal_to(random, &crowd) } else { nearly(random, &crowd) };
+        drafts.push(Draft { op: "test", path: path.clone(), from: None, value: Some(value) });
+    }
+    let document = Value::Object(vec![Member { name: "a".to_string(), value: crowd }]);
     finish(random, &document, &drafts)
 }
 

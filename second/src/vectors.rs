@@ -13,6 +13,7 @@ mod equality;
 pub mod examples;
 mod limits;
 mod numbers;
+mod objects;
 mod operations;
 mod pointers;
 mod reading;
@@ -50,6 +51,7 @@ pub fn all() -> Vec<Vector> {
         rows("order", operations::ORDER_ROWS),
         rows("equality", equality::ROWS),
         equality::vectors(),
+        objects::vectors(),
         limits::vectors(),
     ]
     .concat()

@@ -13,21 +13,23 @@ use Rattle.spec.specs.Value as Value
 use Rattle.spec.specs.Value.{Label, isObject, isContainer, depth, depths}
 use Rattle.spec.specs.Equality.{sameLabel, equal}
 use Rattle.claims.specs.Equality.{NoRepeats, Distinct}
-use Rattle.tape.specs.Layout.{arrayKind, objectKind}
+use Rattle.tape.specs.Layout.{arrayKind, objectKind, rows}
 use Rattle.tape.specs.Packing.{kindOf}
 use Rattle.tape.specs.Cell.{Cell}
 use Rattle.tape.specs.Rows.{endOf}
 use Rattle.tape.specs.Map.{mapForest}
+use Rattle.tape.proofs.Columns.{scratched-not}
 use Rattle.tape.proofs.Rows.{kind-here, payload-here}
 use Rattle.table.specs.Meaning.{labelOf, members, meant}
 use Rattle.table.specs.Sound.{NodeHeld}
 use Rattle.table.specs.declared.find.Member.{Member}
 use Rattle.table.specs.declared.find.Member.the-variants.{At, Missing}
 use Rattle.table.proofs.MeaningLaws.{tag-label, isObject-label, isContainer-label}
-use Rattle.equality.specs.Compare.{SameLabelIs, PartnerIs, EqualIs}
+use Rattle.index.specs.Members.{Parents, Indexed}
+use Rattle.equality.specs.Compare.{SameLabelIs, Hints, PartnerIs, EqualIs, CompareIs}
 use Rattle.equality.proofs.LabelLaws.{sameLabel-tag}
 use Rattle.equality.proofs.MatchLaws.{equal-agree, agree-end}
-use Rattle.equality.proofs.SiblingLaws.{value-node, value-inside, value-fit, value-labelled, siblings-all}
+use Rattle.equality.proofs.SiblingLaws.{value-node, value-inside, value-fit, value-labelled, siblings-all, children-all}
 use Rattle.equality.proofs.PartnerLaws.{agreeing}
 use Rattle.equality.proofs.PendingLaws.{Pending, pending-end, pending-more, pending-alone, pending-differs, pending-next}
 
@@ -137,17 +139,27 @@ module _ {D P : Bytes} {vs ns : List ℕ} {at other : ℕ} (levels : ℕ) (o : B
     pub equal-more : stop ≤ next → EqualIs D P vs ns at other levels false
     equal-more h c kids e below x y low apart = sym (pending-more (comparing c kids e below x y low apart) more h)
 
-    module _ (others : next < stop) (stops : stop ≡ endOf vs other) (q : Member) (t : PartnerIs D P vs ns (other + 1) stop row next o q) where
+    module _ (others : next < stop) (stops : stop ≡ endOf vs other) (q : Member) (t : PartnerIs D P vs ns other stop row next o q) where
       pub equal-alone : q ≡ Missing → EqualIs D P vs ns at other levels false
       equal-alone f c kids e below x y low apart =
-          sym (pending-alone (comparing c kids e below x y low apart) more others (siblings-all stop stops y) q t f)
+          sym (pending-alone (comparing c kids e below x y low apart) more others (children-all stop stops y) q t f)
 
       module _ (pair : ℕ) (is : q ≡ At pair) (r : Bool) (compared : EqualIs D P vs ns row pair (levels - 1) r) where
         pub equal-differs : r ≡ false → EqualIs D P vs ns at other levels false
         equal-differs f c kids e below x y low apart =
-            sym (pending-differs (comparing c kids e below x y low apart) more others (siblings-all stop stops y) q t pair is r compared f)
+            sym (pending-differs (comparing c kids e below x y low apart) more others (children-all stop stops y) q t pair is r compared f)
 
         pub comparing-next : r ≡ true → (row' next' : ℕ) → row' ≡ endOf vs row → next' ≡ endOf vs next
             → Comparing D P vs ns at other levels o end stop row' next'
         comparing-next f row' next' m n c kids e below x y low apart =
-            pending-next (comparing c kids e below x y low apart) more others (siblings-all stop stops y) q t pair is r compared f row' next' m n
+            pending-next (comparing c kids e below x y low apart) more others (children-all stop stops y) q t pair is r compared f row' next' m n
+
+-- ---- the ways out of `compare`: without an index, and with one
+module _ {D P : Bytes} {vs ns : List ℕ} {at other levels : ℕ} {r : Bool} where
+  pub compare-plain : (Hints 0 vs → EqualIs D P vs ns at other levels r) → CompareIs D P vs ns vs at other levels r
+  compare-plain said = record { is = said (record { right = λ h. absurd (omega arith) }); scratched = scratched-not }
+
+  pub compare-indexed : {vs' : List ℕ} → rows ≤ length vs → Indexed other vs vs' → (rows ≤ length vs → Parents other vs')
+      → (Hints other vs' → EqualIs D P vs' ns at other levels r) → CompareIs D P vs ns vs' at other levels r
+  compare-indexed long i parents said =
+      record { is = said (record { right = λ _. parents long }); scratched = i .scratched }

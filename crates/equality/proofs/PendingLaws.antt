@@ -19,7 +19,7 @@ use Rattle.table.specs.declared.find.Member.{Member}
 use Rattle.table.specs.declared.find.Member.the-variants.{At, Missing}
 use Rattle.equality.specs.Compare.{PartnerIs, EqualIs}
 use Rattle.equality.proofs.MatchLaws.{agree-end, agree-less, agree-more}
-use Rattle.equality.proofs.SiblingLaws.{Siblings, siblings-none, siblings-first, siblings-next}
+use Rattle.equality.proofs.SiblingLaws.{Siblings, Children, siblings-none, siblings-first, siblings-next}
 use Rattle.equality.proofs.PartnerLaws.{agreeing, alone, paired}
 
 module _ (D P : Bytes) (c : Cell) (kids rest : Forest Cell) where
@@ -71,7 +71,7 @@ module _ {D P : Bytes} {vs ns : List ℕ} {o : Bool} {row end next stop levels :
         now-left (tree c ks rest) none is (siblings-none (p .second) h)
         ∙ agree-more o (members D P all) (entryOf D P c) (members D P ks) (members D P rest)
 
-    module _ (others : next < stop) {start : ℕ} (whole : Siblings D P vs ns start stop all) (q : Member) (t : PartnerIs D P vs ns start stop row next o q) where
+    module _ (others : next < stop) {other : ℕ} (whole : Children D P vs ns other stop all) (q : Member) (t : PartnerIs D P vs ns other stop row next o q) where
       pub pending-alone : q ≡ Missing → verdict ≡ false
       pending-alone e =
           siblings-first (p .first) more λ c ks rest is x.

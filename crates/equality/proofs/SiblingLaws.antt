@@ -10,9 +10,10 @@ use Rattle.spec.specs.Forest.{Forest, none, tree, Tree, size, before, from, nth
 use Rattle.spec.specs.Equality.{partner}
 use Rattle.tape.specs.Cell.{Cell, Fit, Node}
 use Rattle.tape.specs.Rows.{endOf}
+use Rattle.tape.specs.Packing.{spanOf}
 use Rattle.tape.proofs.Forests.{size-cut, from-nth, from-all}
 use Rattle.tape.proofs.Cells.{formed-fit}
-use Rattle.tape.proofs.Rows.{kind-here, payload-here, inside-here}
+use Rattle.tape.proofs.Rows.{kind-here, span-here, payload-here, inside-here, end-here}
 use Rattle.tape.proofs.Held.{Remaining, remaining-all, remaining-next, remaining-none, remaining-first, held-node, held-from, name-here}
 use Rattle.tape.proofs.Map.{map-from, count-map}
 use Rattle.table.specs.Meaning.{entryOf, members, Hashed}
@@ -20,6 +21,7 @@ use Rattle.table.specs.Sound.{Sound, NodeHeld, RowsHeld}
 use Rattle.table.specs.Find.{Found, found, missing}
 use Rattle.table.specs.declared.find.Member.the-variants.{At, Missing}
 use Rattle.table.proofs.AllLaws.{all-first, all-kids, all-rest, all-from}
+use Rattle.index.specs.Members.{Among, first, later, Child}
 use Rattle.equality.specs.Compare.{Labelled}
 use Rattle.equality.proofs.MatchLaws.{partner-find}
 
@@ -45,6 +47,11 @@ module _ {D P : Bytes} {vs ns : List ℕ} {at : ℕ} {c : Cell} {kids : Forest C
 pub record Siblings (D P : Bytes) (vs ns : List ℕ) (row end : ℕ) (f : Forest Cell) : Type 0 where
   pub left : Remaining vs ns row end f
   pub sound : Sound D P f
+
+-- those of the node in a row
+pub record Children (D P : Bytes) (vs ns : List ℕ) (other end : ℕ) (f : Forest Cell) : Type 0 where
+  pub siblings : Siblings D P vs ns (other + 1) end f
+  pub ends : other + 1 + spanOf (getD vs other 0) ≡ end
 
 module _ {D P : Bytes} {vs ns : List ℕ} where
   -- the children of a value
@@ -81,6 +88,29 @@ module _ {D P : Bytes} {vs ns : List ℕ} where
 
     pub siblings-next : (next : ℕ) → next ≡ endOf vs row → Siblings D P vs ns next end rest
     siblings-next next e = record { left = remaining-next next e (s .left); sound = all-rest (s .sound) }
+
+    span-next : row + 1 + spanOf (getD vs row 0) ≡ endOf vs row
+    span-next = let n = held-node (s .left .held) in omega (arith, span-here n, end-here n)
+
+  -- a row among them is that of a tree
+  pub siblings-among : {C : Type 0} {start end row : ℕ} {f : Forest Cell} → Among vs end row start → Siblings D P vs ns start end f
+      → ((k : ℕ) (c : Cell) (kids after : Forest Cell) → from k f ≡ tree c kids after → Siblings D P vs ns row end (tree c kids after) → C) → C
+  unfolding from
+  siblings-among (first h) s then-it = siblings-first s h (then-it 0)
+  siblings-among (later h a) s then-it =
+      siblings-first s h λ c kids rest e x.
+      siblings-among a (siblings-next x _ (span-next x)) λ k d ds after is y.
+      then-it (suc k) d ds after (ap (from (suc k)) e ∙ is) y
+
+  pub children-all : {other : ℕ} {c : Cell} {kids : Forest Cell} (end : ℕ) → end ≡ endOf vs other → NodeHeld D P vs ns other c kids
+      → Children D P vs ns other end kids
+  children-all end e x =
+      let n = value-node x in
+      record { siblings = siblings-all end e x; ends = omega (arith, e, span-here n, end-here n) }
+
+  pub children-child : {C : Type 0} {other end row : ℕ} {f : Forest Cell} → Children D P vs ns other end f → Child vs other row
+      → ((k : ℕ) (c : Cell) (kids after : Forest Cell) → from k f ≡ tree c kids after → Siblings D P vs ns row end (tree c kids after) → C) → C
+  children-child {other = other} {row = row} x k then-it = siblings-among (subst (λ e. Among vs e row (other + 1)) (x .ends) (k .among)) (x .siblings) then-it
 
   -- ---- a member found among them by its name
   module _ {start end : ℕ} {f : Forest Cell} (s : Siblings D P vs ns start end f) where

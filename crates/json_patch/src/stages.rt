@@ -13,22 +13,13 @@ use shape::patch::Shape;
 use shape::patch::shape_of;
 use tape::layout::DOCUMENT;
 use tape::layout::PATCH;
-use tape::layout::SCRATCH;
-use tape::moves::clear;
 use writer::fits;
 use writer::write;
 ghost use mathlib.Core.Path.{_≡_};
-ghost use lib.ListN.{length};
 ghost use Rattle.json_patch.specs.Stages.{WriteOutIs, RunOperationsIs, RunPatchIs, WithPatchIs, WithDocumentIs, CheckedIs};
 
 // Bytes of a text.
 const MAX_BYTES: usize = 32_768;
-
-// Words of the filter of names, which stand in the scratch rows while texts are read.
-const FILTER_WORDS: usize = 1024;
-
-// Bytes of a text so short that its names are compared in no time.
-const SHORT: usize = 512;
 
 // The document is written, where the output has room for all of it.
 fn write_out<'a>(
@@ -106,19 +97,6 @@ fn with_patch<'a>(
     }
 }
 
-// The filter of names is made empty before two texts of these lengths are read. It need not be empty to be right, only to be quick; for short texts it
-// is left as it is.
-fn clear_filter(values: &mut [u64], document: usize, patch: usize)
-    ensures { λ _. ⌜ length (now (values .exit)) ≡ length (now (values .entry)) ⌝ }
-{
-    if document <= SHORT {
-        if patch <= SHORT {
-            return;
-        }
-    }
-    clear(values, SCRATCH, FILTER_WORDS);
-}
-
 // The whole document read, then the patch.
 fn with_document<'a>(
     document: &'a [u8],
@@ -129,7 +107,6 @@ fn with_document<'a>(
 ) -> Answer
     ensures { λ r. ⌜ WithDocumentIs (now (document .entry)) (now (patch .entry)) (now (output .entry)) (now (output .exit)) (now (values .entry)) (now (names .entry)) r ⌝ }
 {
-    clear_filter(values, document.len(), patch.len());
     match read_document(document, values, names) {
         Read::Value(_, end) => return with_patch(document, patch, output, values, names, end),
         Read::Refused(number, place) => return refusal(number, 1, 0, place),

@@ -3,35 +3,28 @@ use Prim.Native.Nat.{ℕ, suc, _+_, _≤_, _<_}
 use native.Mathlib.Omega.{arith}
 use mathlib.Core.Path.{_≡_, refl, ap, _∙_}
 use mathlib.Core.List.{List}
-use lib.ListN.{length, take, drop, getD, length-drop}
-use lib.Seq.{length-take-le}
+use lib.ListN.{length, drop, getD}
 use Rattle.spec.specs.Limits.{maxNodes}
 use Rattle.spec.specs.Bytes.{Bytes}
 use Rattle.spec.specs.Forest.{Forest, none, tree, size}
 use Rattle.spec.specs.Value as Value
 use Rattle.tape.specs.Layout.{scratchRow, rows}
 use Rattle.tape.specs.Packing.{spanOf}
-use Rattle.tape.specs.Columns.{copied, moved}
+use Rattle.tape.specs.Columns.{moved, Scratched}
 use Rattle.tape.specs.Tape.{Holds}
 use Rattle.tape.specs.Cell.{Cell}
-use Rattle.tape.proofs.Columns.{moved-in, take-moved, length-replaced}
+use Rattle.tape.proofs.Columns.{scratched-moved}
 use Rattle.tape.proofs.Tape.{holds-moved}
 use Rattle.tape.proofs.Rows.{span-here}
 use Rattle.tape.proofs.Held.{held-node}
 use Rattle.table.specs.Sound.{NodeHeld}
 use Rattle.changes.specs.Site.{Offered}
 use Rattle.changes.specs.Document.{Document}
-use Rattle.changes.proofs.KeptLaws.{formed-alone, held-alone, held-same, same-first}
+use Rattle.changes.proofs.KeptLaws.{formed-alone}
 use Rattle.operations.specs.Perform.{SamePatch, SetAsideIs}
-use Rattle.operations.proofs.PatchLaws.{patch-before}
+use Rattle.operations.proofs.ScratchLaws.{scratched-patch, scratched-document}
 
 -- ---- words of the document's rows copied to the scratch rows
-length-moved : {W : Type 0} (xs : List W) (to start n : ℕ) → to + n ≤ length xs → start + n ≤ length xs → length (moved xs to start n) ≡ length xs
-unfolding copied
-length-moved xs to start n target there =
-    let new : length (take n (drop start xs)) ≡ n = length-take-le n (drop start xs) (rw length-drop (omega arith)) in
-    rw (moved-in xs to start n target there) (length-replaced xs to n (take n (drop start xs)) target ∙ omega arith)
-
 -- a column, and the same with n words of the document's rows in the scratch rows too
 record Aside (xs ys : List ℕ) (row n : ℕ) : Type 0 where
   inside : row + n ≤ maxNodes
@@ -39,11 +32,8 @@ record Aside (xs ys : List ℕ) (row n : ℕ) : Type 0 where
   is : ys ≡ moved xs scratchRow row n
 
 module _ {xs ys : List ℕ} {row n : ℕ} (aside : Aside xs ys row n) where
-  aside-before : take scratchRow ys ≡ take scratchRow xs
-  aside-before = rw (aside .is) (take-moved xs scratchRow row n (omega arith) (omega arith) scratchRow (omega arith))
-
-  aside-long : length ys ≡ length xs
-  aside-long = rw (aside .is) (length-moved xs scratchRow row n (omega arith) (omega arith))
+  aside-scratched : Scratched xs ys
+  aside-scratched = scratched-moved row n (aside .is) (omega (arith, aside .inside)) (aside .long) (omega (arith, aside .inside, aside .long))
 
   -- the tree that was copied
   aside-holds : {A : Type 0} {w : A → Forest A → ℕ} {a : A} {kids rest : Forest A} {after : List ℕ} → n ≡ suc (size kids) → Holds w xs row (tree a kids rest) after
@@ -62,11 +52,17 @@ module _ {D P : Bytes} {values names values' names' : List ℕ} {used row : ℕ}
   names-aside : Aside names names' row (suc (size kids))
   names-aside = record { inside = omega arith; long = d .titlesLong; is = is .titles ∙ ap (moved names scratchRow row) rows-aside }
 
+  values-scratched : Scratched values values'
+  values-scratched = aside-scratched values-aside
+
+  names-scratched : Scratched names names'
+  names-scratched = aside-scratched names-aside
+
   pub values-kept : SamePatch values values'
-  values-kept = patch-before (aside-before values-aside)
+  values-kept = scratched-patch values-scratched
 
   pub names-kept : SamePatch names names'
-  names-kept = patch-before (aside-before names-aside)
+  names-kept = scratched-patch names-scratched
 
   pub aside-offered : Offered D P values' names' scratchRow c kids
   aside-offered =
@@ -88,29 +84,8 @@ module _ {D P : Bytes} {values names values' names' : List ℕ} {used row : ℕ}
             };
       }
 
-  in-use : size (tree (d .c) (d .kids) none) ≤ scratchRow
-  unfolding size
-  in-use = omega (arith, d .ends, d .few)
-
   pub aside-document : Document D P values' names' used v
-  aside-document =
-      record {
-        c = d .c;
-        kids = d .kids;
-        held =
-            record {
-              rest = none;
-              held = held-same (same-first (aside-before values-aside) in-use) (same-first (aside-before names-aside) in-use) (held-alone (d .held .held));
-              label = d .held .label;
-              sound = d .held .sound;
-            };
-        means = d .means;
-        ends = d .ends;
-        few = d .few;
-        shallow = d .shallow;
-        long = omega (arith, aside-long values-aside);
-        titlesLong = omega (arith, aside-long names-aside);
-      }
+  aside-document = scratched-document values-scratched names-scratched d
 
 -- as the code goes: the words of each column copied
 pub set-aside : {values names values' names' : List ℕ} {row : ℕ} (count : ℕ) → count ≡ spanOf (getD values row 0) + 1 → values' ≡ moved values scratchRow row count

@@ -1,4 +1,5 @@
 pub mod PatchLaws
+pub mod ScratchLaws
 pub mod PerformedLaws
 pub mod RemovalLaws
 pub mod AsideLaws

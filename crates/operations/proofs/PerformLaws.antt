@@ -1,5 +1,5 @@
 -- Laws of one operation of the patch.
-use Prim.Native.Nat.{ℕ, _≤_}
+use Prim.Native.Nat.{ℕ, _+_, _≤_, _<_}
 use native.Mathlib.Omega.{arith}
 use mathlib.Core.Path.{_≡_, refl, ap, sym, _∙_, subst}
 use mathlib.Core.Bool.{Bool, true, false, true≢false}
@@ -8,7 +8,7 @@ use Rattle.spec.specs.Outcome.{Outcome, ok, refused, _>>=_, if_then_else_}
 use Rattle.spec.specs.Refusal.{test-differs}
 use Rattle.spec.specs.Limits.{maxDepth}
 use Rattle.spec.specs.Bytes.{Bytes, Text, ascii}
-use Rattle.spec.specs.Forest.{Forest}
+use Rattle.spec.specs.Forest.{Forest, size}
 use Rattle.spec.specs.Value as Value
 use Rattle.spec.specs.Value.{depth}
 use Rattle.spec.specs.Pointer.{Tokens, tokens, walk}
@@ -21,9 +21,12 @@ use Rattle.claims.specs.Equality.{Distinct}
 use Rattle.claims.proofs.EqualityRules.{proper-repeats}
 use Rattle.claims.proofs.ProperPatch.{operation-proper}
 use Rattle.text.specs.Decode.{decode}
-use Rattle.tape.specs.Layout.{documentRow, patchRow}
+use Rattle.tape.specs.Layout.{documentRow, patchRow, scratchRow}
+use Rattle.tape.specs.Columns.{Scratched}
+use Rattle.tape.proofs.Columns.{scratched-not}
 use Rattle.tape.specs.Cell.{Cell}
-use Rattle.table.specs.Meaning.{partOf, meant}
+use Rattle.tape.proofs.Map.{size-map}
+use Rattle.table.specs.Meaning.{partOf, entryOf, members, meant}
 use Rattle.table.specs.Sound.{NodeHeld}
 use Rattle.table.specs.declared.find.Member.{Member}
 use Rattle.table.specs.declared.find.Member.the-variants as Member
@@ -31,7 +34,7 @@ use Rattle.walk.specs.Names.{Short}
 use Rattle.walk.specs.Path.{PathIs, WalkIs}
 use Rattle.walk.specs.declared.steps.Child.{Child}
 use Rattle.walk.specs.declared.steps.Child.the-variants as Child
-use Rattle.equality.specs.Compare.{EqualIs}
+use Rattle.equality.specs.Compare.{CompareIs}
 use Rattle.shape.specs.Kinds.{kindOutcome, asks}
 use Rattle.shape.specs.Members.{Sought, TextIs, MemberIs, StringIs}
 use Rattle.shape.specs.Operation.{KindIs, Knows}
@@ -49,6 +52,7 @@ use Rattle.changes.specs.declared.answers.Altered.the-variants.{Done, Refused}
 use Rattle.changes.proofs.DocumentLaws.{document-fits, the-value, no-value}
 use Rattle.operations.specs.Perform.{performed, failed, CopyIs, MoveIs, TestIs, WithValueIs, WithFromIs, OfKindIs, PerformIs}
 use Rattle.operations.proofs.PatchLaws.{patch-same}
+use Rattle.operations.proofs.ScratchLaws.{scratched-patch, scratched-node, scratched-document}
 use Rattle.operations.proofs.PerformedLaws.{performed-change, same-performed}
 use Rattle.operations.proofs.ToldLaws.{told}
 
@@ -57,28 +61,36 @@ use Rattle.operations.proofs.ToldLaws.{told}
 depth-walk : (ts : Tokens) (v w : Value.Value) → walk ts v ≡ ok w → depth w ≤ depth v
 depth-walk ts v w e = omega (arith, depth-plant ts v w e w, ap depth (plant-walk ts v w e))
 
-module _ {D P : Bytes} {values names : List ℕ} {path : ℕ} {s : Child} (walked : WalkIs D P values names documentRow path s) where
-  pub test-lost : {used value : ℕ} (number : ℕ) → s ≡ Child.Refused number → TestIs D P values names used path value (Refused number)
+module _ {D P : Bytes} {values names values' : List ℕ} {path : ℕ} {s : Child} (walked : WalkIs D P values names documentRow path s) where
+  pub test-lost : {used value : ℕ} (number : ℕ) → s ≡ Child.Refused number → TestIs D P values names values' used path value (Refused number)
   unfolding testAt _>>=_
-  test-lost number e v d short ts p x kids held distinct = failed {number = number} (rw (no-value s walked d short p e))
+  test-lost number e v d short ts p x kids held low distinct = failed {number = number} (rw (no-value s walked d short p e))
 
-  module _ (at : ℕ) (e : s ≡ Child.At at) {value : ℕ} {same : Bool} (compared : EqualIs D P values names at value maxDepth same) where
+  module _ (at : ℕ) (e : s ≡ Child.At at) {value : ℕ} {same : Bool} (compared : CompareIs D P values names values' at value maxDepth same) where
+    abbrev scratched : Scratched values values'
+    scratched = compared .scratched
+
+    -- both values stand before the scratch rows, and so in the columns afterwards too
     test-found : {used : ℕ} {v : Value.Value} → Document D P values names used v → Short D P → (ts : Tokens) → PathIs D P path ts
-        → (x : Cell) (kids : Forest Cell) → NodeHeld D P values names value x kids → Distinct (meant D P x kids)
+        → (x : Cell) (kids : Forest Cell) → NodeHeld D P values names value x kids → value + size kids < scratchRow → Distinct (meant D P x kids)
         → testAt ts (meant D P x kids) v ≡ (if same then ok v else refused test-differs 0)
     unfolding testAt _>>=_
-    test-found {v = v} d short ts p x kids held distinct =
+    test-found {v = v} d short ts p x kids held low distinct =
         the-value s walked d short p e λ c below f n inside.
         let shallow : depth (meant D P c below) ≤ maxDepth = omega (arith, depth-walk ts v (meant D P c below) f, d .shallow) in
-        rw (f, ← compared c below x kids n held shallow distinct)
+        let here = scratched-node scratched scratched-not (omega (arith, inside, d .few)) n in
+        let there = scratched-node scratched scratched-not low held in
+        rw (f, ← compared .is c below x kids here there shallow distinct)
 
-    pub test-equal : {used : ℕ} → same ≡ true → TestIs D P values names used path value (Done used)
-    test-equal is v d short ts p x kids held distinct =
-        performed {w = v} (rw (test-found d short ts p x kids held distinct, is) (document-fits d)) d patch-same patch-same
+    pub test-equal : {used : ℕ} → same ≡ true → TestIs D P values names values' used path value (Done used)
+    test-equal is v d short ts p x kids held low distinct =
+        performed {w = v} (rw (test-found d short ts p x kids held low distinct, is) (document-fits d)) (scratched-document scratched scratched-not d)
+        (scratched-patch scratched) patch-same
 
-    pub test-unequal : {used : ℕ} → same ≡ false → TestIs D P values names used path value (Refused test-differs)
+    pub test-unequal : {used : ℕ} → same ≡ false → TestIs D P values names values' used path value (Refused test-differs)
     unfolding _>>=_
-    test-unequal is v d short ts p x kids held distinct = failed {number = test-differs} (rw (test-found d short ts p x kids held distinct, is))
+    test-unequal is v d short ts p x kids held low distinct =
+        failed {number = test-differs} (rw (test-found d short ts p x kids held low distinct, is))
 
 -- ---- an operation by its kind
 -- each kind is its own function, judged
@@ -123,24 +135,24 @@ unused q e known uses = true≢false (sym uses ∙ asked q known refl e)
 module _ {D P : Bytes} {values names values' names' : List ℕ} {used path value : ℕ} {r : Altered} {kind : Kind} where
   pub with-add : kindOutcome kind ≡ ok Operation.add → ChangeAtIs D P values names values' names' used path (Add value) r
       → WithValueIs D P values names values' names' used kind path value r
-  with-add e is v d short o known p uses x kids offered means distinct =
+  with-add e is v d short o known p uses x kids offered low means distinct =
       same-performed (add-is o v (the-kind Operation.add e known) ∙ ap (λ w. judged (addAt (o .path) w v)) (sym means))
       (performed-change (is v d short (o .path) p (λ ts v. addAt ts (meant D P x kids) v) (adds-at value x kids offered)))
 
   pub with-replace : kindOutcome kind ≡ ok Operation.replace → ChangeAtIs D P values names values' names' used path (Replace value) r
       → WithValueIs D P values names values' names' used kind path value r
-  with-replace e is v d short o known p uses x kids offered means distinct =
+  with-replace e is v d short o known p uses x kids offered low means distinct =
       same-performed (replace-is o v (the-kind Operation.replace e known) ∙ ap (λ w. judged (replaceAtPath (o .path) w v)) (sym means))
       (performed-change (is v d short (o .path) p (λ ts v. replaceAtPath ts (meant D P x kids) v) (replaces-at value x kids offered)))
 
   pub with-no-value : asks usesValue kind ≡ false → WithValueIs D P values names values' names' used kind path value r
-  with-no-value e v d short o known p uses x kids offered means distinct = absurd (unused usesValue e known uses)
+  with-no-value e v d short o known p uses x kids offered low means distinct = absurd (unused usesValue e known uses)
 
-pub with-test : {D P : Bytes} {values names : List ℕ} {used path value : ℕ} {r : Altered} {kind : Kind} → kindOutcome kind ≡ ok Operation.test
-    → TestIs D P values names used path value r → WithValueIs D P values names values names used kind path value r
-with-test e is v d short o known p uses x kids offered means distinct =
+pub with-test : {D P : Bytes} {values names values' : List ℕ} {used path value : ℕ} {r : Altered} {kind : Kind} → kindOutcome kind ≡ ok Operation.test
+    → TestIs D P values names values' used path value r → WithValueIs D P values names values' names used kind path value r
+with-test e is v d short o known p uses x kids offered low means distinct =
     same-performed (test-is o v (the-kind Operation.test e known) ∙ ap (λ w. judged (testAt (o .path) w v)) (sym means))
-    (is v d short (o .path) p x kids (offered .held) (subst Distinct (sym means) distinct))
+    (is v d short (o .path) p x kids (offered .held) low (subst Distinct (sym means) distinct))
 
 -- ---- with `from`
 module _ {D P : Bytes} {values names values' names' : List ℕ} {used from path : ℕ} {r : Altered} {kind : Kind} where
@@ -158,10 +170,13 @@ module _ {D P : Bytes} {values names values' names' : List ℕ} {used from path 
   with-no-from e v d short o known p uses f = absurd (unused usesFrom e known uses)
 
 -- ---- in a row of the patch
--- a member stands behind its object, and so behind the document
+-- a member stands in the rows of its object, and so behind the document and before the scratch rows
 member-offered : {D P : Bytes} {values names : List ℕ} {row at : ℕ} {name : Text} {v : Value.Value} {m : Member} → m ≡ Member.At at → patchRow ≤ row
-    → Sought D P values names row name v m → (x : Cell) × (kids : Forest Cell) × (Offered D P values names at x kids) × (member name v ≡ ok (meant D P x kids))
-member-offered {at = at} e behind sought = let (x, kids, l, n, is) = sought-at at e sought in (x, kids, record { behind = omega arith; held = n }, is)
+    → row + size (v .kids) < scratchRow → Sought D P values names row name v m
+    → (x : Cell) × (kids : Forest Cell) × (Offered D P values names at x kids) × (at + size kids < scratchRow) × (member name v ≡ ok (meant D P x kids))
+member-offered {at = at} e behind before sought =
+    let (x, kids, l, few, n, is) = sought-at at e sought in
+    (x, kids, record { behind = omega arith; held = n }, omega arith, is)
 
 -- a string that spells a pointer
 module _ {D P : Bytes} {o : Outcome Text} {s : Spelled} {t : Text} (is : TextIs D P o s) (there : o ≡ ok t) where
@@ -195,10 +210,11 @@ module _ {D P : Bytes} {values names values' names' : List ℕ} {used row path :
         → OfKindIs D P values names values' names' used row kind path r
     value-found at e with v d short o l known p =
         let used-here = asked usesValue known is-asked uses in
-        let (x, kids, offered, is) = member-offered e (l .behind) (sought (l .c) (l .kids) (l .held)) in
+        let in-rows : row + size (members D P (l .kids)) < scratchRow = omega (arith, l .before, size-map (entryOf D P) (l .kids)) in
+        let (x, kids, offered, low, is) = member-offered e (l .behind) in-rows (sought (l .c) (l .kids) (l .held)) in
         let value-is = told _ o (l .is) .value used-here in
         let same : meant D P x kids ≡ o .value = cc in
-        with v d short o known p used-here x kids offered same (proper-repeats (operation-proper _ o (l .proper) (l .is) .value-proper .items))
+        with v d short o known p used-here x kids offered low same (proper-repeats (operation-proper _ o (l .proper) (l .is) .value-proper .items))
 
   module _ {a : Bool} {s : Spelled} (is-asked : a ≡ asks usesFrom kind) (uses : a ≡ true) (string : StringIs D P values names row (ascii "from") s) where
     pub from-missing : s ≡ Spelled.Not → OfKindIs D P values names values' names' used row kind path r

@@ -73,11 +73,11 @@ module _ (D P : Bytes) (values names values' names' : List ℕ) (used : ℕ) whe
       → (x : Cell) (kids : Forest Cell) → Offered D P values names scratchRow x kids
       → Performed D P values names values' names' (judged (removeAtPath (g ∷ gs) v >>= addAt ts (meant D P x kids))) r
 
--- ---- a test, with a value of the patch, no object of which has two members of one name
-abbrev pub TestIs : Bytes → Bytes → List ℕ → List ℕ → ℕ → ℕ → ℕ → Altered → Type 0
-TestIs D P values names used path value r =
+-- ---- a test, with a value before the scratch rows, no object of which has two members of one name
+abbrev pub TestIs : Bytes → Bytes → List ℕ → List ℕ → List ℕ → ℕ → ℕ → ℕ → Altered → Type 0
+TestIs D P values names values' used path value r =
     (v : Value.Value) → Document D P values names used v → Short D P → (ts : Tokens) → PathIs D P path ts → (x : Cell) (kids : Forest Cell) → NodeHeld D P values names value x kids
-    → Distinct (meant D P x kids) → Performed D P values names values names (judged (testAt ts (meant D P x kids) v)) r
+    → value + size kids < scratchRow → Distinct (meant D P x kids) → Performed D P values names values' names (judged (testAt ts (meant D P x kids) v)) r
 
 -- ---- an operation of the patch
 -- the operation that the element in a row of the patch is, a value as texts are read
@@ -95,7 +95,8 @@ module _ (D P : Bytes) (values names values' names' : List ℕ) (used : ℕ) whe
   abbrev pub WithValueIs : Kind → ℕ → ℕ → Altered → Type 0
   WithValueIs kind path value r =
       (v : Value.Value) → Document D P values names used v → Short D P → (o : Operation.Operation) → Knows kind (o .kind) → PathIs D P path (o .path)
-      → Patch.usesValue (o .kind) ≡ true → (x : Cell) (kids : Forest Cell) → Offered D P values names value x kids → meant D P x kids ≡ o .value
+      → Patch.usesValue (o .kind) ≡ true → (x : Cell) (kids : Forest Cell) → Offered D P values names value x kids → value + size kids < scratchRow
+      → meant D P x kids ≡ o .value
       → Distinct (o .value) → Performed D P values names values' names' (limited o v) r
 
   -- given its kind, its path and its from

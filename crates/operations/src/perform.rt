@@ -5,7 +5,7 @@ use changes::Altered;
 use changes::Change;
 use changes::MAX_DEPTH;
 use changes::change_at;
-use equality::equal;
+use equality::compare;
 use shape::kinds::Kind;
 use shape::kinds::uses_from;
 use shape::kinds::uses_value;
@@ -22,17 +22,17 @@ ghost use Rattle.operations.specs.Perform.{TestIs, WithValueIs, WithFrom
 fn test<'a>(
     document: &'a [u8],
     patch: &'a [u8],
-    values: &[u64],
+    values: &mut [u64],
     names: &[u64],
     used: usize,
     path: u64,
     value: usize,
 ) -> Altered
-    ensures { λ r. ⌜ TestIs (now (document .entry)) (now (patch .entry)) (now (values .entry)) (now (names .entry)) used path value r ⌝ }
+    ensures { λ r. ⌜ TestIs (now (document .entry)) (now (patch .entry)) (now (values .entry)) (now (names .entry)) (now (values .exit)) used path value r ⌝ }
 {
     match walk(values, names, document, patch, 0, path) {
         Child::At(row) => {
-            if equal(values, names, document, patch, row, value, MAX_DEPTH) {
+            if compare(values, names, document, patch, row, value, MAX_DEPTH) {
                 return Altered::Done(used);
             }
             return Altered::Refused(15);

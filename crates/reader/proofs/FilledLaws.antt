@@ -12,9 +12,9 @@ use Rattle.spec.specs.Outcome.{if_then_else_}
 use Rattle.spec.specs.Bytes.{Bytes, Text}
 use Rattle.spec.specs.Forest.{none, tree, single, size, _⧺_}
 use Rattle.spec.specs.Value.{Label, Members, named}
-use Rattle.filter.specs.Filter.{found, wordOf}
-use Rattle.filter.specs.Filter as Filter
-use Rattle.tape.specs.Layout.{kinds, spans, spellings, arrayKind, objectKind, scratchRow}
+use Rattle.tape.specs.Columns.{Scratched}
+use Rattle.tape.proofs.Columns.{scratched-not}
+use Rattle.tape.specs.Layout.{kinds, spans, spellings, arrayKind, objectKind, scratchRow, rows}
 use Rattle.tape.specs.Packing.{packed}
 use Rattle.tape.specs.Tape.{tape}
 use Rattle.tape.specs.Cell.{Cell, word, nameWord, Fit, formed-none, formed-tree, Held}
@@ -26,54 +26,65 @@ use Rattle.tape.proofs.Map.{map-⧺, size-map}
 use Rattle.table.specs.Meaning.{sourceText, entryOf}
 use Rattle.table.specs.All.{all-none, all-tree}
 use Rattle.table.proofs.AllLaws.{all-⧺}
+use Rattle.index.specs.Slots.{fieldOf, rowOf, slotAt}
+use Rattle.index.specs.Bits.{Stream}
+use Rattle.index.specs.Ways.{Leads, Meets, here, there, Entered}
 use Rattle.reader.specs.Words.{Labels, Titles}
-use Rattle.reader.specs.Filled.{nodeRows, Added, Noted, Changed, Filled}
+use Rattle.reader.specs.Filled.{nodeRows, Stays, Noted, Changed, Filled}
 use Rattle.reader.proofs.ColumnLaws.{between, between-none, between-join, between-set, from-between, unchanged, change-then, change-wider, change-set, between-kept}
 
--- ---- behind the nodes
-pub added-none : (xs : List ℕ) → Added xs xs
-added-none xs = record { kept = λ k h. h; behind = refl }
+-- ---- the index
+pub stays-none : {base low : ℕ} (xs : List ℕ) → Stays base low xs xs
+stays-none xs = record { kept = λ slot q t l m. m }
 
-pub added-then : {xs ys zs : List ℕ} → Added xs ys → Added ys zs → Added xs zs
-added-then a b = record { kept = λ k h. b .kept k (a .kept k h); behind = b .behind ∙ a .behind }
+pub stays-then : {base low : ℕ} {xs ys zs : List ℕ} → Stays base low xs ys → Stays base low ys zs → Stays base low xs zs
+stays-then a b = record { kept = λ slot q t l m. b .kept slot q t l (a .kept slot q t l m) }
 
-pub added-set : (xs : List ℕ) (row y : ℕ) → row < scratchRow → Added xs (set xs row y)
-unfolding found
-added-set xs row y l =
-    record {
-      kept = λ k h. rw (getD-set-other xs row (wordOf scratchRow k) y 0 (λ e. omega arith)) h;
-      behind = drop-set-lt (scratchRow + 1024) xs row y (omega arith);
-    }
+pub stays-below : {base low : ℕ} {xs ys : List ℕ} (low' : ℕ) → low' ≤ low → Stays base low xs ys → Stays base low' xs ys
+stays-below low' h a = record { kept = λ slot q t l m. a .kept slot q t (omega arith) m }
+
+-- no word before it is a part of it
+module _ (xs : List ℕ) (row y : ℕ) (h : row < scratchRow) where
+  leads-set : {slot x : ℕ} → Leads xs slot x → Leads (set xs row y) slot x
+  unfolding slotAt
+  leads-set {slot} l = record { is = ap (λ w. fieldOf w (slot % 4)) (getD-set-other xs row (rowOf slot) y 0 (λ e. omega arith)) ∙ l .is; above = l .above; below = l .below }
+
+  meets-set : {t slot : ℕ} {q : Stream} → Meets xs t slot q → Meets (set xs row y) t slot q
+  meets-set (here l) = here (leads-set l)
+  meets-set (there x l m) = there x (leads-set l) (meets-set m)
+
+  pub stays-set : {base low : ℕ} → Stays base low xs (set xs row y)
+  stays-set = record { kept = λ slot q t l m. meets-set m }
 
 -- ---- both columns
 module _ {start end : ℕ} {vs ns : List ℕ} where
   pub changed-none : Changed start end vs ns vs ns
-  changed-none = record { nodes = unchanged start end (nodeRows vs); filter = added-none vs; titles = unchanged start end ns }
+  changed-none = record { nodes = unchanged start end (nodeRows vs); behind = refl; titles = unchanged start end ns }
 
   pub changed-then : {vs' ns' vs'' ns'' : List ℕ} → Changed start end vs ns vs' ns' → Changed start end vs' ns' vs'' ns'' → Changed start end vs ns vs'' ns''
-  changed-then b c = record { nodes = change-then (b .nodes) (c .nodes); filter = added-then (b .filter) (c .filter); titles = change-then (b .titles) (c .titles) }
+  changed-then b c = record { nodes = change-then (b .nodes) (c .nodes); behind = c .behind ∙ b .behind; titles = change-then (b .titles) (c .titles) }
 
   pub changed-wider : {vs' ns' : List ℕ} (start' end' : ℕ) → start' ≤ start → end ≤ end' → Changed start end vs ns vs' ns' → Changed start' end' vs ns vs' ns'
-  changed-wider start' end' l m b = record { nodes = change-wider start' end' l m (b .nodes); filter = b .filter; titles = change-wider start' end' l m (b .titles) }
+  changed-wider start' end' l m b = record { nodes = change-wider start' end' l m (b .nodes); behind = b .behind; titles = change-wider start' end' l m (b .titles) }
 
   -- a node's two words
   pub changed-set : (row x y : ℕ) → start ≤ row → row < end → row < scratchRow → Changed start end vs ns (set vs row x) (set ns row y)
   changed-set row x y l m h =
       record {
         nodes = rw (take-set-lt scratchRow vs row x h) (change-set start end (nodeRows vs) row x l m);
-        filter = added-set vs row x h;
+        behind = drop-set-lt rows vs row x (omega arith);
         titles = change-set start end ns row y l m;
       }
 
-  -- a key
-  pub changed-noted : {vs' : List ℕ} → Noted vs vs' → Changed start end vs ns vs' ns
-  changed-noted n = record { nodes = record { before = ap (take start) (n .nodes); behind = ap (drop end) (n .nodes) }; filter = n .filter; titles = unchanged start end ns }
+  -- scratch rows
+  pub changed-scratched : {vs' : List ℕ} → Scratched vs vs' → Changed start end vs ns vs' ns
+  changed-scratched n = record { nodes = record { before = ap (take start) (n .before); behind = ap (drop end) (n .before) }; behind = n .behind; titles = unchanged start end ns }
 
-pub noted-none : (xs : List ℕ) → Noted xs xs
-noted-none xs = record { nodes = refl; filter = added-none xs }
+pub noted-none : {base low : ℕ} (xs : List ℕ) → Noted base low xs xs
+noted-none xs = record { scratched = scratched-not; stays = stays-none xs }
 
-pub noted-key : {xs ys : List ℕ} {key : ℕ} → Filter.Added xs ys scratchRow key → Noted xs ys
-noted-key a = record { nodes = a .before; filter = record { kept = a .kept; behind = a .behind } }
+pub noted-entered : {s : Bytes} {base object row word : ℕ} {xs names ys : List ℕ} {r : Bool} → Entered s s xs names base object row word ys r → Noted base row xs ys
+noted-entered e = record { scratched = e .scratched; stays = record { kept = e .kept } }
 
 -- ---- rows that are filled
 -- a text taken for both

@@ -7,7 +7,7 @@ use mathlib.Core.List.{List, []}
 use lib.Dec.{ltb}
 use lib.ListN.{length}
 use borrow.Author.Tests.{eq-eqb, ne-eqb, ltb-false}
-use Rattle.spec.specs.Outcome.{ok, refused, _>>=_, if_then_else_}
+use Rattle.spec.specs.Outcome.{Outcome, ok, refused, _>>=_, if_then_else_}
 use Rattle.spec.specs.Refusal.{not-json, work-too-short, input-too-long}
 use Rattle.spec.specs.Limits.{maxBytes, maxDepth, maxNodes, workWords}
 use Rattle.spec.specs.Bytes.{Bytes}
@@ -17,6 +17,7 @@ use Rattle.spec.specs.Value.{named}
 use Rattle.spec.specs.Read.{blanks, value, read}
 use Rattle.lexer.specs.declared.cursor.Cursor.{Cursor}
 use Rattle.tape.specs.Layout.{sources, scratchRow}
+use Rattle.tape.specs.Columns.{Scratched}
 use Rattle.tape.specs.Cell.{Cell, Held}
 use Rattle.tape.specs.Map.{mapForest}
 use Rattle.table.specs.Meaning.{entryOf, members, meant}
@@ -28,7 +29,7 @@ use Rattle.reader.specs.Texts.{reading, refusalBefore, Rooted, TextIs, t
 use Rattle.reader.specs.declared.values.Read.{Read}
 use Rattle.reader.specs.declared.values.Read.the-variants as Read
 use Rattle.reader.proofs.WordLaws.{no-titles}
-use Rattle.reader.proofs.FilledLaws.{one-text, filled-held, changed-none, changed-wider}
+use Rattle.reader.proofs.FilledLaws.{one-text, filled-held, changed-none, changed-wider, changed-then, changed-scratched}
 
 -- ---- a forest that means one value is one tree
 module _ {source : ℕ} {s : Bytes} {base end : ℕ} {v : Value.Value} {vs ns : List ℕ} where
@@ -75,26 +76,26 @@ module _ (s : Bytes) where
 
 -- ---- each way out of `read`
 module _ {source : ℕ} {s : Bytes} (first base : ℕ) {vs ns vs' ns' : List ℕ} {r : Read} (first-is : first ≡ blanks s 0)
-    (told : ForTitle source s 0 (λ text. Taken source s first text base (base + maxNodes) vs ns vs' ns' (value maxDepth s first (base - base)) r)) where
+    (told : ForTitle source s 0 (λ text. Taken source s first text base base (base + maxNodes) vs ns vs' ns' (value maxDepth s first (base - base)) r)) where
   same : value maxDepth s first (base - base) ≡ value maxDepth s (blanks s 0) 0
   same = let z : base - base ≡ 0 = omega arith in rw (first-is, z)
 
-  root : Taken source s first [] base (base + maxNodes) vs ns vs' ns' (value maxDepth s first (base - base)) r
+  root : Taken source s first [] base base (base + maxNodes) vs ns vs' ns' (value maxDepth s first (base - base)) r
   root = told [] (no-titles source s)
 
   pub text-unread : (n place : ℕ) → r ≡ Read.Refused n place → TextIs source s base vs ns vs' ns' (read s) r
   text-unread n place e = go r root e
     where
-      go : (r : Read) → Taken source s first [] base (base + maxNodes) vs ns vs' ns' (value maxDepth s first (base - base)) r → r ≡ Read.Refused n place → TextIs source s base vs ns vs' ns' (read s) r
-      go r (taken v next end q a f c) e = absurd (let z : _≡_ {A = ℕ} 0 1 = cc in omega arith)
+      go : (r : Read) → Taken source s first [] base base (base + maxNodes) vs ns vs' ns' (value maxDepth s first (base - base)) r → r ≡ Read.Refused n place → TextIs source s base vs ns vs' ns' (read s) r
+      go r (taken v next end q a f c w) e = absurd (let z : _≡_ {A = ℕ} 0 1 = cc in omega arith)
       go r (refusal n' place' q c) e = text-refused n' place' (read-refused s n' place' (sym same ∙ q)) c
 
   module _ (next : Cursor) (end last : ℕ) (is : r ≡ Read.Value next end) (last-is : last ≡ blanks s (next .at)) where
     pub text-more : (last ≡ length s → ⊥) → TextIs source s base vs ns vs' ns' (read s) (Read.Refused not-json last)
     text-more n = go r root is
       where
-        go : (r : Read) → Taken source s first [] base (base + maxNodes) vs ns vs' ns' (value maxDepth s first (base - base)) r → r ≡ Read.Value next end → TextIs source s base vs ns vs' ns' (read s) (Read.Refused not-json last)
-        go r (taken v next' end' q a f c) e =
+        go : (r : Read) → Taken source s first [] base base (base + maxNodes) vs ns vs' ns' (value maxDepth s first (base - base)) r → r ≡ Read.Value next end → TextIs source s base vs ns vs' ns' (read s) (Read.Refused not-json last)
+        go r (taken v next' end' q a f c w) e =
             let x : next' ≡ next = cc in
             text-refused not-json last (read-more s v (next .at) (sym same ∙ q ∙ ap (λ c. ok (v, c .at)) x) (λ k. n (last-is ∙ k)) ∙ ap (refused not-json) (sym last-is))
             (changed-wider base (base + maxNodes) (omega arith) (a .room) c)
@@ -103,13 +104,21 @@ module _ {source : ℕ} {s : Bytes} (first base : ℕ) {vs ns vs' ns' : List ℕ
     pub text-whole : (cursor : Cursor) → cursor .at ≡ last → last ≡ length s → base + maxNodes ≤ scratchRow → scratchRow ≤ length vs' → scratchRow ≤ length ns' → TextIs source s base vs ns vs' ns' (read s) (Read.Value cursor end)
     text-whole cursor at-last whole room long-vs long-ns = go r root is
       where
-        go : (r : Read) → Taken source s first [] base (base + maxNodes) vs ns vs' ns' (value maxDepth s first (base - base)) r → r ≡ Read.Value next end → TextIs source s base vs ns vs' ns' (read s) (Read.Value cursor end)
-        go r (taken v next' end' q a f c) e =
+        go : (r : Read) → Taken source s first [] base base (base + maxNodes) vs ns vs' ns' (value maxDepth s first (base - base)) r → r ≡ Read.Value next end → TextIs source s base vs ns vs' ns' (read s) (Read.Value cursor end)
+        go r (taken v next' end' q a f c w) e =
             let x : next' ≡ next = cc in
             let y : end' ≡ end = cc in
             let l : end ≤ base + maxNodes = rw y at (a .room) in
             text-read v cursor end (read-whole s v (next .at) (sym same ∙ q ∙ ap (λ c. ok (v, c .at)) x) (sym last-is ∙ whole)) (at-last ∙ whole) l (filled-rooted (omega arith) long-vs long-ns (rw y at f)) (rw y at c)
         go r (refusal n' place' q c) e = absurd (let z : _≡_ {A = ℕ} 0 1 = cc in omega arith)
+
+-- ---- the index made empty
+pub lent-still : {source : ℕ} {s : Bytes} {vs vs' ns : List ℕ} → Lent source s vs ns → length vs' ≡ length vs → Lent source s vs' ns
+lent-still l e = record { source< = l .source<; short = l .short; values-long = omega (arith, l .values-long); names-long = l .names-long }
+
+pub text-anew : {source : ℕ} {s : Bytes} {base : ℕ} {vs vs' ns vs'' ns'' : List ℕ} {o : Outcome Value.Value} {r : Read} → Scratched vs vs' → TextIs source s base vs' ns vs'' ns'' o r → TextIs source s base vs ns vs'' ns'' o r
+text-anew e (text-read v next end is whole room rooted c) = text-read v next end is whole room rooted (changed-then (changed-scratched e) c)
+text-anew e (text-refused n place is c) = text-refused n place is (changed-then (changed-scratched e) c)
 
 -- ---- the refusals before
 pub early-refused : {source : ℕ} {s : Bytes} {base : ℕ} {vs ns : List ℕ} (n : ℕ) → n ≡ refusalBefore vs ns s → (n ≡ 0 → ⊥) → TextIs source s base vs ns vs ns (reading vs ns s) (Read.Refused n 0)

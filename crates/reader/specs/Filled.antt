@@ -1,22 +1,23 @@
 -- Which words of the columns change, and what those say that were stored.
-use Prim.Native.Nat.{ℕ, _+_, _*_, _%_}
+use Prim.Native.Nat.{ℕ, _+_, _-_}
 use mathlib.Core.Path.{_≡_}
-use mathlib.Core.Bool.{true}
 use mathlib.Core.List.{List}
 use lib.ListN.{take, drop}
-use Rattle.spec.specs.Bytes.{Bytes}
+use Rattle.spec.specs.Bytes.{Bytes, Text}
 use Rattle.spec.specs.Forest.{Forest, none, tree, size}
 use Rattle.spec.specs.Value.{Entry, Members}
 use Rattle.lexer.specs.Hash.{hash}
-use Rattle.filter.specs.Filter.{found}
-use Rattle.tape.specs.Layout.{scratchRow}
+use Rattle.tape.specs.Layout.{scratchRow, rows}
+use Rattle.tape.specs.Columns.{Scratched}
 use Rattle.tape.specs.Tape.{tape}
 use Rattle.tape.specs.Cell.{Cell, word, nameWord, Formed}
 use Rattle.table.specs.Meaning.{members}
 use Rattle.table.specs.Sound.{Sound}
+use Rattle.index.specs.Bits.{streamFor}
+use Rattle.index.specs.Ways.{bucketSlot, Meets, Kept}
 use Rattle.reader.specs.Words.{InText}
 
--- the rows of the column of values that hold nodes; behind them stands the filter
+-- the rows of the column of values that hold nodes; behind them stands the index
 abbrev pub nodeRows : List ℕ → List ℕ
 nodeRows values = take scratchRow values
 
@@ -25,19 +26,18 @@ pub record Between (start end : ℕ) (xs ys : List ℕ) : Type 0 where
   pub before : take start ys ≡ take start xs
   pub behind : drop end ys ≡ drop end xs
 
--- behind the nodes, only keys are added to the filter
-pub record Added (xs ys : List ℕ) : Type 0 where
-  pub kept : (k : ℕ) → found xs scratchRow k ≡ true → found ys scratchRow k ≡ true
-  pub behind : drop (scratchRow + 1024) ys ≡ drop (scratchRow + 1024) xs
+-- the index leads to rows below `low` as before; it counts rows from the base on
+pub record Stays (base low : ℕ) (xs ys : List ℕ) : Type 0 where
+  pub kept : Kept (low - base) xs ys
 
--- a key is added, and nothing else
-pub record Noted (xs ys : List ℕ) : Type 0 where
-  pub nodes : nodeRows ys ≡ nodeRows xs
-  pub filter : Added xs ys
+-- the row `low` may be entered in the index, and nothing else
+pub record Noted (base low : ℕ) (xs ys : List ℕ) : Type 0 where
+  pub scratched : Scratched xs ys
+  pub stays : Stays base low xs ys
 
 pub record Changed (start end : ℕ) (values names values' names' : List ℕ) : Type 0 where
   pub nodes : Between start end (nodeRows values) (nodeRows values')
-  pub filter : Added values values'
+  pub behind : drop rows values' ≡ drop rows values
   pub titles : Between start end names names'
 
 -- the words from one row up to another are those of a sound forest that means these members, whatever the other text is
@@ -50,11 +50,11 @@ pub record Filled (source : ℕ) (s : Bytes) (start end : ℕ) (all : Members) (
   pub meant : InText source s (λ document patch. members document patch cells ≡ all)
   pub sound : InText source s (λ document patch. Sound document patch cells)
 
--- the key of a member in the filter, by its object's row and the hash of its name
-abbrev pub keyOf : ℕ → ℕ → ℕ
-keyOf row h = (h + row * 31) % 65536
+-- by a name and its object's row the index leads to the row `at`
+abbrev pub Reached : List ℕ → ℕ → ℕ → ℕ → Text → Type 0
+Reached values base row at name = Meets values (at - base) (bucketSlot row (hash name)) (streamFor (hash name) name)
 
--- the filter has the keys of an object's members
-pub data Marked (values : List ℕ) (row : ℕ) : Members → Type 0 where
-  marked-none : Marked values row none
-  marked-tree : {e : Entry} {kids rest : Members} → found values scratchRow (keyOf row (hash (e .name))) ≡ true → Marked values row rest → Marked values row (tree e kids rest)
+-- so it does to each of an object's members, which stand in the rows from `at` on
+pub data Marked (values : List ℕ) (base row : ℕ) : ℕ → Members → Type 0 where
+  marked-none : {at : ℕ} → Marked values base row at none
+  marked-tree : {at : ℕ} {e : Entry} {kids rest : Members} → Reached values base row at (e .name) → Marked values base row (at + 1 + size kids) rest → Marked values base row at (tree e kids rest)

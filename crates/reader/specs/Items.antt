@@ -1,21 +1,19 @@
 -- What comes next in a container.
-use Prim.Native.Nat.{ℕ, _+_}
+use Prim.Native.Nat.{ℕ, _+_, _<_}
 use Prim.Native.Char.{code}
 use mathlib.Core.Path.{_≡_}
 use mathlib.Core.Bool.{Bool, true}
 use mathlib.Core.List.{List}
 use lib.Dec.{eqb}
 use Rattle.spec.specs.Outcome.{Outcome, ok, refused, _>>=_, if_then_else_}
+use Rattle.spec.specs.Limits.{maxNodes}
 use Rattle.spec.specs.Bytes.{Bytes, Text, byte, byteIn}
 use Rattle.spec.specs.Forest.{count}
 use Rattle.spec.specs.Value.{Members}
 use Rattle.spec.specs.Read.{blanks, nameFor, closingBracket}
-use Rattle.lexer.specs.Hash.{hash}
 use Rattle.lexer.specs.declared.cursor.Cursor.{Cursor}
-use Rattle.filter.specs.Filter.{found}
-use Rattle.tape.specs.Layout.{scratchRow}
 use Rattle.reader.specs.Words.{Titles}
-use Rattle.reader.specs.Filled.{keyOf}
+use Rattle.reader.specs.Filled.{Reached}
 use Rattle.reader.specs.declared.words.Word.{Word}
 use Rattle.reader.specs.declared.words.Word.the-variants as Word
 use Rattle.reader.specs.declared.items.Item.{Item}
@@ -49,8 +47,8 @@ itemOf (Word.Read first name) = Begins first name
 itemOf (Word.Refused number place) = Refused number place
 
 -- what the code answers
-pub data ItemIs (source : ℕ) (s : Bytes) (object : Bool) (row : ℕ) (values' : List ℕ) (o : Outcome Next) : Item → Type 0 where
+pub data ItemIs (source : ℕ) (s : Bytes) (object : Bool) (base row end : ℕ) (values' : List ℕ) (o : Outcome Next) : Item → Type 0 where
   item-begins : (text : Text) (first : Cursor) (name : ℕ) → o ≡ ok (begins text (first .at)) → Titles source s text name
-      → (object ≡ true → found values' scratchRow (keyOf row (hash text)) ≡ true) → ItemIs source s object row values' o (Begins first name)
-  item-closed : (next : Cursor) → o ≡ ok (closed (next .at)) → ItemIs source s object row values' o (Closed next)
-  item-refused : (number place : ℕ) → o ≡ refused number place → ItemIs source s object row values' o (Refused number place)
+      → (object ≡ true → end < base + maxNodes → Reached values' base row end text) → ItemIs source s object base row end values' o (Begins first name)
+  item-closed : (next : Cursor) → o ≡ ok (closed (next .at)) → ItemIs source s object base row end values' o (Closed next)
+  item-refused : (number place : ℕ) → o ≡ refused number place → ItemIs source s object base row end values' o (Refused number place)

@@ -44,7 +44,7 @@ pub record Rooted (source : ℕ) (s : Bytes) (base end : ℕ) (v : Value.Value) 
   pub nameless : InText source s (λ document patch. nameText document patch (root .name) ≡ [])
   pub sound : InText source s (λ document patch. Sound document patch (tree root kids none))
 
--- the answer, and what became of the columns: beside the filter, only rows from `base` up to the tree's end changed, or, after a refusal, rows of
+-- the answer, and what became of the columns: beside the index, only rows from `base` up to the tree's end changed, or, after a refusal, rows of
 -- the text
 pub data TextIs (source : ℕ) (s : Bytes) (base : ℕ) (values names values' names' : List ℕ) (o : Outcome Value.Value) : Declared.Read → Type 0 where
   text-read : (v : Value.Value) (next : Cursor) (end : ℕ) → o ≡ ok v → next .at ≡ length s → end ≤ base + maxNodes → Rooted source s base end v values' names' → Changed base end values names values' names'

@@ -1,5 +1,5 @@
 -- What the words say that are read of a text: of a scalar its label, of a name its text.
-use Prim.Native.Nat.{ℕ, _+_, _<_, _≤_}
+use Prim.Native.Nat.{ℕ, _<_, _≤_}
 use mathlib.Core.Path.{_≡_}
 use mathlib.Core.Bool.{Bool}
 use mathlib.Core.List.{List}
@@ -14,7 +14,7 @@ use Rattle.lexer.specs.declared.cursor.Scan.{Scan}
 use Rattle.lexer.specs.declared.cursor.Scan.the-variants as Scan
 use Rattle.lexer.specs.declared.strings.Name.{Name}
 use Rattle.lexer.specs.declared.strings.Name.the-variants as Name
-use Rattle.tape.specs.Layout.{sources, places, spellings, plainString, escapedString, scratchRow}
+use Rattle.tape.specs.Layout.{sources, places, spellings, plainString, escapedString, scratchRow, rows}
 use Rattle.table.specs.Meaning.{sourceText, spelled, labelOf, nameText}
 use Rattle.table.specs.Sound.{Verbatim, NameFits, LabelFits}
 use Rattle.reader.specs.declared.words.Word.{Word}
@@ -24,11 +24,11 @@ use Rattle.reader.specs.declared.words.Word.the-variants.{Read, Refused}
 abbrev pub InText : ℕ → Bytes → (Bytes → Bytes → Type 0) → Type 0
 InText source s P = (document patch : Bytes) → sourceText document patch source ≡ s → P document patch
 
--- what a reader is lent: a text whose places fit a spelling, and columns with room for the nodes and the filter
+-- what a reader is lent: a text whose places fit a spelling, and columns with room for the nodes and the index
 pub record Lent (source : ℕ) (s : Bytes) (values names : List ℕ) : Type 0 where
   pub source< : source < sources
   pub short : length s < places
-  pub values-long : scratchRow + 1024 ≤ length values
+  pub values-long : rows ≤ length values
   pub names-long : scratchRow ≤ length names
 
 -- the form of a string, by whether it is written without escapes

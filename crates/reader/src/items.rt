@@ -1,6 +1,7 @@
 // The next item of a container.
 ghost use mathlib.Core.Path.{_≡_};
-ghost use Prim.Native.Nat.{_<_, _≤_};
+ghost use Prim.Native.Nat.{_+_, _<_, _≤_};
+ghost use Rattle.spec.specs.Limits.{maxNodes};
 ghost use Rattle.spec.specs.Read.{closingBracket, nameFor};
 ghost use Rattle.lexer.specs.Answers.{scanOutcome};
 ghost use Rattle.tape.specs.Layout.{scratchRow};
@@ -48,18 +49,19 @@ fn item_name(
     at: Cursor,
     object: bool,
     source: u64,
+    base: usize,
     row: usize,
     end: usize,
     values: &mut [u64],
     names: &[u64],
 ) -> Word
     requires { ⌜ Lent source (now s) (now values) (now names) ⌝ }
-    requires { ⌜ (row < end) × (end ≤ scratchRow) ⌝ }
-    ensures { λ r. ⌜ Having source (now (s .entry)) object row end (now (values .entry)) (now (names .entry)) (λ all. NameIs source (now (s .entry)) object row (now (values .exit)) (nameFor object (now (s .entry)) all (at .at)) r) ⌝ }
-    ensures { λ r. ⌜ Noted (now (values .entry)) (now (values .exit)) ⌝ }
+    requires { ⌜ (base ≤ row) × (row < end) × (end ≤ base + maxNodes) × (base + maxNodes ≤ scratchRow) ⌝ }
+    ensures { λ r. ⌜ Having source (now (s .entry)) object base row end (now (values .entry)) (now (names .entry)) (λ all. NameIs source (now (s .entry)) object base row end (now (values .exit)) (nameFor object (now (s .entry)) all (at .at)) r) ⌝ }
+    ensures { λ r. ⌜ Noted base end (now (values .entry)) (now (values .exit)) ⌝ }
 {
     if object {
-        return member_name(s, at, source, row, end, values, names);
+        return member_name(s, at, source, base, row, end, values, names);
     }
     Word::Read(at, 0)
 }
@@ -70,21 +72,22 @@ fn next_name(
     at: Cursor,
     object: bool,
     source: u64,
+    base: usize,
     row: usize,
     end: usize,
     values: &mut [u64],
     names: &[u64],
 ) -> Word
     requires { ⌜ Lent source (now s) (now values) (now names) ⌝ }
-    requires { ⌜ (row < end) × (end ≤ scratchRow) ⌝ }
-    ensures { λ r. ⌜ Having source (now (s .entry)) object row end (now (values .entry)) (now (names .entry)) (λ all. NameIs source (now (s .entry)) object row (now (values .exit)) (nextName object (now (s .entry)) all (at .at)) r) ⌝ }
-    ensures { λ r. ⌜ Noted (now (values .entry)) (now (values .exit)) ⌝ }
+    requires { ⌜ (base ≤ row) × (row < end) × (end ≤ base + maxNodes) × (base + maxNodes ≤ scratchRow) ⌝ }
+    ensures { λ r. ⌜ Having source (now (s .entry)) object base row end (now (values .entry)) (now (names .entry)) (λ all. NameIs source (now (s .entry)) object base row end (now (values .exit)) (nextName object (now (s .entry)) all (at .at)) r) ⌝ }
+    ensures { λ r. ⌜ Noted base end (now (values .entry)) (now (values .exit)) ⌝ }
 {
     let scan = comma(s, at, end == row + 1);
     let Scan::To(first) = scan else {
         return unspelled(scan);
     };
-    item_name(s, first, object, source, row, end, values, names)
+    item_name(s, first, object, source, base, row, end, values, names)
 }
 
 // An item begins behind its name.
@@ -103,19 +106,20 @@ pub fn next_item(
     at: Cursor,
     object: bool,
     source: u64,
+    base: usize,
     row: usize,
     end: usize,
     values: &mut [u64],
     names: &[u64],
 ) -> Item
     requires { ⌜ Lent source (now s) (now values) (now names) ⌝ }
-    requires { ⌜ (row < end) × (end ≤ scratchRow) ⌝ }
-    ensures { λ r. ⌜ Having source (now (s .entry)) object row end (now (values .entry)) (now (names .entry)) (λ all. ItemIs source (now (s .entry)) object row (now (values .exit)) (nextItem object (now (s .entry)) all (at .at)) r) ⌝ }
-    ensures { λ r. ⌜ Noted (now (values .entry)) (now (values .exit)) ⌝ }
+    requires { ⌜ (base ≤ row) × (row < end) × (end ≤ base + maxNodes) × (base + maxNodes ≤ scratchRow) ⌝ }
+    ensures { λ r. ⌜ Having source (now (s .entry)) object base row end (now (values .entry)) (now (names .entry)) (λ all. ItemIs source (now (s .entry)) object base row end (now (values .exit)) (nextItem object (now (s .entry)) all (at .at)) r) ⌝ }
+    ensures { λ r. ⌜ Noted base end (now (values .entry)) (now (values .exit)) ⌝ }
 {
     let place = at.blanks(s);
     if peek(s, place.at) == closing_bracket(object) {
         return Item::Closed(Cursor { at: place.at + 1 });
     }
-    item_of(next_name(s, place, object, source, row, end, values, names))
+    item_of(next_name(s, place, object, source, base, row, end, values, names))
 }

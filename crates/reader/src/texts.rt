@@ -5,6 +5,7 @@ ghost use Rattle.spec.specs.Limits.{maxNodes};
 ghost use Rattle.spec.specs.Read.{read};
 ghost use Rattle.tape.specs.Layout.{inDocument, inPatch, documentRow, patchRow, scratchRow};
 ghost use Rattle.reader.specs.Words.{Lent};
+ghost use Rattle.tape.specs.Columns.{Scratched};
 ghost use Rattle.reader.specs.Texts.{refusalBefore, reading, TextIs};
 use crate::values::Read;
 use crate::values::value;
@@ -14,12 +15,28 @@ use tape::layout::IN_DOCUMENT;
 use tape::layout::IN_PATCH;
 use tape::layout::PATCH;
 use tape::layout::ROWS;
+use tape::layout::SCRATCH;
+use tape::moves::clear;
 
 // Nested containers.
 const MAX_DEPTH: u32 = 32;
 
 // Bytes of a text.
 const MAX_BYTES: usize = 32_768;
+
+// Bytes of a text so short that its names are compared in no time.
+const SHORT: usize = 512;
+
+// The index of names is made empty before a text of this length is read. It need not be empty to be right, only to be quick; for a short text it is
+// left as it is.
+fn empty_index(values: &mut [u64], length: usize)
+    ensures { λ _. ⌜ Scratched (now (values .entry)) (now (values .exit)) ⌝ }
+{
+    if length <= SHORT {
+        return;
+    }
+    clear(values, SCRATCH, ROWS - SCRATCH);
+}
 
 // JSON-text = ws value ws, stored in the rows from `base` on.
 fn read(s: &[u8], source: u64, base: usize, values: &mut [u64], names: &mut [u64]) -> Read
@@ -37,6 +54,16 @@ fn read(s: &[u8], source: u64, base: usize, values: &mut [u64], names: &mut [u64
         return Read::Value(last, end);
     }
     Read::Refused(3, last.at)
+}
+
+// The same, with an index of its own.
+fn read_anew(s: &[u8], source: u64, base: usize, values: &mut [u64], names: &mut [u64]) -> Read
+    requires { ⌜ Lent source (now s) (now values) (now names) ⌝ }
+    requires { ⌜ base + maxNodes ≤ scratchRow ⌝ }
+    ensures { λ r. ⌜ TextIs source (now (s .entry)) base (now (values .entry)) (now (names .entry)) (now (values .exit)) (now (names .exit)) (read (now (s .entry))) r ⌝ }
+{
+    empty_index(values, s.len());
+    read(s, source, base, values, names)
 }
 
 // The number of the refusal before a text is read, and 0 for none: a column too short, or the text too long.
@@ -63,7 +90,7 @@ pub fn read_document(document: &[u8], values: &mut [u64], names: &mut [u64]) -> 
     if number != 0 {
         return Read::Refused(number, 0);
     }
-    read(document, IN_DOCUMENT, DOCUMENT, values, names)
+    read_anew(document, IN_DOCUMENT, DOCUMENT, values, names)
 }
 
 // The same of the patch, which is read into the rows behind those of the document.
@@ -74,5 +101,5 @@ pub fn read_patch(patch: &[u8], values: &mut [u64], names: &mut [u64]) -> Read
     if number != 0 {
         return Read::Refused(number, 0);
     }
-    read(patch, IN_PATCH, PATCH, values, names)
+    read_anew(patch, IN_PATCH, PATCH, values, names)
 }

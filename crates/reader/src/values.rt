@@ -1,6 +1,6 @@
 // Values, one level inside the other.
 ghost use mathlib.Core.Path.{_≡_};
-ghost use Prim.Native.Nat.{_+_, _-_, _%_, _<_, _≤_};
+ghost use Prim.Native.Nat.{ℕ, _+_, _-_, _%_, _<_, _≤_};
 ghost use lib.ListN.{length, set};
 ghost use Rattle.spec.specs.Limits.{maxNodes};
 ghost use Rattle.spec.specs.Read.{value};
@@ -68,7 +68,7 @@ fn scalar_value(
 ) -> Read
     requires { ⌜ Lent source (now s) (now values) (now names) ⌝ }
     requires { ⌜ (at .at < length (now s)) × (kind < arrayKind) × (row < scratchRow) ⌝ }
-    ensures { λ r. ⌜ ForTitle source (now (s .entry)) name (λ text. Taken source (now (s .entry)) (at .at) text row (row + 1) (now (values .entry)) (now (names .entry)) (now (values .exit)) (now (names .exit)) (scalarOf kind (now (s .entry)) (at .at)) r) ⌝ }
+    ensures { λ r. ⌜ ((base : ℕ) → ForTitle source (now (s .entry)) name (λ text. Taken source (now (s .entry)) (at .at) text base row (row + 1) (now (values .entry)) (now (names .entry)) (now (values .exit)) (now (names .exit)) (scalarOf kind (now (s .entry)) (at .at)) r)) ⌝ }
 {
     let word = scalar(s, at, kind, source);
     let Word::Read(next, payload) = word else {
@@ -93,7 +93,7 @@ pub fn value(
 ) -> Read
     requires { ⌜ Lent source (now s) (now values) (now names) ⌝ }
     requires { ⌜ (at .at ≤ length (now s)) × (base ≤ row) × (row ≤ base + maxNodes) × (base + maxNodes ≤ scratchRow) ⌝ }
-    ensures { λ r. ⌜ ForTitle source (now (s .entry)) name (λ text. Taken source (now (s .entry)) (at .at) text row (base + maxNodes) (now (values .entry)) (now (names .entry)) (now (values .exit)) (now (names .exit)) (value levels (now (s .entry)) (at .at) (row - base)) r) ⌝ }
+    ensures { λ r. ⌜ ForTitle source (now (s .entry)) name (λ text. Taken source (now (s .entry)) (at .at) text base row (base + maxNodes) (now (values .entry)) (now (names .entry)) (now (values .exit)) (now (names .exit)) (value levels (now (s .entry)) (at .at) (row - base)) r) ⌝ }
 {
     let kind = beginning(peek(s, at.at));
     let number = refusal(kind, levels, base, row);
@@ -106,7 +106,17 @@ pub fn value(
     let mut next = Cursor { at: at.at + 1 };
     let mut end = row + 1;
     loop {
-        match next_item(s, next, kind == OBJECT, source, row, end, values, names) {
+        match next_item(
+            s,
+            next,
+            kind == OBJECT,
+            source,
+            base,
+            row,
+            end,
+            values,
+            names,
+        ) {
             Item::Begins(first, title) => {
                 let r = value(
                     s,

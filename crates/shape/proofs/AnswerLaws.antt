@@ -103,7 +103,7 @@ module _ (k : Operation.Kind) (v : Value.Value) where
     value-missing e = rw (value-is, sought-missing e s) (wrong 8 (omega arith))
 
     pub value-there : (at : ℕ) → r ≡ Member.At at → Answers (valueFor k v) 0
-    value-there at e = let (c, kids, l, n, is) = sought-at at e s in rw (value-is, is) (right _)
+    value-there at e = let (c, kids, l, few, n, is) = sought-at at e s in rw (value-is, is) (right _)
 
   -- ---- `from`: 0 spells the empty text
   pub from-unused : {D P : Bytes} → usesFrom k ≡ false → TextIs D P (fromFor k v) (Spelled.As 0)

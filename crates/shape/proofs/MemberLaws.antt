@@ -8,7 +8,7 @@ use borrow.Author.Tests.{lt-ltb, le-ltb, ne-eqb}
 use Rattle.spec.specs.Outcome.{Outcome, ok, refused, _>>=_}
 use Rattle.spec.specs.Refusal.{wrong-shape}
 use Rattle.spec.specs.Bytes.{Bytes, Text}
-use Rattle.spec.specs.Forest.{Forest, count, from, nth}
+use Rattle.spec.specs.Forest.{Forest, count, size, from, nth}
 use Rattle.spec.specs.Value as Value
 use Rattle.spec.specs.Value.{Label, leaf, named, valueOf, find, isString, tag, content}
 use Rattle.spec.specs.Pointer.{child}
@@ -20,8 +20,9 @@ use Rattle.tape.specs.Rows.{endOf, childRow}
 use Rattle.tape.specs.Map.{mapForest, mapTree}
 use Rattle.tape.proofs.Cells.{formed-fit, blank}
 use Rattle.tape.proofs.Rows.{kind-here, payload-here, end-here}
+use Rattle.tape.proofs.Forests.{size-kth}
 use Rattle.tape.proofs.Held.{held-node, held-kids, held-child}
-use Rattle.tape.proofs.Map.{count-map, map-nth}
+use Rattle.tape.proofs.Map.{count-map, size-map, map-nth}
 use Rattle.table.specs.Meaning.{partOf, spelled, labelOf, entryOf, members, meant}
 use Rattle.table.specs.Sound.{NodeHeld, RowsHeld}
 use Rattle.table.specs.Find as Find
@@ -65,7 +66,10 @@ module _ {D P : Bytes} {values names : List ℕ} {row : ℕ} {c : Cell} {kids : 
   pub member-sought : {name : Text} {r : Member} → Found D P (row + 1) kids name r → Sought D P values names row name (meant D P c kids) r
   unfolding childRow
   member-sought {name} (Find.found k at is l place) =
-      found {at = at} (omega (arith, place)) (subst (λ a. NodeHeld D P values names a (nth blank k kids .root) (nth blank k kids .kids)) (sym place) (held-member k l)) (member-there k l name is)
+      let all : size (members D P kids) ≡ size kids = size-map (entryOf D P) kids in
+      found {at = at} {below = nth blank k kids .kids} (omega (arith, place)) (omega (arith, place, all, size-kth blank k kids l))
+      (subst (λ a. NodeHeld D P values names a (nth blank k kids .root) (nth blank k kids .kids)) (sym place) (held-member k l))
+      (member-there k l name is)
   member-sought {name} (Find.missing is) = missing (member-missing name is)
 
 -- ---- a string
@@ -103,12 +107,12 @@ text-not e = record { text = sym e; decoded = sym e }
 -- what an answer of the search tells, once it is known
 module _ {D P : Bytes} {values names : List ℕ} {row : ℕ} {name : Text} {v : Value.Value} where
   pub sought-missing : {r : Member} → r ≡ Member.Missing → Sought D P values names row name v r → member name v ≡ refused wrong-shape 0
-  sought-missing is (found l n e) = absurd (let z : _≡_ {A = ℕ} 0 1 = cc in omega arith)
+  sought-missing is (found l s n e) = absurd (let z : _≡_ {A = ℕ} 0 1 = cc in omega arith)
   sought-missing is (missing e) = e
 
   pub sought-at : {r : Member} (at : ℕ) → r ≡ Member.At at → Sought D P values names row name v r
-      → (e : Cell) × (below : Forest Cell) × (row < at) × (NodeHeld D P values names at e below) × (member name v ≡ ok (meant D P e below))
-  sought-at at is (found {at = b} {e} {below} l n m) = let same : b ≡ at = cc in (e, below, rw same at l, subst (λ a. NodeHeld D P values names a e below) same n, m)
+      → (e : Cell) × (below : Forest Cell) × (row < at) × (at + size below ≤ row + size (v .kids)) × (NodeHeld D P values names at e below) × (member name v ≡ ok (meant D P e below))
+  sought-at at is (found {at = b} {e} {below} l s n m) = let same : b ≡ at = cc in (e, below, rw same at l, rw same at s, subst (λ a. NodeHeld D P values names a e below) same n, m)
   sought-at at is (missing m) = absurd (let z : _≡_ {A = ℕ} 0 1 = cc in omega arith)
 
   module _ {r : Member} (s : Sought D P values names row name v r) where
@@ -119,14 +123,14 @@ module _ {D P : Bytes} {values names : List ℕ} {row : ℕ} {name : Text} {v : 
     module _ (at : ℕ) (is : r ≡ Member.At at) (kind : ℕ) (kind-is : kind ≡ kindOf (getD values at 0)) where
       pub string-other : (kind ≡ 4 → ⊥) → TextIs D P (stringMember name v) Spelled.Not
       string-other d =
-          let (e, below, l, n, m) = sought-at at is s in
+          let (e, below, l, few, n, m) = sought-at at is s in
           let node = held-node (n .held) in
           text-not (string-of name v (meant D P e below) m ∙ other-label D P (e .kind) (e .payload) (formed-fit (node .formed) .kind) (λ f. d (kind-is ∙ kind-here node ∙ f)))
 
       pub string-found : (spelling : ℕ) → kind ≡ 4 → spelling ≡ payloadOf (getD values at 0) → TextIs D P (stringMember name v) (Spelled.As spelling)
       unfolding textOutcome spelled
       string-found spelling four payload-is =
-          let (e, below, l, n, m) = sought-at at is s in
+          let (e, below, l, few, n, m) = sought-at at is s in
           let node = held-node (n .held) in
           let k : e .kind ≡ 4 = sym (kind-here node) ∙ sym kind-is ∙ four in
           let p : spelling ≡ e .payload = payload-is ∙ payload-here node in

@@ -1,11 +1,11 @@
 -- What a search for a member of an operation answers.
-use Prim.Native.Nat.{ℕ, _<_}
+use Prim.Native.Nat.{ℕ, _+_, _<_, _≤_}
 use mathlib.Core.Path.{_≡_}
 use mathlib.Core.List.{List}
 use Rattle.spec.specs.Outcome.{Outcome, ok, refused}
 use Rattle.spec.specs.Refusal.{wrong-shape}
 use Rattle.spec.specs.Bytes.{Bytes, Text}
-use Rattle.spec.specs.Forest.{Forest}
+use Rattle.spec.specs.Forest.{Forest, size}
 use Rattle.spec.specs.Value as Value
 use Rattle.spec.specs.Patch.{member, stringMember}
 use Rattle.text.specs.Decode.{decode}
@@ -21,9 +21,10 @@ use Rattle.shape.specs.declared.members.Spelled.the-variants as Spelled
 abbrev pub ForNode : Bytes → Bytes → List ℕ → List ℕ → ℕ → (Value.Value → Type 0) → Type 0
 ForNode D P values names row Q = ForHeld D P values names row λ c kids. Q (meant D P c kids)
 
--- the member of a name, of the object in a row: the node in a row behind it, or the refusal of the definition
+-- the member of a name, of the object in a row: a node in the rows behind it that are the object's, or the refusal of the definition
 pub data Sought (D P : Bytes) (values names : List ℕ) (row : ℕ) (name : Text) (v : Value.Value) : Member → Type 0 where
-  found : {at : ℕ} {e : Cell} {below : Forest Cell} → row < at → NodeHeld D P values names at e below → member name v ≡ ok (meant D P e below)
+  found : {at : ℕ} {e : Cell} {below : Forest Cell} → row < at → at + size below ≤ row + size (v .kids) → NodeHeld D P values names at e below
+      → member name v ≡ ok (meant D P e below)
       → Sought D P values names row name v (Member.At at)
   missing : member name v ≡ refused wrong-shape 0 → Sought D P values names row name v Member.Missing
 

@@ -1,51 +1,31 @@
 -- Laws of rows that are looked at together: what the `or` of their words and the `and` of their names' numbers tell of each.
-use Prim.Native.Nat.{ℕ, _+_, _/_, _%_, _≤_, _<_}
+use Prim.Native.Nat.{ℕ, _+_, _≤_, _<_}
 use native.Mathlib.Omega.{arith}
 use native.Mathlib.Decide.{decLt}
-use mathlib.Core.Path.{_≡_, ap, _∙_}
+use mathlib.Core.Path.{_≡_}
 use mathlib.Core.List.{List}
-use lib.Bits.{bitAnd, bitOr, and-le-l, and-le-r, or-add-and, or-shr, or-mod}
+use lib.Bits.{bitAnd, bitOr, and-le-l, and-le-r}
 use lib.ListN.{getD}
-use Rattle.tape.specs.Layout.{spans, hashes}
+use Rattle.tape.specs.Layout.{hashes}
 use Rattle.tape.specs.Packing.{spanOf, hashOf}
+use Rattle.tape.proofs.LeafLaws.{Ored, ored-none, ored-next}
 use Rattle.table.specs.Find.{AllQuiet}
-
--- ---- the `or` of two words has a span of 0 only if both have
-module _ (a b : ℕ) where
-  or-span : spanOf (bitOr a b) ≡ bitOr (spanOf a) (spanOf b)
-  or-span = ap (λ w. w % spans) (or-shr a b 3) ∙ or-mod (a / 8) (b / 8) 12
-
-  module _ (none : spanOf (bitOr a b) ≡ 0) where
-    or-first : spanOf a ≡ 0
-    or-first = omega (arith, or-span, or-add-and (spanOf a) (spanOf b), and-le-r (spanOf a) (spanOf b))
-
-    or-second : spanOf b ≡ 0
-    or-second = omega (arith, or-span, or-add-and (spanOf a) (spanOf b), and-le-l (spanOf a) (spanOf b))
 
 -- ---- the first i rows of a block: their words by `or`, and their names' numbers by `and`
 pub record Scanned (values names : List ℕ) (name row i words numbers : ℕ) : Type 0 where
-  pub leaves : spanOf words ≡ 0 → (j : ℕ) → j < i → spanOf (getD values (row + j) 0) ≡ 0
+  pub leaves : Ored values row i words
   pub others : hashes ≤ numbers → (j : ℕ) → j < i → hashOf (getD names (row + j) 0) ≡ hashOf name → ⊥
 
 module _ {values names : List ℕ} {name row : ℕ} where
   pub scanned-none : {words numbers : ℕ} → Scanned values names name row 0 words numbers
-  scanned-none = record { leaves = λ n j l. absurd (omega arith); others = λ n j l e. absurd (omega arith) }
+  scanned-none = record { leaves = ored-none; others = λ n j l e. absurd (omega arith) }
 
   -- one row more
   pub scanned-next : {i words numbers : ℕ} (number : ℕ) → (hashOf (getD names (row + i) 0) ≡ hashOf name → number < hashes)
       → Scanned values names name row i words numbers
       → Scanned values names name row (i + 1) (bitOr words (getD values (row + i) 0)) (bitAnd numbers number)
-  scanned-next {i} {words} {numbers} number told s = record { leaves = leaves; others = others }
+  scanned-next {i} {words} {numbers} number told s = record { leaves = ored-next (s .leaves); others = others }
     where
-      leaves : spanOf (bitOr words (getD values (row + i) 0)) ≡ 0 → (j : ℕ) → j < i + 1 → spanOf (getD values (row + j) 0) ≡ 0
-      leaves none j l = go (decLt j i)
-        where
-          go : Dec (j < i) → spanOf (getD values (row + j) 0) ≡ 0
-          go (yes h) = s .leaves (or-first words (getD values (row + i) 0) none) j h
-          go (no h) =
-              let same : j ≡ i = omega arith in
-              rw same (or-second words (getD values (row + i) 0) none)
-
       others : hashes ≤ bitAnd numbers number → (j : ℕ) → j < i + 1 → hashOf (getD names (row + j) 0) ≡ hashOf name → ⊥
       others many j l = go (decLt j i)
         where
@@ -57,4 +37,4 @@ module _ {values names : List ℕ} {name row : ℕ} where
 
   pub scanned-quiet : {i words numbers : ℕ} (n : ℕ) → n ≤ i → spanOf words ≡ 0 → hashes ≤ numbers → Scanned values names name row i words numbers
       → AllQuiet values names name row n
-  scanned-quiet n l none many s j h = record { leaf = s .leaves none j (omega arith); other = s .others many j (omega arith) }
+  scanned-quiet n l none many s j h = record { leaf = s .leaves .leaves none j (omega arith); other = s .others many j (omega arith) }

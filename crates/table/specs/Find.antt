@@ -10,6 +10,7 @@ use Rattle.spec.specs.Value.{sameText, find}
 use Rattle.lexer.specs.Hash.{hash}
 use Rattle.tape.specs.Packing.{spanOf, hashOf}
 use Rattle.tape.specs.Cell.{Cell}
+use Rattle.tape.specs.Rows.{block}
 use Rattle.table.specs.Meaning.{nameText, members, Hashed}
 use Rattle.table.specs.Sound.{RowsHeld}
 use Rattle.table.specs.declared.find.Member.{Member}
@@ -35,10 +36,6 @@ pub record Quiet (values names : List ℕ) (name row : ℕ) : Type 0 where
 -- so are n rows from a row on
 abbrev pub AllQuiet : List ℕ → List ℕ → ℕ → ℕ → ℕ → Type 0
 AllQuiet values names name row n = (i : ℕ) → i < n → Quiet values names name (row + i)
-
--- how many rows are looked at together
-abbrev pub block : ℕ
-block = 16
 
 abbrev pub QuietIs : List ℕ → List ℕ → ℕ → ℕ → ℕ → Bool → Type 0
 QuietIs values names row stop name r = r ≡ true → (row + block ≤ stop) × AllQuiet values names name row block

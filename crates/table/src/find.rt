@@ -4,6 +4,7 @@ use crate::spellings::spells;
 use lexer::mix;
 use tape::layout::ARRAY;
 use tape::layout::HASHES;
+use tape::nodes::BLOCK;
 use tape::words::hash;
 use tape::words::kind;
 use tape::words::span;
@@ -54,9 +55,6 @@ fn apart(a: u64, b: u64) -> u64
 {
     (hash(a) ^ hash(b)) + (HASHES - 1)
 }
-
-// How many rows are looked at together.
-const BLOCK: usize = 16;
 
 // Whether the row is a multiple of BLOCK and in the BLOCK rows from it on no node has children and no name has the hash of this one. No row
 // waits for what another one holds, so that several are compared at a time.

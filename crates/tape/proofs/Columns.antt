@@ -1,13 +1,15 @@
 -- Laws of words that are replaced, moved and cleared in a column.
 use Prim.Native.Nat.{ℕ, _+_, _-_, _≤_, _<_, max}
 use native.Mathlib.Omega.{arith}
-use mathlib.Core.Path.{_≡_, _∙_}
+use mathlib.Core.Path.{_≡_, refl, _∙_}
 use mathlib.Core.Bool.{and-false}
+use native.Mathlib.Decide.{decLt}
 use mathlib.Core.List.{List, [], _∷_, _++_, append-assoc}
-use lib.ListN.{length, take, drop, set, replicate, length-append, length-take, length-drop}
+use lib.ListN.{length, take, drop, set, replicate, length-append, length-take, length-drop, length-replicate}
 use lib.Seq.{sets-eq, length-take-le, take-at, drop-at, take-append-le, drop-append-le, take-append-add, drop-append-add, take-take, drop-drop}
 use borrow.Author.Tests.{le-leb, lt-leb}
-use Rattle.tape.specs.Columns.{replaced, copied, inside, moved, usedAfter, spliceFits, spliced, filled}
+use Rattle.tape.specs.Columns.{replaced, copied, inside, moved, usedAfter, spliceFits, spliced, filled, Scratched}
+use Rattle.tape.specs.Layout.{scratchRow, rows}
 
 -- ---- where the numbers fit the column, and where they do not
 module _ {W : Type 0} (xs : List W) where
@@ -114,6 +116,17 @@ module _ {W : Type 0} (xs : List W) (to start n : ℕ) (target : to + n ≤ leng
   unfolding copied
   words-moved = rw (moved-in xs to start n target there) (words-replaced xs to n (take n (drop start xs)) (omega arith))
 
+-- ---- words filled
+module _ {W : Type 0} (x : W) (xs : List W) (start n : ℕ) (inside : start + n ≤ length xs) where
+  pub filled-before : (row : ℕ) → row ≤ start → take row (filled x xs start n) ≡ take row xs
+  filled-before row h = rw (filled-in xs x start n inside) (take-replaced xs start n (replicate n x) (omega arith) row h)
+
+  pub filled-behind : (row : ℕ) → start + n ≤ row → drop row (filled x xs start n) ≡ drop row xs
+  filled-behind row h = rw (filled-in xs x start n inside) (drop-replaced xs start n (replicate n x) (omega arith) (length-replicate n x) row h)
+
+  pub filled-length : length (filled x xs start n) ≡ length xs
+  filled-length = rw (filled-in xs x start n inside, length-replaced xs start n (replicate n x) inside, length-replicate n x) (omega arith)
+
 -- a column's first words filled
 pub filled-first : {W : Type 0} (x : W) (xs : List W) (n : ℕ) → n ≤ length xs → filled x xs 0 n ≡ replicate n x ++ drop n xs
 unfolding replaced
@@ -167,3 +180,34 @@ module _ {W : Type 0} (xs : List W) (used at removed source n : ℕ) where
     drop-spliced row h =
         let e : usedAfter used removed n + (row - usedAfter used removed n) ≡ row = omega arith in
         rw (spliced-in, ← e, ← drop-drop, drop-at kept (drop (usedAfter used removed n) xs) (usedAfter used removed n) kept-length, drop-drop)
+
+-- ---- only words in the scratch rows change
+pub scratched-not : {xs : List ℕ} → Scratched xs xs
+scratched-not = record { before = refl; behind = refl; same-length = refl }
+
+pub scratched-then : {xs ys zs : List ℕ} → Scratched xs ys → Scratched ys zs → Scratched xs zs
+scratched-then a b = record { before = b .before ∙ a .before; behind = b .behind ∙ a .behind; same-length = b .same-length ∙ a .same-length }
+
+-- some of them are made the same, or none, since the column is too short
+pub scratched-filled : {xs ys : List ℕ} (x start n : ℕ) → ys ≡ filled x xs start n → scratchRow ≤ start → start + n ≤ rows → Scratched xs ys
+scratched-filled {xs} {ys} x start n is above below = rw is (go (decLt (length xs) (start + n)))
+  where
+    go : Dec (length xs < start + n) → Scratched xs (filled x xs start n)
+    go (yes h) = rw (filled-out xs x start n h) scratched-not
+    go (no h) =
+        let inside : start + n ≤ length xs = omega arith in
+        record { before = filled-before x xs start n inside scratchRow above; behind = filled-behind x xs start n inside rows below; same-length = filled-length x xs start n inside }
+
+-- others are copied there
+pub scratched-moved : {xs ys : List ℕ} (start n : ℕ) → ys ≡ moved xs scratchRow start n → scratchRow + n ≤ rows → rows ≤ length xs → start + n ≤ length xs → Scratched xs ys
+unfolding copied
+scratched-moved {xs} start n is few long there =
+    let target : scratchRow + n ≤ length xs = omega arith in
+    let new = take n (drop start xs) in
+    let many : length new ≡ n = length-words xs scratchRow start n target there in
+    rw (is, moved-in xs scratchRow start n target there)
+    (record {
+      before = take-replaced xs scratchRow n new (omega arith) scratchRow (omega arith);
+      behind = drop-replaced xs scratchRow n new (omega arith) many rows few;
+      same-length = length-replaced xs scratchRow n new target ∙ omega arith;
+    })

@@ -6,6 +6,7 @@ pub mod Forests
 pub mod Tape
 pub mod Cells
 pub mod Rows
+pub mod LeafLaws
 pub mod Depth
 pub mod Changes
 pub mod Held

@@ -1,9 +1,9 @@
 -- Laws of nodes by their rows: what a node's word tells in its row, and where its children stand.
-use Prim.Native.Nat.{ℕ, suc, _+_, _≤_, _<_}
+use Prim.Native.Nat.{ℕ, zero, suc, _+_, _≤_, _<_}
 use native.Mathlib.Nat.{add-zero}
 use native.Mathlib.Numerals.{add-one}
 use native.Mathlib.Omega.{arith}
-use mathlib.Core.Path.{_≡_, refl, sym, ap, _∙_}
+use mathlib.Core.Path.{_≡_, refl, sym, ap, _∙_, subst}
 use mathlib.Core.List.{List, _++_}
 use mathlib.Core.Bool.{Bool, true, false}
 use lib.Dec.{leb, ltb}
@@ -14,7 +14,7 @@ use Rattle.spec.specs.Forest.{Forest, none, Tree, count, size, before, from, nt
 use Rattle.tape.specs.Packing.{kindOf, spanOf, payloadOf}
 use Rattle.tape.specs.Tape.{tape}
 use Rattle.tape.specs.Cell.{Cell, word, Node}
-use Rattle.tape.specs.Rows.{endOf, childRow, childOf, ForNode, ChildIs, ArityIs}
+use Rattle.tape.specs.Rows.{endOf, childRow, childOf, ForNode, ChildIs, ArityIs, Leaves}
 use Rattle.tape.specs.declared.nodes.Located.the-variants.{At, Fewer}
 use Rattle.tape.proofs.Forests.{size-cut, count-from, before-all, size-before-suc, count-le-size}
 use Rattle.tape.proofs.Tape.{holds-front, holds-kids, holds-size, holds-child}
@@ -128,6 +128,15 @@ Passing xs at row passed = ForNode xs at (λ c kids. Passed at row passed kids)
 module _ {xs : List ℕ} {at row passed : ℕ} (p : Passing xs at row passed) (end : ℕ) (end-is : end ≡ endOf xs at) where
   pub passing-next : (next : ℕ) → next ≡ endOf xs row → row < end → Passing xs at next (passed + 1)
   passing-next next n h c kids node = passed-next next n node (p c kids node) (omega (arith, end-here node))
+
+  -- several children that have none themselves
+  pub passing-leaves : (n : ℕ) → row + n ≤ end → Leaves xs row n → Passing xs at (row + n) (passed + n)
+  passing-leaves zero h l c kids node = rw (add-zero row, add-zero passed) (p c kids node)
+  passing-leaves (suc n) h l c kids node =
+      let before-it : Passed at (row + n) (passed + n) kids = passing-leaves n (omega arith) (λ i k. l i (omega arith)) c kids node in
+      let leaf : row + suc n ≡ endOf xs (row + n) = omega (arith, l n (omega arith)) in
+      let more : passed + n + 1 ≡ passed + suc n = omega arith in
+      subst (λ m. Passed at (row + suc n) m kids) more (passed-next (row + suc n) leaf node before-it (omega (arith, end-here node)))
 
   pub child-found : (k : ℕ) → passed ≡ k → row < end → ChildIs xs at k (At row)
   unfolding childOf

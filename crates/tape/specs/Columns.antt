@@ -1,11 +1,13 @@
 -- What becomes of a column when words of it are replaced, moved or cleared. Each is a list for any numbers at all: where they do not fit the
 -- column, nothing changes.
 use Prim.Native.Nat.{ℕ, _+_, _-_, max}
+use mathlib.Core.Path.{_≡_}
 use mathlib.Core.List.{List, _++_}
 use mathlib.Core.Bool.{Bool, _&&_}
 use lib.Dec.{leb}
 use lib.ListN.{length, take, drop, replicate}
 use Rattle.spec.specs.Outcome.{if_then_else_}
+use Rattle.tape.specs.Layout.{scratchRow, rows}
 
 -- how many words are in use when `removed` of them are replaced by n
 abbrev pub usedAfter : ℕ → ℕ → ℕ → ℕ
@@ -45,3 +47,9 @@ module _ {W : Type 0} where
 -- n words at a row made 0
 abbrev pub cleared : List ℕ → ℕ → ℕ → List ℕ
 cleared xs start n = filled 0 xs start n
+
+-- only words in the scratch rows change
+pub record Scratched (xs ys : List ℕ) : Type 0 where
+  pub before : take scratchRow ys ≡ take scratchRow xs
+  pub behind : drop rows ys ≡ drop rows xs
+  pub same-length : length ys ≡ length xs

@@ -1,7 +1,7 @@
 -- What the functions on nodes answer, of whatever node the column of values holds in a row.
 use Prim.Native.Nat.{ℕ, _+_, _<_, _≤_, min}
 use mathlib.Core.Path.{_≡_}
-use mathlib.Core.Bool.{Bool}
+use mathlib.Core.Bool.{Bool, true}
 use mathlib.Core.List.{List}
 use lib.Dec.{leb, ltb}
 use lib.ListN.{length, getD}
@@ -41,3 +41,14 @@ WithinIs values at levels r = ForNode values at (λ c kids. r ≡ leb (level c (
 abbrev pub Bounded : List ℕ → ℕ → ℕ → Located → Type 0
 Bounded values at k (At row) = (at < row) × (row < length values)
 Bounded values at k (Fewer n) = n ≤ k
+
+-- how many rows are looked at together
+abbrev pub block : ℕ
+block = 16
+
+-- n nodes in the rows from a row on have no children
+abbrev pub Leaves : List ℕ → ℕ → ℕ → Type 0
+Leaves values row n = (i : ℕ) → i < n → spanOf (getD values (row + i) 0) ≡ 0
+
+abbrev pub LeavesIs : List ℕ → ℕ → ℕ → ℕ → Bool → Type 0
+LeavesIs values row end most r = r ≡ true → (row + block ≤ end) × (block ≤ most) × Leaves values row block

@@ -10,7 +10,7 @@ ghost use Prim.Native.Nat.{_%_, _≤_};
 ghost use lib.ListN.{length, getD, set};
 ghost use Rattle.tape.specs.Layout.{spans};
 ghost use Rattle.tape.specs.Packing.{withSpan};
-ghost use Rattle.tape.specs.Rows.{endOf, ChildIs, ArityIs, WithinIs, Bounded};
+ghost use Rattle.tape.specs.Rows.{endOf, ChildIs, ArityIs, WithinIs, Bounded, LeavesIs};
 
 // The row behind the tree that begins in the row `at`.
 pub fn end_of(values: &[u64], at: usize) -> usize
@@ -32,6 +32,34 @@ pub fn set_span(values: &mut [u64], row: usize, span: usize)
 {
     let word = with_span(load(values, row), span);
     store(values, row, word);
+}
+
+// How many rows are looked at together.
+pub const BLOCK: usize = 16;
+
+// Whether the row is a multiple of BLOCK, and the nodes in the BLOCK rows from it on have no children and are at most `most`. No row waits for what
+// another one holds, so that several are looked at at a time.
+fn leaves(values: &[u64], row: usize, end: usize, most: usize) -> bool
+    requires { ⌜ (row ≤ end) × (end ≤ length (now values)) ⌝ }
+    ensures { λ r. ⌜ LeavesIs (now (values .entry)) row end most r ⌝ }
+{
+    if row % BLOCK != 0 {
+        return false;
+    }
+    if most < BLOCK {
+        return false;
+    }
+    if end - row < BLOCK {
+        return false;
+    }
+    // an `or` has the span 0 only if each of its words has
+    let mut words: u64 = 0;
+    let mut i = 0;
+    while i < BLOCK {
+        words |= values[row + i];
+        i += 1;
+    }
+    span(words) == 0
 }
 
 pub enum Located {
@@ -56,6 +84,11 @@ pub fn child(values: &[u64], at: usize, k: usize) -> Located
         if passed == k {
             return Located::At(row);
         }
+        if leaves(values, row, end, k - passed) {
+            row += BLOCK;
+            passed += BLOCK;
+            continue;
+        }
         row = end_of(values, row);
         passed += 1;
     }
@@ -74,6 +107,11 @@ pub fn arity(values: &[u64], at: usize) -> usize
     let mut row = at + 1;
     let mut passed = 0;
     while row < end {
+        if leaves(values, row, end, BLOCK) {
+            row += BLOCK;
+            passed += BLOCK;
+            continue;
+        }
         row = end_of(values, row);
         passed += 1;
     }

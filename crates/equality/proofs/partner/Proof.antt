@@ -9,7 +9,7 @@ partner-spec =
     tie.close
     (tie.spec
     -- returns
-    (λ c. partner-element (c .if1 .taken))
+    (λ c hints. partner-element (c .if1 .taken))
     -- load-requires
     (λ c κs. search needs)
     -- load-requires-2
@@ -17,12 +17,12 @@ partner-spec =
     -- same-name-requires
     (λ c κs. search needs)
     -- returns-2
-    (λ c.
+    (λ c hints.
     let l = c .before .before .before in
     partner-in-step (l .before .if1 .left) (l .load .ensures) (c .before .before .load2 .ensures) (c .before .same-name .ensures) (c .if2 .taken))
-    -- find-requires
+    -- sought-requires
     (λ c κs. search needs)
     -- returns-3
-    (λ c.
+    (λ c hints.
     let l = c .before .before .before .before in
-    partner-sought (l .before .if1 .left) (l .load .ensures) (c .find .ensures .0)))
+    partner-sought (l .before .if1 .left) (l .load .ensures) (c .sought .ensures hints)))

@@ -9,8 +9,6 @@ pub with-document-spec : {M : Type 1} → statement M
 with-document-spec =
     tie.close
     (tie.spec
-    -- clear-filter-requires
-    (λ c κs. search needs)
     -- read-document-requires
     (λ c κs. search needs)
     -- enum-known-end
@@ -24,7 +22,9 @@ with-document-spec =
     -- same-length-3
     (λ c. search needs)
     -- returns
-    (λ c long titlesLong shortD shortP. document-read (omega (arith, c .before .before .before .before .before .before .before .before .before .before .before .before .before .before .before .before .before .before .before .before .before .before .clear-filter .kept .0)) titlesLong shortD (c .before .before .before .before .before .before .before .before .before .before .before .before .before .before .before .before .before .read-document .ensures) (c .before .before .before .before .before .before .before .before .before .before .before .end .given .1) shortP (omega (arith, c .before .before .before .before .before .before .before .before .before .before .before .before .before .before .before .before .before .read-document .kept .1 .0)) (omega (arith, c .before .before .before .before .before .before .before .before .before .before .before .before .before .before .before .before .before .read-document .kept .1 .1 .0)) (c .before .before .before .before .before .before .with-patch .ensures))
+    (λ c long titlesLong shortD shortP.
+    let call = c .before .before .before .before .before .before .before .before .before .before .before .before .before .before .before .before .before in
+    document-read long titlesLong shortD (call .read-document .ensures) (c .before .before .before .before .before .before .before .before .before .before .before .end .given .1) shortP (omega (arith, call .read-document .kept .1 .0)) (omega (arith, call .read-document .kept .1 .1 .0)) (c .before .before .before .before .before .before .with-patch .ensures))
     -- enum-known-number
     (λ c. search needs)
     -- refusal-requires
@@ -34,4 +34,4 @@ with-document-spec =
     -- same-length-5
     (λ c. search needs)
     -- returns-2
-    (λ c long titlesLong shortD shortP. document-refused (omega (arith, c .before .before .before .before .before .before .before .before .before .before .before .before .before .clear-filter .kept .0)) titlesLong shortD (c .before .before .before .before .before .before .before .before .read-document .ensures) _ (c .before .before .number .given .1) (c .refusal .ensures)))
+    (λ c long titlesLong shortD shortP. document-refused long titlesLong shortD (c .before .before .before .before .before .before .before .before .read-document .ensures) _ (c .before .before .number .given .1) (c .refusal .ensures)))

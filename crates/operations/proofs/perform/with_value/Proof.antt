@@ -52,7 +52,7 @@ with-value-spec =
     -- same-length-6
     (λ c. search needs)
     -- returns-6
-    (λ c. with-test (rw (c .before .before .before .enum-told6 .given .1)) (c .test .ensures))
+    (λ c. with-test (rw (c .before .before .before .before .before .enum-told6 .given .1)) (c .before .before .test .ensures))
     -- enum-told-7
     (λ c. search needs)
     -- returns-7

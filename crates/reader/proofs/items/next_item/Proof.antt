@@ -20,7 +20,7 @@ next-item-spec =
     -- add-t13
     (λ c. omega (arith, bracket-here _ _ _ (sym (c .before .before .before .peek .ensures) ∙ c .before .if1 .taken ∙ c .before .before .closing-bracket .ensures)))
     -- returns
-    (λ c. (item-close _ _ _ _ _ _ _ _ _ (c .before .before .before .before .blanks .ensures) _ (sym (c .before .before .before .peek .ensures) ∙ c .before .if1 .taken ∙ c .before .before .closing-bracket .ensures), noted-none _))
+    (λ c. (item-close _ _ _ _ _ _ _ _ _ _ (c .before .before .before .before .blanks .ensures) _ (sym (c .before .before .before .peek .ensures) ∙ c .before .if1 .taken ∙ c .before .before .closing-bracket .ensures), noted-none _))
     -- next-name-requires
     (λ c κs. search auto)
     -- item-of-requires
@@ -31,4 +31,4 @@ next-item-spec =
     (λ c.
     let test = c .before .before .before .before .before in
     let called = c .before .before .before in
-    (item-next _ _ _ _ _ _ _ _ _ (test .before .before .before .blanks .ensures) (λ e. test .if1 .left (test .before .before .peek .ensures ∙ e ∙ sym (test .before .closing-bracket .ensures))) (called .next-name .ensures .0) (c .item-of .ensures), called .next-name .ensures .1)))
+    (item-next _ _ _ _ _ _ _ _ _ _ (test .before .before .before .blanks .ensures) (λ e. test .if1 .left (test .before .before .peek .ensures ∙ e ∙ sym (test .before .closing-bracket .ensures))) (called .next-name .ensures .0) (c .item-of .ensures), called .next-name .ensures .1)))

@@ -22,7 +22,7 @@ next-name-spec =
     -- unspelled-requires
     (λ c κs. search auto)
     -- returns
-    (λ c. (next-no-comma _ _ _ _ _ _ _ _ _ refl _ (scan-handed _ _ (c .before .before .before .comma .ensures) (c .before .enum-told .given .1) (c .unspelled .ensures)), noted-none _))
+    (λ c. (next-no-comma _ _ _ _ _ _ _ _ _ _ refl _ (scan-handed _ _ (c .before .before .before .comma .ensures) (c .before .enum-told .given .1) (c .unspelled .ensures)), noted-none _))
     -- item-name-requires
     (λ c κs. search auto)
     -- same-length
@@ -30,4 +30,4 @@ next-name-spec =
     -- returns-2
     (λ c.
     let called = c .before .before in
-    (next-named _ _ _ _ _ _ _ _ _ refl (to-ok _ (called .before .before .before .before .before .comma .ensures) (called .before .before .before .scan .given .1)) (called .item-name .ensures .0), called .item-name .ensures .1)))
+    (next-named _ _ _ _ _ _ _ _ _ _ refl (to-ok _ (called .before .before .before .before .before .comma .ensures) (called .before .before .before .scan .given .1)) (called .item-name .ensures .0), called .item-name .ensures .1)))

@@ -101,7 +101,7 @@ pub +value-spec : {M : Type 1} → statement M
     (λ c κs.
     let p = c .before .before .before .before .before .before .before .before .before .before .before .before .pre .1 in
     let i = c .before .before .loop .inv in
-    (record { source< = p .0 .source<; short = p .0 .short; values-long = omega (arith, p .0 .values-long, i .values-length); names-long = omega (arith, p .0 .names-long, i .names-length) }, (omega (arith, i .filled .ends), omega (arith, i .room, p .1))))
+    (record { source< = p .0 .source<; short = p .0 .short; values-long = omega (arith, p .0 .values-long, i .values-length); names-long = omega (arith, p .0 .names-long, i .names-length) }, (p .1 .1, omega (arith, i .filled .ends), i .room, p .1 .3)))
     -- enum-known-first
     (λ c. search needs)
     -- sub-value
@@ -117,7 +117,7 @@ pub +value-spec : {M : Type 1} → statement M
     let p = passed .before .before .before .before .before .before .before .pre .1 in
     let b = begun _ _ _ _ _ _ _ (passed .before .before .beginning .ensures ∙ ap beginning (passed .before .before .before .peek .ensures)) (passed .before .refusal .ensures) (p .1 .1) (passed .if1 .left) in
     let i = asked .before .before .before .loop .inv in
-    let t = turn i (p .1 .1) (asked .next-item .ensures .0) (asked .next-item .ensures .1) (asked .next-item .kept .1 .1 .1 .1 .1 .1 .0) in
+    let t = turn i (p .1 .1) (asked .next-item .ensures .0) (asked .next-item .ensures .1) (asked .next-item .kept .1 .1 .1 .1 .1 .1 .1 .0) in
     let f = turn-begins t _ _ (c .before .before .before .first .given .1) in
     (omega (arith, passed .before .before .before .before .before .before .before .pre .0, value-levels b (asked .before .before .before .before .before .if2 .left)), (record { source< = p .0 .source<; short = p .0 .short; values-long = omega (arith, p .0 .values-long, i .values-length, t .same-length); names-long = omega (arith, p .0 .names-long, i .names-length) }, (f .1, omega (arith, i .filled .ends, p .1 .1), i .room, p .1 .3))))
     -- enum-known-r
@@ -135,14 +135,14 @@ pub +value-spec : {M : Type 1} → statement M
     let passed = asked .before .before .before .before .before .before in
     let p = passed .before .before .before .before .before .before .before .pre .1 in
     let b = begun _ _ _ _ _ _ _ (passed .before .before .beginning .ensures ∙ ap beginning (passed .before .before .before .peek .ensures)) (passed .before .refusal .ensures) (p .1 .1) (passed .if1 .left) in
-    let t = turn (asked .before .before .before .loop .inv) (p .1 .1) (asked .next-item .ensures .0) (asked .next-item .ensures .1) (asked .next-item .kept .1 .1 .1 .1 .1 .1 .0) in
+    let t = turn (asked .before .before .before .loop .inv) (p .1 .1) (asked .next-item .ensures .0) (asked .next-item .ensures .1) (asked .next-item .kept .1 .1 .1 .1 .1 .1 .1 .0) in
     value-way-handed b (asked .before .before .before .before .before .if2 .left) t _ _ (call .before .before .before .before .first .given .1) (call .value .ensures) _ _ (c .enum-told .given .1))
     -- loop-less
     (λ c.
     let call = c .before .before .before .before .before .before .before in
     let asked = call .before .before .before .before .before .before .before .before in
     let p = asked .before .before .before .before .before .before .before .before .before .before .before .before .before .pre .1 in
-    let t = turn (asked .before .before .before .loop .inv) (p .1 .1) (asked .next-item .ensures .0) (asked .next-item .ensures .1) (asked .next-item .kept .1 .1 .1 .1 .1 .1 .0) in
+    let t = turn (asked .before .before .before .loop .inv) (p .1 .1) (asked .next-item .ensures .0) (asked .next-item .ensures .1) (asked .next-item .kept .1 .1 .1 .1 .1 .1 .1 .0) in
     let n = turn-next t _ _ (call .before .before .before .before .first .given .1) (call .value .ensures) _ _ (c .before .r .given .1) (call .value .kept .1 .1 .1 .1 .1 .1 .1 .0) (call .value .kept .1 .1 .1 .1 .1 .1 .1 .1 .0) in
     omega (arith, n .0, n .1 .within))
     -- loop-again
@@ -150,7 +150,7 @@ pub +value-spec : {M : Type 1} → statement M
     let call = c .before .before .before .before .before .before .before in
     let asked = call .before .before .before .before .before .before .before .before in
     let p = asked .before .before .before .before .before .before .before .before .before .before .before .before .before .pre .1 in
-    let t = turn (asked .before .before .before .loop .inv) (p .1 .1) (asked .next-item .ensures .0) (asked .next-item .ensures .1) (asked .next-item .kept .1 .1 .1 .1 .1 .1 .0) in
+    let t = turn (asked .before .before .before .loop .inv) (p .1 .1) (asked .next-item .ensures .0) (asked .next-item .ensures .1) (asked .next-item .kept .1 .1 .1 .1 .1 .1 .1 .0) in
     turn-next t _ _ (call .before .before .before .before .first .given .1) (call .value .ensures) _ _ (c .before .r .given .1) (call .value .kept .1 .1 .1 .1 .1 .1 .1 .0) (call .value .kept .1 .1 .1 .1 .1 .1 .1 .1 .0) .1)
     -- enum-known-after
     (λ c. search needs)
@@ -170,7 +170,7 @@ pub +value-spec : {M : Type 1} → statement M
     let passed = asked .before .before .before .before .before .before in
     let p = passed .before .before .before .before .before .before .before .pre .1 in
     let b = begun _ _ _ _ _ _ _ (passed .before .before .beginning .ensures ∙ ap beginning (passed .before .before .before .peek .ensures)) (passed .before .refusal .ensures) (p .1 .1) (passed .if1 .left) in
-    let t = turn (asked .before .before .before .loop .inv) (p .1 .1) (asked .next-item .ensures .0) (asked .next-item .ensures .1) (asked .next-item .kept .1 .1 .1 .1 .1 .1 .0) in
+    let t = turn (asked .before .before .before .loop .inv) (p .1 .1) (asked .next-item .ensures .0) (asked .next-item .ensures .1) (asked .next-item .kept .1 .1 .1 .1 .1 .1 .1 .0) in
     value-way-closed b (asked .before .before .before .before .before .if2 .left) t _ (c .before .before .before .before .before .before .before .before .after .given .1) (p .1 .3) (omega (arith, p .0 .values-long)) (p .0 .names-long) (c .before .before .before .before .put .ensures .0) (c .before .before .before .before .put .ensures .1))
     -- enum-known-number
     (λ c. search needs)
@@ -184,5 +184,5 @@ pub +value-spec : {M : Type 1} → statement M
     let passed = asked .before .before .before .before .before .before in
     let p = passed .before .before .before .before .before .before .before .pre .1 in
     let b = begun _ _ _ _ _ _ _ (passed .before .before .beginning .ensures ∙ ap beginning (passed .before .before .before .peek .ensures)) (passed .before .refusal .ensures) (p .1 .1) (passed .if1 .left) in
-    let t = turn (asked .before .before .before .loop .inv) (p .1 .1) (asked .next-item .ensures .0) (asked .next-item .ensures .1) (asked .next-item .kept .1 .1 .1 .1 .1 .1 .0) in
+    let t = turn (asked .before .before .before .loop .inv) (p .1 .1) (asked .next-item .ensures .0) (asked .next-item .ensures .1) (asked .next-item .kept .1 .1 .1 .1 .1 .1 .1 .0) in
     value-way-unread b (asked .before .before .before .before .before .if2 .left) t _ _ (c .before .number .given .1))

@@ -4,7 +4,7 @@ use native.Mathlib.Omega.{arith}
 use mathlib.Core.Path.{sym, _∙_}
 use borrow.Author.Needs.{needs}
 use Rattle.table.specs.Meaning.{nameText, Hashed}
-use Rattle.table.specs.Find.{block}
+use Rattle.tape.specs.Rows.{block}
 use Rattle.table.proofs.Search.{SeekingAny, seeking-all, seek-found, seek-next, seek-scalar, seek-over, seek-hashed, seek-quiet}
 use Rattle.table.proofs.find.find.Statement.{statement}
 use Rattle.table.proofs.find.find.Tie as tie

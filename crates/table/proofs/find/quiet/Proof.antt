@@ -5,7 +5,7 @@ use mathlib.Core.Path.{sym, _∙_}
 use mathlib.Core.Bool.{true≢false}
 use borrow.Author.Needs.{needs}
 use borrow.Author.Tests.{eqb-true}
-use Rattle.table.specs.Find.{block}
+use Rattle.tape.specs.Rows.{block}
 use Rattle.table.proofs.Blocks.{Scanned, scanned-none, scanned-next, scanned-quiet}
 use Rattle.table.proofs.find.quiet.Statement.{statement}
 use Rattle.table.proofs.find.quiet.Tie as tie

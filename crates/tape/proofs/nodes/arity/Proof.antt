@@ -3,7 +3,8 @@ use Prim.Native.Nat.{_≤_, _<_, _-_, _+_}
 use native.Mathlib.Omega.{arith}
 use lib.ListN.{length}
 use borrow.Author.Needs.{needs}
-use Rattle.tape.proofs.Rows.{Passing, passed-none, passing-next, no-node, arity-counted}
+use Rattle.tape.specs.Rows.{block}
+use Rattle.tape.proofs.Rows.{Passing, passed-none, passing-next, passing-leaves, no-node, arity-counted}
 use Rattle.tape.proofs.nodes.arity.Statement.{statement}
 use Rattle.tape.proofs.nodes.arity.Tie as tie
 
@@ -27,6 +28,17 @@ arity-spec =
     (λ c. search needs)
     -- loop-holds
     (λ c. (omega arith, omega arith, λ cell kids node. passed-none _ kids))
+    -- leaves-requires
+    (λ c κs. (omega arith, omega arith))
+    -- add-row-2, add-passed, loop-less
+    (λ c. omega (arith, c .before .leaves .ensures (c .if2 .taken)))
+    (λ c. omega (arith, c .before .leaves .ensures (c .if2 .taken)))
+    (λ c. omega (arith, c .before .leaves .ensures (c .if2 .taken)))
+    -- loop-again
+    (λ c.
+    let l = c .before .leaves .ensures (c .if2 .taken) in
+    let i = c .before .before .before .loop .inv in
+    (omega arith, omega arith, passing-leaves (i .2) _ (c .before .before .before .before .end-of .ensures) block (l .0) (l .2)))
     -- end-of-requires-2
     (λ c κs. search needs)
     -- add-passed
@@ -34,6 +46,6 @@ arity-spec =
     -- loop-less
     (λ c. search needs)
     -- loop-again
-    (λ c. (omega arith, omega arith, passing-next (c .before .before .loop .inv .2) _ (c .before .before .before .end-of .ensures) _ (c .end-of2 .ensures) (omega arith)))
+    (λ c. (omega arith, omega arith, passing-next (c .before .before .before .before .loop .inv .2) _ (c .before .before .before .before .before .end-of .ensures) _ (c .end-of2 .ensures) (omega arith)))
     -- returns-2
     (λ c. (arity-counted (c .before .loop .inv .2) _ (c .before .before .end-of .ensures) (omega arith), omega arith)))

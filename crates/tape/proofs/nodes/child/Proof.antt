@@ -3,7 +3,8 @@ use Prim.Native.Nat.{_≤_, _<_, _-_}
 use native.Mathlib.Omega.{arith}
 use lib.ListN.{length}
 use borrow.Author.Needs.{needs}
-use Rattle.tape.proofs.Rows.{Passing, passed-none, passing-next, no-node, child-found, child-none}
+use Rattle.tape.specs.Rows.{block}
+use Rattle.tape.proofs.Rows.{Passing, passed-none, passing-next, passing-leaves, no-node, child-found, child-none}
 use Rattle.tape.proofs.nodes.child.Statement.{statement}
 use Rattle.tape.proofs.nodes.child.Tie as tie
 
@@ -29,6 +30,19 @@ child-spec =
     (λ c. (omega arith, omega arith, omega arith, λ cell kids node. passed-none _ kids))
     -- returns-2
     (λ c. (child-found (c .before .before .loop .inv .3) _ (c .before .before .before .end-of .ensures) _ (c .if2 .taken) (omega arith), (omega arith, omega arith)))
+    -- sub-leaves
+    (λ c. search needs)
+    -- leaves-requires
+    (λ c κs. (omega arith, omega arith))
+    -- add-row-2, add-passed, loop-less
+    (λ c. omega (arith, c .before .leaves .ensures (c .if3 .taken)))
+    (λ c. omega (arith, c .before .leaves .ensures (c .if3 .taken)))
+    (λ c. omega (arith, c .before .leaves .ensures (c .if3 .taken)))
+    -- loop-again
+    (λ c.
+    let l = c .before .leaves .ensures (c .if3 .taken) in
+    let i = c .before .before .before .before .loop .inv in
+    (omega arith, omega arith, omega arith, passing-leaves (i .3) _ (c .before .before .before .before .before .end-of .ensures) block (l .0) (l .2)))
     -- end-of-requires-2
     (λ c κs. search needs)
     -- add-passed
@@ -36,6 +50,6 @@ child-spec =
     -- loop-less
     (λ c. search needs)
     -- loop-again
-    (λ c. (omega arith, omega arith, omega arith, passing-next (c .before .before .before .loop .inv .3) _ (c .before .before .before .before .end-of .ensures) _ (c .end-of2 .ensures) (omega arith)))
+    (λ c. (omega arith, omega arith, omega arith, passing-next (c .before .before .before .before .before .loop .inv .3) _ (c .before .before .before .before .before .before .end-of .ensures) _ (c .end-of2 .ensures) (omega arith)))
     -- returns-3
     (λ c. (child-none (c .before .loop .inv .3) _ (c .before .before .end-of .ensures) (omega arith) _ (omega arith), omega arith)))

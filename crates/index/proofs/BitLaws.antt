@@ -1,0 +1,41 @@
+-- The bits of a name, as the code has them: where they begin, the next one, and what is behind it; and that one is left after filling up.
+use Prim.Native.Nat.{ℕ, _/_, _%_, _≤_, _<_}
+use mathlib.Core.Path.{_≡_, ap}
+use mathlib.Core.List.{[], _∷_}
+use borrow.Author.Tests.{lt-ltb, le-ltb}
+use Rattle.spec.specs.Bytes.{Bytes}
+use Rattle.text.specs.Decode.{textFrom, textOf}
+use Rattle.tape.specs.Packing.{formOf, spellingOf, hashOf}
+use Rattle.table.specs.Meaning.{partOf, spelled, nameText}
+use Rattle.index.specs.declared.bits.Bits.{Bits}
+use Rattle.index.specs.Bits.{bitsOf, hashBits, Stream, streamFor, onward, refill, bitOf, restOf, streamOf}
+
+module _ (D P : Bytes) (word : ℕ) where
+  pub stream-start : (b : Bits) → b .left ≡ hashBits (hashOf word) → b .next ≡ 0 → streamOf D P word b ≡ streamFor (hashOf word) (nameText D P word)
+  unfolding streamOf spelled textOf
+  stream-start b none first = rw (none, first)
+
+  pub stream-bit : (q : Stream) (filled : Bits) → streamOf D P word filled ≡ refill q → filled .left % 2 ≡ bitOf q
+  unfolding streamOf bitOf
+  stream-bit q filled h = ap (λ p. p .0 % 2) h
+
+  pub stream-rest : (q : Stream) (filled after : Bits) → streamOf D P word filled ≡ refill q → after .left ≡ filled .left / 2 → after .next ≡ filled .next → streamOf D P word after ≡ restOf q
+  unfolding streamOf restOf
+  stream-rest q filled after h left next = rw (left, next) (ap (λ p. (p .0 / 2, p .1)) h)
+
+-- ---- filled up: where a bit is left; behind the last character; and where one is read
+
+module _ (D P : Bytes) (word : ℕ) (b : Bits) where
+  pub filled-still : 1 < b .left → streamOf D P word b ≡ refill (streamOf D P word b)
+  unfolding streamOf refill
+  filled-still h = rw (lt-ltb 1 (b .left) h)
+
+  -- the text is that of the part that the code read, in its form
+  module _ {name form : ℕ} {s : Bytes} (n : name ≡ spellingOf word) (f : form ≡ formOf name) (p : s ≡ partOf D P name) (none : b .left ≤ 1) (after : Bits) where
+    pub filled-end : textFrom form s (b .next) ≡ [] → after .left ≡ 1 → after .next ≡ b .next → streamOf D P word after ≡ refill (streamOf D P word b)
+    unfolding streamOf refill onward
+    filled-end t left next = rw (left, next, le-ltb 1 (b .left) none, ← n, ← f, ← p, t)
+
+    pub filled-next : (c : ℕ) → textFrom form s (b .next) ≡ c ∷ textFrom form s (after .next) → after .left ≡ bitsOf c → streamOf D P word after ≡ refill (streamOf D P word b)
+    unfolding streamOf refill onward
+    filled-next c t left = rw (left, le-ltb 1 (b .left) none, ← n, ← f, ← p, t)

@@ -1,0 +1,44 @@
+-- `refilled` meets its contract: a bit is left, or the next character is read, or there is none.
+use mathlib.Core.Path.{refl}
+use Rattle.text.proofs.Auto.{auto}
+use Rattle.text.proofs.LetterLaws.{scalar-text, refused-text}
+use Rattle.index.proofs.BitLaws.{filled-still, filled-end, filled-next}
+use Rattle.index.proofs.bits.refilled.Statement.{statement}
+use Rattle.index.proofs.bits.refilled.Tie as tie
+
+pub refilled-spec : {M : Type 1} → statement M
+refilled-spec =
+    tie.close
+    (tie.spec
+    -- returns
+    (λ c. filled-still _ _ _ _ (c .if1 .taken))
+    -- spelling-requires
+    (λ c κs. search auto)
+    -- part-requires
+    (λ c κs. search auto)
+    -- form-requires
+    (λ c κs. search auto)
+    -- letter-requires
+    (λ c κs. search auto)
+    -- enum-known-c
+    (λ c. search auto)
+    -- enum-told
+    (λ c. search auto)
+    -- returns-2
+    (λ c.
+    let read = c .before .before in
+    let part = read .before .before in
+    filled-end _ _ _ _ (part .before .spelling .ensures) (read .before .form .ensures) (part .part .ensures) (part .before .before .if1 .left) _
+    (refused-text _ _ _ (read .letter .ensures) _ (c .enum-told .given .1))
+    refl
+    refl)
+    -- bits-of-requires
+    (λ c κs. search auto)
+    -- returns-3
+    (λ c.
+    let known = c .before .before in
+    let read = known .before .before in
+    let part = read .before .before in
+    filled-next _ _ _ _ (part .before .spelling .ensures) (read .before .form .ensures) (part .part .ensures) (part .before .before .if1 .left) _ _
+    (scalar-text _ _ _ (read .letter .ensures) _ _ (known .c .given .1))
+    (c .bits-of .ensures)))

@@ -1,0 +1,38 @@
+-- `enter_by_hash` meets its contract: the row is put where the way of its name ends, if the hash leads there.
+use native.Mathlib.Omega.{arith}
+use borrow.Author.Needs.{needs}
+use Rattle.index.proofs.WayLaws.{not-by-hash, entered-by-hash}
+use Rattle.index.proofs.ways.enter_by_hash.Statement.{statement}
+use Rattle.index.proofs.ways.enter_by_hash.Tie as tie
+
+pub enter-by-hash-spec : {M : Type 1} → statement M
+enter-by-hash-spec =
+    tie.close
+    (tie.spec
+    -- returns
+    (λ c. not-by-hash)
+    -- returns-2
+    (λ c. not-by-hash)
+    -- sub-new
+    (λ c. search needs)
+    -- returns-3
+    (λ c. not-by-hash)
+    -- hash-requires
+    (λ c κs. search needs)
+    -- bucket-requires
+    (λ c κs. search needs)
+    -- descend-by-hash-requires
+    (λ c κs. (omega arith, omega arith, omega arith, omega (arith, c .before .bucket .ensures), omega (arith, c .before .bucket .ensures)))
+    -- same-length
+    (λ c. search needs)
+    -- returns-4
+    (λ c. not-by-hash)
+    -- set-slot-requires
+    (λ c κs. search needs)
+    -- same-length-2
+    (λ c. search needs)
+    -- returns-5
+    (λ c.
+    let sought = c .before .before .before .before .before in
+    let start = sought .before .before in
+    entered-by-hash (start .before .hash .ensures) (start .bucket .ensures) (sought .descend-by-hash .ensures) (omega arith) (c .before .before .set-slot .ensures)))
