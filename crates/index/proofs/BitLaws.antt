@@ -1,14 +1,14 @@
 -- The bits of a name, as the code has them: where they begin, the next one, and what is behind it; and that one is left after filling up.
-use Prim.Native.Nat.{ℕ, _/_, _%_, _≤_, _<_}
-use mathlib.Core.Path.{_≡_, ap}
+use Prim.Native.Nat.{ℕ, _+_, _/_, _%_, _≤_, _<_}
+use mathlib.Core.Path.{_≡_, sym, ap, _∙_}
 use mathlib.Core.List.{[], _∷_}
 use borrow.Author.Tests.{lt-ltb, le-ltb}
-use Rattle.spec.specs.Bytes.{Bytes}
+use Rattle.spec.specs.Bytes.{Bytes, Text}
 use Rattle.text.specs.Decode.{textFrom, textOf}
 use Rattle.tape.specs.Packing.{formOf, spellingOf, hashOf}
 use Rattle.table.specs.Meaning.{partOf, spelled, nameText}
 use Rattle.index.specs.declared.bits.Bits.{Bits}
-use Rattle.index.specs.Bits.{bitsOf, hashBits, Stream, streamFor, onward, refill, bitOf, restOf, streamOf}
+use Rattle.index.specs.Bits.{otherMix, otherHashFrom, otherHash, hashBits, Stream, streamFor, onward, refill, bitOf, restOf, streamOf}
 
 module _ (D P : Bytes) (word : ℕ) where
   pub stream-start : (b : Bits) → b .left ≡ hashBits (hashOf word) → b .next ≡ 0 → streamOf D P word b ≡ streamFor (hashOf word) (nameText D P word)
@@ -36,6 +36,15 @@ module _ (D P : Bytes) (word : ℕ) (b : Bits) where
     unfolding streamOf refill onward
     filled-end t left next = rw (left, next, le-ltb 1 (b .left) none, ← n, ← f, ← p, t)
 
-    pub filled-next : (c : ℕ) → textFrom form s (b .next) ≡ c ∷ textFrom form s (after .next) → after .left ≡ bitsOf c → streamOf D P word after ≡ refill (streamOf D P word b)
+    pub filled-next : (c : ℕ) → textFrom form s (b .next) ≡ c ∷ textFrom form s (after .next) → after .left ≡ 0x1000_0000 + otherHash (textFrom form s (b .next)) % 0x1000_0000 → streamOf D P word after ≡ refill (streamOf D P word b)
     unfolding streamOf refill onward
     filled-next c t left = rw (left, le-ltb 1 (b .left) none, ← n, ← f, ← p, t)
+
+-- ---- the other hash, character by character
+pub other-ends : {h whole : ℕ} {t : Text} → t ≡ [] → otherHashFrom h t ≡ whole → h ≡ whole
+unfolding otherHashFrom
+other-ends {h} e f = sym (ap (otherHashFrom h) e) ∙ f
+
+pub other-more : (h : ℕ) {next c whole : ℕ} {t u : Text} → t ≡ c ∷ u → next ≡ otherMix h c → otherHashFrom h t ≡ whole → otherHashFrom next u ≡ whole
+unfolding otherHashFrom
+other-more h {u = u} e m f = ap (λ n. otherHashFrom n u) m ∙ sym (ap (otherHashFrom h) e) ∙ f

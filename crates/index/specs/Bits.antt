@@ -9,21 +9,32 @@ use Rattle.tape.specs.Packing.{formOf, spellingOf}
 use Rattle.table.specs.Meaning.{partOf}
 use Rattle.index.specs.declared.bits.Bits.{Bits}
 
--- the bits of a character, the last one first, below a one that ends them; the last tells a short character from a long one
-unfoldable pub bitsOf : ℕ → ℕ
-bitsOf c = if ltb c 0x80 then 0x100 + 2 * c else 0x40_0000 + 2 * (c % 0x20_0000) + 1
+-- another hash of a text, by which those are told apart that have one hash
+abbrev spread : ℕ → ℕ
+spread m = (m + m / 0x4000) % 0x1000_0000
 
--- before the characters come the bits of the hash that did not choose the slot
+abbrev pub otherMix : ℕ → ℕ → ℕ
+otherMix h c = spread ((h + c) * 165_904_091 % 0x1000_0000)
+
+unfoldable pub otherHashFrom : ℕ → Text → ℕ
+otherHashFrom h [] = h
+otherHashFrom h (c ∷ cs) = otherHashFrom (otherMix h c) cs
+
+unfoldable pub otherHash : Text → ℕ
+otherHash cs = otherHashFrom 0 cs
+
+-- first come the bits of the hash that did not choose the slot, the last one first, below a one that ends them
 abbrev pub hashBits : ℕ → ℕ
 hashBits h = 0x2_0000 + h / 2048 % 0x2_0000
 
--- the bits that are left of a character, or of the hash, and the characters behind it
+-- the bits that are left of a hash, and the characters that are left
 abbrev pub Stream : Type 0
 Stream = ℕ × Text
 
+-- then those of the other hash, of all the characters, of those from the second on, and so on
 unfoldable pub onward : Text → Stream
 onward [] = (1, [])
-onward (c ∷ cs) = (bitsOf c, cs)
+onward (c ∷ cs) = (0x1000_0000 + otherHash (c ∷ cs) % 0x1000_0000, cs)
 
 -- with one bit at least; behind the last character there are ones
 unfoldable pub refill : Stream → Stream

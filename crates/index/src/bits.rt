@@ -1,26 +1,42 @@
-// The bits of a name, one after another: those of its hash, of its first character, of the next, and ones behind the last.
+// The bits of a name, one after another: those of its hash; those of another hash of its characters, of those from the second on, and so on; and
+// ones behind the last. So names that were made to share a hash part soon, and all names part at last.
 ghost use mathlib.Core.Path.{_≡_};
-ghost use Rattle.index.specs.Bits.{bitsOf, hashBits, refill, streamOf};
+ghost use Rattle.index.specs.Bits.{otherMix, otherHash, hashBits, refill, streamOf};
+ghost use Rattle.text.specs.Decode.{textFrom};
 use lexer::Character;
 use table::spellings::part;
 use tape::words::form;
 use tape::words::spelling;
 use text::letter;
 
-// The bits that are left of a character, or of the hash, below a one that ends them, and the place of the next character.
+// The bits that are left of a hash, below a one that ends them, and the place of the next character.
 pub struct Bits {
     pub left: u32,
     pub next: usize,
 }
 
-// The bits of a character, below a one that ends them: the first tells a short character from a long one.
-fn bits_of(c: u32) -> u32
-    ensures { λ r. ⌜ r ≡ bitsOf c ⌝ }
+// Another hash of a text and one more character: its high bits reach the low ones, so that no sum of characters that leaves one of the two hashes as
+// it is leaves the other.
+fn other_mix(hash: u32, c: u32) -> u32
+    ensures { λ r. ⌜ r ≡ otherMix hash c ⌝ }
 {
-    if c < 0x80 {
-        return 0x100 + 2 * c;
+    let m = (hash as u64 + c as u64) * 165_904_091 % 0x1000_0000;
+    ((m + m / 0x4000) % 0x1000_0000) as u32
+}
+
+// That hash of what a part says from a place on.
+fn other_hash(form: u64, s: &[u8], start: usize) -> u32
+    ensures { λ r. ⌜ r ≡ otherHash (textFrom form (now (s .entry)) start) ⌝ }
+{
+    let mut h: u32 = 0;
+    let mut at = start;
+    loop {
+        let Character::Scalar(c, next) = letter(form, s, at) else {
+            return h;
+        };
+        h = other_mix(h, c);
+        at = next.at;
     }
-    0x40_0000 + 2 * (c % 0x20_0000) + 1
 }
 
 // The bits of a hash that do not choose a slot, below a one that ends them.
@@ -30,7 +46,7 @@ pub fn hash_bits(hash: u64) -> u32
     (0x2_0000 + hash / 2048 % 0x2_0000) as u32
 }
 
-// One bit is left at least: where there was none, the next character is read.
+// One bit is left at least: where there was none, there are those of another hash, of the characters from the next on.
 pub fn refilled<'a>(document: &'a [u8], patch: &'a [u8], word: u64, bits: Bits) -> Bits
     ensures { λ r. ⌜ streamOf (now (document .entry)) (now (patch .entry)) word r ≡ refill (streamOf (now (document .entry)) (now (patch .entry)) word bits) ⌝ }
 {
@@ -39,14 +55,15 @@ pub fn refilled<'a>(document: &'a [u8], patch: &'a [u8], word: u64, bits: Bits) 
     }
     let name = spelling(word);
     let s = part(document, patch, name);
-    let Character::Scalar(c, next) = letter(form(name), s, bits.next) else {
+    let f = form(name);
+    let Character::Scalar(_, next) = letter(f, s, bits.next) else {
         return Bits {
             left: 1,
             next: bits.next,
         };
     };
     Bits {
-        left: bits_of(c),
+        left: 0x1000_0000 + other_hash(f, s, bits.next) % 0x1000_0000,
         next: next.at,
     }
 }

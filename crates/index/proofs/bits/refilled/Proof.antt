@@ -1,5 +1,6 @@
--- `refilled` meets its contract: a bit is left, or the next character is read, or there is none.
-use mathlib.Core.Path.{refl}
+-- `refilled` meets its contract: a bit is left, or the characters from the next on are hashed, or there is none.
+use Prim.Native.Nat.{_+_, _%_}
+use mathlib.Core.Path.{refl, ap}
 use Rattle.text.proofs.Auto.{auto}
 use Rattle.text.proofs.LetterLaws.{scalar-text, refused-text}
 use Rattle.index.proofs.BitLaws.{filled-still, filled-end, filled-next}
@@ -20,7 +21,7 @@ refilled-spec =
     (λ c κs. search auto)
     -- letter-requires
     (λ c κs. search auto)
-    -- enum-known-c
+    -- enum-known-next
     (λ c. search auto)
     -- enum-told
     (λ c. search auto)
@@ -32,13 +33,15 @@ refilled-spec =
     (refused-text _ _ _ (read .letter .ensures) _ (c .enum-told .given .1))
     refl
     refl)
-    -- bits-of-requires
+    -- other-hash-requires
     (λ c κs. search auto)
+    -- add-t13
+    (λ c. search auto)
     -- returns-3
     (λ c.
     let known = c .before .before in
     let read = known .before .before in
     let part = read .before .before in
     filled-next _ _ _ _ (part .before .spelling .ensures) (read .before .form .ensures) (part .part .ensures) (part .before .before .if1 .left) _ _
-    (scalar-text _ _ _ (read .letter .ensures) _ _ (known .c .given .1))
-    (c .bits-of .ensures)))
+    (scalar-text _ _ _ (read .letter .ensures) _ _ (known .next .given .1))
+    (ap (λ n. 0x1000_0000 + n % 0x1000_0000) (c .other-hash .ensures))))
