@@ -182,8 +182,8 @@ def one_hash(n):
 
 
 def one_hash_long(n):
-    """Names that begin and end alike, too."""
-    return text({name: 0 for name in alike(n, "profile-", ".current")}), "[]"
+    """Names of 64 characters that differ only in eight of the last fourteen."""
+    return text({name: 0 for name in alike(n, "charge-profile-" * 3 + "pack-", "-limit")}), "[]"
 
 
 def equal_one_hash(n):
@@ -219,7 +219,7 @@ SHAPES = [
     (equal_numbers, 250, "numbers"),
     (equal_escapes, 5400, "characters"),
     (one_hash, 2000, "members"),
-    (one_hash_long, 1000, "members"),
+    (one_hash_long, 450, "members"),
     (equal_one_hash, 2000, "members"),
 ]
 
