@@ -15,8 +15,8 @@ pub struct Bits {
     pub next: usize,
 }
 
-// Another hash of a text and one more character: its high bits reach the low ones, so that no sum of characters that leaves one of the two hashes as
-// it is leaves the other.
+// Another hash of a text and one more character. Its high bits reach the low ones, so that names whose characters were chosen to leave the first hash
+// as it is are not known to leave this one.
 fn other_mix(hash: u32, c: u32) -> u32
     ensures { λ r. ⌜ r ≡ otherMix hash c ⌝ }
 {
