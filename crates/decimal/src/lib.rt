@@ -1,5 +1,5 @@
-// Equality of two JSON numbers by their exact value: document 01, "drop zeros on both ends of the digits and adjust a signed power of ten". A
-// zero of either sign is zero (document 02, T-04).
+// Equality of two JSON numbers by their exact value: document 01, "drop zeros on both ends of the digits and adjust a
+// signed power of ten". A zero of either sign is zero (document 02, T-04).
 // Each function reads a number's text where it lies: no digit is copied, and no float is made.
 
 mod exponent; // exponent.rt: what is written after the letter e
@@ -30,9 +30,9 @@ const MAX_NUMBER: usize = 128;
 
 const MAX_EXPONENT: usize = 9_999;
 
-// A number's text in normal form: whether it is below zero; where its significant digits begin, and how many they are, without zeros at either
-// end and with the point between them not counted; and the power of ten of the last of them. A zero has no significant digits, the power 0 and
-// no sign.
+// A number's text in normal form: whether it is below zero; where its significant digits begin, and how many they are,
+// without zeros at either end and with the point between them not counted; and the power of ten of the last of them. A
+// zero has no significant digits, the power 0 and no sign.
 pub struct Normal {
     pub negative: bool,
     pub first: usize,
