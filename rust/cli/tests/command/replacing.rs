@@ -12,7 +12,7 @@ const NAMES: [&str; 3] = ["fix.json", "other.json", "pack.json"];
 #[test]
 fn permissions_stay() {
     let folder = Folder::with_files();
-    for mode in [0o600, 0o644, 0o664, 0o400 | 0o200, 0o755, 0o640] {
+    for mode in [0o600, 0o644, 0o664, 0o755, 0o640] {
         folder.write("pack.json", PACK);
         fs::set_permissions(folder.path("pack.json"), Permissions::from_mode(mode)).expect("mode");
         folder.run(IN_PLACE).done("");

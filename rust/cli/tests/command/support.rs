@@ -144,9 +144,10 @@ pub fn program(name: &str) -> Option<PathBuf> {
     std::env::split_paths(&path).map(|folder| folder.join(name)).find(|path| path.is_file())
 }
 
-/// Says on standard error what could not be tried, and why.
+/// Says on standard error what could not be tried, and why. Past the test
+/// harness, which would keep it to itself.
 pub fn left_out(what: &str, why: &str) {
-    eprintln!("left out: {what}: {why}");
+    let _ = writeln!(std::io::stderr(), "left out: {what}: {why}");
 }
 
 pub fn words(text: &str) -> Vec<OsString> {
