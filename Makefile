@@ -33,8 +33,11 @@ VERSION := $(shell sed -n 's/.*JSON_PATCH_VERSION "\(.*\)"/\1/p' include/json_pa
 # function or a struct of the header changes after a release.
 ABI := 0
 
-# The folder of the static library that rt makes.
-JSON_PATCH_LIB ?= $(CURDIR)/target/staticlib
+# The folder of the static library, if it is not the one that rt makes here.
+ifdef JSON_PATCH_LIB
+prebuilt := yes
+endif
+override JSON_PATCH_LIB := $(abspath $(or $(JSON_PATCH_LIB),target/staticlib))
 export JSON_PATCH_LIB
 
 out := target/make
@@ -49,10 +52,12 @@ rust := $(shell find rust/src rust/cli/src -name '*.rs') rust/build.rs rust/Carg
 
 all: $(static) $(out)/$(soname) $(command) $(completions)
 
+ifndef prebuilt
 $(static): $(proved)
 	@command -v rt >/dev/null || { echo "no rt: the Rattle toolchain proves and makes $@" >&2; exit 1; }
 	rt staticlib json_patch
 	@touch $@
+endif
 
 # The shared library is the proved archive, linked whole.
 $(out)/$(shared): $(static)

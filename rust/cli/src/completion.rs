@@ -99,23 +99,29 @@ fn zsh() -> String {
     let (mut list, mut cases) = (String::new(), String::new());
     for command in COMMANDS {
         let _ = writeln!(list, "        '{}:{}'", command.name, command.summary);
-        let _ = writeln!(cases, "        {})\n            _arguments -s \\", command.name);
+        let _ = writeln!(
+            cases,
+            "                {})\n                    _arguments -s \\",
+            command.name
+        );
         for option in command.options {
             let takes = option.value.map_or(String::new(), |value| format!(":{value}:_files"));
-            let about = format!("[{}]{takes}", option.summary);
             for form in forms(option) {
-                let equals =
-                    if option.value.is_some() && form.starts_with("--") { "=" } else { "" };
-                let _ = writeln!(cases, "                '{form}{equals}{about}' \\");
+                let long = option.value.is_some() && form.starts_with("--");
+                let equals = if long { "=" } else { "" };
+                let about = option.summary;
+                let _ =
+                    writeln!(cases, "                        '{form}{equals}[{about}]{takes}' \\");
             }
         }
         let operand = match command.words {
             [] => "'*:file:_files'".to_string(),
             words => format!("'1:word:({})'", words.join(" ")),
         };
+        let help = "'(- *)'{-h,--help}'[show this help]'";
         let _ = writeln!(
             cases,
-            "                '(- *)'{{-h,--help}}'[show this help]' \\\n                {operand}\n            ;;"
+            "                        {help} \\\n                        {operand}\n                    ;;"
         );
     }
     let names = commands();
@@ -123,21 +129,26 @@ fn zsh() -> String {
         r#"#compdef json-patch
 # Completions of json-patch for zsh.
 _json_patch() {{
-    local -a commands
-    commands=(
+    local context state state_descr line
+    typeset -A opt_args
+    local -a commands=(
 {list}        'help:show the help of a command'
     )
-    if ((CURRENT == 2)); then
-        _describe command commands
-        _arguments '(- *)'{{-h,--help}}'[show this help]' '(- *)'{{-V,--version}}'[show the version]'
-        return
-    fi
-    local name=$words[2]
-    shift words
-    ((CURRENT--))
-    case $name in
-{cases}        help)
-            _arguments '1:command:({names})'
+    _arguments -C \
+        '(- *)'{{-h,--help}}'[show this help]' \
+        '(- *)'{{-V,--version}}'[show the version]' \
+        '1:command:->command' \
+        '*::argument:->argument'
+    case $state in
+        command)
+            _describe command commands
+            ;;
+        argument)
+            case $words[1] in
+{cases}                help)
+                    _arguments '1:command:({names})'
+                    ;;
+            esac
             ;;
     esac
 }}
@@ -147,23 +158,20 @@ if [[ $funcstack[1] == _json-patch ]]; then _json_patch "$@"; else compdef _json
 }
 
 fn fish() -> String {
-    let all = commands();
+    let line = "complete -c json-patch";
+    let first = format!("{line} -n __fish_use_subcommand");
     let mut text = format!(
         "# Completions of json-patch for fish.\n\
-         complete -c json-patch -n '__fish_is_first_token' -f\n\
-         complete -c json-patch -n '__fish_is_first_token' -s h -l help -d 'show this help'\n\
-         complete -c json-patch -n '__fish_is_first_token' -s V -l version -d 'show the version'\n\
-         complete -c json-patch -n '__fish_is_first_token' -a help -d 'show the help of a command'\n\
-         complete -c json-patch -n '__fish_seen_subcommand_from help' -f -a '{all}'\n"
+         {first} -f -s h -l help -d 'show this help'\n\
+         {first} -f -s V -l version -d 'show the version'\n\
+         {first} -f -a help -d 'show the help of a command'\n\
+         {line} -n '__fish_seen_subcommand_from help' -f -a '{}'\n",
+        commands()
     );
     for command in COMMANDS {
         let name = command.name;
-        let _ = writeln!(
-            text,
-            "complete -c json-patch -n '__fish_is_first_token' -a {name} -d '{}'",
-            command.summary
-        );
-        let line = format!("complete -c json-patch -n '__fish_seen_subcommand_from {name}'");
+        let _ = writeln!(text, "{first} -f -a {name} -d '{}'", command.summary);
+        let line = format!("{line} -n '__fish_seen_subcommand_from {name}'");
         for option in command.options {
             let short = option.short.map_or(String::new(), |short| format!(" -s {short}"));
             let takes = if option.value.is_some() { " -r" } else { "" };
@@ -176,4 +184,20 @@ fn fish() -> String {
         }
     }
     text
+}
+
+#[cfg(test)]
+mod tests {
+    use super::*;
+
+    /// What a shell would take for more than text must not stand in a summary.
+    #[test]
+    fn summaries_need_no_quoting() {
+        for command in COMMANDS {
+            let options = command.options.iter().map(|option| option.summary);
+            for summary in options.chain([command.summary]) {
+                assert!(!summary.contains(['\'', '[', ']', ':', '\\', '\n']), "{summary}");
+            }
+        }
+    }
 }

@@ -50,6 +50,7 @@ fn run(words: &[OsString]) -> Result<Status, Trouble> {
         }
         Some("help") => match rest {
             [] => help::print(&help::overview()),
+            [name] if name == "-h" || name == "--help" => help::print(&help::overview()),
             [name] => help::print(&help::of(find(name)?)),
             _ => Err(Trouble::usage("help takes one command")),
         },

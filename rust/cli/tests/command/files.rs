@@ -64,7 +64,7 @@ fn as_nobody(folder: &Folder, words: &[&str]) -> Ran {
 fn what_may_not_be_read_or_written_is_trouble() {
     let folder = Folder::with_files();
     folder.write("secret.json", PACK);
-    fs::set_permissions(folder.path("secret.json"), Permissions::from_mode(0))
+    fs::set_permissions(folder.path("secret.json"), Permissions::from_mode(0o000))
         .expect("permissions");
     let denied = |name: &str| format!("json-patch: {name}: Permission denied\n");
     as_nobody(&folder, &["apply", "secret.json", "fix.json"]).trouble(&denied("secret.json"));

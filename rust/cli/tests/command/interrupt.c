@@ -2,6 +2,7 @@
  * power cut or SIGKILL would, or takes nameless files away from it.
  *   INTERRUPT=before:rename   killed before its first call of that function
  *   INTERRUPT=after:fsync     killed after it
+ *   INTERRUPT=second:fsync    killed before the second
  *   NAMELESS=no               open fails with EOPNOTSUPP for O_TMPFILE
  *   FAIL=rename               the function fails with ENOSPC */
 #define _GNU_SOURCE
@@ -26,8 +27,10 @@ static void stop(const char *moment, const char *name) {
 #define STEP(type, name, parameters, arguments)                               \
     type name parameters {                                                    \
         type(*real) parameters = (type(*) parameters)dlsym(RTLD_NEXT, #name); \
+        static int calls;                                                     \
         type result;                                                          \
         stop("before:", #name);                                               \
+        if (++calls == 2) stop("second:", #name);                             \
         if (asked("FAIL", "", #name)) {                                       \
             errno = ENOSPC;                                                   \
             return -1;                                                        \

@@ -130,6 +130,8 @@ fn a_killed_run_leaves_the_old_file_or_the_new_one() {
         ("after:linkat", PACK),
         ("before:rename", PACK),
         ("after:rename", FIXED),
+        // The folder is synced as well as the file.
+        ("second:fsync", FIXED),
     ];
     for (step, left) in steps {
         let (folder, ran) = interrupted(&library, &[("INTERRUPT", step)]);
