@@ -225,7 +225,9 @@ def _operation(patch: bytes, op: int) -> str:
 
 def _shown(text: str) -> str:
     """A string as JSON has it, cut where it is long."""
-    return json.dumps(text if len(text) <= 60 else text[:59] + "…", ensure_ascii=not text.isprintable())
+    if len(text) > 60:
+        text = text[:59] + "…"
+    return json.dumps(text, ensure_ascii=not text.isprintable())
 
 
 _local = threading.local()
@@ -245,10 +247,13 @@ def _library() -> ctypes.CDLL:
     named = os.environ.get("JSON_PATCH_LIBRARY")
     if named:
         return ctypes.CDLL(named)
-    for folder in Path(__file__).resolve().parents:
-        for candidate in (folder / _SONAME, folder / "target" / "make" / _SONAME):
-            if candidate.is_file():
-                return ctypes.CDLL(str(candidate))
+    _, modules, above, prefix, *_ = [*Path(__file__).resolve().parents, *[Path("/")] * 4]
+    # PREFIX/lib/python3.11/site-packages/json_patch, or python/json_patch of a clone.
+    installed = modules.name.endswith("-packages") and above.name.startswith("python")
+    cloned = modules.name == "python" and (above / "include" / "json_patch.h").is_file()
+    beside = prefix / _SONAME if installed else above / "target" / "make" / _SONAME
+    if (installed or cloned) and beside.is_file():
+        return ctypes.CDLL(str(beside))
     try:
         return ctypes.CDLL(_SONAME)
     except OSError as error:

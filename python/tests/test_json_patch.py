@@ -1,6 +1,7 @@
 """The module json_patch: its documented examples, every field of a refusal, the
 committed cases, and that it says what the header says."""
 
+import ctypes
 import doctest
 import pickle
 import re
@@ -138,10 +139,15 @@ class Agreement(unittest.TestCase):
         self.assertIn(f'#define JSON_PATCH_VERSION "{json_patch.__version__}"', self.header)
 
     def test_the_header_has_the_same_structs(self):
+        types = {"uint64_t": ctypes.c_uint64, "uint32_t": ctypes.c_uint32, "uint16_t": ctypes.c_uint16}
         for name, here in (("answer", json_patch._Answer), ("work", json_patch._Work)):
             body = re.search(rf"typedef struct json_patch_{name} {{(.*?)}}", self.header, re.S)[1]
-            fields = re.findall(r"uint64_t (\w+)(?:\[JSON_PATCH_WORK_WORDS\])?;", body)
-            self.assertEqual(fields, [field for field, _ in here._fields_])
+            fields = []
+            for kind, field, length in re.findall(r"(\w+) (\w+)(?:\[JSON_PATCH_(\w+)\])?;", body):
+                size = ctypes.sizeof(types[kind])
+                fields.append((field, size * self.defined(length) if length else size))
+            self.assertTrue(fields)
+            self.assertEqual(fields, [(field, ctypes.sizeof(kind)) for field, kind in here._fields_])
 
     def test_the_committed_cases(self):
         folder = ROOT / "crates" / "vectors"

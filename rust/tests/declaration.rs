@@ -1,7 +1,7 @@
 //! The declaration here, the C header and the library's source say the same, as
 //! far as their texts can be compared: the parameters' number, order, names and
 //! types, the answer's fields, the refusals' names, numbers and words, the
-//! limits, the version.
+//! limits, the version. So does the manual.
 
 use json_patch::Kind;
 use std::collections::BTreeMap;
@@ -257,4 +257,28 @@ fn the_version_is_that_of_the_header() {
     let header = header();
     let version = between(&header, "#define JSON_PATCH_VERSION \"", "\"");
     assert_eq!(version, env!("CARGO_PKG_VERSION"));
+}
+
+#[test]
+fn the_manual_has_the_headers_struct_prototypes_and_numbers() {
+    let (header, manual) = (header(), file("man/json_patch.3"));
+    let begin = "typedef struct json_patch_answer {";
+    let body = between(&header, begin, "} json_patch_answer;");
+    assert!(manual.contains(&format!("{begin}{body}}} json_patch_answer;")));
+    for (name, number) in &in_header()[0] {
+        assert!(manual.contains(&format!("\nJSON_PATCH_{name}|{number}\n")), "{name}");
+    }
+    // Without the marks of the manual, and with one blank for many.
+    let plain = |text: &str| text.split_whitespace().collect::<Vec<_>>().join(" ");
+    let mut synopsis = between(&manual, ".SH SYNOPSIS", ".SH DESCRIPTION").to_string();
+    for (mark, with) in [("\n.BI", "\n"), ("\"", " "), (" ,", ","), (" )", ")")] {
+        synopsis = synopsis.replace(mark, with);
+    }
+    let synopsis = plain(&synopsis).replace("* ", "*").replace(" ,", ",");
+    for function in ["apply", "apply_with", "message", "describe"] {
+        let begin = format!("json_patch_{function}(");
+        let code = &header[header.find("extern \"C\"").expect("declarations")..];
+        let wanted = format!("{begin}{})", plain(between(code, &begin, ")")));
+        assert!(synopsis.contains(&wanted), "{wanted}\n{synopsis}");
+    }
 }
