@@ -139,12 +139,15 @@ impl<'a> Explanation<'a> {
             value.map(|bytes| Shown { bytes, most: SHOWN })
         };
         if let Some(op) = member(operation, "op").filter(|op| kind(op) == Type::String) {
-            let moves = characters(op).eq("move".chars()) || characters(op).eq("copy".chars());
-            let op = op.strip_prefix(b"\"").and_then(|op| op.strip_suffix(b"\"")).unwrap_or(op);
-            write!(f, ", {}", Shown { bytes: op, most: SHOWN })?;
-            match (part("from"), part("path")) {
-                (Some(from), Some(path)) if moves => write!(f, " from {from} to {path}")?,
-                (_, Some(path)) => write!(f, " {path}")?,
+            let word = known(op);
+            let raw = op.strip_prefix(b"\"").and_then(|op| op.strip_suffix(b"\"")).unwrap_or(op);
+            let bytes = word.map_or(raw, str::as_bytes);
+            write!(f, ", {}", Shown { bytes, most: SHOWN })?;
+            match (word, part("from"), part("path")) {
+                (Some("move" | "copy"), Some(from), Some(path)) => {
+                    write!(f, " from {from} to {path}")?
+                }
+                (_, _, Some(path)) => write!(f, " {path}")?,
                 _ => {}
             }
         }
@@ -229,15 +232,20 @@ impl fmt::Debug for Explanation<'_> {
     }
 }
 
+/// The operation's name that a string's text means, if it is one.
+fn known(op: &[u8]) -> Option<&'static str> {
+    let words = ["add", "remove", "replace", "move", "copy", "test"];
+    words.into_iter().find(|&word| characters(op).eq(word.chars()))
+}
+
 /// The member that makes an operation malformed, and why, in the order in which
 /// the library looks.
 fn malformed(operation: &[u8]) -> Option<(&'static str, &'static str)> {
     if kind(operation) != Type::Object {
         return Some(("", "it is not an object"));
     }
-    let known = ["add", "remove", "replace", "move", "copy", "test"];
     let Some(op) = member(operation, "op") else { return Some(("op", "is missing")) };
-    let Some(op) = known.into_iter().find(|&word| characters(op).eq(word.chars())) else {
+    let Some(op) = known(op) else {
         return Some(("op", "is none of add, remove, replace, move, copy, test"));
     };
     let string = |name| match member(operation, name) {

@@ -103,7 +103,7 @@ fn operations_are_named_with_their_pointers() {
     );
     said(
         r#"{"\u006fp":"te\u0073t","path":"\/a/0","value":"x\"]"}"#,
-        ", te\\u0073t \"\\/a/0\": the test found a difference\n  \
+        ", test \"\\/a/0\": the test found a difference\n  \
          hint: the patch was made for another document",
     );
     let deep = "[".repeat(30) + &"]".repeat(30);

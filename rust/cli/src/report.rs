@@ -6,7 +6,7 @@ use crate::files::Name;
 use crate::found::found;
 use crate::patches::{Refused, Run};
 use crate::trouble::Trouble;
-use json_patch::{Kind, Paint, Shown, TOOL_OUTPUT};
+use json_patch::{Kind, Paint, Shown};
 use std::env;
 use std::io::{self, IsTerminal, Write};
 
@@ -37,7 +37,7 @@ fn in_words(run: &Run, Refused { refusal, index, document }: &Refused) -> String
             let shown = |bytes| Shown { bytes, most: SHOWN };
             format!("found {} in {to}, expected {}", shown(&found), shown(&wanted))
         }),
-        Some(Kind::OutputTooShort) => Some(format!("at most {TOOL_OUTPUT} bytes are written")),
+        Some(Kind::OutputTooShort) => Some("at most 65,536 bytes are written".to_string()),
         _ => None,
     };
     let paint = if colours() { Paint::TERMINAL } else { Paint::default() };

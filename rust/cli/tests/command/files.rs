@@ -1,9 +1,8 @@
 //! Files that are missing, unreadable, too long, or have strange names.
 
-use crate::support::{is_root, left_out, Folder, Ran, COMMAND, FIX, FIXED, PACK};
+use crate::support::{is_root, left_out, Folder, Ran, COMMAND, FIXED, PACK};
 use std::ffi::OsStr;
 use std::fs::{self, File, OpenOptions, Permissions};
-use std::io::Write;
 use std::os::unix::ffi::OsStrExt;
 use std::os::unix::fs::PermissionsExt;
 use std::os::unix::process::CommandExt;
@@ -49,7 +48,10 @@ fn a_directory_is_no_file() {
 fn as_nobody(folder: &Folder, words: &[&str]) -> Ran {
     let copy = folder.path("json-patch");
     if !copy.exists() {
-        fs::copy(COMMAND, &copy).expect("a copy");
+        // By another process: a file that was written here may be busy for a moment,
+        // held open by whatever another test starts.
+        let copied = Command::new("cp").arg(COMMAND).arg(&copy).status();
+        assert!(copied.is_ok_and(|status| status.success()), "a copy");
         fs::set_permissions(&folder.0, Permissions::from_mode(0o755)).expect("permissions");
     }
     let mut command = Command::new(copy);
@@ -155,15 +157,11 @@ fn a_full_device_is_trouble() {
 #[test]
 fn a_closed_pipe_is_trouble() {
     let folder = Folder::with_files();
-    let mut command = folder.command(["apply", "-", "fix.json"]);
-    command.stdin(Stdio::piped()).stdout(Stdio::piped()).stderr(Stdio::piped());
-    let mut child = command.spawn().expect("the command started");
-    drop(child.stdout.take());
-    let mut input = child.stdin.take().expect("its input");
-    input.write_all(PACK.as_bytes()).expect("input");
-    drop(input);
-    let ran = Ran::from(child.wait_with_output().expect("the command ended"));
-    ran.trouble("json-patch: standard output: Broken pipe\n");
+    // A pipe that nobody reads, made in a process of its own.
+    let script = r#"mkfifo pipe && exec 3<>pipe 4>pipe 3<&- && "$0" apply pack.json fix.json >&4"#;
+    let mut shell = Command::new("sh");
+    shell.args(["-c", script, COMMAND]).current_dir(&folder.0);
+    Ran::of(&mut shell).trouble("json-patch: standard output: Broken pipe\n");
 }
 
 #[test]
@@ -219,20 +217,23 @@ fn devices_and_pipes_are_written_to() {
     assert!(!null.is_file(), "it is still a device");
     folder.run(["apply", "-o", "/dev/stdout", "pack.json", "fix.json"]).done(FIXED);
 
-    let pipe = folder.path("pipe");
-    let made = Command::new("mkfifo").arg(&pipe).status();
+    let made = Command::new("mkfifo").arg(folder.path("pipe")).status();
     if !made.is_ok_and(|status| status.success()) {
         return left_out("a named pipe", "mkfifo failed");
     }
-    let reader = {
-        let pipe = pipe.clone();
-        std::thread::spawn(move || fs::read_to_string(pipe).expect("the pipe read"))
+    // In processes of their own: a pipe that is opened here would be held open for
+    // a moment by whatever another test starts.
+    let other = |line: &str| {
+        let mut shell = Command::new("sh");
+        shell.args(["-c", line]).current_dir(&folder.0).stdout(Stdio::piped());
+        shell.spawn().expect("a shell started")
     };
+    let reader = other("cat pipe");
     folder.run(["apply", "-o", "pipe", "pack.json", "fix.json"]).done("");
-    assert_eq!(reader.join().expect("the reader"), FIXED);
-    let writer = std::thread::spawn(move || fs::write(pipe, FIX).expect("the pipe written"));
+    Ran::from(reader.wait_with_output().expect("the reader")).done(FIXED);
+    let writer = other("cat fix.json >pipe");
     folder.run(["apply", "pack.json", "pipe"]).done(FIXED);
-    writer.join().expect("the writer");
+    Ran::from(writer.wait_with_output().expect("the writer")).done("");
 }
 
 #[test]

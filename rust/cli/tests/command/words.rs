@@ -46,7 +46,7 @@ fn an_operation_that_does_not_fit() {
         "x".repeat(30_000),
         r#"{"op":"copy","from":"/a","path":"/c"},"#
     );
-    said(&long, "the result is longer than the lent output\n  at most 65536 bytes are written");
+    said(&long, "the result is longer than the lent output\n  at most 65,536 bytes are written");
 }
 
 #[test]
