@@ -1,6 +1,7 @@
 //! A refusal shown in the two texts that were refused.
 
 use crate::json::{characters, elements, kind, member, Type};
+use crate::place::safe;
 use crate::{Kind, Place, Refusal, Shown};
 use core::fmt;
 
@@ -110,7 +111,7 @@ impl<'a> Explanation<'a> {
                     Some(chunk) => match chunk.valid().chars().next() {
                         None => write!(f, "byte {:02X} is not UTF-8 here", text[at]),
                         Some('\n' | '\r') => f.write_str("unexpected end of line"),
-                        Some(c) if c.is_control() || c == '\u{feff}' => {
+                        Some(c) if safe(c) != c => {
                             write!(f, "unexpected character U+{:04X}", u32::from(c))
                         }
                         Some(c) => write!(f, "unexpected '{c}'"),

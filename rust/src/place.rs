@@ -155,7 +155,7 @@ fn glyphs(bytes: &[u8]) -> impl Iterator<Item = (usize, char)> + '_ {
 
 /// A character, or one that stands for it where a terminal would obey it or
 /// show nothing.
-fn safe(c: char) -> char {
+pub(crate) fn safe(c: char) -> char {
     match c {
         '\t' => ' ',
         '\u{61c}' | '\u{200b}'..='\u{200f}' | '\u{2028}'..='\u{202e}' => '\u{fffd}',

@@ -36,6 +36,9 @@ fn a_text_that_is_not_json_is_shown_with_a_mark() {
     assert_eq!(fault(b"[\"a\n\"]"), "doc.json:1:4: not JSON text: unexpected end of line");
     assert_eq!(fault(b"[\"\x01\"]"), "doc.json:1:3: not JSON text: unexpected character U+0001");
     assert_eq!(fault(b"[\"\xff\"]"), "doc.json:1:3: not JSON text: byte FF is not UTF-8 here");
+    let hidden = "[\u{202e}]".as_bytes();
+    assert_eq!(fault(hidden), "doc.json:1:2: not JSON text: unexpected character U+202E");
+    assert_eq!(fault(b"[\t\x7f]"), "doc.json:1:3: not JSON text: unexpected character U+007F");
     assert_eq!(fault("[é]".as_bytes()), "doc.json:1:2: not JSON text: unexpected 'é'");
 }
 
