@@ -14,7 +14,8 @@ How it differs from the package ``jsonpatch``:
 * It only applies patches. ``jsonpatch`` also makes them from two documents.
 
 The work is done by a shared library in which every function is proved to meet
-its contract; this module calls it by ctypes and is not part of the proof.
+its contract; this module calls it by ctypes and is not part of the proof. It
+needs Python 3.7 or later and no other package.
 
 >>> document = b'{"mAh": 3000, "cut": [4.2, 3.0]}'
 >>> patch = b'[{"op": "add", "path": "/cut/-", "value": 2.80}]'
