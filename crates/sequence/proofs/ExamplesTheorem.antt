@@ -1,43 +1,17 @@
 -- The examples of specs/Examples, by computation.
-use mathlib.Core.Path.{_≡_, refl, subst}
-use mathlib.Core.List.{List, [], _∷_}
+use mathlib.Core.Path.{refl, subst}
+use mathlib.Core.List.{[], _∷_}
 use Prim.Native.Nat.{ℕ}
 use lib.Dec.{leb→le, T, eqb}
-use Rattle.spec.specs.Outcome.{Outcome, ok, refused}
 use Rattle.spec.specs.Bytes.{Bytes, ascii}
-use Rattle.spec.specs.Value as Value
-use Rattle.spec.specs.Value.{leaf, Label}
 use Rattle.spec.specs.Read.{read}
-use Rattle.spec.specs.Operation.{Operation}
-use Rattle.spec.specs.Patch.{Run, finished, stopped, shape}
-use Rattle.spec.specs.Elements.{allBlank, last, more, filled, one, nothing, ElementsOf}
-use Rattle.spec.specs.Region.{Accepted, WellFormed, Enough}
+use Rattle.spec.specs.Elements.{last, more, filled, one, nothing, ElementsOf}
+use Rattle.spec.specs.Region.{WellFormed, Enough}
 use Rattle.spec.specs.Examples.{lent}
-use Rattle.spec.proofs.ExamplesTheorem.{compute-outcomes, compute-strings, compute-numbers, compute-forests, compute-values, compute-reading}
-use Rattle.spec.proofs.ExamplesTheorem.{compute-writing, compute-pointers, compute-operations, compute-patches, compute-answers}
+use Rattle.spec.proofs.Computing.{got, operationsOf, compute}
 use Rattle.sequence.specs.Sequence as Sequence
-use Rattle.sequence.specs.Sequence.{JoinText, InARow, AllInARow, AllElements, patch, no-patch, Row, next}
+use Rattle.sequence.specs.Sequence.{JoinText, patch, no-patch, next}
 use Rattle.sequence.specs.Examples.{document, first, second, third, once, twice, two, three, other, ExamplesStatement}
-
--- what a text is read as, and the operations that it has as a patch
-unfoldable got : Outcome Value.Value → Value.Value
-got (ok v) = v
-got (refused number place) = leaf Label.null-literal
-
-unfoldable all : Run (List Operation) → List Operation
-all (finished os) = os
-all (stopped number op) = []
-
-abbrev operationsOf : Bytes → List Operation
-operationsOf t = all (shape (got (read t)))
-
-unfoldable compute-texts : Unit {0}
-unfolding compute-outcomes compute-strings compute-numbers compute-forests compute-values compute-reading compute-writing
-compute-texts = tt
-
-unfoldable compute : Unit {0}
-unfolding compute-texts compute-pointers compute-operations compute-patches compute-answers got all allBlank
-compute = tt
 
 unfoldable formed-first : WellFormed first (operationsOf first)
 unfolding compute

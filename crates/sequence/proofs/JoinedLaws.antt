@@ -1,23 +1,22 @@
 -- A joined text within the limits is well formed: it is JSON text by the grammar, and its value is within the limits since both patches' are.
-use mathlib.Core.Path.{_≡_, refl, ap, ap₂, sym, subst, _∙_}
-use mathlib.Core.Bool.{Bool, true, false}
+use mathlib.Core.Path.{_≡_, refl, ap, sym, subst, _∙_}
+use mathlib.Core.Bool.{true}
 use mathlib.Core.List.{List, [], _∷_, _++_, append-assoc, append-nil}
-use Prim.Native.Nat.{ℕ, suc, _+_, _≤_, max}
+use Prim.Native.Nat.{ℕ, suc, _+_, _≤_}
 use Prim.Native.Char.{code}
 use native.Mathlib.Omega.{arith}
 use lib.ListN.{length, length-append}
 use lib.Dec.{eqb}
 use borrow.Author.Tests.{eqb-true, le-leb}
-use Rattle.spec.specs.Outcome.{ok}
-use Rattle.spec.specs.Limits.{maxBytes, maxNodes, maxOperations}
+use Rattle.spec.specs.Limits.{maxNodes, maxOperations}
 use Rattle.spec.specs.Bytes.{Bytes}
 use Rattle.spec.specs.Forest as Forest
 use Rattle.spec.specs.Forest.{size, count}
 use Rattle.spec.specs.Value as Value
 use Rattle.spec.specs.Value.{Label, Members, tag, isArray, isContainer, levels, depths, depth, nodes}
-use Rattle.spec.specs.Read.{isBlank, read}
+use Rattle.spec.specs.Read.{isBlank}
 use Rattle.spec.specs.Operation.{Operation}
-use Rattle.spec.specs.Patch.{finished, atOp, onFinish, operation, operations, shape}
+use Rattle.spec.specs.Patch.{finished, atOp, onFinish, operations, shape}
 use Rattle.spec.specs.Elements as Layouts
 use Rattle.spec.specs.Elements.{Alone, Each, nothing, one, ElementsOf, Listed, Layout, allBlank}
 use Rattle.spec.specs.Region.{WellFormed}

@@ -9,7 +9,6 @@ use lib.ListN.{length}
 use lib.Dec.{leb}
 use borrow.Author.Tests.{le-leb, leb-true}
 use Rattle.spec.specs.Outcome.{Outcome, ok, refused}
-use Rattle.spec.specs.Refusal.{output-too-short}
 use Rattle.spec.specs.Limits.{maxBytes}
 use Rattle.spec.specs.Bytes.{Bytes}
 use Rattle.spec.specs.Value as Value
@@ -18,7 +17,6 @@ use Rattle.spec.specs.Write.{write}
 use Rattle.spec.specs.Operation.{Operation, limited}
 use Rattle.spec.specs.Patch.{Run, finished, stopped, run}
 use Rattle.spec.specs.Answer.{Answer, Lent, answer, onDocument, answerOf, success, refusal, workSuffices}
-use Rattle.spec.specs.Elements.{ElementsOf}
 use Rattle.spec.specs.Region.{Accepted, WellFormed, Enough}
 use Rattle.spec.proofs.RegionTheorem.{called, work-enough, fits}
 use Rattle.claims.proofs.RoundTripTheorem.{round-trip}
