@@ -118,6 +118,13 @@ impl Judge {
         self.call(case, &lent, &expected, random)
     }
 
+    /// The second engine's answer to a case, and what is wrong with the library's:
+    /// where nothing is, it is the library's answer too.
+    pub fn agreed(&mut self, case: &Case, random: &mut Random) -> (Answer, Option<Fault>) {
+        let fault = self.fault(case, random);
+        (apply(&case.document, &case.patch, case.room.min(LONGEST)), fault)
+    }
+
     /// One call, with the answer that it must give.
     fn call(
         &mut self,

@@ -5,6 +5,7 @@ mod crash;
 mod heap;
 mod judge;
 mod mutate;
+mod pairs;
 mod parts;
 mod reduce;
 
@@ -20,7 +21,8 @@ use std::sync::Mutex;
 use std::time::{Instant, SystemTime, UNIX_EPOCH};
 use std::{env, fs, io, thread};
 
-const USAGE: &str = "usage: fuzz [--seed N] [--count N] [--threads N] [--mutate] [FILE...]
+const USAGE: &str =
+    "usage: fuzz [--seed N] [--count N] [--threads N] [--mutate | --pairs] [FILE...]
 With files of cases, only these are judged.";
 
 /// Enough is known after so many differences; of one kind, so many are told.
@@ -35,14 +37,21 @@ struct Options {
     count: u64,
     threads: usize,
     mutate: bool,
+    pairs: bool,
     files: Vec<PathBuf>,
 }
 
 fn options() -> Option<Options> {
     let clock = SystemTime::now().duration_since(UNIX_EPOCH).map_or(0, |time| time.as_secs());
     let threads = thread::available_parallelism().map_or(1, |number| number.get());
-    let mut options =
-        Options { seed: clock, count: 100_000, threads, mutate: false, files: Vec::new() };
+    let mut options = Options {
+        seed: clock,
+        count: 100_000,
+        threads,
+        mutate: false,
+        pairs: false,
+        files: Vec::new(),
+    };
     let mut arguments = env::args_os().skip(1);
     while let Some(argument) = arguments.next() {
         let mut number = || arguments.next()?.to_str()?.parse::<u64>().ok();
@@ -51,6 +60,7 @@ fn options() -> Option<Options> {
             Some("--count") => options.count = number()?,
             Some("--threads") => options.threads = number()? as usize,
             Some("--mutate") => options.mutate = true,
+            Some("--pairs") => options.pairs = true,
             Some(word) if word.starts_with('-') => return None,
             _ => options.files.push(argument.into()),
         }
@@ -92,7 +102,9 @@ fn run(options: &Options) -> io::Result<u64> {
     let mut differences =
         judge_all("committed cases", options, pool.len() as u64, |i| pick(&pool, i));
     let &Options { seed, count, .. } = options;
-    differences += if options.mutate {
+    differences += if options.pairs {
+        pairs::judge_pairs(options)
+    } else if options.mutate {
         judge_all("mutated cases", options, count, |i| mutate::mutant(seed, i, &pool))
     } else {
         judge_all("generated cases", options, count, |i| generate::case(seed, i))

@@ -5,6 +5,7 @@ pub mod drafts;
 mod edges;
 mod numbers;
 mod oddities;
+pub mod pairs;
 pub mod random;
 pub mod regions;
 mod spelling;

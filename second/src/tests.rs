@@ -2,6 +2,7 @@
 
 mod appendix;
 mod generator;
+mod pairs;
 mod parts;
 mod regions;
 mod round_trip;

@@ -14,3 +14,4 @@ pub mod ElementsThere
 pub mod ElementsUnique
 pub mod RegionTheorem
 pub mod ExamplesTheorem
+pub mod Computing

@@ -32,7 +32,7 @@ use Rattle.spec.proofs.LimitTheorem.{largeAt, limited-run}
 use Rattle.spec.proofs.RunTheorem.{Separate, all-finish, first-stops, finished≢stopped}
 
 -- Operations of elements: each element means its operation.
-data Meaning : List Value.Value → List Operation → Type 0 where
+pub data Meaning : List Value.Value → List Operation → Type 0 where
   no-element : Meaning [] []
   element : {v : Value.Value} {vs : List Value.Value} {o : Operation} {os : List Operation} → operation v ≡ ok o → Meaning vs os → Meaning (v ∷ vs) (o ∷ os)
 
@@ -50,11 +50,11 @@ operations-meaning op (Forest.tree e kids rest) os h =
     go (refused n p) r q t h ih = absurd (finished≢stopped (sym h))
 
 -- what a patch whose shape is right is: an array, and its elements mean its operations
-record Shaped (patch : Value.Value) (os : List Operation) : Type 0 where
-  array : isArray (patch .label) ≡ true
-  meaning : Meaning (elements (patch .kids)) os
+pub record Shaped (patch : Value.Value) (os : List Operation) : Type 0 where
+  pub array : isArray (patch .label) ≡ true
+  pub meaning : Meaning (elements (patch .kids)) os
 
-shaped : (patch : Value.Value) (os : List Operation) → shape patch ≡ finished os → Shaped patch os
+pub shaped : (patch : Value.Value) (os : List Operation) → shape patch ≡ finished os → Shaped patch os
 unfolding shape
 shaped patch os h = go (isArray (patch .label)) (leb (count (patch .kids)) maxOperations) refl h
   where
@@ -82,12 +82,16 @@ same-values (one {y = u} {ys = us} a m) (one {y = v} {ys = vs} b n) =
     let rest : us ≡ vs = same-values m n in
     cc
 
--- each element of a well-formed patch means its operation, whichever way the elements were found
-elements-meaning : {P : Bytes} {os : List Operation} {es : List Bytes} → WellFormed P os → (e : ElementsOf P es) → Meaning (e .values) os
-elements-meaning {os = os} w e =
+-- the elements of a well-formed patch are the values that are read, whichever way they were found
+pub elements-read : {P : Bytes} {os : List Operation} {es : List Bytes} (w : WellFormed P os) (e : ElementsOf P es) → e .values ≡ elements (w .patch .kids)
+elements-read {os = os} w e =
     let s = shaped (w .patch) os (w .shaped) in
     let there : Each Alone _ (elements (w .patch .kids)) = rw (elements-unique w e) at (slices-read (w .reads) (s .array) .alone) in
-    rw (same-values (e .alone) there) (s .meaning)
+    same-values (e .alone) there
+
+-- so each of them means its operation
+pub elements-meaning : {P : Bytes} {os : List Operation} {es : List Bytes} → WellFormed P os → (e : ElementsOf P es) → Meaning (e .values) os
+elements-meaning {os = os} w e = rw (elements-read w e) (shaped (w .patch) os (w .shaped) .meaning)
 
 -- A shuffle of elements' bytes is one of their operations, in which each patch stops at the same place.
 record OperationsShuffled {es fs gs : List Bytes} (s : Shuffle es fs gs) (xs ys zs : List Operation) : Type 0 where
@@ -110,13 +114,13 @@ operations-shuffled (right s) a (one {y = v} b bs) (one {y = w} c cs) m (element
     rw (← same) record { order = right (rest .order); same-end = λ op i j p q. ap (hereOr op (endsAt j q)) (rest .same-end (op + 1) i (j + 1) p q) }
 
 -- The call on an accepted document and a well-formed patch, where the work area suffices, is the run with limits.
-called : {D P : Bytes} {d : Value.Value} {os : List Operation} (lent : Lent) → workSuffices lent ≡ true → Accepted D d → WellFormed P os →
+pub called : {D P : Bytes} {d : Value.Value} {os : List Operation} (lent : Lent) → workSuffices lent ≡ true → Accepted D d → WellFormed P os →
     answer D P lent ≡ answerOf (lent .output) (run limited 1 os d)
 unfolding answer onDocument onPatch patched onFinish
 called {D} {P} lent work a w = rw (work, le-leb (length D) maxBytes (a .fits), le-leb (length P) maxBytes (w .fits), a .reads, w .reads, w .shaped, answer)
 
 -- where 1 does not apply, the work area suffices
-work-enough : {D P : Bytes} {lent : Lent} → Enough D P lent → workSuffices lent ≡ true
+pub work-enough : {D P : Bytes} {lent : Lent} → Enough D P lent → workSuffices lent ≡ true
 unfolding answer
 work-enough {D} {P} {lent} e = go (workSuffices lent) refl
   where
@@ -125,7 +129,7 @@ work-enough {D} {P} {lent} e = go (workSuffices lent) refl
     go false h = absurd (e .work (rw (h, answer)))
 
 -- where 16 does not apply, the text is written
-fits : (room : ℕ) (t : Bytes) → (fitting room t .number ≡ output-too-short → ⊥) → fitting room t ≡ success t
+pub fits : (room : ℕ) (t : Bytes) → (fitting room t .number ≡ output-too-short → ⊥) → fitting room t ≡ success t
 unfolding fitting
 fits room t enough = go (leb (length t) room) refl
   where

@@ -222,7 +222,7 @@ fn containers(value: &Value, here: &mut Vec<String>, places: &mut Vec<Vec<String
 }
 
 /// Whether an operation is one that the shape of a patch allows.
-fn well_formed(draft: &Draft) -> bool {
+pub(super) fn well_formed(draft: &Draft) -> bool {
     match draft.operation() {
         Some(Operation::Move { from, path }) => !pointer::strictly_inside(&from, &path),
         Some(_) => true,
