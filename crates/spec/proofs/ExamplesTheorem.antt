@@ -17,47 +17,47 @@ use Rattle.spec.specs.Answer.{workSuffices, fitting, answerOf, patched, 
 use Rattle.spec.specs.Examples.{All, starred}
 
 -- the definitions that compute the answer, layer by layer: to unfold one of these names is to unfold all that its line names
-unfoldable compute-outcomes : Unit {0}
+unfoldable pub compute-outcomes : Unit {0}
 unfolding _>>=_ require ascii byte within byteIn
 compute-outcomes = tt
 
-unfoldable compute-strings : Unit {0}
+unfoldable pub compute-strings : Unit {0}
 unfolding hexValue hexIn lowSurrogate afterHigh secondLimit unicodeEscape shortEscape escape tail multibyte character characters string
 compute-strings = tt
 
-unfoldable compute-numbers : Unit {0}
+unfoldable pub compute-numbers : Unit {0}
 unfolding isDigit isE counted digits someDigits int frac sign exponentDigits signedDigits exp minus number mantissa fractionDigits decimal signedExponent exponent dropZeros trimmed isNegative power worth
 compute-numbers = tt
 
-unfoldable compute-forests : Unit {0}
+unfoldable pub compute-forests : Unit {0}
 unfolding _⧺_ count size before from insertAt removeAt replaceAt nth
 compute-forests = tt
 
-unfoldable compute-values : Unit {0}
+unfoldable pub compute-values : Unit {0}
 unfolding tag isNumber isString isArray isObject isContainer content levels depths depth nodes sameText find sameBool sameInteger sameWorth sameLabel partner matches equal
 compute-values = tt
 
-unfoldable compute-reading : Unit {0}
+unfoldable pub compute-reading : Unit {0}
 unfolding isBlank blanksFrom blanks spelled roomFor literalValue numberValue stringValue scalar fresh nameFor containerLabel closingBracket items contents container value read
 compute-reading = tt
 
-unfoldable compute-writing : Unit {0}
+unfoldable pub compute-writing : Unit {0}
 unfolding utf8 hexDigit writeCharacter writeCharacters writeString opening closing writeName comma writeItems write
 compute-writing = tt
 
-unfoldable compute-pointers : Unit {0}
+unfoldable pub compute-pointers : Unit {0}
 unfolding prepend segments tilde unescape unescapeAll tokens allDigits isIndex isDash elementBelow memberNamed childAt child walk
 compute-pointers = tt
 
-unfoldable compute-operations : Unit {0}
+unfoldable pub compute-operations : Unit {0}
 unfolding put atParent insertElement insertMember insertChild removeChild replaceChild addAt removeAtPath replaceAtPath moveTo copyTo testAt perform notTooDeep notTooLarge limited
 compute-operations = tt
 
-unfoldable compute-patches : Unit {0}
+unfoldable pub compute-patches : Unit {0}
 unfolding member stringOf stringMember kindNamed usesValue usesFrom isMove valueFor fromFor membersFor operationMembers properPrefix withPointers operation atOp onFinish operations shape run
 compute-patches = tt
 
-unfoldable compute-answers : Unit {0}
+unfoldable pub compute-answers : Unit {0}
 unfolding workSuffices fitting answerOf patched onPatch onDocument answer
 compute-answers = tt
 

@@ -14,3 +14,5 @@ pub mod ElementsThere
 pub mod ElementsUnique
 pub mod RegionTheorem
 pub mod ExamplesTheorem
+pub mod Computing
+pub mod Demand3Theorem

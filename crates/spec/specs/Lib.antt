@@ -17,3 +17,4 @@ pub mod Answer
 pub mod Elements
 pub mod Region
 pub mod Examples
+pub mod Demand3
