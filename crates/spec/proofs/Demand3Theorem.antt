@@ -1,6 +1,6 @@
 -- Demand 3: the theorem of RegionTheorem for every situation, and one such situation by computation.
-use mathlib.Core.Path.{_≡_, refl, sym, subst, _∙_}
-use mathlib.Core.List.{List, [], _∷_}
+use mathlib.Core.Path.{refl, sym, subst, _∙_}
+use mathlib.Core.List.{[], _∷_}
 use Prim.Native.Nat.{ℕ}
 use lib.Dec.{leb→le, T, eqb}
 use Rattle.spec.specs.Bytes.{Bytes, ascii}

@@ -16,3 +16,8 @@ pub mod RegionTheorem
 pub mod ExamplesTheorem
 pub mod Computing
 pub mod Demand3Theorem
+pub mod SplitLaws
+pub mod EffectsLaws
+pub mod EffectsDone
+pub mod EffectsRefused
+pub mod EffectsTheorem

@@ -18,3 +18,4 @@ pub mod Elements
 pub mod Region
 pub mod Examples
 pub mod Demand3
+pub mod Effects
