@@ -25,7 +25,7 @@ use Rattle.spec.proofs.SplitLaws.{split-at, count-before, count-append,
 use Rattle.spec.proofs.EffectsLaws.{index-of, is-index, without-has, find-without, standing}
 use Rattle.spec.proofs.EffectsLaws.{child-is, child-put, child-removed, child-at, value-there, put-there, removed-there}
 
-ok-same : {A : Type 0} {a b : A} → ok a ≡ ok b → a ≡ b
+pub ok-same : {A : Type 0} {a b : A} → ok a ≡ ok b → a ≡ b
 ok-same h = cc
 
 -- The walk
@@ -88,7 +88,7 @@ array-adds x t v w l h =
         subst (Adds x t v) i
         (Effects.element (before k (v .kids)) (from k (v .kids)) l (split-at k (v .kids)) (subst (ArrayIndex t) (sym value ∙ sym place) (index-of t index)))
 
-member-there : (t : Text) (v : Value.Value) → v .label ≡ Label.object → has t (v .kids) ≡ true → childAt t v ≡ ok (find t (v .kids))
+pub member-there : (t : Text) (v : Value.Value) → v .label ≡ Label.object → has t (v .kids) ≡ true → childAt t v ≡ ok (find t (v .kids))
 unfolding childAt isArray isObject tag memberNamed
 member-there t v l h = rw (l, h)
 
@@ -134,7 +134,7 @@ unfolding childAt isArray isObject tag
 object-child t v l = rw l
 
 -- an object that has the member which stands there
-member-found : {t name : Text} {v x : Value.Value} {earlier later : Members} → v .label ≡ Label.object → Child t v name x earlier later →
+pub member-found : {t name : Text} {v x : Value.Value} {earlier later : Members} → v .label ≡ Label.object → Child t v name x earlier later →
     (count earlier ≡ find t (v .kids)) × (has t (v .kids) ≡ true)
 member-found {t} {v = v} {earlier = earlier} l c =
     let (place, below) = member-names t (v .kids) (count earlier) (sym (object-child t v l) ∙ child-at c) in

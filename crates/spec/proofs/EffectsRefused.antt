@@ -27,24 +27,24 @@ use Rattle.spec.proofs.EffectsLaws.{index-of, is-index, without-has, fi
 use Rattle.spec.proofs.EffectsDone.{walk-to, to-walk, to-remove, insert-array, insert-object, object-child}
 
 -- an outcome that is a result, or a refusal of this kind, which has no place
-data Out {A : Type 0} (No : ℕ → Type 0) : Outcome A → Type 0 where
+pub data Out {A : Type 0} (No : ℕ → Type 0) : Outcome A → Type 0 where
   fine : (a : A) → Out No (ok a)
   bad : {n : ℕ} → No n → Out No (refused n 0)
 
-out-then : {A B : Type 0} {No No' : ℕ → Type 0} (o : Outcome A) (next : A → Outcome B) → Out No o → ((n : ℕ) → No n → No' n) →
+pub out-then : {A B : Type 0} {No No' : ℕ → Type 0} (o : Outcome A) (next : A → Outcome B) → Out No o → ((n : ℕ) → No n → No' n) →
     ((a : A) → o ≡ ok a → Out No' (next a)) → Out No' (o >>= next)
 unfolding _>>=_
 out-then o next (fine a) h g = g a refl
 out-then o next (bad {n} q) h g = bad (h n q)
 
-out-refused : {A : Type 0} {No : ℕ → Type 0} {n p : ℕ} (o : Outcome A) → Out No o → o ≡ refused n p → No n × (p ≡ 0)
+pub out-refused : {A : Type 0} {No : ℕ → Type 0} {n p : ℕ} (o : Outcome A) → Out No o → o ≡ refused n p → No n × (p ≡ 0)
 out-refused o (fine a) e = absurd (refused≢ok (sym e))
 out-refused {No = No} {n} {p} o (bad {n = m} q) e =
     let number : m ≡ n = cc in
     let place : 0 ≡ p = cc in
     (subst No number q, sym place)
 
-out-map : {A : Type 0} {No No' : ℕ → Type 0} {o : Outcome A} → ((n : ℕ) → No n → No' n) → Out No o → Out No' o
+pub out-map : {A : Type 0} {No No' : ℕ → Type 0} {o : Outcome A} → ((n : ℕ) → No n → No' n) → Out No o → Out No' o
 out-map h (fine a) = fine a
 out-map h (bad {n} q) = bad (h n q)
 

@@ -21,3 +21,4 @@ pub mod EffectsLaws
 pub mod EffectsDone
 pub mod EffectsRefused
 pub mod EffectsTheorem
+pub mod ShapeTheorem

@@ -19,3 +19,4 @@ pub mod Region
 pub mod Examples
 pub mod Demand3
 pub mod Effects
+pub mod Shape
