@@ -45,10 +45,10 @@ to-walk (step c r) = rw (child-at c, child-is c) (to-walk r)
 
 -- A change at the parent
 
--- at the last of some tokens, of which there is at least one
-unfoldable atLast : (Text → Value.Value → Outcome Value.Value) → Tokens → Value.Value → Outcome Value.Value
-atLast change [] v = refused 0 0
-atLast change (t ∷ ts) v = atParent change t ts v
+-- at the last of some tokens, and another outcome where there is none
+unfoldable pub atLast : Outcome Value.Value → (Text → Value.Value → Outcome Value.Value) → Tokens → Value.Value → Outcome Value.Value
+atLast otherwise change [] v = otherwise
+atLast otherwise change (t ∷ ts) v = atParent change t ts v
 
 module _ (change : Text → Value.Value → Outcome Value.Value) (Change : Text → Value.Value → Value.Value → Type 0) where
   parent-to : ((t : Text) (v w : Value.Value) → change t v ≡ ok w → Change t v w) → (t : Text) (ts : Tokens) (v w : Value.Value) →
@@ -63,7 +63,7 @@ module _ (change : Text → Value.Value → Outcome Value.Value) (Change : Text 
       subst (Below Change (t ∷ u ∷ ts) v) (put-there s y ∙ ok-same j) (deeper (s .stands) inner)
 
   to-parent : ((t : Text) (v w : Value.Value) → Change t v w → change t v ≡ ok w) → {ts : Tokens} {v w : Value.Value} → Below Change ts v w →
-      atLast change ts v ≡ ok w
+      atLast (refused 0 0) change ts v ≡ ok w
   unfolding atLast atParent _>>=_
   to-parent back (there {t} {v} {w} c) = back t v w c
   to-parent back (deeper {y = y} c b) = rw (child-at c, child-is c, to-parent back b) (ap ok (child-put c y))

@@ -17,7 +17,7 @@ use Rattle.spec.specs.Value.{Members, tag, isArray, isObject, sameText, 
 use Rattle.spec.specs.Pointer.{allDigits, isIndex, isDash, elementBelow, memberNamed, childAt, child}
 use Rattle.spec.specs.Operation.{put}
 use Rattle.spec.specs.Effects.{Digits, no-more, digit, ArrayIndex, zero, nonzero, Without, nothing, another, node, holding, Child, member, element}
-use Rattle.spec.proofs.TextLaws.{both-true, sameText-true, sameText-refl, sameText-false}
+use Rattle.spec.proofs.TextLaws.{both-true, sameText-true, sameText-refl, sameText-false, sameText-apart}
 use Rattle.spec.proofs.ForestLaws.{name-find}
 use Rattle.spec.proofs.ChildLaws as ChildLaws
 use Rattle.spec.proofs.ChildLaws.{Names, names}
@@ -78,23 +78,16 @@ without-has n (tree e kids rest) h = go (sameText (e .name) n) refl (ltb-false (
     go true q h ih = absurd (omega arith)
     go false q h ih = another (sameText-false (e .name) n q) (ih (le-ltb (find n rest) (count rest) (omega arith)))
 
-differs : (s t : Text) → (s ≡ t → ⊥) → sameText s t ≡ false
-differs s t n = go (sameText s t) refl
-  where
-    go : (b : Bool) → sameText s t ≡ b → sameText s t ≡ false
-    go true h = absurd (n (sameText-true s t h))
-    go false h = h
-
 pub find-without : {n : Text} {f : Members} → Without n f → find n f ≡ count f
 unfolding find count
 find-without nothing = refl
-find-without {n} (another {e} d w) = rw (differs (e .name) n d) (ap suc (find-without w))
+find-without {n} (another {e} d w) = rw (sameText-apart (e .name) n d) (ap suc (find-without w))
 
 -- and behind members that do not have the name
 find-behind : {n : Text} {b : Members} (x : Value.Value) (g : Members) → Without n b → find n (b ⧺ node n x g) ≡ count b
 unfolding find count _⧺_
 find-behind {n} x g nothing = rw (sameText-refl n)
-find-behind {n} x g (another {e} d w) = rw (differs (e .name) n d) (ap suc (find-behind x g w))
+find-behind {n} x g (another {e} d w) = rw (sameText-apart (e .name) n d) (ap suc (find-behind x g w))
 
 without-before : (n : Text) (f : Members) → Without n (before (find n f) f)
 unfolding find before

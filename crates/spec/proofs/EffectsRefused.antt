@@ -24,7 +24,7 @@ use Rattle.spec.specs.Effects.{NoChild, LeadsNowhere, here, later, Fails
 use Rattle.spec.proofs.OutcomeLaws.{refused≢ok}
 use Rattle.spec.proofs.TextLaws.{sameText-true, sameText-false}
 use Rattle.spec.proofs.EffectsLaws.{index-of, is-index, without-has, find-without, Standing, standing, child-is, child-at, value-there}
-use Rattle.spec.proofs.EffectsDone.{walk-to, to-walk, to-remove, insert-array, insert-object, object-child}
+use Rattle.spec.proofs.EffectsDone.{atLast, walk-to, to-walk, to-remove, insert-array, insert-object, object-child}
 
 -- an outcome that is a result, or a refusal of this kind, which has no place
 pub data Out {A : Type 0} (No : ℕ → Type 0) : Outcome A → Type 0 where
@@ -186,11 +186,6 @@ walk-nowhere (later c q) = rw (child-at c, child-is c) (walk-nowhere q)
 
 -- A change at the parent
 
--- at the last of some tokens
-unfoldable atLast : (Text → Value.Value → Outcome Value.Value) → Tokens → Value.Value → Outcome Value.Value
-atLast change [] v = ok v
-atLast change (t ∷ ts) v = atParent change t ts v
-
 module _ (change : Text → Value.Value → Outcome Value.Value) (Refused : Text → Value.Value → ℕ → Type 0) where
   parent-out : ((t : Text) (v : Value.Value) → Out (Refused t v) (change t v)) → (t : Text) (ts : Tokens) (v : Value.Value) →
       Out (Fails Refused (t ∷ ts) v) (atParent change t ts v)
@@ -203,7 +198,7 @@ module _ (change : Text → Value.Value → Outcome Value.Value) (Refused : Text
       fine _
 
   parent-fails : ((t : Text) (v : Value.Value) (n : ℕ) → Refused t v n → change t v ≡ refused n 0) → {ts : Tokens} {v : Value.Value} {n : ℕ} →
-      Fails Refused ts v n → atLast change ts v ≡ refused n 0
+      Fails Refused ts v n → atLast (ok v) change ts v ≡ refused n 0
   unfolding atLast atParent _>>=_
   parent-fails back (there {t} {v} {n} q) = back t v n q
   parent-fails back (no-parent q) = rw (no-child q)

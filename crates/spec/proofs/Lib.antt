@@ -12,13 +12,13 @@ pub mod Tracking
 pub mod ReadersTrack
 pub mod ElementsThere
 pub mod ElementsUnique
-pub mod RegionTheorem
-pub mod ExamplesTheorem
-pub mod Computing
-pub mod Demand3Theorem
 pub mod SplitLaws
 pub mod EffectsLaws
 pub mod EffectsDone
 pub mod EffectsRefused
 pub mod EffectsTheorem
 pub mod ShapeTheorem
+pub mod Demand3Theorem
+pub mod RegionTheorem
+pub mod ExamplesTheorem
+pub mod Computing

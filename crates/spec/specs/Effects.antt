@@ -1,5 +1,5 @@
--- What a pointer leads to and what an operation does, in the words of RFC 6901, section 4, and RFC 6902, section 4: as relations, with no
--- function of Pointer or Operation in them but `decimal` and `equal`. proofs/EffectsTheorem proves that `walk` and `perform` are these.
+-- What a pointer leads to and what an operation does, in the words of RFC 6901, section 4, and RFC 6902, section 4: as relations, which use
+-- `decimal` and `equal` but no function of Pointer or Operation. proofs/EffectsTheorem proves that `walk` and `perform` are these.
 use mathlib.Core.Path.{_≡_}
 use mathlib.Core.Logic.{_↔_}
 use Prim.Native.Nat.{ℕ, _≤_, _<_}
