@@ -2,6 +2,7 @@
 use Rattle.spec.specs.Effects.{EffectsStatement}
 use Rattle.spec.proofs.EffectsDone.{walk-to, to-walk, performs-to, to-performs}
 use Rattle.spec.proofs.EffectsRefused.{walk-refused, perform-refused}
+use Rattle.spec.proofs.EffectsFound.{untouched, added-found, replaced-found}
 
 pub effects : EffectsStatement
 effects =
@@ -10,4 +11,7 @@ effects =
       walk-refused = walk-refused;
       performs = λ o v w. (performs-to o v w, to-performs o v w);
       refuses = perform-refused;
+      untouched = untouched;
+      added-found = added-found;
+      replaced-found = replaced-found;
     }

@@ -16,6 +16,7 @@ pub mod SplitLaws
 pub mod EffectsLaws
 pub mod EffectsDone
 pub mod EffectsRefused
+pub mod EffectsFound
 pub mod EffectsTheorem
 pub mod ShapeTheorem
 pub mod Demand3Theorem

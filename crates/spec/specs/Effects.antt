@@ -63,6 +63,11 @@ pub data Below (Change : Text → Value.Value → Value.Value → Type 0) : Toke
   deeper : {t u name : Text} {ts : Tokens} {v x y : Value.Value} {before after : Members} → Child t v name x before after →
       Below Change (u ∷ ts) x y → Below Change (t ∷ u ∷ ts) v (holding v (before ⧺ node name y after))
 
+-- the second pointer parts from the first before the first's last token
+pub data Parts : Tokens → Tokens → Type 0 where
+  here : {t t' u : Text} {ts us : Tokens} → (t ≡ u → ⊥) → Parts (t ∷ t' ∷ ts) (u ∷ us)
+  later : {t t' : Text} {ts us : Tokens} → Parts (t' ∷ ts) us → Parts (t ∷ t' ∷ ts) (t ∷ us)
+
 -- 4.1, add, of a value x
 pub data Adds (x : Value.Value) : Text → Value.Value → Value.Value → Type 0 where
   -- "If the target location specifies an object member that does not already exist, a new member is added to the object."
@@ -81,6 +86,15 @@ pub data Added (x : Value.Value) : Tokens → Value.Value → Value.Value → Ty
   -- "The root of the target document - whereupon the specified value becomes the entire content of the target document."
   root : {v : Value.Value} → Added x [] v x
   below : {ts : Tokens} {v w : Value.Value} → Below (Adds x) ts v w → Added x ts v w
+
+-- where an added value is found afterwards: at the same pointer, but the index of the array's end stands for a last `-`
+pub data FoundAt : Tokens → Value.Value → Tokens → Type 0 where
+  root : {v : Value.Value} → FoundAt [] v []
+  member : {t : Text} {v : Value.Value} → v .label ≡ Label.object → FoundAt (t ∷ []) v (t ∷ [])
+  index : {t : Text} {v : Value.Value} (k : ℕ) → v .label ≡ Label.array → ArrayIndex t k → FoundAt (t ∷ []) v (t ∷ [])
+  end : {u : Text} {v : Value.Value} → v .label ≡ Label.array → ArrayIndex u (count (v .kids)) → FoundAt ((code "-" ∷ []) ∷ []) v (u ∷ [])
+  below : {t u name : Text} {ts us : Tokens} {v x : Value.Value} {before after : Members} → Child t v name x before after →
+      FoundAt (u ∷ ts) x us → FoundAt (t ∷ u ∷ ts) v (t ∷ us)
 
 -- 4.2, remove: "The target location MUST exist for the operation to be successful. If removing an element from an array, any elements above the
 -- specified index are shifted one position to the left."
@@ -158,10 +172,16 @@ pub data Refuses (o : Operation) (v : Value.Value) : ℕ → Type 0 where
   -- "be equal, else 15"
   differs : {found : Value.Value} → o .kind ≡ Kind.test → Evaluates (o .path) v found → equal found (o .value) ≡ false → Refuses o v test-differs
 
-pub record EffectsStatement : Type 0 where
-  -- the walk is RFC 6901's evaluation, and refused exactly as document 01 says
+pub record EffectsStatement : Type 1 where
+  -- The walk is RFC 6901's evaluation, and is refused exactly as document 01 says.
   pub walks : (ts : Tokens) (v w : Value.Value) → walk ts v ≡ ok w ↔ Evaluates ts v w
   pub walk-refused : (ts : Tokens) (v : Value.Value) (n p : ℕ) → walk ts v ≡ refused n p ↔ (LeadsNowhere ts v n × (p ≡ 0))
-  -- the operations are RFC 6902's, and refused exactly as document 01 says
+  -- The operations are RFC 6902's, and are refused exactly as document 01 says.
   pub performs : (o : Operation) (v w : Value.Value) → perform o v ≡ ok w ↔ Performs o v w
   pub refuses : (o : Operation) (v : Value.Value) (n p : ℕ) → perform o v ≡ refused n p ↔ (Refuses o v n × (p ≡ 0))
+  -- So a pointer that parts from the path of a change leads to what it led to before.
+  pub untouched : (Change : Text → Value.Value → Value.Value → Type 0) (ts us : Tokens) (v w : Value.Value) → Below Change ts v w → Parts ts us →
+      walk us w ≡ walk us v
+  -- What is added or replaced is found there.
+  pub added-found : (x : Value.Value) (ts us : Tokens) (v w : Value.Value) → Added x ts v w → FoundAt ts v us → Evaluates us w x
+  pub replaced-found : (x : Value.Value) (ts : Tokens) (v w : Value.Value) → Below (Replaces x) ts v w → Evaluates ts w x
