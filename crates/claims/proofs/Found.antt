@@ -10,16 +10,13 @@ use Rattle.spec.specs.Bytes.{Text}
 use Rattle.spec.specs.Forest.{Forest, none, tree, count}
 use Rattle.spec.specs.Value.{Entry, Members, isObject, has, find, sameText}
 use Rattle.spec.specs.Equality.{partner}
+use Rattle.spec.proofs.TextLaws as TextLaws
 use Rattle.spec.proofs.TextLaws.{sameText-true, sameText-refl, sameText-false}
 use Rattle.claims.specs.Equality.{NoRepeats, member}
 use Rattle.claims.proofs.Alike.{Inserted, here, there}
 
 pub sameText-apart : (s t : Text) → (s ≡ t → ⊥) → sameText s t ≡ false
-sameText-apart s t n = go (sameText s t) refl
-  where
-    go : (b : Bool) → sameText s t ≡ b → sameText s t ≡ false
-    go true h = absurd (n (sameText-true s t h))
-    go false h = h
+sameText-apart s t n = TextLaws.sameText-apart s t n
 
 pub has-cons : (n : Text) (e : Entry) (kids f : Members) → has n (tree e kids f) ≡ (if sameText (e .name) n then true else has n f)
 unfolding find count

@@ -5,6 +5,7 @@ use Prim.Native.Nat.{ℕ, zero, suc, _<_}
 use native.Mathlib.Omega.{arith}
 use Rattle.spec.specs.Forest.{Forest, none, tree, Tree, single, count, before, from, insertAt, removeAt, replaceAt, _⧺_}
 use Rattle.spec.specs.Value.{Entry, Members}
+use Rattle.spec.proofs.SplitLaws as SplitLaws
 use Rattle.claims.specs.Equality.{Permuted, empty, same, swap, more}
 
 module _ {A : Type 0} where
@@ -21,9 +22,7 @@ module _ {A : Type 0} where
   insert-removed (suc k) t (tree a kids rest) h = ap (tree a kids) (insert-removed k t rest (omega arith))
 
   pub insert-last : (t : Tree A) (f : Forest A) → insertAt (count f) t f ≡ f ⧺ single t
-  unfolding count insertAt before from _⧺_
-  insert-last t none = refl
-  insert-last t (tree a kids rest) = ap (tree a kids) (insert-last t rest)
+  insert-last t f = SplitLaws.insert-last t f
 
 pub permuted-refl : (object : Bool) (f : Members) → Permuted object f f
 permuted-refl object none = empty

@@ -19,11 +19,11 @@ use Rattle.spec.proofs.OutcomeLaws.{refused≢ok}
 use Rattle.spec.proofs.TextLaws.{sameText-true, index-injective}
 
 -- what it means that a token names the k-th child
-data Names (t : Text) (v : Value.Value) (k : ℕ) : Type 0 where
+pub data Names (t : Text) (v : Value.Value) (k : ℕ) : Type 0 where
   element : v .label ≡ Label.array → isIndex t ≡ true → k ≡ decimal 0 t → k < count (v .kids) → Names t v k
   member : v .label ≡ Label.object → k ≡ find t (v .kids) → k < count (v .kids) → Names t v k
 
-element-names : (limit : ℕ) (t : Text) (k : ℕ) → elementBelow limit t ≡ ok k → (isIndex t ≡ true) × (k ≡ decimal 0 t) × (k < limit)
+pub element-names : (limit : ℕ) (t : Text) (k : ℕ) → elementBelow limit t ≡ ok k → (isIndex t ≡ true) × (k ≡ decimal 0 t) × (k < limit)
 unfolding elementBelow
 element-names limit t k h = go (isDash t) (isIndex t) (ltb (decimal 0 t) limit) refl refl h
   where
@@ -37,7 +37,7 @@ element-names limit t k h = go (isDash t) (isIndex t) (ltb (decimal 0 t) limit) 
     go false true false q r h = absurd (refused≢ok h)
     go false false less q r h = absurd (refused≢ok h)
 
-member-names : (t : Text) (f : Members) (k : ℕ) → memberNamed t f ≡ ok k → (k ≡ find t f) × (k < count f)
+pub member-names : (t : Text) (f : Members) (k : ℕ) → memberNamed t f ≡ ok k → (k ≡ find t f) × (k < count f)
 unfolding memberNamed
 member-names t f k h = go (ltb (find t f) (count f)) refl h
   where
@@ -48,7 +48,7 @@ member-names t f k h = go (ltb (find t f) (count f)) refl h
         (place, omega (arith, ltb-true (find t f) (count f) q))
     go false q h = absurd (refused≢ok h)
 
-names : (t : Text) (v : Value.Value) (k : ℕ) → childAt t v ≡ ok k → Names t v k
+pub names : (t : Text) (v : Value.Value) (k : ℕ) → childAt t v ≡ ok k → Names t v k
 unfolding childAt isArray isObject tag
 names t v k h = go (v .label) refl h
   where

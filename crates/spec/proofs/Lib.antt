@@ -12,6 +12,14 @@ pub mod Tracking
 pub mod ReadersTrack
 pub mod ElementsThere
 pub mod ElementsUnique
+pub mod SplitLaws
+pub mod EffectsLaws
+pub mod EffectsDone
+pub mod EffectsRefused
+pub mod EffectsFound
+pub mod EffectsTheorem
+pub mod ShapeTheorem
+pub mod Demand3Theorem
 pub mod RegionTheorem
 pub mod ExamplesTheorem
 pub mod Computing

@@ -120,7 +120,7 @@ module _ (t u : Text) (us : List Text) (x v : Value.Value) (k : ℕ) (h : childA
   plant-beside : (y : Value.Value) (l : ℕ) → childAt u v ≡ ok l → plant (u ∷ us) y (put k x v) ≡ put l (plant us y (valueOf (child l v))) (put k x v)
   plant-beside y l i = plant-on u us (put k x v) y l (childAt-beside ∙ i) ∙ rw (child-beside l i)
 
-  walk-beside : walk (u ∷ us) (put k x v) ≡ walk (u ∷ us) v
+  pub walk-beside : walk (u ∷ us) (put k x v) ≡ walk (u ∷ us) v
   walk-beside = go (childAt u v) refl
     where
       go : (o : Outcome ℕ) → childAt u v ≡ o → walk (u ∷ us) (put k x v) ≡ walk (u ∷ us) v

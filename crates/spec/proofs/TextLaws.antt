@@ -34,6 +34,13 @@ sameText-refl (a ∷ s) = rw (eq-eqb a a refl, sameText-refl s)
 pub sameText-false : (s t : Text) → sameText s t ≡ false → s ≡ t → ⊥
 sameText-false s t h e = true≢false (sym (sameText-refl s) ∙ ap (sameText s) e ∙ h)
 
+pub sameText-apart : (s t : Text) → (s ≡ t → ⊥) → sameText s t ≡ false
+sameText-apart s t n = go (sameText s t) refl
+  where
+    go : (b : Bool) → sameText s t ≡ b → sameText s t ≡ false
+    go true h = absurd (n (sameText-true s t h))
+    go false h = h
+
 digit-bounds : (c : ℕ) → isDigit c ≡ true → (48 ≤ c) × (c ≤ 57)
 unfolding isDigit within
 digit-bounds c h =

@@ -36,7 +36,7 @@ pub data Each {A B : Type 0} (R : A → B → Type 0) : List A → List B → Ty
   nothing : Each R [] []
   one : {x : A} {y : B} {xs : List A} {ys : List B} → R x y → Each R xs ys → Each R (x ∷ xs) (y ∷ ys)
 
--- the elements of a patch text: it is laid out in them, and each is a value. (No text has two such lists: `elements-unique`.)
+-- the elements of a patch text: it is laid out in them, and each is a value. (No well-formed patch has two such lists: Demand3, `elements-unique`.)
 pub record ElementsOf (text : Bytes) (elements : List Bytes) : Type 0 where
   pub values : List Value.Value
   pub layout : Layout text elements

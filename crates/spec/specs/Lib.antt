@@ -17,3 +17,6 @@ pub mod Answer
 pub mod Elements
 pub mod Region
 pub mod Examples
+pub mod Demand3
+pub mod Effects
+pub mod Shape

@@ -1,5 +1,5 @@
 -- Two makers' patches in regions of their own: document 01, "The region statement in detail", sentence by sentence. The last two records
--- are the statement; proofs/RegionTheorem proves it.
+-- are the statement, and Demand3 says it of every situation.
 use mathlib.Core.Path.{_≡_}
 use Prim.Native.Nat.{ℕ, _+_, _≤_}
 use mathlib.Core.Bool.{Bool, true, false, _&&_, _||_, not}
