@@ -1,0 +1,4 @@
+pub mod Undo
+pub mod UndoValue
+pub mod UndoAnswer
+pub mod Examples
