@@ -1,1 +1,3 @@
+pub mod Like
+pub mod LikeChildren
 pub mod ExamplesTheorem
