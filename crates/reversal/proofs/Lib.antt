@@ -1,3 +1,4 @@
 pub mod Like
 pub mod LikeChildren
+pub mod LikeOperations
 pub mod ExamplesTheorem

@@ -13,7 +13,7 @@ use Rattle.spec.specs.Forest.{Forest, none, tree, Tree, single, count, before, 
 use Rattle.spec.specs.Value as Value
 use Rattle.spec.specs.Value.{Label, Entry, Members, tag, isArray, isObject, named, valueOf, leaf, has, find, sameText}
 use Rattle.spec.specs.Pointer.{childAt, child, elementBelow, memberNamed}
-use Rattle.spec.specs.Operation.{put, withKids}
+use Rattle.spec.specs.Operation.{put, withKids, insertMember}
 use Rattle.spec.proofs.TextLaws.{sameText-true, sameText-refl}
 use Rattle.spec.proofs.ForestLaws.{name-find}
 use Rattle.spec.proofs.ChildLaws.{child-there}
@@ -212,3 +212,34 @@ module _ {L : Label → Label → Type 0} (laws : Labels L) where
 
     pub removed-like : LikeValues L (withKids v (removeAt k (v .kids))) (withKids w (removeAt j (w .kids)))
     removed-like = record { labels = r .labels; kids = c .removals }
+
+  -- A value put in: as an element at a position, and as a member
+
+  pub element-added : (k : ℕ) {v w x y : Value.Value} → isArray (v .label) ≡ true → LikeValues L v w → LikeValues L x y →
+      LikeValues L (withKids v (insertAt k (named [] x) (v .kids))) (withKids w (insertAt k (named [] y) (w .kids)))
+  element-added k {v} {w} {x} {y} a r s =
+      let no-object = array-no-object (v .label) a in
+      record { labels = r .labels; kids = rw no-object (inserted-element k x y (rw no-object at (r .kids)) s) }
+
+  pub member-added : (t : Text) {v w x y : Value.Value} → isObject (v .label) ≡ true → Proper w → LikeValues L v w → LikeValues L x y →
+      LikeValues L (insertMember x t v) (insertMember y t w)
+  unfolding insertMember
+  member-added t {v} {w} {x} {y} o p r s = go (has t (v .kids)) refl
+    where
+      kids : Like L true (v .kids) (w .kids)
+      kids = rw o at (r .kids)
+
+      repeats : NoRepeats true (w .kids)
+      repeats = rw (← object-like laws (r .labels), o) at (proper-repeats (p .items))
+
+      go : (b : Bool) → has t (v .kids) ≡ b →
+          LikeValues L (if b then put (find t (v .kids)) x v else withKids v (insertAt (count (v .kids)) (named t x) (v .kids))) (insertMember y t w)
+      go true q =
+          let c = members-correspond t repeats kids (ltb-true (find t (v .kids)) (count (v .kids)) q) in
+          rw (lt-ltb (find t (w .kids)) (count (w .kids)) (c .0)) (put-like r {k = find t (v .kids)} {j = find t (w .kids)} (rw o (c .1)) s)
+      go false q =
+          rw (like-absent t kids q, insert-last (named t x) (v .kids), insert-last (named t y) (w .kids))
+          record {
+            labels = r .labels;
+            kids = rw o (inserted-like (inserted-last (named t x) (v .kids)) refl (s .labels) (s .kids) (inserted-last (named t y) (w .kids)) kids);
+          }
