@@ -40,16 +40,16 @@ module _ {A : Type 0} where
   inserted-replaceAt zero t (tree a kids rest) h = here
   inserted-replaceAt (suc k) t (tree a kids rest) h = there (inserted-replaceAt k t rest (omega arith))
 
-  inserted-last : (t : Tree A) (f : Forest A) → Inserted (t .root) (t .kids) f (f ⧺ single t)
+  pub inserted-last : (t : Tree A) (f : Forest A) → Inserted (t .root) (t .kids) f (f ⧺ single t)
   unfolding _⧺_
   inserted-last t none = here
   inserted-last t (tree a kids rest) = there (inserted-last t rest)
 
 -- the member of a name that no other has is the one that the name finds
-record FoundAt (n : Text) (e : Entry) (kids f g : Members) : Type 0 where
-  in-range : find n g < count g
-  found : (z : Tree Entry) → nth z (find n g) g ≡ record { root = e; kids = kids }
-  others : removeAt (find n g) g ≡ f
+pub record FoundAt (n : Text) (e : Entry) (kids f g : Members) : Type 0 where
+  pub in-range : find n g < count g
+  pub found : (z : Tree Entry) → nth z (find n g) g ≡ record { root = e; kids = kids }
+  pub others : removeAt (find n g) g ≡ f
 
 find-here : (e : Entry) (kids f : Members) → find (e .name) (tree e kids f) ≡ 0
 unfolding find
@@ -59,7 +59,7 @@ find-later : (n : Text) (b : Entry) (below f : Members) → (b .name ≡ n → �
 unfolding find
 find-later n b below f h = rw (sameText-apart (b .name) n h)
 
-found-at : {e : Entry} {kids f g : Members} → Inserted e kids f g → has (e .name) f ≡ false → FoundAt (e .name) e kids f g
+pub found-at : {e : Entry} {kids f g : Members} → Inserted e kids f g → has (e .name) f ≡ false → FoundAt (e .name) e kids f g
 unfolding count nth removeAt before from _⧺_
 found-at {e} {kids} (here {f}) h =
     let place = find-here e kids f in
@@ -72,11 +72,11 @@ found-at {e} (there {b} {below} {f} {g} i) h =
 
 -- what a token names, by the kind of value
 module _ (t : Text) (v : Value.Value) where
-  array-child : isArray (v .label) ≡ true → childAt t v ≡ elementBelow (count (v .kids)) t
+  pub array-child : isArray (v .label) ≡ true → childAt t v ≡ elementBelow (count (v .kids)) t
   unfolding childAt
   array-child a = rw a
 
-  object-child : isArray (v .label) ≡ false → isObject (v .label) ≡ true → childAt t v ≡ memberNamed t (v .kids)
+  pub object-child : isArray (v .label) ≡ false → isObject (v .label) ≡ true → childAt t v ≡ memberNamed t (v .kids)
   unfolding childAt
   object-child a o = rw (a, o)
 
