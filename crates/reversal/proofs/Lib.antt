@@ -4,4 +4,5 @@ pub mod LikeOperations
 pub mod EqualDocuments
 pub mod IndexToken
 pub mod Mended
+pub mod UndoOne
 pub mod ExamplesTheorem

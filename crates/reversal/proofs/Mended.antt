@@ -102,15 +102,15 @@ new-member t x v a o h =
 
 -- what `mendedIn` is, by the kind of parent
 module _ (parent : Tokens) (t : Text) (v : Value.Value) where
-  mended-element : isArray (v .label) ≡ true → mendedIn parent t v ≡ removing (parent ++ (elementToken t (v .kids) ∷ []))
+  pub mended-element : isArray (v .label) ≡ true → mendedIn parent t v ≡ removing (parent ++ (elementToken t (v .kids) ∷ []))
   unfolding mendedIn
   mended-element a = rw a
 
-  mended-old : isArray (v .label) ≡ false → has t (v .kids) ≡ true → mendedIn parent t v ≡ replacing (parent ++ (t ∷ [])) (valueAt (t ∷ []) v)
+  pub mended-old : isArray (v .label) ≡ false → has t (v .kids) ≡ true → mendedIn parent t v ≡ replacing (parent ++ (t ∷ [])) (valueAt (t ∷ []) v)
   unfolding mendedIn
   mended-old a h = rw (a, h)
 
-  mended-new : isArray (v .label) ≡ false → has t (v .kids) ≡ false → mendedIn parent t v ≡ removing (parent ++ (t ∷ []))
+  pub mended-new : isArray (v .label) ≡ false → has t (v .kids) ≡ false → mendedIn parent t v ≡ removing (parent ++ (t ∷ []))
   unfolding mendedIn
   mended-new a h = rw (a, h)
 
