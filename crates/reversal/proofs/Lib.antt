@@ -4,5 +4,6 @@ pub mod LikeOperations
 pub mod EqualDocuments
 pub mod IndexToken
 pub mod Mended
+pub mod Smaller
 pub mod UndoOne
 pub mod ExamplesTheorem

@@ -24,6 +24,7 @@ use Rattle.reversal.proofs.Like.{LikeValues, equal-labels, values-refl,
 use Rattle.reversal.proofs.LikeChildren.{object-child, named-there}
 use Rattle.reversal.proofs.IndexToken.{by-test}
 use Rattle.reversal.proofs.Mended.{value-on, value-here, below-put, replaced-back, replace-below, inserted-by, mended-element, mended-old, mended-new, mended-back}
+use Rattle.reversal.proofs.Smaller.{left-no-larger}
 use Rattle.reversal.proofs.EqualDocuments.{Within, limited-performs, performs-limited}
 
 -- A replaced value
@@ -163,3 +164,81 @@ ancestor-back x (p ∷ ps) t ts v left w q h r i =
     let (here-same, rest) = both-true (sameText p t) (properPrefix ps ts) q in
     let token : t ≡ p = sym (sameText-true p t here-same) in
     ancestor-parent x p ps ts v left w rest (rw token at h) r i
+
+-- One operation's undo, run
+
+pub data Runs : List Operation → Value.Value → Value.Value → Type 0 where
+  stop : {v : Value.Value} → Runs [] v v
+  step : {o : Operation} {os : List Operation} {v u w : Value.Value} → limited o v ≡ ok u → Runs os u w → Runs (o ∷ os) v w
+
+-- operations that lead from one document to one that is like another
+pub record Undoes (os : List Operation) (w v : Value.Value) : Type 0 where
+  pub result : Value.Value
+  pub runs : Runs os w result
+  pub like : LikeValues _≡_ v result
+
+like-within : {v w : Value.Value} → Readable v → LikeValues _≡_ v w → Within w
+like-within r a =
+    record { shallow = rw (← depth-like equal-labels a) (r .shallow); few = rw (← nodes-like equal-labels a) (r .few) }
+
+exactly : (o : Operation) (v w : Value.Value) → Readable v → perform o w ≡ ok v → Undoes (o ∷ []) w v
+exactly o v w r h =
+    let like = values-refl equal-labels v in
+    record { result = v; runs = step (performs-limited o w v h (like-within r like)) stop; like = like }
+
+undo-remove : (path : Tokens) (v w : Value.Value) → Readable v → removeAtPath path v ≡ ok w → Undoes (adding path (valueAt path v) ∷ []) w v
+unfolding removeAtPath perform
+undo-remove [] v w r h = absurd (refused≢ok h)
+undo-remove (t ∷ ts) v w r h =
+    let back = added-back t ts v w (r .proper) h in
+    record {
+      result = back .result;
+      runs = step (performs-limited (adding (t ∷ ts) (valueAt (t ∷ ts) v)) w (back .result) (back .is) (like-within r (back .like))) stop;
+      like = back .like;
+    }
+
+undo-moved : (t : Text) (ts path : Tokens) (x v left w : Value.Value) → Readable v → removeAtPath (t ∷ ts) v ≡ ok left → addAt path x left ≡ ok w →
+    Undoes (undoMoved (mended path left) (t ∷ ts) path v) w v
+unfolding undoMoved perform
+undo-moved t ts path x v left w r h i =
+    by-test (properPrefix path (t ∷ ts) && isReplace (mended path left .kind))
+    (λ q.
+    let (prefix, kind) = both-true (properPrefix path (t ∷ ts)) _ q in
+    rw q (exactly (replacing path (valueAt path v)) v w r (ancestor-back x path t ts v left w prefix h kind i)))
+    λ q.
+    let smaller = left-no-larger (t ∷ ts) v left h in
+    let fits : Within left = record { shallow = omega (arith, smaller .deep, r .shallow); few = omega (arith, smaller .many, r .few) } in
+    let back = undo-remove (t ∷ ts) v left r h in
+    rw q
+    (record {
+      result = back .result;
+      runs = step (performs-limited (mended path left) w left (mended-back path x left w i) fits) (back .runs);
+      like = back .like;
+    })
+
+undo-move : (from path : Tokens) (v w : Value.Value) → Readable v → moveTo from path v ≡ ok w → Undoes (undoMove from path v) w v
+unfolding moveTo undoMove remaining resultOr
+undo-move [] path v w r h = let same : v ≡ w = cc in rw (← same) (record { result = v; runs = stop; like = values-refl equal-labels v })
+undo-move (t ∷ ts) path v w r h =
+    let (x, e, i) = both-ok (walk (t ∷ ts) v) _ w h in
+    let (left, f, j) = both-ok (removeAtPath (t ∷ ts) v) _ w i in
+    let is : remaining (t ∷ ts) v ≡ left = ap (resultOr v) f in
+    subst (λ l. Undoes (undoMoved (mended path l) (t ∷ ts) path v) w v) (sym is) (undo-moved t ts path x v left w r f j)
+
+-- AN OPERATION AND ITS UNDO
+pub undo-one : (o : Operation) (v w : Value.Value) → Readable v → perform o v ≡ ok w → Undoes (undoOf o v) w v
+unfolding perform undoOf copyTo
+undo-one o v w r h = go (o .kind) h
+  where
+    go : (k : Kind) → perform (record { kind = k; path = o .path; from = o .from; value = o .value }) v ≡ ok w →
+        Undoes (undoOf (record { kind = k; path = o .path; from = o .from; value = o .value }) v) w v
+    go Kind.add h = exactly (mended (o .path) v) v w r (mended-back (o .path) (o .value) v w h)
+    go Kind.remove h = undo-remove (o .path) v w r h
+    go Kind.replace h = exactly (replacing (o .path) (valueAt (o .path) v)) v w r (replaced-path (o .path) (o .value) v w h)
+    go Kind.move h = undo-move (o .from) (o .path) v w r h
+    go Kind.copy h =
+        let (x, e, i) = both-ok (walk (o .from) v) _ w h in
+        exactly (mended (o .path) v) v w r (mended-back (o .path) x v w i)
+    go Kind.test h =
+        let (found, e, q, same) = operations .test (o .path) (o .value) v w h in
+        rw same (record { result = v; runs = stop; like = values-refl equal-labels v })
