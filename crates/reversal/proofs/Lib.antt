@@ -6,4 +6,6 @@ pub mod IndexToken
 pub mod Mended
 pub mod Smaller
 pub mod UndoOne
+pub mod Plain
+pub mod UndoAll
 pub mod ExamplesTheorem

@@ -29,6 +29,12 @@ walk-proper (t ∷ ts) v w p h =
     let (k, e, i) = both-ok (childAt t v) _ w h in
     walk-proper ts (valueOf (child k v)) w (proper-child t k v e p) i
 
+pub removed-proper : (path : Tokens) (v w : Value.Value) → AllCharacters path → Proper v → removeAtPath path v ≡ ok w → Proper w
+unfolding perform
+removed-proper path v w a p h =
+    perform-proper (removing path) v w
+    (record { path-characters = a; from-characters = no-tokens; value-proper = record { allows = Proper.null-literal; items = Proper.empty } }) p h
+
 module _ {L : Label → Label → Type 0} (laws : Labels L) where
   abbrev pub Answers : Outcome Value.Value → Outcome Value.Value → Type 0
   Answers o o' = Same (LikeValues L) o o'
@@ -119,12 +125,6 @@ module _ {L : Label → Label → Type 0} (laws : Labels L) where
   unfolding replaceAtPath
   replace-path-like [] v w s p q r = both s
   replace-path-like (t ∷ ts) v w s p q r = parent-like _ _ (replace-like s) t ts v w p q r
-
-  removed-proper : (path : Tokens) (v w : Value.Value) → AllCharacters path → Proper v → removeAtPath path v ≡ ok w → Proper w
-  unfolding perform
-  removed-proper path v w a p h =
-      perform-proper (removing path) v w
-      (record { path-characters = a; from-characters = no-tokens; value-proper = record { allows = Proper.null-literal; items = Proper.empty } }) p h
 
   move-like : (from path : Tokens) (v w : Value.Value) → AllCharacters from → Proper v → Proper w → LikeValues L v w → Answers (moveTo from path v) (moveTo from path w)
   unfolding moveTo
