@@ -8,4 +8,5 @@ pub mod Smaller
 pub mod UndoOne
 pub mod Plain
 pub mod UndoAll
+pub mod UndoShape
 pub mod ExamplesTheorem
