@@ -9,4 +9,5 @@ pub mod UndoOne
 pub mod Plain
 pub mod UndoAll
 pub mod UndoShape
+pub mod Numbered
 pub mod ExamplesTheorem
