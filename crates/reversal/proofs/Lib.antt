@@ -10,4 +10,5 @@ pub mod Plain
 pub mod UndoAll
 pub mod UndoShape
 pub mod Numbered
+pub mod UndoTheorem
 pub mod ExamplesTheorem

@@ -146,15 +146,17 @@ module _ {L : Label → Label → Type 0} (laws : Labels L) where
       let entry : c .entry .name ≡ n = sym (c .names) ∙ name in
       let at : FoundAt n (c .entry) (c .below) (c .rest) g = subst (λ m. FoundAt m (c .entry) (c .below) (c .rest) g) entry (found-at (c .place) (inserted-repeats (c .place) r .2)) in
       let there = at .found null-tree in
-      let place = find n g in
-      (at .in-range, record {
-        labels = rw there (c .labels);
-        below = rw there (c .alike);
-        puts = λ x y s.
-            inserted-like (inserted-replaceAt (find n f) _ f h) (rw there (c .names)) (s .labels) (s .kids) (inserted-replaceAt place _ g (at .in-range))
-            (rw (at .others) (c .others));
-        removals = rw (at .others) (c .others);
-      })
+      let place = find n g in (
+        at .in-range,
+        record {
+          labels = rw there (c .labels);
+          below = rw there (c .alike);
+          puts = λ x y s.
+              inserted-like (inserted-replaceAt (find n f) _ f h) (rw there (c .names)) (s .labels) (s .kids) (inserted-replaceAt place _ g (at .in-range))
+              (rw (at .others) (c .others));
+          removals = rw (at .others) (c .others);
+        },
+      )
 
   pub data ChildLike (v w : Value.Value) : Outcome ℕ → Outcome ℕ → Type 0 where
     corresponding : {k j : ℕ} → Corresponding (isObject (v .label)) (v .kids) (w .kids) k j → ChildLike v w (ok k) (ok j)

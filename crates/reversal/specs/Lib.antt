@@ -1,4 +1,5 @@
 pub mod Undo
 pub mod UndoValue
 pub mod UndoAnswer
+pub mod Statement
 pub mod Examples
