@@ -107,5 +107,6 @@ element-below limit t k h =
     if-ok (isDash t) h (λ _ i. absurd (refused≢ok i)) λ _ i.
     if-ok (isIndex t) i
     (λ _ j.
-    if-ok (ltb (decimal 0 t) limit) j (λ less l. let same : decimal 0 t ≡ k = cc in omega (arith, ltb-true (decimal 0 t) limit less)) (λ _ l. absurd (refused≢ok l)))
+    if-ok (ltb (decimal 0 t) limit) j
+    (λ less l. let same : decimal 0 t ≡ k = cc in omega (arith, ltb-true (decimal 0 t) limit less)) (λ _ l. absurd (refused≢ok l)))
     (λ _ j. absurd (refused≢ok j))

@@ -144,7 +144,8 @@ module _ {L : Label → Label → Type 0} (laws : Labels L) where
       let c = counterpart laws (inserted-nth null-tree (find n f) f h) a in
       let name : nth null-tree (find n f) f .root .name ≡ n = sameText-true _ _ (name-find null-tree n f h) in
       let entry : c .entry .name ≡ n = sym (c .names) ∙ name in
-      let at : FoundAt n (c .entry) (c .below) (c .rest) g = subst (λ m. FoundAt m (c .entry) (c .below) (c .rest) g) entry (found-at (c .place) (inserted-repeats (c .place) r .2)) in
+      let found = found-at (c .place) (inserted-repeats (c .place) r .2) in
+      let at : FoundAt n (c .entry) (c .below) (c .rest) g = subst (λ m. FoundAt m (c .entry) (c .below) (c .rest) g) entry found in
       let there = at .found null-tree in
       let place = find n g in (
         at .in-range,
@@ -180,7 +181,9 @@ module _ {L : Label → Label → Type 0} (laws : Labels L) where
 
   members-like : (t : Text) (v w : Value.Value) → isArray (v .label) ≡ false → isObject (v .label) ≡ true → NoRepeats true (w .kids) → LikeValues L v w →
       ChildLike v w (childAt t v) (childAt t w)
-  members-like t v w a o d r = rw (object-child t v a o, object-child t w (sym (array-like laws (r .labels)) ∙ a) (sym (object-like laws (r .labels)) ∙ o)) (go (has t (v .kids)) refl)
+  members-like t v w a o d r =
+      rw (object-child t v a o, object-child t w (sym (array-like laws (r .labels)) ∙ a) (sym (object-like laws (r .labels)) ∙ o))
+      (go (has t (v .kids)) refl)
     where
       kids : Like L true (v .kids) (w .kids)
       kids = rw o at (r .kids)
@@ -188,7 +191,8 @@ module _ {L : Label → Label → Type 0} (laws : Labels L) where
       go : (b : Bool) → has t (v .kids) ≡ b → ChildLike v w (memberNamed t (v .kids)) (memberNamed t (w .kids))
       go true q =
           let c = members-correspond t d kids (ltb-true (find t (v .kids)) (count (v .kids)) q) in
-          rw (named-there t (v .kids) q, named-there t (w .kids) (lt-ltb (find t (w .kids)) (count (w .kids)) (c .0))) (corresponding {k = find t (v .kids)} {j = find t (w .kids)} (rw o (c .1)))
+          rw (named-there t (v .kids) q, named-there t (w .kids) (lt-ltb (find t (w .kids)) (count (w .kids)) (c .0)))
+          (corresponding {k = find t (v .kids)} {j = find t (w .kids)} (rw o (c .1)))
       go false q = rw (named-nowhere t (v .kids) q, named-nowhere t (w .kids) (like-absent t kids q)) missing
 
   -- WHAT A TOKEN NAMES in alike values: children that belong together, or nothing in either

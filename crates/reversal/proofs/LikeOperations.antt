@@ -74,7 +74,8 @@ module _ {L : Label → Label → Type 0} (laws : Labels L) where
   parent-like change change' alike t [] v w p q r = alike t v w p q r
   parent-like change change' alike t (u ∷ ts) v w p q r =
       child-then t v w _ _ q r λ k j h i c.
-      then-like _ _ (parent-like change change' alike u ts (valueOf (child k v)) (valueOf (child j w)) (proper-child t k v h p) (proper-child t j w i q) (child-like laws r c))
+      let below = child-like laws r c in
+      then-like _ _ (parent-like change change' alike u ts (valueOf (child k v)) (valueOf (child j w)) (proper-child t k v h p) (proper-child t j w i q) below)
       λ x y _ _ s. both (put-like laws r c s)
 
   remove-like : ChangesAlike removeChild removeChild
@@ -126,7 +127,8 @@ module _ {L : Label → Label → Type 0} (laws : Labels L) where
   replace-path-like [] v w s p q r = both s
   replace-path-like (t ∷ ts) v w s p q r = parent-like _ _ (replace-like s) t ts v w p q r
 
-  move-like : (from path : Tokens) (v w : Value.Value) → AllCharacters from → Proper v → Proper w → LikeValues L v w → Answers (moveTo from path v) (moveTo from path w)
+  move-like : (from path : Tokens) (v w : Value.Value) → AllCharacters from → Proper v → Proper w → LikeValues L v w →
+      Answers (moveTo from path v) (moveTo from path w)
   unfolding moveTo
   move-like [] path v w a p q r = both r
   move-like (t ∷ ts) path v w a p q r =

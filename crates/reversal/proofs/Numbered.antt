@@ -129,7 +129,8 @@ exponent-numbered : (fuel : ℕ) (s : Bytes) (start size at : ℕ) → Numbered 
 unfolding exponentDigits
 exponent-numbered zero s start size at = result
 exponent-numbered (suc fuel) s start size at =
-    either (isDigit (byte s at)) (either (leb (size * 10 + (byte s at - 48)) 9_999) (next _ (counted-numbered start at) λ n. exponent-numbered fuel s start _ n) (number refl)) result
+    either (isDigit (byte s at))
+    (either (leb (size * 10 + (byte s at - 48)) 9_999) (next _ (counted-numbered start at) λ n. exponent-numbered fuel s start _ n) (number refl)) result
 
 signed-numbered : (s : Bytes) (start at : ℕ) → Numbered (signedDigits s start at)
 unfolding signedDigits
@@ -188,13 +189,16 @@ unfolding items
 items-numbered zero value h object s n so-far at = number refl
 items-numbered (suc fuel) value h object s n so-far at =
     next _ (name-numbered object s so-far at) λ m. next _ (h (m .1) _) λ v.
-    either (eqb (byte s (blanks s (v .1))) (closingBracket object)) result (next _ (byteIn-numbered s (blanks s (v .1)) 44 44) λ _. items-numbered fuel value h object s n _ _)
+    either (eqb (byte s (blanks s (v .1))) (closingBracket object)) result
+    (next _ (byteIn-numbered s (blanks s (v .1)) 44 44) λ _. items-numbered fuel value h object s n _ _)
 
 contents-numbered : (value : ℕ → ℕ → Outcome (Value.Value × ℕ)) → Reads value → (object : Bool) (s : Bytes) (n at : ℕ) → Numbered (contents value object s n at)
 unfolding contents
-contents-numbered value h object s n at = either (eqb (byte s (blanks s at)) (closingBracket object)) result (items-numbered (length s) value h object s n none _)
+contents-numbered value h object s n at =
+    either (eqb (byte s (blanks s at)) (closingBracket object)) result (items-numbered (length s) value h object s n none _)
 
-container-numbered : (value : ℕ → ℕ → Outcome (Value.Value × ℕ)) → Reads value → (object : Bool) (s : Bytes) (at n : ℕ) → Numbered (container value object s at n)
+container-numbered : (value : ℕ → ℕ → Outcome (Value.Value × ℕ)) → Reads value → (object : Bool) (s : Bytes) (at n : ℕ) →
+    Numbered (container value object s at n)
 unfolding container
 container-numbered value h object s at n =
     next _ (room-numbered n at) λ _. next _ (contents-numbered value h object s (n + 1) (at + 1)) λ _. result
@@ -290,8 +294,8 @@ unfolding walk
 walk-numbered [] v = result
 walk-numbered (t ∷ ts) v = next _ (child-numbered t v) λ k. walk-numbered ts (valueOf (child k v))
 
-parent-numbered : (change : Text → Value.Value → Outcome Value.Value) → ((t : Text) (v : Value.Value) → Numbered (change t v)) → (t : Text) (ts : Tokens) (v : Value.Value) →
-    Numbered (atParent change t ts v)
+parent-numbered : (change : Text → Value.Value → Outcome Value.Value) → ((t : Text) (v : Value.Value) → Numbered (change t v)) →
+    (t : Text) (ts : Tokens) (v : Value.Value) → Numbered (atParent change t ts v)
 unfolding atParent
 parent-numbered change h t [] v = h t v
 parent-numbered change h t (u ∷ ts) v = next _ (child-numbered t v) λ k. next _ (parent-numbered change h u ts (valueOf (child k v))) λ w. result

@@ -93,7 +93,8 @@ mended-plain (t ∷ ts) v (token s a) p =
     (λ _ _. replace (characters-last _ _ hs l) (value-proper (lastToken t ts ∷ []) parent (value-proper (parentTokens t ts) v p)))
     (λ _ _. remove (characters-last _ _ hs l))
 
-moved-plain : (m : Operation) (from path : Tokens) (v : Value.Value) → Plain m → AllCharacters from → AllCharacters path → Proper v → AllPlain (undoMoved m from path v)
+moved-plain : (m : Operation) (from path : Tokens) (v : Value.Value) → Plain m → AllCharacters from → AllCharacters path → Proper v →
+    AllPlain (undoMoved m from path v)
 unfolding undoMoved
 moved-plain m from path v q a b p =
     by-test (properPrefix path from && isReplace (m .kind)) (λ t. rw t (more (replace b (value-proper path v p)) none))

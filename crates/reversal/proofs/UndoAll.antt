@@ -49,8 +49,8 @@ runs-like u' (first q a) p p' l (step {o = o} {v = u} {u = x} h r) =
     (v', step i r', n)
 
 -- one operation more at the front
-undo-more : (o : Operation) (os : List Operation) (v u w : Value.Value) → ProperOperation o → AllProper os → Readable v → Proper w → limited o v ≡ ok u → Proper u →
-    Undoes (undoRun os u) w u → Undoes (undoRun (o ∷ os) v) w v
+undo-more : (o : Operation) (os : List Operation) (v u w : Value.Value) → ProperOperation o → AllProper os → Readable v → Proper w → limited o v ≡ ok u →
+    Proper u → Undoes (undoRun os u) w u → Undoes (undoRun (o ∷ os) v) w v
 unfolding undoRun resultOr
 undo-more o os v u w q a r pw h pu later =
     let one = undo-one o v u r (limited-performs o v u h .0) in
@@ -61,7 +61,8 @@ undo-more o os v u w q a r pw h pu later =
     (record { result = back; runs = runs-append (later .runs) runs; like = values-trans equal-labels (one .like) like })
 
 -- A RUN AND ITS UNDO
-pub undo-all : (op : ℕ) (os : List Operation) (v w : Value.Value) → AllProper os → Readable v → Proper w → run limited op os v ≡ finished w → Undoes (undoRun os v) w v
+pub undo-all : (op : ℕ) (os : List Operation) (v w : Value.Value) → AllProper os → Readable v → Proper w → run limited op os v ≡ finished w →
+    Undoes (undoRun os v) w v
 unfolding run undoRun onFinish atOp
 undo-all op [] v w nothing r pw h = let same : v ≡ w = cc in rw (← same) (record { result = v; runs = stop; like = values-refl equal-labels v })
 undo-all op (o ∷ os) v w (first q a) r pw h = go (limited o v) refl h (λ u. undo-all (op + 1) os u w a)

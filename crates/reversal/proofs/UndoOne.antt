@@ -41,7 +41,8 @@ replaced-parent x t (u ∷ ts) v w h =
     let (y, f, j) = both-ok (atParent (replaceChild x) u ts (valueOf (child k v))) _ w i in
     let same : put k y v ≡ w = cc in
     let ih = replaced-parent x u ts (valueOf (child k v)) y f in
-    rw (← same, value-on t (u ∷ ts) v k e, replace-below t k y v e (valueAt (u ∷ ts) (valueOf (child k v))) u ts, ih) (ap ok (put-child k v (child-there t v k e)))
+    rw (← same, value-on t (u ∷ ts) v k e, replace-below t k y v e (valueAt (u ∷ ts) (valueOf (child k v))) u ts, ih)
+    (ap ok (put-child k v (child-there t v k e)))
 
 replaced-path : (path : Tokens) (x v w : Value.Value) → replaceAtPath path x v ≡ ok w → replaceAtPath path (valueAt path v) w ≡ ok v
 unfolding replaceAtPath valueAt walk resultOr

@@ -83,7 +83,8 @@ without-value k path a =
     Proper.member (ascii-characters _ refl) refl (Proper.string (name-characters k)) Proper.empty
     (Proper.member (ascii-characters _ refl) refl (Proper.string (pointer-characters path a)) Proper.empty Proper.empty)
 
-with-value : (k : Kind) (path : Tokens) (x : Value.Value) → AllCharacters path → Proper x → ProperItems true (headMembers k path (Undo.member (ascii "value") x none))
+with-value : (k : Kind) (path : Tokens) (x : Value.Value) → AllCharacters path → Proper x →
+    ProperItems true (headMembers k path (Undo.member (ascii "value") x none))
 unfolding ascii allAscii find count sameText isObject tag
 with-value k path x a p =
     Proper.member (ascii-characters _ refl) refl (Proper.string (name-characters k)) Proper.empty

@@ -74,7 +74,8 @@ if-written : {C : Type 0} (test : Bool) {a b : UndoAnswer} {text undo : Bytes} �
 if-written true h f g = f refl h
 if-written false h f g = g h
 
-not-written : {C : Type 0} (number in-text op place : ℕ) {text undo : Bytes} → eqb number 0 ≡ false → undoRefusal (refusal number in-text op place) ≡ undoSuccess text undo → C
+not-written : {C : Type 0} (number in-text op place : ℕ) {text undo : Bytes} → eqb number 0 ≡ false →
+    undoRefusal (refusal number in-text op place) ≡ undoSuccess text undo → C
 not-written number in-text op place n h = absurd (true≢false (sym (eq-eqb number 0 (ap (λ a. a .answer .number) h)) ∙ n))
 
 record Fitting (u : Value.Value) (undo : Bytes) : Type 0 where
@@ -118,7 +119,8 @@ written-fits room t u text undo h =
     (not-written 5 2 0 0 refl))
     (not-written 9 2 0 0 refl)
 
-after-fits : {a : Answer} (room : ℕ) (u : Value.Value) (text undo : Bytes) → NumberedAnswer a → afterPatch room a u ≡ undoSuccess text undo → BothWritten a u text undo
+after-fits : {a : Answer} (room : ℕ) (u : Value.Value) (text undo : Bytes) → NumberedAnswer a → afterPatch room a u ≡ undoSuccess text undo →
+    BothWritten a u text undo
 unfolding afterPatch
 after-fits room u text undo (done {t = t}) h = written-fits room t u text undo h
 after-fits room u text undo (refuses {n = n} {text = in-text} {op = op} {place = place} q) h = not-written n in-text op place q (rw q at h)
