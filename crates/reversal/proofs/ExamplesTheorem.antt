@@ -1,5 +1,7 @@
 -- The examples of undos, proved of the definitions by computation.
-use mathlib.Core.Path.{refl}
+use mathlib.Core.Path.{_≡_, refl}
+use Prim.Native.Nat.{ℕ}
+use native.Mathlib.Omega.{arith}
 use Rattle.spec.specs.Outcome.{_>>=_, require}
 use Rattle.spec.specs.Bytes.{ascii, byte, within, byteIn}
 use Rattle.spec.specs.Strings.{hexValue, hexIn, lowSurrogate, afterHigh, secondLimit, unicodeEscape, shortEscape, escape, tail, multibyte, character, characters, string}
@@ -18,7 +20,7 @@ use Rattle.claims.specs.Pointers.{escapeCharacter, escapeToken, pointerOf}
 use Rattle.reversal.specs.Undo.{resultOr, valueAt, remaining, digitsBefore, indexToken, elementToken, parentTokens, lastToken, mendedIn, mended, isReplace, undoMoved, undoMove, undoOf, undoRun}
 use Rattle.reversal.specs.UndoValue.{opName, valueMember, operationValue, operationValues, undoValue}
 use Rattle.reversal.specs.UndoAnswer.{undoShaped, undoRead, undoOperations, undoFitting, undoWritten, afterPatch, undoAnswer}
-use Rattle.reversal.specs.Examples.{All, undos}
+use Rattle.reversal.specs.Examples.{All, undos, Witness, times, nested, letters, Order}
 
 -- the definitions that compute the answer, layer by layer: to unfold one of these names is to unfold all that its line names
 unfoldable compute-outcomes : Unit {0}
@@ -71,4 +73,17 @@ compute-undos = tt
 
 pub examples : All undos
 unfolding compute-outcomes compute-strings compute-numbers compute-forests compute-values compute-reading compute-writing compute-pointers compute-operations compute-patches compute-answers compute-undos
-examples = (refl, (refl, (refl, (refl, (refl, (refl, (refl, (refl, (refl, (refl, (refl, (refl, (refl, (refl, (refl, (refl, (refl, (refl, tt))))))))))))))))))
+examples = ((refl, refl), ((refl, refl), ((refl, refl), ((refl, refl), ((refl, refl), ((refl, refl), ((refl, refl), ((refl, refl), ((refl, refl), ((refl, refl), ((refl, refl), ((refl, refl), ((refl, refl), ((refl, refl), ((refl, refl), ((refl, refl), ((refl, refl), ((refl, refl), ((refl, refl), (refl, (refl, (refl, (refl, (refl, tt))))))))))))))))))))))))
+
+pub witness : Witness
+unfolding compute-outcomes compute-strings compute-numbers compute-forests compute-values compute-reading compute-writing compute-pointers compute-operations compute-patches compute-answers compute-undos
+witness =
+    record {
+      written = refl;
+      fits = omega arith;
+      enough = record { work = λ (h : _≡_ {A = ℕ} 0 1). absurd (omega arith); output = λ (h : _≡_ {A = ℕ} 0 16). absurd (omega arith) };
+    }
+
+pub order : Order
+unfolding compute-outcomes compute-forests compute-values compute-writing compute-undos times nested letters
+order = record { operations = refl; levels = refl; values = refl; bytes = refl }

@@ -1,3 +1,4 @@
+pub mod ExamplesTheorem
 pub mod Like
 pub mod LikeChildren
 pub mod LikeOperations
@@ -11,4 +12,3 @@ pub mod UndoAll
 pub mod UndoShape
 pub mod Numbered
 pub mod UndoTheorem
-pub mod ExamplesTheorem
