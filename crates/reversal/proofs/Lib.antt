@@ -11,4 +11,6 @@ pub mod Plain
 pub mod UndoAll
 pub mod UndoShape
 pub mod Numbered
+pub mod UndoTextLaws
 pub mod UndoTheorem
+pub mod UndoCalls

@@ -40,6 +40,7 @@ use Rattle.reversal.proofs.UndoOne.{Undoes, undo-one}
 use Rattle.reversal.proofs.UndoAll.{runs-finish, undo-all}
 use Rattle.reversal.proofs.Plain.{AllPlain, all-plain-proper, run-plain}
 use Rattle.reversal.proofs.UndoShape.{undo-proper, undo-shape}
+use Rattle.reversal.proofs.UndoTextLaws.{undo-text}
 use Rattle.reversal.proofs.Numbered.{NumberedAnswer, done, refuses, answer-numbered}
 
 -- a document that differs in member order alone is equal to the original
@@ -238,6 +239,7 @@ undo-theorem =
       operation-undone = one-undone;
       equal-answers = equal-answers;
       well-formed = undo-formed;
+      text = undo-text;
       same-text = λ document patch text undo lent h. both-texts document patch text undo lent h .plain;
       nothing-written = λ document patch lent. undo-silent document patch lent .silent;
     }

@@ -2,7 +2,7 @@
 use mathlib.Core.Path.{_≡_}
 use Prim.Native.Nat.{ℕ, _≤_}
 use mathlib.Core.Bool.{true}
-use mathlib.Core.List.{[]}
+use mathlib.Core.List.{List, []}
 use lib.ListN.{length}
 use Rattle.spec.specs.Outcome.{ok}
 use Rattle.spec.specs.Limits.{maxBytes}
@@ -19,7 +19,9 @@ use Rattle.claims.specs.Proper.{Proper, Readable}
 use Rattle.claims.specs.Equality.{Reordered}
 use Rattle.claims.specs.Operations.{Same}
 use Rattle.reversal.specs.Undo.{undoOf}
-use Rattle.reversal.specs.UndoAnswer.{UndoLent, undoAnswer, undoSuccess, undoRefusal, undoOperations}
+use Rattle.reversal.specs.UndoValue.{undoValue}
+use Rattle.reversal.specs.UndoText.{undoText}
+use Rattle.reversal.specs.UndoAnswer.{UndoLent, undoAnswer, undoSuccess, undoOperations}
 
 pub record Situation (document patch text undo : Bytes) (lent : UndoLent) (again : Lent) : Type 0 where
   -- "If the patch succeeds, [..] and the undo is written"
@@ -53,6 +55,8 @@ pub record UndoStatement : Type 0 where
   -- the undo that is written is a well-formed patch: the one that `undoOperations` says
   pub well-formed : (document patch text undo : Bytes) (lent : UndoLent) → undoAnswer document patch lent ≡ undoSuccess text undo →
       WellFormed undo (undoOperations document patch)
+  -- the undo's text is its value written, to the byte
+  pub text : (os : List Operation) → write (undoValue os) ≡ undoText os
   -- the document is that of the plain call
   pub same-text : (document patch text undo : Bytes) (lent : UndoLent) → undoAnswer document patch lent ≡ undoSuccess text undo →
       answer document patch (lent .patch) ≡ success text
