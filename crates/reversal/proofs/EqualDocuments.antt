@@ -1,14 +1,14 @@
 -- Equal documents answer every operation alike, and so do documents that differ in member order alone.
 use mathlib.Core.Path.{_≡_, refl, sym, _∙_}
 use mathlib.Core.Bool.{Bool, true, false, true≢false}
-use Prim.Native.Nat.{ℕ, _≤_}
+use Prim.Native.Nat.{_≤_}
 use lib.Dec.{eqb, leb}
 use borrow.Author.Tests.{eqb-true, eq-eqb, leb-true, le-leb}
-use Rattle.spec.specs.Outcome.{Outcome, ok, refused, _>>=_, if_then_else_}
+use Rattle.spec.specs.Outcome.{Outcome, ok, _>>=_, if_then_else_}
 use Rattle.spec.specs.Limits.{maxDepth, maxNodes}
 use Rattle.spec.specs.Forest.{count}
 use Rattle.spec.specs.Value as Value
-use Rattle.spec.specs.Value.{isObject, depth, nodes}
+use Rattle.spec.specs.Value.{depth, nodes}
 use Rattle.spec.specs.Equality.{sameLabel, equal}
 use Rattle.spec.specs.Operation.{Operation, perform, notTooDeep, notTooLarge, limited}
 use Rattle.spec.specs.Patch.{operation}
@@ -24,7 +24,7 @@ use Rattle.claims.proofs.EqualityRules.{proper-repeats}
 use Rattle.claims.proofs.EqualityTheorem.{equality}
 use Rattle.claims.proofs.ProperOperations.{ProperOperation, perform-proper}
 use Rattle.claims.proofs.ProperPatch.{operation-proper}
-use Rattle.reversal.proofs.Like.{LikeValues, same-labels, equal-labels, like-alike, alike-like, like-reordered}
+use Rattle.reversal.proofs.Like.{LikeValues, same-labels, like-alike, alike-like, like-reordered}
 use Rattle.reversal.proofs.LikeOperations.{limited-like}
 
 -- `equal` as the relation by labels that test the same

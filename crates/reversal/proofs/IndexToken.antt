@@ -2,19 +2,18 @@
 use mathlib.Core.Path.{_≡_, refl, ap, sym, _∙_}
 use mathlib.Core.Bool.{Bool, true, false, _&&_, true≢false}
 use mathlib.Core.List.{[], _∷_}
-use Prim.Native.Nat.{ℕ, zero, suc, _+_, _-_, _*_, _/_, _%_, _<_, _≤_}
+use Prim.Native.Nat.{ℕ, zero, suc, _+_, _-_, _*_, _/_, _%_, _<_}
 use native.Mathlib.Omega.{arith}
-use lib.Dec.{ltb, leb}
-use borrow.Author.Tests.{ltb-true, ltb-false, lt-ltb, le-leb}
-use Rattle.spec.specs.Outcome.{Outcome, ok, refused, if_then_else_}
+use lib.Dec.{ltb}
+use borrow.Author.Tests.{ltb-true, ltb-false, lt-ltb}
+use Rattle.spec.specs.Outcome.{ok, if_then_else_}
 use Rattle.spec.specs.Bytes.{Text, ascii, within}
 use Rattle.spec.specs.Numbers.{isDigit}
 use Rattle.spec.specs.Worth.{decimal}
-use Rattle.spec.specs.Value.{sameText}
 use Rattle.spec.specs.Pointer.{isIndex, allDigits, isDash, elementBelow}
 use Rattle.spec.proofs.OutcomeLaws.{refused≢ok}
 use Rattle.spec.proofs.TextLaws.{sameText-true}
-use Rattle.claims.specs.Proper.{ScalarValue, below-surrogates, ScalarValues, nothing, another}
+use Rattle.claims.specs.Proper.{below-surrogates, ScalarValues, nothing, another}
 use Rattle.claims.proofs.CharacterScalar.{if-ok}
 use Rattle.claims.proofs.Rest.{within-true}
 use Rattle.reversal.specs.Undo.{digitsBefore, indexToken}

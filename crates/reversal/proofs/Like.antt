@@ -4,7 +4,6 @@ use mathlib.Core.Path.{_≡_, refl, ap, sym, _∙_}
 use mathlib.Core.Bool.{Bool, true, false}
 use Prim.Native.Nat.{ℕ, suc, _+_, max}
 use native.Mathlib.Omega.{arith}
-use Rattle.spec.specs.Outcome.{if_then_else_}
 use Rattle.spec.specs.Forest.{Forest, none, tree, count, size}
 use Rattle.spec.specs.Value as Value
 use Rattle.spec.specs.Value.{Label, Entry, Members, tag, isArray, isObject, isContainer, levels, depths, depth, nodes}

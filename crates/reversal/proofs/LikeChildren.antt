@@ -1,29 +1,28 @@
 -- Alike values have alike children: the child that a token names in the one is like that which it names in the other, and so is what is left
 -- when both are replaced by alike values, or removed.
 use mathlib.Core.Path.{_≡_, refl, ap, sym, subst, _∙_}
-use mathlib.Core.Bool.{Bool, true, false, true≢false}
-use mathlib.Core.List.{[], _∷_}
+use mathlib.Core.Bool.{Bool, true, false}
+use mathlib.Core.List.{[]}
 use Prim.Native.Nat.{ℕ, zero, suc, _<_}
 use native.Mathlib.Omega.{arith}
-use lib.Dec.{eqb}
 use borrow.Author.Tests.{eqb-true, ltb-true, lt-ltb}
 use Rattle.spec.specs.Outcome.{Outcome, ok, refused, if_then_else_}
 use Rattle.spec.specs.Bytes.{Text}
 use Rattle.spec.specs.Forest.{Forest, none, tree, Tree, single, count, before, from, insertAt, removeAt, replaceAt, nth, _⧺_}
 use Rattle.spec.specs.Value as Value
-use Rattle.spec.specs.Value.{Label, Entry, Members, tag, isArray, isObject, named, valueOf, leaf, has, find, sameText}
+use Rattle.spec.specs.Value.{Label, Entry, Members, tag, isArray, isObject, named, valueOf, leaf, has, find}
 use Rattle.spec.specs.Pointer.{childAt, child, elementBelow, memberNamed}
 use Rattle.spec.specs.Operation.{put, withKids, insertMember}
 use Rattle.spec.proofs.TextLaws.{sameText-true, sameText-refl}
 use Rattle.spec.proofs.ForestLaws.{name-find}
 use Rattle.spec.proofs.ChildLaws.{child-there}
-use Rattle.claims.specs.Proper.{Proper, ProperItems}
+use Rattle.claims.specs.Proper.{Proper}
 use Rattle.claims.specs.Equality.{NoRepeats}
 use Rattle.claims.proofs.Alike.{Inserted, here, there}
 use Rattle.claims.proofs.Found.{absent-parts, absent-inserted, inserted-repeats, sameText-apart}
 use Rattle.claims.proofs.EqualityRules.{proper-repeats}
 use Rattle.claims.proofs.RemoveAddLaws.{insert-last}
-use Rattle.reversal.proofs.Like.{Labels, Like, nothing, element, member, LikeValues, Counterpart, counterpart, exchange, like-count, object-like, array-like}
+use Rattle.reversal.proofs.Like.{Labels, Like, nothing, element, member, LikeValues, counterpart, exchange, like-count, object-like, array-like}
 
 -- A tree of a forest as one that was put in
 

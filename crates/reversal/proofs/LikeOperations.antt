@@ -1,5 +1,5 @@
 -- Alike documents answer every operation alike: both refuse it alike, or their results are alike.
-use mathlib.Core.Path.{_≡_, refl, ap, sym, subst, _∙_}
+use mathlib.Core.Path.{_≡_, refl, subst}
 use mathlib.Core.Bool.{Bool, true, false}
 use mathlib.Core.List.{[], _∷_}
 use Prim.Native.Nat.{ℕ, suc}
@@ -7,12 +7,12 @@ use lib.Dec.{leb}
 use Rattle.spec.specs.Outcome.{Outcome, ok, refused, _>>=_, if_then_else_}
 use Rattle.spec.specs.Bytes.{Text}
 use Rattle.spec.specs.Limits.{maxDepth, maxNodes}
-use Rattle.spec.specs.Forest.{count, insertAt, removeAt}
+use Rattle.spec.specs.Forest.{count, insertAt}
 use Rattle.spec.specs.Value as Value
-use Rattle.spec.specs.Value.{Label, isArray, isObject, named, valueOf, has, find, depth, nodes, leaf}
+use Rattle.spec.specs.Value.{Label, isArray, isObject, named, valueOf, depth, nodes}
 use Rattle.spec.specs.Equality.{equal}
 use Rattle.spec.specs.Pointer.{Tokens, childAt, child, walk, elementBelow, isDash}
-use Rattle.spec.specs.Operation.{Kind, Operation, withKids, put, atParent, insertElement, insertMember, insertChild, removeChild, replaceChild, addAt, removeAtPath, replaceAtPath, moveTo, copyTo, testAt, perform, notTooDeep, notTooLarge, limited}
+use Rattle.spec.specs.Operation.{Kind, Operation, withKids, atParent, insertElement, insertMember, insertChild, removeChild, replaceChild, addAt, removeAtPath, replaceAtPath, moveTo, copyTo, testAt, perform, notTooDeep, notTooLarge, limited}
 use Rattle.spec.proofs.OutcomeLaws.{both-ok}
 use Rattle.claims.specs.Proper as Proper
 use Rattle.claims.specs.Proper.{Proper}

@@ -1,24 +1,24 @@
 -- What takes back a value that was put in or replaced: it gives the document before, exactly.
 use mathlib.Core.Path.{_≡_, refl, ap, sym, subst, _∙_}
-use mathlib.Core.Bool.{Bool, true, false}
+use mathlib.Core.Bool.{true, false}
 use mathlib.Core.List.{[], _∷_, _++_}
-use Prim.Native.Nat.{ℕ, zero, suc, _<_, _≤_}
+use Prim.Native.Nat.{ℕ, zero, suc, _≤_}
 use native.Mathlib.Omega.{arith}
-use borrow.Author.Tests.{ltb-true, lt-ltb}
-use Rattle.spec.specs.Outcome.{Outcome, ok, refused, _>>=_, if_then_else_}
+use borrow.Author.Tests.{lt-ltb}
+use Rattle.spec.specs.Outcome.{Outcome, ok, _>>=_, if_then_else_}
 use Rattle.spec.specs.Bytes.{Text}
 use Rattle.spec.specs.Forest.{Forest, none, tree, Tree, single, count, before, from, insertAt, removeAt, _⧺_}
 use Rattle.spec.specs.Value as Value
-use Rattle.spec.specs.Value.{Label, Members, isArray, isObject, leaf, named, valueOf, has, find}
+use Rattle.spec.specs.Value.{Members, isArray, isObject, named, valueOf, has, find}
 use Rattle.spec.specs.Pointer.{Tokens, childAt, child, walk, elementBelow, isDash}
-use Rattle.spec.specs.Operation.{Kind, Operation, withKids, put, atParent, insertElement, insertMember, insertChild, removeChild, replaceChild, addAt, removeAtPath, replaceAtPath, perform}
+use Rattle.spec.specs.Operation.{Operation, withKids, put, atParent, insertElement, insertMember, insertChild, removeChild, replaceChild, addAt, removeAtPath, replaceAtPath, perform}
 use Rattle.spec.proofs.OutcomeLaws.{refused≢ok, both-ok}
 use Rattle.spec.proofs.ChildLaws.{child-there, childAt-put, child-put, put-put, put-child}
 use Rattle.spec.proofs.PlaceLaws.{walk-on}
 use Rattle.claims.specs.Operations.{removing, replacing}
 use Rattle.claims.proofs.CharacterScalar.{if-ok}
 use Rattle.claims.proofs.RemoveAddLaws.{insert-last}
-use Rattle.reversal.specs.Undo.{resultOr, valueAt, indexToken, elementToken, parentTokens, lastToken, mendedIn, mended, isReplace}
+use Rattle.reversal.specs.Undo.{resultOr, valueAt, elementToken, parentTokens, lastToken, mendedIn, mended}
 use Rattle.reversal.proofs.IndexToken.{by-test, element-at-index, element-below}
 use Rattle.reversal.proofs.LikeChildren.{FoundAt, found-at, inserted-last, array-child, object-child, named-there}
 

@@ -1,9 +1,8 @@
 -- A refusal's number is never 0: the answer's number is 0 exactly where a text is written.
-use mathlib.Core.Path.{_≡_, refl, ap}
+use mathlib.Core.Path.{_≡_, refl}
 use mathlib.Core.Bool.{Bool, true, false, _&&_, _||_, not}
 use mathlib.Core.List.{List, [], _∷_}
-use Prim.Native.Nat.{ℕ, zero, suc, _+_, _-_, _*_, _<_}
-use native.Mathlib.Omega.{arith}
+use Prim.Native.Nat.{ℕ, zero, suc, _+_, _-_, _*_}
 use lib.ListN.{length}
 use lib.Dec.{leb, ltb, eqb}
 use Rattle.spec.specs.Outcome.{Outcome, ok, refused, _>>=_, if_then_else_, require}
@@ -15,13 +14,13 @@ use Rattle.spec.specs.Worth.{decimal}
 use Rattle.spec.specs.Limits.{maxBytes, maxDepth, maxNodes, maxOperations}
 use Rattle.spec.specs.Forest.{none, tree, count}
 use Rattle.spec.specs.Value as Value
-use Rattle.spec.specs.Value.{Label, Members, isArray, isObject, isString, content, has, find, valueOf, depth, nodes, sameText}
+use Rattle.spec.specs.Value.{Label, Members, isArray, isObject, isString, has, valueOf, depth, nodes, sameText}
 use Rattle.spec.specs.Read.{blanks, spelled, roomFor, literalValue, numberValue, stringValue, scalar, fresh, nameFor, closingBracket, items, contents, container, value, read}
 use Rattle.spec.specs.Write.{write}
 use Rattle.spec.specs.Equality.{equal}
 use Rattle.spec.specs.Pointer.{Tokens, segments, tilde, unescape, unescapeAll, tokens, isIndex, isDash, elementBelow, memberNamed, childAt, child, walk}
-use Rattle.spec.specs.Operation.{Kind, Operation, put, atParent, insertElement, insertMember, insertChild, removeChild, replaceChild, addAt, removeAtPath, replaceAtPath, moveTo, copyTo, testAt, perform, notTooDeep, notTooLarge, limited}
-use Rattle.spec.specs.Patch.{member, stringOf, stringMember, kindNamed, usesValue, usesFrom, isMove, OperationMembers, valueFor, fromFor, membersFor, operationMembers, properPrefix, withPointers, operation, Run, finished, stopped, atOp, onFinish, operations, shape, run}
+use Rattle.spec.specs.Operation.{Kind, Operation, atParent, insertElement, insertChild, removeChild, replaceChild, addAt, removeAtPath, replaceAtPath, moveTo, copyTo, testAt, perform, notTooDeep, notTooLarge, limited}
+use Rattle.spec.specs.Patch.{member, stringOf, stringMember, kindNamed, usesValue, usesFrom, isMove, valueFor, fromFor, membersFor, operationMembers, properPrefix, withPointers, operation, Run, finished, stopped, atOp, onFinish, operations, shape, run}
 use Rattle.spec.specs.Answer.{Answer, Lent, answer, success, refusal, workSuffices, fitting, answerOf, patched, onPatch, onDocument}
 
 pub data Numbered {A : Type 0} : Outcome A → Type 0 where

@@ -1,15 +1,13 @@
 -- The operations of an undo: add, remove and replace, with the members that each uses, at tokens of characters and with proper values.
-use mathlib.Core.Path.{_≡_, refl, sym, subst}
-use mathlib.Core.Bool.{Bool, true, false, _&&_}
+use mathlib.Core.Path.{_≡_, refl}
+use mathlib.Core.Bool.{_&&_}
 use mathlib.Core.List.{List, [], _∷_, _++_}
-use Prim.Native.Nat.{ℕ, _≤_}
-use native.Mathlib.Omega.{arith}
-use Rattle.spec.specs.Outcome.{Outcome, ok, refused, if_then_else_}
+use Rattle.spec.specs.Outcome.{Outcome, ok, refused}
 use Rattle.spec.specs.Bytes.{Text}
 use Rattle.spec.specs.Value as Value
 use Rattle.spec.specs.Value.{Label, Members, leaf}
 use Rattle.spec.specs.Pointer.{Tokens, walk, isDash}
-use Rattle.spec.specs.Operation.{Kind, Operation, perform, removeAtPath, limited}
+use Rattle.spec.specs.Operation.{Kind, Operation, removeAtPath, limited}
 use Rattle.spec.specs.Patch.{properPrefix}
 use Rattle.claims.specs.Proper as Proper
 use Rattle.claims.specs.Proper.{Proper, ScalarValues}

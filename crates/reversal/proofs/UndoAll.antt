@@ -1,11 +1,11 @@
 -- A run followed by its undo gives the document before it, but for the order of members.
-use mathlib.Core.Path.{_≡_, refl, ap, sym, subst, _∙_}
+use mathlib.Core.Path.{_≡_, refl, ap, sym, subst}
 use mathlib.Core.List.{List, [], _∷_, _++_}
 use Prim.Native.Nat.{ℕ, _+_}
 use Rattle.spec.specs.Outcome.{Outcome, ok, refused}
 use Rattle.spec.specs.Value as Value
 use Rattle.spec.specs.Operation.{Operation, limited}
-use Rattle.spec.specs.Patch.{Run, finished, atOp, onFinish, run}
+use Rattle.spec.specs.Patch.{finished, atOp, onFinish, run}
 use Rattle.spec.proofs.OutcomeLaws.{refused≢ok}
 use Rattle.claims.specs.Proper.{Proper, Readable}
 use Rattle.claims.specs.Operations.{Same, both, neither}

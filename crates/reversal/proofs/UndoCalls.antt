@@ -1,22 +1,22 @@
 -- Laws for a call that makes the undo while the patch runs: its ways out, the undo so far, and its sums.
-use mathlib.Core.Path.{_≡_, refl, ap, sym, _∙_}
+use mathlib.Core.Path.{_≡_, refl, ap}
 use mathlib.Core.Bool.{Bool, true, false}
 use mathlib.Core.List.{List, [], _∷_, _++_, append-assoc}
 use Prim.Native.Nat.{ℕ, suc, _+_, _≤_, max}
 use native.Mathlib.Omega.{arith}
 use lib.ListN.{length}
-use lib.Dec.{leb, eqb}
+use lib.Dec.{eqb}
 use borrow.Author.Tests.{le-leb, lt-leb}
 use Rattle.spec.specs.Outcome.{ok, if_then_else_}
 use Rattle.spec.specs.Limits.{maxBytes}
 use Rattle.spec.specs.Bytes.{Bytes, ascii}
 use Rattle.spec.specs.Forest.{none, tree, count, size}
 use Rattle.spec.specs.Value as Value
-use Rattle.spec.specs.Value.{Label, tag, isContainer, levels, depths, depth, nodes}
+use Rattle.spec.specs.Value.{tag, isContainer, levels, depths, depth, nodes}
 use Rattle.spec.specs.Write.{comma, write}
 use Rattle.spec.specs.Operation.{Operation, limited}
 use Rattle.spec.specs.Patch.{usesValue, finished, onFinish, run}
-use Rattle.spec.specs.Answer.{Answer, Lent, answer, refusal, workSuffices, fitting, answerOf, patched, onPatch, onDocument}
+use Rattle.spec.specs.Answer.{answer, refusal, workSuffices, fitting, answerOf, patched, onPatch, onDocument}
 use Rattle.spec.specs.Region.{Accepted, WellFormed}
 use Rattle.reversal.specs.Undo.{resultOr, undoOf, undoRun}
 use Rattle.reversal.specs.UndoValue.{valueMember, operationValue, operationValues, undoValue}

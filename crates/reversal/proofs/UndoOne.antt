@@ -1,23 +1,23 @@
 -- An operation followed by its undo gives the document before it, but for the order of members.
 use mathlib.Core.Path.{_≡_, refl, ap, sym, subst, _∙_}
-use mathlib.Core.Bool.{Bool, true, false, _&&_, true≢false, false≢true}
-use mathlib.Core.List.{List, [], _∷_, _++_}
-use Prim.Native.Nat.{ℕ, zero, suc, _<_, _≤_, max}
+use mathlib.Core.Bool.{true, _&&_, false≢true}
+use mathlib.Core.List.{List, [], _∷_}
+use Prim.Native.Nat.{ℕ}
 use native.Mathlib.Omega.{arith}
-use Rattle.spec.specs.Outcome.{Outcome, ok, refused, _>>=_, if_then_else_}
+use Rattle.spec.specs.Outcome.{Outcome, ok, _>>=_}
 use Rattle.spec.specs.Bytes.{Text}
-use Rattle.spec.specs.Forest.{none, tree, Tree, count, size, before, from, removeAt, replaceAt, nth, _⧺_}
+use Rattle.spec.specs.Forest.{from}
 use Rattle.spec.specs.Value as Value
-use Rattle.spec.specs.Value.{Label, Entry, Members, isArray, isObject, isContainer, levels, depths, depth, nodes, named, valueOf, has, find, sameText}
+use Rattle.spec.specs.Value.{isArray, valueOf, has, find, sameText}
 use Rattle.spec.specs.Pointer.{Tokens, childAt, child, walk}
-use Rattle.spec.specs.Operation.{Kind, Operation, withKids, put, atParent, insertMember, insertChild, removeChild, replaceChild, addAt, removeAtPath, replaceAtPath, moveTo, copyTo, testAt, perform, limited}
+use Rattle.spec.specs.Operation.{Kind, Operation, put, atParent, insertMember, insertChild, removeChild, replaceChild, addAt, removeAtPath, replaceAtPath, moveTo, copyTo, perform, limited}
 use Rattle.spec.specs.Patch.{properPrefix}
 use Rattle.spec.proofs.OutcomeLaws.{refused≢ok, both-ok}
 use Rattle.spec.proofs.TextLaws.{both-true, sameText-true}
 use Rattle.spec.proofs.ChildLaws.{child-there, childAt-put, child-put, put-put, put-child}
 use Rattle.claims.specs.Proper.{Proper, Readable}
 use Rattle.claims.specs.Equality.{Reordered}
-use Rattle.claims.specs.Operations.{Same, both, neither, adding, removing, replacing}
+use Rattle.claims.specs.Operations.{Same, both, neither, adding, replacing}
 use Rattle.claims.proofs.OperationsTheorem.{operations}
 use Rattle.reversal.specs.Undo.{resultOr, valueAt, remaining, parentTokens, lastToken, mendedIn, mended, isReplace, undoMoved, undoMove, undoOf}
 use Rattle.reversal.proofs.Like.{LikeValues, equal-labels, values-refl, reordered-like, nodes-like, depth-like}
@@ -25,7 +25,7 @@ use Rattle.reversal.proofs.LikeChildren.{object-child, named-there}
 use Rattle.reversal.proofs.IndexToken.{by-test}
 use Rattle.reversal.proofs.Mended.{value-on, value-here, below-put, replaced-back, replace-below, inserted-by, mended-element, mended-old, mended-new, mended-back}
 use Rattle.reversal.proofs.Smaller.{left-no-larger}
-use Rattle.reversal.proofs.EqualDocuments.{Within, limited-performs, performs-limited}
+use Rattle.reversal.proofs.EqualDocuments.{Within, performs-limited}
 
 -- A replaced value
 

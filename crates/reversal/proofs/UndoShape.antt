@@ -1,25 +1,24 @@
 -- The undo's value: it is proper, and its elements are the undo's operations.
-use mathlib.Core.Path.{_≡_, refl, ap, sym, _∙_}
-use mathlib.Core.Bool.{Bool, true, false, _&&_, not}
+use mathlib.Core.Path.{_≡_, refl}
+use mathlib.Core.Bool.{Bool, true, false, _&&_}
 use mathlib.Core.List.{List, [], _∷_, _++_}
-use Prim.Native.Nat.{ℕ, _+_, _≤_}
+use Prim.Native.Nat.{ℕ, _+_}
 use native.Mathlib.Omega.{arith}
-use lib.Dec.{leb, ltb, eqb}
-use borrow.Author.Tests.{leb-true, le-leb}
-use Rattle.spec.specs.Outcome.{Outcome, ok, refused, _>>=_, if_then_else_, require}
+use lib.Dec.{leb}
+use borrow.Author.Tests.{leb-true}
+use Rattle.spec.specs.Outcome.{ok, _>>=_, require}
 use Rattle.spec.specs.Limits.{maxOperations}
 use Rattle.spec.specs.Bytes.{Text, ascii}
-use Rattle.spec.specs.Forest.{none, tree, count, nth}
+use Rattle.spec.specs.Forest.{none, count, nth}
 use Rattle.spec.specs.Value as Value
-use Rattle.spec.specs.Value.{Label, Members, leaf, valueOf, tag, isArray, isObject, isString, content, has, find, sameText}
+use Rattle.spec.specs.Value.{Label, Members, leaf, tag, isArray, isObject, isString, content, find, sameText}
 use Rattle.spec.specs.Pointer.{Tokens, tokens, child}
 use Rattle.spec.specs.Operation.{Kind, Operation}
-use Rattle.spec.specs.Patch.{member, stringOf, stringMember, kindNamed, usesValue, usesFrom, isMove, valueFor, fromFor, membersFor, operationMembers, withPointers, operation, Run, finished, atOp, onFinish, operations, shape}
+use Rattle.spec.specs.Patch.{member, stringOf, stringMember, kindNamed, usesValue, usesFrom, isMove, valueFor, fromFor, membersFor, operationMembers, withPointers, operation, finished, atOp, onFinish, operations, shape}
 use Rattle.spec.proofs.TextLaws.{both-true}
 use Rattle.claims.specs.Proper as Proper
 use Rattle.claims.specs.Proper.{Proper, ProperItems, ScalarValue, ScalarValues}
 use Rattle.claims.specs.Pointers.{escapeCharacter, escapeToken, pointerOf}
-use Rattle.claims.specs.Operations.{adding, removing, replacing}
 use Rattle.claims.proofs.PointersTheorem.{Escaped, tilde-escaped, slash-escaped, plain, escaped, pointers}
 use Rattle.claims.proofs.ProperOperations.{AllCharacters, no-tokens, token}
 use Rattle.reversal.specs.UndoValue as Undo

@@ -1,11 +1,10 @@
 -- The undo's value, written, to the byte.
-use mathlib.Core.Path.{_≡_, refl, ap, ap₂, sym, _∙_}
+use mathlib.Core.Path.{_≡_, refl, ap, ap₂, _∙_}
 use mathlib.Core.Bool.{Bool, true, false}
 use mathlib.Core.List.{List, [], _∷_, _++_, append-nil, append-assoc}
 use Rattle.spec.specs.Outcome.{if_then_else_}
 use Rattle.spec.specs.Bytes.{Bytes, Text, ascii}
 use Rattle.spec.specs.Forest.{none, tree}
-use Rattle.spec.specs.Value as Value
 use Rattle.spec.specs.Value.{Label, Members, tag, isObject}
 use Rattle.spec.specs.Write.{utf8, writeCharacter, writeCharacters, writeString, opening, closing, writeName, comma, writeItems, write}
 use Rattle.spec.specs.Operation.{Kind, Operation}

@@ -1,9 +1,8 @@
 -- The undo's theorem, over whole texts.
 use mathlib.Core.Path.{_≡_, refl, ap, sym, _∙_}
 use mathlib.Core.Bool.{Bool, true, false, true≢false}
-use mathlib.Core.List.{List, [], _∷_}
-use Prim.Native.Nat.{ℕ, _≤_, _<_}
-use native.Mathlib.Omega.{arith}
+use mathlib.Core.List.{List, []}
+use Prim.Native.Nat.{ℕ, _≤_}
 use lib.ListN.{length}
 use lib.Dec.{leb, eqb}
 use borrow.Author.Tests.{leb-true, le-leb, eq-eqb}
@@ -13,7 +12,7 @@ use Rattle.spec.specs.Limits.{maxBytes, maxDepth, maxNodes, maxOperations}
 use Rattle.spec.specs.Bytes.{Bytes}
 use Rattle.spec.specs.Forest.{count}
 use Rattle.spec.specs.Value as Value
-use Rattle.spec.specs.Value.{isObject, depth, nodes}
+use Rattle.spec.specs.Value.{depth, nodes}
 use Rattle.spec.specs.Equality.{equal}
 use Rattle.spec.specs.Read.{read}
 use Rattle.spec.specs.Write.{write}
@@ -33,7 +32,7 @@ use Rattle.claims.proofs.RoundTripTheorem.{round-trip}
 use Rattle.reversal.specs.Undo.{undoOf, undoRun}
 use Rattle.reversal.specs.UndoValue.{undoValue}
 use Rattle.reversal.specs.UndoAnswer.{UndoAnswer, UndoLent, undoSuccess, undoRefusal, undoShaped, undoRead, undoOperations, undoFitting, undoWritten, afterPatch, undoAnswer}
-use Rattle.reversal.specs.Statement.{Situation, TakenBack, UndoStatement}
+use Rattle.reversal.specs.Statement.{TakenBack, UndoStatement}
 use Rattle.reversal.proofs.Like.{LikeValues, like-permuted, like-reordered}
 use Rattle.reversal.proofs.EqualDocuments.{reordered-equal, limited-performs, equal-answers}
 use Rattle.reversal.proofs.UndoOne.{Undoes, undo-one}

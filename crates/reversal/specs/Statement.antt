@@ -1,6 +1,6 @@
 -- What an undo does: document 02, T-09, over whole texts, with the two laws that it rests on. proofs/UndoTheorem proves it.
 use mathlib.Core.Path.{_≡_}
-use Prim.Native.Nat.{ℕ, _≤_}
+use Prim.Native.Nat.{_≤_}
 use mathlib.Core.Bool.{true}
 use mathlib.Core.List.{List, []}
 use lib.ListN.{length}
