@@ -1,0 +1,16 @@
+pub mod ExamplesTheorem
+pub mod Like
+pub mod LikeChildren
+pub mod LikeOperations
+pub mod EqualDocuments
+pub mod IndexToken
+pub mod Mended
+pub mod Smaller
+pub mod UndoOne
+pub mod Plain
+pub mod UndoAll
+pub mod UndoShape
+pub mod Numbered
+pub mod UndoTextLaws
+pub mod UndoTheorem
+pub mod UndoCalls
