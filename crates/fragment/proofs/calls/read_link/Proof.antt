@@ -1,0 +1,18 @@
+use mathlib.Core.Path.{_≡_, refl, sym, ap, _∙_}
+use native.Mathlib.Omega.{arith}
+use Rattle.lexer.proofs.Auto.{auto}
+use Rattle.fragment.proofs.TableLaws.{kept-table, tested}
+use Rattle.fragment.proofs.CallLaws.{refuses, answered-as, too-long, not-too-long}
+use Rattle.fragment.proofs.calls.read_link.Statement.{statement}
+use Rattle.fragment.proofs.calls.read_link.Tie as tie
+
+pub read-link-spec : {M : Type 1} → statement M
+unfolding tested
+read-link-spec =
+    tie.close
+    (tie.spec
+    (λ c κs. search auto)
+    (λ c. refuses 2 (too-long _ _ (c .before .if1 .taken)) (c .refusal .ensures))
+    (λ c κs. kept-table _ refl refl)
+    (λ c. search auto)
+    (λ c. answered-as (not-too-long _ _ (c .before .before .before .before .before .if1 .left)) (c .before .before .read-short .ensures)))

@@ -1,0 +1,23 @@
+use mathlib.Core.Path.{_≡_, refl, sym, ap, _∙_}
+use Rattle.lexer.proofs.Auto.{auto}
+use Rattle.fragment.proofs.TableLaws.{kept-table, tested}
+use Rattle.fragment.proofs.CallLaws.{refuses, answered-as, writes-by}
+use Rattle.fragment.proofs.calls.write_link.Statement.{statement}
+use Rattle.fragment.proofs.calls.write_link.Tie as tie
+
+pub write-link-spec : {M : Type 1} → statement M
+unfolding tested
+write-link-spec =
+    tie.close
+    (tie.spec
+    (λ c κs. search auto)
+    (λ c. search auto)
+    (λ c κs. kept-table _ refl refl)
+    (λ c. search auto)
+    (λ c. answered-as (writes-by _ _ (sym (c .before .before .before .before .before .enum-told .given .1) ∙ c .before .before .before .before .before .before .before .verdict-of .ensures)) (c .before .before .fitting-link .ensures))
+    (λ c. search auto)
+    (λ c κs. search auto)
+    (λ c. refuses 10 (writes-by _ _ (sym (c .before .enum-told2 .given .1) ∙ c .before .before .before .verdict-of .ensures)) (c .refusal .ensures))
+    (λ c. search auto)
+    (λ c κs. search auto)
+    (λ c. refuses 10 (writes-by _ _ (sym (c .before .enum-told3 .given .1) ∙ c .before .before .before .verdict-of .ensures)) (c .refusal2 .ensures)))

@@ -1,0 +1,11 @@
+use Rattle.lexer.proofs.Auto.{auto}
+use native.Mathlib.Omega.{arith}
+use Rattle.fragment.proofs.kept.is_kept.Statement.{statement}
+use Rattle.fragment.proofs.kept.is_kept.Tie as tie
+
+pub is-kept-spec : {M : Type 1} → statement M
+is-kept-spec =
+    tie.close
+    (tie.spec
+    (λ c. search auto)
+    (λ c. c .before .pre .rule (c .before .args .b) (omega arith)))

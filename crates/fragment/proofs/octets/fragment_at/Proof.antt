@@ -1,0 +1,36 @@
+use Prim.Native.Nat.{_+_, _-_, _≤_}
+use lib.ListN.{length, drop}
+use mathlib.Core.Path.{_≡_, refl, sym, ap, _∙_}
+use native.Mathlib.Omega.{arith}
+use Rattle.lexer.proofs.Auto.{auto}
+use Rattle.fragment.specs.Scan.{counted}
+use Rattle.fragment.proofs.OctetLaws.{octet-onward}
+use Rattle.fragment.proofs.ScanLaws.{Going, going-starts, going-on, going-bad, going-ends}
+use Rattle.fragment.proofs.octets.fragment_at.Statement.{statement}
+use Rattle.fragment.proofs.octets.fragment_at.Tie as tie
+
+abbrev Inv-loop : tie.InvT-loop
+Inv-loop s start kept a₀ y₀ n₀ at₀ a y n at = Going s start a y n at
+
+abbrev μ-loop : tie.MeasureT-loop
+μ-loop s start kept a₀ y₀ n₀ at₀ a y n at = length s - at
+
+pub fragment-at-spec : {M : Type 1} → statement M
+fragment-at-spec =
+    tie.close
+    (tie.spec
+    Inv-loop
+    μ-loop
+    (λ c. going-starts _ _ (c .before .pre .0))
+    (λ c κs. (omega arith, c .before .before .before .pre .1))
+    (λ c. search auto)
+    (λ c. search auto)
+    (λ c. going-bad (c .before .before .before .before .loop .inv) (c .enum-told .given .1) (c .before .before .octet-at .ensures))
+    (λ c κs. search auto)
+    (λ c κs. search auto)
+    (λ c. search auto)
+    (λ c. omega (arith, octet-onward (c .before .before .before .b .given .1) (c .before .before .before .before .before .octet-at .ensures)))
+    (λ c. rw (c .before .next-byte .ensures, c .next-syntax .ensures) (going-on (c .before .before .before .before .before .before .before .loop .inv) (c .before .before .before .b .given .1) (c .before .before .before .before .before .octet-at .ensures)))
+    (λ c κs. search auto)
+    (λ c κs. search auto)
+    (λ c. c .counted .ensures ∙ ap (counted _) (c .before .judge .ensures) ∙ going-ends (c .before .before .before .loop .inv) (c .before .before .loop-test .left)))

@@ -1,0 +1,21 @@
+use mathlib.Core.Path.{_≡_, refl, sym, ap, _∙_}
+use native.Mathlib.Omega.{arith}
+use Rattle.lexer.proofs.Auto.{auto}
+use Rattle.spec.specs.Bytes.{byte}
+use Rattle.fragment.proofs.OctetLaws.{octet-percent, octet-kept, octet-bad}
+use Rattle.fragment.proofs.octets.octet_at.Statement.{statement}
+use Rattle.fragment.proofs.octets.octet_at.Tie as tie
+
+pub octet-at-spec : {M : Type 1} → statement M
+unfolding byte
+octet-at-spec =
+    tie.close
+    (tie.spec
+    (λ c. search auto)
+    (λ c. search auto)
+    (λ c κs. search auto)
+    (λ c. octet-percent _ _ (c .before .before .before .before .pre .0) refl (c .before .if1 .taken) (c .percent .ensures))
+    (λ c κs. search auto)
+    (λ c. search auto)
+    (λ c. octet-kept _ _ (c .before .before .before .before .before .pre .0) refl (c .before .before .if1 .left) (sym (c .before .is-kept .ensures) ∙ c .if2 .taken))
+    (λ c. octet-bad _ _ (c .before .before .before .before .before .pre .0) refl (c .before .before .if1 .left) (sym (c .before .is-kept .ensures) ∙ c .if2 .left)))

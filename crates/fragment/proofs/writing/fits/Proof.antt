@@ -1,0 +1,35 @@
+use Prim.Native.Nat.{_+_, _-_, _≤_}
+use lib.ListN.{length, drop}
+use mathlib.Core.Path.{_≡_, refl, sym, ap, _∙_}
+use native.Mathlib.Omega.{arith}
+use borrow.Author.Tests.{le-leb, lt-leb}
+use Rattle.lexer.proofs.Auto.{auto}
+use Rattle.spec.specs.Bytes.{byte}
+use Rattle.fragment.specs.Link.{link, encodeAll}
+use Rattle.fragment.proofs.WritingLaws.{encode-length, encode-end, link-length}
+use Rattle.fragment.proofs.writing.fits.Statement.{statement}
+use Rattle.fragment.proofs.writing.fits.Tie as tie
+
+abbrev Inv-loop : tie.InvT-loop
+Inv-loop p room kept left₀ at₀ left at = (at ≤ length p) × (length (link p) + left ≡ room + length (encodeAll (drop at p)))
+
+abbrev μ-loop : tie.MeasureT-loop
+μ-loop p room kept left₀ at₀ left at = length p - at
+
+pub fits-spec : {M : Type 1} → statement M
+unfolding byte
+fits-spec =
+    tie.close
+    (tie.spec
+    Inv-loop
+    μ-loop
+    (λ c. let a = c .before .before .args in sym (lt-leb (length (link (a .pointer .now))) (a .room) (omega (arith, link-length (a .pointer .now)))))
+    (λ c. search auto)
+    (λ c. (omega arith, omega (arith, link-length (c .before .before .args .pointer .now))))
+    (λ c. search auto)
+    (λ c κs. c .before .before .before .before .before .pre)
+    (λ c. let l = c .before .before .before .before .loop in let p = c .before .before .before .before .before .before .before .args .pointer .now in sym (lt-leb (length (link p)) (c .before .before .before .before .before .before .before .args .room) (omega (arith, encode-length p (l .at) (omega arith), c .before .width .ensures))))
+    (λ c. search auto)
+    (λ c. search auto)
+    (λ c. let l = c .before .before .before .before .loop in let p = c .before .before .before .before .before .before .before .args .pointer .now in (omega arith, omega (arith, encode-length p (l .at) (omega arith), c .before .width .ensures)))
+    (λ c. let l = c .before .loop in let p = c .before .before .before .before .args .pointer .now in sym (le-leb (length (link p)) (c .before .before .before .before .args .room) (omega (arith, ap length (encode-end p (l .at) (c .loop-test .left)))))))

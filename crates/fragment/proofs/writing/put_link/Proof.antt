@@ -1,0 +1,33 @@
+use Prim.Native.Nat.{_+_, _-_, _≤_}
+use lib.ListN.{length, drop, length-set}
+use mathlib.Core.Path.{_≡_, refl, sym, ap, _∙_}
+use native.Mathlib.Omega.{arith}
+use Rattle.lexer.proofs.Auto.{auto}
+use Rattle.spec.specs.Bytes.{byte}
+use Rattle.fragment.specs.Link.{encodeAll}
+use Rattle.fragment.proofs.WritingLaws.{Laid, laid-starts, laid-length, laid-bound, laid-on, laid-ends, encode-here, encode-length, encode-end, link-length, link-laid}
+use Rattle.fragment.proofs.writing.put_link.Statement.{statement}
+use Rattle.fragment.proofs.writing.put_link.Tie as tie
+
+abbrev Inv-loop : tie.InvT-loop
+Inv-loop p out₀ kept end₀ at₀ out end at = (at ≤ length p) × Laid 1 (encodeAll p) (encodeAll (drop at p)) out₀ out end
+
+abbrev μ-loop : tie.MeasureT-loop
+μ-loop p out₀ kept end₀ at₀ out end at = length p - at
+
+pub put-link-spec : {M : Type 1} → statement M
+unfolding byte
+put-link-spec =
+    tie.close
+    (tie.spec
+    Inv-loop
+    μ-loop
+    (λ c κs. search auto)
+    (λ c. (omega arith, laid-starts 1 _ _))
+    (λ c. search auto)
+    (λ c κs. let start = c .before .before .before .before .before .before .before .before .before .before in let l = c .before .before .before .loop in let p = start .args .pointer .now in (omega (arith, laid-bound (l .inv .1), encode-length p (l .at) (omega arith), link-length p, start .pre .0), start .pre .1))
+    (λ c. search auto)
+    (λ c. search auto)
+    (λ c. let l = c .before .before .before .before .before .before .loop in (omega arith, laid-on (l .inv .1) _ (encode-here _ (l .at) (omega arith)) (c .before .before .put-octet .ensures)))
+    (λ c. laid-length (c .before .loop .inv .1) ∙ ap length (c .before .before .before .before .put .ensures) ∙ simp length-set)
+    (λ c. let l = c .before .loop in link-laid _ _ (rw (c .before .before .before .before .put .ensures) at (laid-ends (l .inv .1) (encode-end _ (l .at) (c .loop-test .left))))))

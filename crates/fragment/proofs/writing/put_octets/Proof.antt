@@ -1,0 +1,34 @@
+use Prim.Native.Nat.{_+_, _-_, _≤_}
+use lib.ListN.{length, drop}
+use mathlib.Core.Path.{_≡_, refl, sym, ap, _∙_}
+use native.Mathlib.Omega.{arith}
+use Rattle.lexer.proofs.Auto.{auto}
+use Rattle.fragment.proofs.OctetLaws.{octet-onward}
+use Rattle.fragment.proofs.WritingLaws.{Putting, putting-starts, putting-on, putting-bad, putting-ends}
+use Rattle.fragment.proofs.writing.put_octets.Statement.{statement}
+use Rattle.fragment.proofs.writing.put_octets.Tie as tie
+
+abbrev Inv-loop : tie.InvT-loop
+Inv-loop s start out₀ kept end₀ at₀ out end at = Putting s start out₀ out end at
+
+abbrev μ-loop : tie.MeasureT-loop
+μ-loop s start out₀ kept end₀ at₀ out end at = length s - at
+
+pub put-octets-spec : {M : Type 1} → statement M
+put-octets-spec =
+    tie.close
+    (tie.spec
+    Inv-loop
+    μ-loop
+    (λ c. putting-starts _ _ _ (c .before .before .pre .0))
+    (λ c κs. (omega arith, c .before .before .before .before .pre .1))
+    (λ c. search auto)
+    (λ c. search auto)
+    (λ c. c .before .before .before .before .loop .inv .same-length)
+    (λ c. putting-bad (c .before .before .before .before .loop .inv) (c .enum-told .given .1) (c .before .before .octet-at .ensures))
+    (λ c κs. search auto)
+    (λ c. search auto)
+    (λ c. omega (arith, octet-onward (c .before .before .before .before .before .b .given .1) (c .before .before .before .before .before .before .before .octet-at .ensures)))
+    (λ c. putting-on (c .before .before .before .before .before .before .before .before .before .loop .inv) (c .before .before .before .before .before .b .given .1) (c .before .before .before .before .before .before .before .octet-at .ensures) (c .before .before .put .ensures))
+    (λ c. c .before .loop .inv .same-length)
+    (λ c. putting-ends (c .before .loop .inv) (c .loop-test .left)))

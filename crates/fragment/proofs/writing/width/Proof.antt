@@ -1,0 +1,14 @@
+use mathlib.Core.Path.{_≡_, refl, sym, ap, _∙_}
+use Rattle.lexer.proofs.Auto.{auto}
+use Rattle.fragment.specs.Link.{encoded}
+use Rattle.fragment.proofs.writing.width.Statement.{statement}
+use Rattle.fragment.proofs.writing.width.Tie as tie
+
+pub width-spec : {M : Type 1} → statement M
+unfolding encoded
+width-spec =
+    tie.close
+    (tie.spec
+    (λ c κs. search auto)
+    (λ c. rw (sym (c .before .is-kept .ensures) ∙ c .if1 .taken))
+    (λ c. rw (sym (c .before .is-kept .ensures) ∙ c .if1 .left)))

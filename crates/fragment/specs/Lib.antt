@@ -1,0 +1,6 @@
+pub mod Kept
+pub mod Link
+pub mod Answer
+pub mod Claims
+pub mod Scan
+pub mod Call
