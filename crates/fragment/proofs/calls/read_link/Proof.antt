@@ -12,7 +12,7 @@ read-link-spec =
     tie.close
     (tie.spec
     (λ c κs. search auto)
-    (λ c. refuses 2 (too-long _ _ (c .before .if1 .taken)) (c .refusal .ensures))
+    (λ c. refuses 2 (too-long (c .before .before .before .before .args .link .now) _ (omega arith)) (c .refusal .ensures))
     (λ c κs. kept-table _ refl refl)
     (λ c. search auto)
-    (λ c. answered-as (not-too-long _ _ (c .before .before .before .before .before .if1 .left)) (c .before .before .read-short .ensures)))
+    (λ c. answered-as (not-too-long (c .before .before .before .before .before .before .before .before .args .link .now) _ (omega arith)) (c .before .before .read-short .ensures)))
