@@ -44,7 +44,8 @@ module _ (room : ℕ) (t : Bytes) where
   unfolding fitting
   fitting-whole h = rw (le-leb (length t) room h)
 
-pub succeeds : {t before after : Bytes} {n : ℕ} {r : Answer} → length t ≤ length before → LaidDown t before after n → SuccessIs n r → Answered (fitting (length before) t) before after r
+pub succeeds : {t before after : Bytes} {n : ℕ} {r : Answer} → length t ≤ length before → LaidDown t before after n → SuccessIs n r →
+    Answered (fitting (length before) t) before after r
 succeeds {t} {before} h d (e, l) =
     answered-as (fitting-whole (length before) t h)
     (record { number = e; written = l ∙ d .count-is; output = d .after-is ∙ laid-down t before h })
@@ -135,7 +136,8 @@ module _ (s : Bytes) (room : ℕ) where
 pub octets-short : {o : Outcome Bytes} {n : ℕ} {out : Bytes} {r : Answer} → length out < n → RefusalIs output-too-short r → OctetsFit o n out out r
 octets-short {n = n} {out} h is = record { fits = λ t e l. refuses output-too-short (fitting-short (length out) t (omega arith)) is }
 
-pub octets-whole : {o : Outcome Bytes} {n k : ℕ} {before after : Bytes} {r : Answer} → n ≤ length before → OctetsPut o before after k → SuccessIs k r → OctetsFit o n before after r
+pub octets-whole : {o : Outcome Bytes} {n k : ℕ} {before after : Bytes} {r : Answer} → n ≤ length before → OctetsPut o before after k → SuccessIs k r →
+    OctetsFit o n before after r
 octets-whole {n = n} {before = before} h p is = record { fits = λ t e l. succeeds (omega arith) (p .laid t e) is }
 
 -- ---- the ways out of the calls
@@ -149,7 +151,8 @@ not-false true e = refl
 not-false false e = sym e
 
 -- no room for a link, and room
-pub link-short : (t out : Bytes) {f : Bool} {r : Answer} → f ≡ leb (length t) (length out) → not f ≡ true → RefusalIs output-too-short r → Answered (fitting (length out) t) out out r
+pub link-short : (t out : Bytes) {f : Bool} {r : Answer} → f ≡ leb (length t) (length out) → not f ≡ true → RefusalIs output-too-short r →
+    Answered (fitting (length out) t) out out r
 link-short t out {f} e n is = refuses output-too-short (fitting-short (length out) t (leb-false _ _ (sym e ∙ not-true f n))) is
 
 pub link-fits : (t out : Bytes) {f : Bool} → f ≡ leb (length t) (length out) → not f ≡ false → length t ≤ length out
@@ -170,6 +173,7 @@ module _ (s : Bytes) {b : ℕ} (e : b ≡ byte s 0) (h : b ≡ code "#") where
       Answered (octetsAnswer (octetsOf s) (length out)) out out r
   read-bad {out} told is r = refuses bad-link (begins (length out) ∙ reads-by (octets nothing (drop 1 s)) (length out) (sym told ∙ is)) r
 
-  pub read-malformed : {out : Bytes} {f : Fragment} {r : Answer} → f ≡ Fragment.Malformed → f ≡ fragmentOf (octets nothing (drop 1 s)) → RefusalIs malformed-pointer r →
+  pub read-malformed : {out : Bytes} {f : Fragment} {r : Answer} → f ≡ Fragment.Malformed → f ≡ fragmentOf (octets nothing (drop 1 s)) →
+      RefusalIs malformed-pointer r →
       Answered (octetsAnswer (octetsOf s) (length out)) out out r
   read-malformed {out} told is r = refuses malformed-pointer (begins (length out) ∙ reads-by (octets nothing (drop 1 s)) (length out) (sym told ∙ is)) r

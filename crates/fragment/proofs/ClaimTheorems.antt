@@ -16,7 +16,8 @@ use Rattle.spec.specs.Numbers.{isDigit}
 use Rattle.spec.specs.Strings.{hexValue}
 use Rattle.lexer.proofs.Tests.{between-within, above-within}
 use Rattle.fragment.specs.Kept.{isKept, isPchar, isSubDelim, isUnreserved, isAlpha, oneOf}
-use Rattle.fragment.specs.Link.{bad-link, upperHex, encoded, encodeAll, link, Pending, nothing, percent, digit, isHex, precede, octets, octetsOf, isUtf8, isPointer}
+use Rattle.fragment.specs.Link.{bad-link, upperHex, encoded, encodeAll, link, Pending, nothing, percent, digit, isHex, precede, octets, octetsOf}
+use Rattle.fragment.specs.Link.{isUtf8, isPointer}
 use Rattle.fragment.specs.Answer as Spec
 use Rattle.fragment.specs.Answer.{fitting, writeAnswer, octetsAnswer, readAnswer}
 use Rattle.fragment.specs.Claims as Claims
@@ -89,7 +90,8 @@ rest-read percent [] t e = absurd (refused-ok e)
 rest-read (digit h) [] t e = absurd (refused-ok e)
 rest-read nothing (b ∷ s) t e = go (eqb b (code "%")) (isKept b) refl refl e (rest-read percent s t) (rest-read nothing s)
   where
-    go : (p k : Bool) → eqb b (code "%") ≡ p → isKept b ≡ k → (if p then octets percent s else if k then precede b (octets nothing s) else refused bad-link 0) ≡ ok t →
+    go : (p k : Bool) → eqb b (code "%") ≡ p → isKept b ≡ k →
+        (if p then octets percent s else if k then precede b (octets nothing s) else refused bad-link 0) ≡ ok t →
         (octets percent s ≡ ok t → Rest percent s t) → ((r : Bytes) → octets nothing s ≡ ok r → Rest nothing s r) → Rest nothing (b ∷ s) t
     go true k p q e f g = subst (λ b. Rest nothing (b ∷ s) t) (sym (eqb-true b (code "%") p)) (whole (with-percent (f e)))
     go false true p q e f g =
@@ -98,7 +100,8 @@ rest-read nothing (b ∷ s) t e = go (eqb b (code "%")) (isKept b) refl refl e (
     go false false p q e f g = absurd (refused-ok e)
 rest-read percent (b ∷ s) t e = go (isHex b) refl e (rest-read (digit (hexValue b)) s t)
   where
-    go : (k : Bool) → isHex b ≡ k → (if k then octets (digit (hexValue b)) s else refused bad-link 0) ≡ ok t → (octets (digit (hexValue b)) s ≡ ok t → Rest (digit (hexValue b)) s t) →
+    go : (k : Bool) → isHex b ≡ k → (if k then octets (digit (hexValue b)) s else refused bad-link 0) ≡ ok t →
+        (octets (digit (hexValue b)) s ≡ ok t → Rest (digit (hexValue b)) s t) →
         Rest percent (b ∷ s) t
     go true k e f = first k (f e)
     go false k e f = absurd (refused-ok e)
@@ -157,7 +160,8 @@ unfolding octetsAnswer
 answered (refused number place) room p e = absurd (success-number e)
 answered (ok t) room p e = go (isUtf8 t) (isPointer t) refl e
   where
-    go : (u k : Bool) → isPointer t ≡ k → (if u then (if k then fitting room t else Spec.refusal 10) else Spec.refusal bad-link) ≡ Spec.success p → (ok t ≡ ok p) × (isPointer p ≡ true)
+    go : (u k : Bool) → isPointer t ≡ k → (if u then (if k then fitting room t else Spec.refusal 10) else Spec.refusal bad-link) ≡ Spec.success p →
+        (ok t ≡ ok p) × (isPointer p ≡ true)
     go true true q e = let f = fitted room t p e in (ap ok f, rw f at q)
     go true false q e = absurd (success-number e)
     go false k q e = absurd (success-number e)
@@ -250,7 +254,8 @@ judge-pointer : (a : Awaited) (y : Syntax) → judge a y ≡ Verdict.Pointer →
 unfolding judge
 judge-pointer a y e = go (eqb (a .more) 0) refl e
   where
-    go : (t : Bool) → eqb (a .more) 0 ≡ t → (if t then (if mayEnd y then Verdict.Pointer else Verdict.Malformed) else Verdict.NotUtf8) ≡ Verdict.Pointer → a .more ≡ 0
+    go : (t : Bool) → eqb (a .more) 0 ≡ t → (if t then (if mayEnd y then Verdict.Pointer else Verdict.Malformed) else Verdict.NotUtf8) ≡ Verdict.Pointer →
+        a .more ≡ 0
     go true t e = eqb-true (a .more) 0 t
     go false t e = let z : _≡_ {A = ℕ} 0 1 = cc in absurd (omega arith)
 
@@ -284,8 +289,11 @@ encoded-written b h = go (isKept b) refl
     go : (k : Bool) → isKept b ≡ k → Written b (if k then b ∷ [] else code "%" ∷ upperHex (b / 16) ∷ upperHex (b % 16) ∷ [])
     go true k = raw k
     go false k =
-        let e : hexValue (upperHex (b / 16)) * 16 + hexValue (upperHex (b % 16)) ≡ b = omega (arith, digit-read (b / 16) (omega arith), digit-read (b % 16) (omega arith)) in
-        subst (λ n. Written n (code "%" ∷ upperHex (b / 16) ∷ upperHex (b % 16) ∷ [])) e (percents (digit-is (b / 16) (omega arith)) (digit-is (b % 16) (omega arith)))
+        let high = digit-read (b / 16) (omega arith) in
+        let low = digit-read (b % 16) (omega arith) in
+        let e : hexValue (upperHex (b / 16)) * 16 + hexValue (upperHex (b % 16)) ≡ b = omega arith in
+        subst (λ n. Written n (code "%" ∷ upperHex (b / 16) ∷ upperHex (b % 16) ∷ [])) e
+        (percents (digit-is (b / 16) (omega arith)) (digit-is (b % 16) (omega arith)))
 
 spelled : {p : Bytes} → Small p → Spells (encodeAll p) p
 unfolding encodeAll
@@ -296,7 +304,8 @@ written : (pointer text : Bytes) (room : ℕ) → writeAnswer pointer room ≡ S
 unfolding writeAnswer
 written pointer text room e = go (isPointer pointer) refl e
   where
-    go : (k : Bool) → isPointer pointer ≡ k → (if k then fitting room (link pointer) else Spec.refusal 10) ≡ Spec.success text → (isPointer pointer ≡ true) × (link pointer ≡ text)
+    go : (k : Bool) → isPointer pointer ≡ k → (if k then fitting room (link pointer) else Spec.refusal 10) ≡ Spec.success text →
+        (isPointer pointer ≡ true) × (link pointer ≡ text)
     go true k e = (k, fitted room (link pointer) text e)
     go false k e = absurd (success-number e)
 

@@ -15,7 +15,7 @@ use Rattle.spec.specs.Bytes.{Bytes, byte, within}
 use Rattle.spec.specs.Strings.{hexValue}
 use Rattle.lexer.proofs.ByteLaws.{inside}
 use Rattle.fragment.specs.Kept.{isKept}
-use Rattle.fragment.specs.Link.{bad-link, nothing, percent, isHex, octets}
+use Rattle.fragment.specs.Link.{bad-link, nothing, percent, digit, isHex, octets}
 use Rattle.fragment.specs.Scan.{octetsAfter, Onward, OctetAt, PercentAt}
 use Rattle.fragment.specs.declared.octets.Octet.{Octet}
 use Rattle.fragment.specs.declared.octets.Octet.the-variants as Octet
@@ -63,7 +63,7 @@ module _ (s : Bytes) (at : ℕ) {h : ℕ} (first : h ≡ hexValue (byte s at)) w
     unfolding octetsAfter Onward octets
     bad-second g = record { gives = rw (from-here s at here, is-hex (byte s at) (omega arith)) (go (decLt (at + 1) (length s))); onward = tt }
       where
-        go : Dec (at + 1 < length s) → octets (Rattle.fragment.specs.Link.digit (hexValue (byte s at))) (drop (at + 1) s) ≡ refused bad-link 0
+        go : Dec (at + 1 < length s) → octets (digit (hexValue (byte s at))) (drop (at + 1) s) ≡ refused bad-link 0
         go (yes i) = rw (from-here s (at + 1) i, no-hex (byte s (at + 1)) (omega arith))
         go (no i) = rw (at-end s (at + 1) (omega arith))
 
@@ -72,8 +72,10 @@ module _ (s : Bytes) (at : ℕ) {h : ℕ} (first : h ≡ hexValue (byte s at)) w
     two-digits g =
         let next : at + 1 < length s = hex-inside s (at + 1) (omega arith) in
         let place : at + 1 + 1 ≡ at + 2 = omega arith in
+        let high = is-hex (byte s at) (omega arith) in
+        let low = is-hex (byte s (at + 1)) (omega arith) in
         record {
-          gives = rw (from-here s at here, is-hex (byte s at) (omega arith), from-here s (at + 1) next, is-hex (byte s (at + 1)) (omega arith), place, first, second);
+          gives = rw (from-here s at here, high, from-here s (at + 1) next, low, place, first, second);
           onward = (omega arith, omega arith);
         }
 

@@ -18,7 +18,8 @@ use Rattle.pointer.specs.Tokens.{accepted}
 use Rattle.lexer.proofs.Tests.{within-bounds, below-within, above-within, between-within}
 use Rattle.lexer.proofs.ByteLaws.{here}
 use Rattle.fragment.specs.Link.{nothing, octets, precede, characterAt, charactersFrom, characters, isUtf8, isPointer}
-use Rattle.fragment.specs.Scan.{awaiting, between, broken, lowest, highest, firstByte, nextByte, awaited, nextSyntax, syntax, mayEnd, judge, verdict, octetsAfter, Onward, OctetAt, counted, fragmentOf}
+use Rattle.fragment.specs.Scan.{awaiting, between, broken, lowest, highest, firstByte, nextByte, awaited, nextSyntax, syntax, mayEnd, judge, verdict}
+use Rattle.fragment.specs.Scan.{octetsAfter, Onward, OctetAt, counted, fragmentOf}
 use Rattle.fragment.specs.declared.scan.Awaited.{Awaited}
 use Rattle.fragment.specs.declared.scan.Syntax.{Syntax}
 use Rattle.fragment.specs.declared.scan.Syntax.the-variants as Syntax
@@ -79,7 +80,8 @@ data Tailed (s : Bytes) (at : ℕ) (a : Awaited) : Outcome (ℕ × ℕ) → Type
       ((y : Syntax) → Settled y → syntax y (drop at s) ≡ syntax y (drop next s)) → Tailed s at a (ok (c, next))
 
 -- a byte above ASCII before them
-tailed-before : {s : Bytes} {at : ℕ} {a a' : Awaited} {o : Outcome (ℕ × ℕ)} → at < length s → 0x80 ≤ byte s at → nextByte a (byte s at) ≡ a' → Tailed s (at + 1) a' o → Tailed s at a o
+tailed-before : {s : Bytes} {at : ℕ} {a a' : Awaited} {o : Outcome (ℕ × ℕ)} → at < length s → 0x80 ≤ byte s at → nextByte a (byte s at) ≡ a' →
+    Tailed s (at + 1) a' o → Tailed s at a o
 tailed-before {s} {at} {a} h l e (cut n) = cut λ q. n (sym (ap (λ x. x .more) (awaited-more a s at h ∙ ap (λ x. awaited x (drop (at + 1) s)) e)) ∙ q)
 tailed-before {s} {at} {a} h l e (whole {next = next} i j k f g) =
     whole {next = next} (omega arith) j k (awaited-more a s at h ∙ ap (λ x. awaited x (drop (at + 1) s)) e ∙ f) λ y t.
@@ -87,8 +89,11 @@ tailed-before {s} {at} {a} h l e (whole {next = next} i j k f g) =
 
 module _ (s : Bytes) where
   -- the next byte is none that may follow
-  cut-here : (more at low high : ℕ) {number place : ℕ} → within low high (byte s at) ≡ false → Tailed s at (awaiting (suc more) low high) (refused number place)
-  cut-here more at low high e = cut (go (awaiting (suc more) low high) refl (next-outside (awaiting (suc more) low high) (byte s at) (λ z. omega arith) e) (decLt at (length s)))
+  cut-here : (more at low high : ℕ) {number place : ℕ} → within low high (byte s at) ≡ false →
+      Tailed s at (awaiting (suc more) low high) (refused number place)
+  cut-here more at low high e =
+      let a = awaiting (suc more) low high in
+      cut (go a refl (next-outside a (byte s at) (λ z. omega arith) e) (decLt at (length s)))
     where
       go : (a : Awaited) → a .more ≡ suc more → nextByte a (byte s at) ≡ broken → Dec (at < length s) → awaited a (drop at s) .more ≡ 0 → ⊥
       go a m n (yes h) q =
@@ -104,7 +109,8 @@ module _ (s : Bytes) where
   tails-step more at low high bits f = go (within low high (byte s at)) refl
     where
       go : (t : Bool) → within low high (byte s at) ≡ t →
-          Tailed s at (awaiting (suc more) low high) ((if t then ok (byte s at) else refused not-json at) >>= λ b. tail more s (at + 1) 0x80 0xBF (bits * 64 + (b - 0x80)))
+          Tailed s at (awaiting (suc more) low high)
+          ((if t then ok (byte s at) else refused not-json at) >>= λ b. tail more s (at + 1) 0x80 0xBF (bits * 64 + (b - 0x80)))
       go true e = f e
       go false e = cut-here more at low high e
 
@@ -120,7 +126,8 @@ module _ (s : Bytes) where
         let n : suc more - 1 ≡ more = omega arith in
         next-inside (awaiting (suc more) low high) (byte s at) (λ z. omega arith) e ∙ ap (λ m. awaiting m 0x80 0xBF) n
 
-  tails : (more at low high bits : ℕ) → 0x80 ≤ low → Large more (bits * 64 + (low - 0x80)) → Tailed s at (awaiting (suc more) low high) (tail (suc more) s at low high bits)
+  tails : (more at low high bits : ℕ) → 0x80 ≤ low → Large more (bits * 64 + (low - 0x80)) →
+      Tailed s at (awaiting (suc more) low high) (tail (suc more) s at low high bits)
   unfolding tail
   tails zero at low high bits l n =
       tails-step zero at low high bits λ e.
@@ -155,14 +162,17 @@ module _ (b : ℕ) where
   usual-three l h n = first-three b (omega arith) (omega arith) ∙ rw (usual-low (λ e. omega arith) (λ e. omega arith), usual-high n (λ e. omega arith))
 
   usual-four : 0xF1 ≤ b → b ≤ 0xF3 → firstByte b ≡ awaiting 3 0x80 0xBF
-  usual-four l h = first-four b (omega arith) (omega arith) ∙ rw (usual-low (λ e. omega arith) (λ e. omega arith), usual-high (λ e. omega arith) (λ e. omega arith))
+  usual-four l h =
+      first-four b (omega arith) (omega arith)
+      ∙ rw (usual-low (λ e. omega arith) (λ e. omega arith), usual-high (λ e. omega arith) (λ e. omega arith))
 
   -- a row of one byte computes
   single : (n : ℕ) {a : Awaited} → n ≤ b → b ≤ n → firstByte n ≡ a → firstByte b ≡ a
   single n l h e = let same : b ≡ n = omega arith in ap firstByte same ∙ e
 
   -- in a row of bytes, or above it
-  up-to : (s : Bytes) (at least most : ℕ) {o p : Outcome (ℕ × ℕ)} → least ≤ b → (b ≤ most → Row s at b o) → (most < b → Row s at b p) → Row s at b (if within least most b then o else p)
+  up-to : (s : Bytes) (at least most : ℕ) {o p : Outcome (ℕ × ℕ)} → least ≤ b → (b ≤ most → Row s at b o) → (most < b → Row s at b p) →
+      Row s at b (if within least most b then o else p)
   up-to s at least most {o} {p} l f g = go (decLt most b)
     where
       go : Dec (most < b) → Row s at b (if within least most b then o else p)
@@ -215,7 +225,8 @@ module _ (s : Bytes) (at : ℕ) (h : at < length s) where
 
   one-byte : byte s at < 0x80 → Read s at (ok (byte s at, at + 1))
   one-byte l =
-      one {next = at + 1} (omega arith) (omega arith) (after-first ∙ ap (λ a. awaited a (drop (at + 1) s)) (first-ascii (byte s at) l)) λ y. syntax-more y s at h
+      let same = after-first ∙ ap (λ a. awaited a (drop (at + 1) s)) (first-ascii (byte s at) l) in
+      one {next = at + 1} (omega arith) (omega arith) same λ y. syntax-more y s at h
 
   module _ (l : 0x80 ≤ byte s at) where
     after-row : {a : Awaited} → firstByte (byte s at) ≡ a → awaited between (drop at s) ≡ awaited a (drop (at + 1) s)

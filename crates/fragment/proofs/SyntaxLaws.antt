@@ -106,12 +106,16 @@ tilded-other c (t ∷ ts) n m = rw (ne-eqb c (code "0") n, ne-eqb c (code "1") m
 tilded-zero : (ts : List Text) → tilded (prepend (code "0") ts) ≡ plain ts
 unfolding prepend unescapeAll unescape tilde accepted _>>=_
 tilded-zero [] = refl
-tilded-zero (t ∷ ts) = all-first (code "~" ∷ code "0" ∷ t) ts ∙ ap (λ b. b && plain ts) (accepted-map (unescape false t) (_∷_ (code "~"))) ∙ sym (all-first t ts)
+tilded-zero (t ∷ ts) =
+    all-first (code "~" ∷ code "0" ∷ t) ts
+    ∙ ap (λ b. b && plain ts) (accepted-map (unescape false t) (_∷_ (code "~"))) ∙ sym (all-first t ts)
 
 tilded-one : (ts : List Text) → tilded (prepend (code "1") ts) ≡ plain ts
 unfolding prepend unescapeAll unescape tilde accepted _>>=_
 tilded-one [] = refl
-tilded-one (t ∷ ts) = all-first (code "~" ∷ code "1" ∷ t) ts ∙ ap (λ b. b && plain ts) (accepted-map (unescape false t) (_∷_ (code "/"))) ∙ sym (all-first t ts)
+tilded-one (t ∷ ts) =
+    all-first (code "~" ∷ code "1" ∷ t) ts
+    ∙ ap (λ b. b && plain ts) (accepted-map (unescape false t) (_∷_ (code "/"))) ∙ sym (all-first t ts)
 
 -- ---- one character more
 
@@ -155,11 +159,15 @@ after-tilde-more c t f = go (ℕ-discrete c (code "/")) (ℕ-discrete c (code "0
 
     go : Dec (c ≡ code "/") → Dec (c ≡ code "0") → Dec (c ≡ code "1") → ends (nextSyntax Syntax.Tilde c) t ≡ tilded (segments (c ∷ t))
     go (yes s) d e =
-        ap (λ y. ends y t) (from-tilde c (λ q. omega arith) (λ q. omega arith)) ∙ malformed-ends t ∙ sym (tilded-slash (segments t)) ∙ sym (ap tilded (segments-slash c t s))
+        ap (λ y. ends y t) (from-tilde c (λ q. omega arith) (λ q. omega arith)) ∙ malformed-ends t
+        ∙ sym (tilded-slash (segments t))
+        ∙ sym (ap tilded (segments-slash c t s))
     go (no s) (yes d) e =
-        ap (λ d. ends (nextSyntax Syntax.Tilde d) t) d ∙ f .in-token ∙ sym (not-slash s ∙ ap (λ d. tilded (prepend d (segments t))) d ∙ tilded-zero (segments t))
+        ap (λ d. ends (nextSyntax Syntax.Tilde d) t) d ∙ f .in-token
+        ∙ sym (not-slash s ∙ ap (λ d. tilded (prepend d (segments t))) d ∙ tilded-zero (segments t))
     go (no s) (no d) (yes e) =
-        ap (λ d. ends (nextSyntax Syntax.Tilde d) t) e ∙ f .in-token ∙ sym (not-slash s ∙ ap (λ d. tilded (prepend d (segments t))) e ∙ tilded-one (segments t))
+        ap (λ d. ends (nextSyntax Syntax.Tilde d) t) e ∙ f .in-token
+        ∙ sym (not-slash s ∙ ap (λ d. tilded (prepend d (segments t))) e ∙ tilded-one (segments t))
     go (no s) (no d) (no e) = ap (λ y. ends y t) (from-tilde c d e) ∙ malformed-ends t ∙ sym (not-slash s ∙ tilded-other c (segments t) d e)
 
 follows-none : Follows []

@@ -36,7 +36,8 @@ module _ {start : ℕ} {whole rest before out : Bytes} {end : ℕ} (l : Laid sta
   pub laid-bound : end + length rest ≡ start + length whole
   laid-bound = omega (arith, l .end-is, ap length (l .whole-is), length-append (l .so-far) rest)
 
-  pub laid-on : (bytes : Bytes) {left out' : Bytes} {next : ℕ} → rest ≡ bytes ++ left → Stored bytes end out out' next → Laid start whole left before out' next
+  pub laid-on : (bytes : Bytes) {left out' : Bytes} {next : ℕ} → rest ≡ bytes ++ left → Stored bytes end out out' next →
+      Laid start whole left before out' next
   laid-on bytes {left} e r =
       record {
         so-far = l .so-far ++ bytes;
@@ -110,7 +111,8 @@ precede-ok b (ok t) r e = (t, refl, cc)
 precede-ok b (refused number place) r e = let z : _≡_ {A = ℕ} 0 1 = cc in absurd (omega arith)
 
 module _ {s : Bytes} {start : ℕ} {before out : Bytes} {end at : ℕ} (p : Putting s start before out end at) where
-  pub putting-on : {b next : ℕ} {o : Octet} {out' : Bytes} → o ≡ Octet.Is b next → OctetAt s at o → out' ≡ set out end b → Putting s start before out' (end + 1) next
+  pub putting-on : {b next : ℕ} {o : Octet} {out' : Bytes} → o ≡ Octet.Is b next → OctetAt s at o → out' ≡ set out end b →
+      Putting s start before out' (end + 1) next
   unfolding octetsAfter Onward
   putting-on {b} {next} {o} {out'} e d f = go (rw e at d)
     where

@@ -6,7 +6,7 @@ use lib.ListN.{length, drop}
 use Rattle.spec.specs.Outcome.{Outcome, ok}
 use Rattle.spec.specs.Bytes.{Bytes}
 use Rattle.fragment.specs.Answer as Spec
-use Rattle.fragment.specs.Answer.{fitting, writeAnswer, readAnswer}
+use Rattle.fragment.specs.Answer.{fitting, writeAnswer, octetsAnswer, readAnswer}
 use Rattle.fragment.specs.declared.answer.Answer.{Answer}
 
 -- the call's answer is this one, and the output, as it was before and as it is after, has the written text in front
@@ -28,7 +28,21 @@ pub record ExportIs (a : Spec.Answer) (before after fields : Bytes) (number : �
   pub fields-are : fields ≡ answer .number ∷ 0 ∷ 0 ∷ 0 ∷ 0 ∷ answer .length ∷ []
   pub number-is : number ≡ answer .number
 
+abbrev pub WriteExportIs : Bytes → Bytes → Bytes → Bytes → ℕ → Type 0
+WriteExportIs pointer before after fields number = ExportIs (writeAnswer pointer (length before)) before after fields number
+
+abbrev pub ReadExportIs : Bytes → Bytes → Bytes → Bytes → ℕ → Type 0
+ReadExportIs text before after fields number = ExportIs (readAnswer text (length before)) before after fields number
+
 -- ---- what the code answers on the way
+
+-- a text, or 16
+abbrev pub FittingIs : Bytes → Bytes → Bytes → Answer → Type 0
+FittingIs t before after r = Answered (fitting (length before) t) before after r
+
+-- what the octets of a link come to
+abbrev pub OctetsAnswered : Outcome Bytes → Bytes → Bytes → Answer → Type 0
+OctetsAnswered o before after r = Answered (octetsAnswer o (length before)) before after r
 
 -- octets, of which there are so many, written where the output has room
 pub record OctetsFit (o : Outcome Bytes) (n : ℕ) (before after : Bytes) (r : Answer) : Type 0 where

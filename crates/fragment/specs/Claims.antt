@@ -57,4 +57,5 @@ AllAccepted =
 -- Two links with the same pointer differ only in percents.
 abbrev pub DifferInPercents : Type 0
 DifferInPercents =
-    (s t pointer : Bytes) (room room' : ℕ) → readAnswer (code "#" ∷ s) room ≡ success pointer → readAnswer (code "#" ∷ t) room' ≡ success pointer → OnlyPercents s t
+    (s t pointer : Bytes) (room room' : ℕ) → readAnswer (code "#" ∷ s) room ≡ success pointer →
+    readAnswer (code "#" ∷ t) room' ≡ success pointer → OnlyPercents s t

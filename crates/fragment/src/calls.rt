@@ -2,9 +2,8 @@
 ghost use Prim.Native.Nat.{_≤_};
 ghost use lib.ListN.{length, drop};
 ghost use Rattle.fragment.specs.Link.{link, nothing, octets, octetsOf};
-ghost use Rattle.fragment.specs.Answer.{fitting, octetsAnswer};
 ghost use Rattle.fragment.specs.Scan.{KeptTable};
-ghost use Rattle.fragment.specs.Call.{Answered, OctetsFit, WriteIs, ReadIs};
+ghost use Rattle.fragment.specs.Call.{FittingIs, OctetsFit, OctetsAnswered, WriteIs, ReadIs};
 use crate::answer::Answer;
 use crate::answer::refusal;
 use crate::answer::success;
@@ -24,7 +23,7 @@ const MAX_BYTES: usize = 32_768;
 // The link of a pointer, or 16.
 fn fitting_link(pointer: &[u8], output: &mut [u8], kept: &[u8; 256]) -> Answer
     requires { ⌜ KeptTable (now kept) ⌝ }
-    ensures { λ r. ⌜ Answered (fitting (length (now (output .entry))) (link (now (pointer .entry)))) (now (output .entry)) (now (output .exit)) r ⌝ }
+    ensures { λ r. ⌜ FittingIs (link (now (pointer .entry))) (now (output .entry)) (now (output .exit)) r ⌝ }
 {
     if !fits(pointer, output.len(), kept) {
         return refusal(16);
@@ -32,7 +31,8 @@ fn fitting_link(pointer: &[u8], output: &mut [u8], kept: &[u8; 256]) -> Answer
     success(put_link(pointer, output, kept))
 }
 
-// The link of a pointer is written to the output, or the call is refused: 10 for a pointer that is malformed or not UTF-8, then 16.
+// The link of a pointer is written to the output, or the call is refused: 10 for a pointer that is malformed or not
+// UTF-8, then 16.
 pub fn write_link(pointer: &[u8], output: &mut [u8]) -> Answer
     ensures { λ r. ⌜ WriteIs (now (pointer .entry)) (now (output .entry)) (now (output .exit)) r ⌝ }
 {
@@ -57,7 +57,7 @@ fn fitting_octets(link: &[u8], n: usize, output: &mut [u8], kept: &[u8; 256]) ->
 // A link of at most 32,768 bytes.
 fn read_short(link: &[u8], output: &mut [u8], kept: &[u8; 256]) -> Answer
     requires { ⌜ KeptTable (now kept) ⌝ }
-    ensures { λ r. ⌜ Answered (octetsAnswer (octetsOf (now (link .entry))) (length (now (output .entry)))) (now (output .entry)) (now (output .exit)) r ⌝ }
+    ensures { λ r. ⌜ OctetsAnswered (octetsOf (now (link .entry))) (now (output .entry)) (now (output .exit)) r ⌝ }
 {
     if peek(link, 0) != b'#' {
         return refusal(22);
@@ -69,8 +69,8 @@ fn read_short(link: &[u8], output: &mut [u8], kept: &[u8; 256]) -> Answer
     }
 }
 
-// The pointer of a link is written to the output, or the call is refused: 2 for a link over 32,768 bytes; 22 for no `#` in front, a bad byte, a bad
-// percent or bytes that are not UTF-8; then 10; then 16.
+// The pointer of a link is written to the output, or the call is refused: 2 for a link over 32,768 bytes; 22 for no
+// `#` in front, a bad byte, a bad percent or bytes that are not UTF-8; then 10; then 16.
 pub fn read_link(link: &[u8], output: &mut [u8]) -> Answer
     ensures { λ r. ⌜ ReadIs (now (link .entry)) (now (output .entry)) (now (output .exit)) r ⌝ }
 {

@@ -63,8 +63,8 @@ pub fn octet_at(s: &[u8], at: usize, kept: &[u8; 256]) -> Octet
     Octet::Bad
 }
 
-// What a fragment is: one whose octets are a pointer, and so many; no fragment, or one of octets that are not UTF-8; or one of a text that is
-// no pointer.
+// What a fragment is: one whose octets are a pointer, and so many; no fragment, or one of octets that are not UTF-8;
+// or one of a text that is no pointer.
 pub enum Fragment {
     Pointer(usize),
     Bad,

@@ -1,10 +1,10 @@
-// Octets looked at one after another. Nothing is kept of them but what of a character is to come and how far a pointer has been read, so that
-// a pointer can be judged octet by octet as it stands in a link.
+// Octets looked at one after another. Nothing is kept of them but what of a character is to come and how far a
+// pointer has been read, so that a pointer can be judged octet by octet as it stands in a link.
 ghost use mathlib.Core.Path.{_≡_};
 ghost use Rattle.fragment.specs.Scan.{lowest, highest, firstByte, nextByte, nextSyntax, mayEnd, judge, verdict};
 
-// What is to come of a character in UTF-8: as many bytes, the next one between two bounds. After a byte that no character has there, one byte is
-// awaited that no byte is.
+// What is to come of a character in UTF-8: as many bytes, the next one between two bounds. After a byte that no
+// character has there, one byte is awaited that no byte is.
 pub struct Awaited {
     pub more: u8,
     pub low: u8,

@@ -92,7 +92,8 @@ pub fn put_link(pointer: &[u8], out: &mut [u8], kept: &[u8; 256]) -> usize
     end
 }
 
-// The octets of a fragment, which begins at a place of a text, at the front of the output; the answer is their number.
+// The octets of a fragment, which begins at a place of a text, at the front of the output; the answer is their
+// number.
 pub fn put_octets(s: &[u8], start: usize, out: &mut [u8], kept: &[u8; 256]) -> usize
     requires { ⌜ (start ≤ length (now s)) × KeptTable (now kept) ⌝ }
     ensures { λ r. ⌜ OctetsPut (octets nothing (drop start (now (s .entry)))) (now (out .entry)) (now (out .exit)) r ⌝ }

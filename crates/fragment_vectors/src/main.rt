@@ -1,6 +1,6 @@
-// Every committed case of links, run through the library: a text, taken for a pointer and written as a link, and taken for a link and read. For
-// each a line: its name, and the text, or the number of the refusal. The stored output is what the second program answers, so that each run holds
-// the two to each other.
+// Every committed case of links, run through the library: a text, taken for a pointer and written as a link, and
+// taken for a link and read. For each a line: its name, and the text, or the number of the refusal. The stored output
+// is what the second program answers, so that each run holds the two to each other.
 mod cases; // a case in the file of cases
 mod checks; // whether a buffer holds one and the same everywhere
 mod lines; // what is printed

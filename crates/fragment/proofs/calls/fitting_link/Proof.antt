@@ -12,7 +12,17 @@ fitting-link-spec =
     (λ c κs. search auto)
     (λ c κs. search auto)
     (λ c. link-short _ _ (c .before .before .fits2 .ensures) (c .before .if1 .taken) (c .refusal .ensures))
-    (λ c κs. (link-fits (link (c .before .before .before .before .before .args .pointer .now)) (c .before .before .before .before .before .args .output .now) (c .before .before .fits2 .ensures) (c .before .if1 .left), c .before .before .before .before .before .pre))
+    (λ c κs.
+    let if1 = c .before .if1 in
+    let fits2 = c .before .before .fits2 in
+    let args = c .before .before .before .before .before .args in
+    let pre = c .before .before .before .before .before .pre in
+    (link-fits (link (args .pointer .now)) (args .output .now) (fits2 .ensures) (if1 .left), pre))
     (λ c κs. search auto)
     (λ c. search auto)
-    (λ c. succeeds (link-fits (link (c .before .before .before .before .before .before .before .before .before .args .pointer .now)) (c .before .before .before .before .before .before .before .before .before .args .output .now) (c .before .before .before .before .before .before .fits2 .ensures) (c .before .before .before .before .before .if1 .left)) (c .before .before .before .put-link .ensures) (c .success .ensures)))
+    (λ c.
+    let put-link = c .before .before .before .put-link in
+    let if1 = c .before .before .before .before .before .if1 in
+    let fits2 = c .before .before .before .before .before .before .fits2 in
+    let args = c .before .before .before .before .before .before .before .before .before .args in
+    succeeds (link-fits (link (args .pointer .now)) (args .output .now) (fits2 .ensures) (if1 .left)) (put-link .ensures) (c .success .ensures)))

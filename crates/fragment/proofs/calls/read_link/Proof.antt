@@ -15,4 +15,7 @@ read-link-spec =
     (λ c. refuses 2 (too-long (c .before .before .before .before .args .link .now) _ (omega arith)) (c .refusal .ensures))
     (λ c κs. kept-table _ refl refl)
     (λ c. search auto)
-    (λ c. answered-as (not-too-long (c .before .before .before .before .before .before .before .before .args .link .now) _ (omega arith)) (c .before .before .read-short .ensures)))
+    (λ c.
+    let read-short = c .before .before .read-short in
+    let args = c .before .before .before .before .before .before .before .before .args in
+    answered-as (not-too-long (args .link .now) _ (omega arith)) (read-short .ensures)))

@@ -14,12 +14,32 @@ read-short-spec =
     (λ c. refuses 22 (no-hash _ _ (c .before .before .peek .ensures) (c .before .if1 .taken)) (c .refusal .ensures))
     (λ c κs. (hash _ (c .before .peek .ensures) (c .if1 .left) .1, c .before .before .before .before .pre))
     (λ c. search auto)
-    (λ c κs. (hash _ (c .before .before .before .before .before .before .peek .ensures) (c .before .before .before .before .before .if1 .left) .1, c .before .before .before .before .before .before .before .before .before .pre))
+    (λ c κs.
+    let if1 = c .before .before .before .before .before .if1 in
+    let peek = c .before .before .before .before .before .before .peek in
+    let pre = c .before .before .before .before .before .before .before .before .before .pre in
+    (hash _ (peek .ensures) (if1 .left) .1, pre))
     (λ c. search auto)
-    (λ c. read-fits _ (c .before .before .before .before .before .before .before .before .before .peek .ensures) (c .before .before .before .before .before .before .before .before .if1 .left) (c .before .before .before .before .before .n .given .1) (c .before .before .before .before .before .before .before .fragment-at .ensures) (c .before .before .fitting-octets .ensures))
+    (λ c.
+    let fitting-octets = c .before .before .fitting-octets in
+    let n = c .before .before .before .before .before .n in
+    let fragment-at = c .before .before .before .before .before .before .before .fragment-at in
+    let if1 = c .before .before .before .before .before .before .before .before .if1 in
+    let peek = c .before .before .before .before .before .before .before .before .before .peek in
+    read-fits _ (peek .ensures) (if1 .left) (n .given .1) (fragment-at .ensures) (fitting-octets .ensures))
     (λ c. search auto)
     (λ c κs. search auto)
-    (λ c. read-bad _ (c .before .before .before .before .before .peek .ensures) (c .before .before .before .before .if1 .left) (c .before .enum-told .given .1) (c .before .before .before .fragment-at .ensures) (c .refusal2 .ensures))
+    (λ c.
+    let enum-told = c .before .enum-told in
+    let fragment-at = c .before .before .before .fragment-at in
+    let if1 = c .before .before .before .before .if1 in
+    let peek = c .before .before .before .before .before .peek in
+    read-bad _ (peek .ensures) (if1 .left) (enum-told .given .1) (fragment-at .ensures) (c .refusal2 .ensures))
     (λ c. search auto)
     (λ c κs. search auto)
-    (λ c. read-malformed _ (c .before .before .before .before .before .peek .ensures) (c .before .before .before .before .if1 .left) (c .before .enum-told2 .given .1) (c .before .before .before .fragment-at .ensures) (c .refusal3 .ensures)))
+    (λ c.
+    let enum-told2 = c .before .enum-told2 in
+    let fragment-at = c .before .before .before .fragment-at in
+    let if1 = c .before .before .before .before .if1 in
+    let peek = c .before .before .before .before .before .peek in
+    read-malformed _ (peek .ensures) (if1 .left) (enum-told2 .given .1) (fragment-at .ensures) (c .refusal3 .ensures)))

@@ -14,7 +14,11 @@ write-link-spec =
     (λ c. search auto)
     (λ c κs. kept-table _ refl refl)
     (λ c. search auto)
-    (λ c. answered-as (writes-by _ _ (sym (c .before .before .before .before .before .enum-told .given .1) ∙ c .before .before .before .before .before .before .before .verdict-of .ensures)) (c .before .before .fitting-link .ensures))
+    (λ c.
+    let fitting-link = c .before .before .fitting-link in
+    let enum-told = c .before .before .before .before .before .enum-told in
+    let verdict-of = c .before .before .before .before .before .before .before .verdict-of in
+    answered-as (writes-by _ _ (sym (enum-told .given .1) ∙ verdict-of .ensures)) (fitting-link .ensures))
     (λ c. search auto)
     (λ c κs. search auto)
     (λ c. refuses 10 (writes-by _ _ (sym (c .before .enum-told2 .given .1) ∙ c .before .before .before .verdict-of .ensures)) (c .refusal .ensures))

@@ -30,7 +30,16 @@ fragment-at-spec =
     (λ c κs. search auto)
     (λ c. search auto)
     (λ c. omega (arith, octet-onward (c .before .before .before .b .given .1) (c .before .before .before .before .before .octet-at .ensures)))
-    (λ c. rw (c .before .next-byte .ensures, c .next-syntax .ensures) (going-on (c .before .before .before .before .before .before .before .loop .inv) (c .before .before .before .b .given .1) (c .before .before .before .before .before .octet-at .ensures)))
+    (λ c.
+    let next-byte = c .before .next-byte in
+    let b = c .before .before .before .b in
+    let octet-at = c .before .before .before .before .before .octet-at in
+    let loop = c .before .before .before .before .before .before .before .loop in
+    rw (next-byte .ensures, c .next-syntax .ensures) (going-on (loop .inv) (b .given .1) (octet-at .ensures)))
     (λ c κs. search auto)
     (λ c κs. search auto)
-    (λ c. c .counted .ensures ∙ ap (counted _) (c .before .judge .ensures) ∙ going-ends (c .before .before .before .loop .inv) (c .before .before .loop-test .left)))
+    (λ c.
+    let judge = c .before .judge in
+    let loop-test = c .before .before .loop-test in
+    let loop = c .before .before .before .loop in
+    c .counted .ensures ∙ ap (counted _) (judge .ensures) ∙ going-ends (loop .inv) (loop-test .left)))

@@ -17,5 +17,13 @@ octet-at-spec =
     (λ c. octet-percent _ _ (c .before .before .before .before .pre .0) refl (c .before .if1 .taken) (c .percent .ensures))
     (λ c κs. search auto)
     (λ c. search auto)
-    (λ c. octet-kept _ _ (c .before .before .before .before .before .pre .0) refl (c .before .before .if1 .left) (sym (c .before .is-kept .ensures) ∙ c .if2 .taken))
-    (λ c. octet-bad _ _ (c .before .before .before .before .before .pre .0) refl (c .before .before .if1 .left) (sym (c .before .is-kept .ensures) ∙ c .if2 .left)))
+    (λ c.
+    let is-kept = c .before .is-kept in
+    let if1 = c .before .before .if1 in
+    let pre = c .before .before .before .before .before .pre in
+    octet-kept _ _ (pre .0) refl (if1 .left) (sym (is-kept .ensures) ∙ c .if2 .taken))
+    (λ c.
+    let is-kept = c .before .is-kept in
+    let if1 = c .before .before .if1 in
+    let pre = c .before .before .before .before .before .pre in
+    octet-bad _ _ (pre .0) refl (if1 .left) (sym (is-kept .ensures) ∙ c .if2 .left)))

@@ -16,8 +16,20 @@ percent-spec =
     (λ c. search auto)
     (λ c κs. search auto)
     (λ c κs. search auto)
-    (λ c. bad-second _ _ (c .before .before .before .before .hex-value .ensures ∙ ap hexValue (c .before .before .before .before .before .peek .ensures)) (c .before .hex-value2 .ensures ∙ ap hexValue (c .before .before .peek2 .ensures)) (c .before .before .before .if1 .left) (c .if2 .taken))
+    (λ c.
+    let hex-value2 = c .before .hex-value2 in
+    let peek2 = c .before .before .peek2 in
+    let if1 = c .before .before .before .if1 in
+    let hex-value = c .before .before .before .before .hex-value in
+    let peek = c .before .before .before .before .before .peek in
+    bad-second _ _ (hex-value .ensures ∙ ap hexValue (peek .ensures)) (hex-value2 .ensures ∙ ap hexValue (peek2 .ensures)) (if1 .left) (c .if2 .taken))
     (λ c. search auto)
     (λ c. search auto)
     (λ c. search auto)
-    (λ c. two-digits _ _ (c .before .before .before .before .hex-value .ensures ∙ ap hexValue (c .before .before .before .before .before .peek .ensures)) (c .before .hex-value2 .ensures ∙ ap hexValue (c .before .before .peek2 .ensures)) (c .before .before .before .if1 .left) (c .if2 .left)))
+    (λ c.
+    let hex-value2 = c .before .hex-value2 in
+    let peek2 = c .before .before .peek2 in
+    let if1 = c .before .before .before .if1 in
+    let hex-value = c .before .before .before .before .hex-value in
+    let peek = c .before .before .before .before .before .peek in
+    two-digits _ _ (hex-value .ensures ∙ ap hexValue (peek .ensures)) (hex-value2 .ensures ∙ ap hexValue (peek2 .ensures)) (if1 .left) (c .if2 .left)))

@@ -15,7 +15,14 @@ next-byte-spec =
     (λ c κs. search auto)
     (λ c. c .awaiting .ensures ∙ sym (next-outside _ _ (c .before .before .before .if1 .left) (below-within _ _ _ (c .before .if2 .taken))))
     (λ c κs. search auto)
-    (λ c. c .awaiting2 .ensures ∙ sym (next-outside _ _ (c .before .before .before .before .before .if1 .left) (above-within _ _ _ (c .before .if3 .taken))))
+    (λ c.
+    let if3 = c .before .if3 in
+    let if1 = c .before .before .before .before .before .if1 in
+    c .awaiting2 .ensures ∙ sym (next-outside _ _ (if1 .left) (above-within _ _ _ (if3 .taken))))
     (λ c. search auto)
     (λ c κs. search auto)
-    (λ c. c .awaiting3 .ensures ∙ sym (next-inside _ _ (c .before .before .before .before .before .before .if1 .left) (between-within _ _ _ (c .before .before .before .before .if2 .left) (c .before .before .if3 .left)))))
+    (λ c.
+    let if3 = c .before .before .if3 in
+    let if2 = c .before .before .before .before .if2 in
+    let if1 = c .before .before .before .before .before .before .if1 in
+    c .awaiting3 .ensures ∙ sym (next-inside _ _ (if1 .left) (between-within _ _ _ (if2 .left) (if3 .left)))))

@@ -28,8 +28,22 @@ fits-spec =
     (λ c. (omega arith, omega (arith, link-length (c .before .before .args .pointer .now))))
     (λ c. search auto)
     (λ c κs. c .before .before .before .before .before .pre)
-    (λ c. let l = c .before .before .before .before .loop in let p = c .before .before .before .before .before .before .before .args .pointer .now in sym (lt-leb (length (link p)) (c .before .before .before .before .before .before .before .args .room) (omega (arith, encode-length p (l .at) (omega arith), c .before .width .ensures))))
+    (λ c.
+    let width = c .before .width in
+    let loop = c .before .before .before .before .loop in
+    let args = c .before .before .before .before .before .before .before .args in
+    let p = args .pointer .now in
+    sym (lt-leb (length (link p)) (args .room) (omega (arith, encode-length p (loop .at) (omega arith), width .ensures))))
     (λ c. search auto)
     (λ c. search auto)
-    (λ c. let l = c .before .before .before .before .loop in let p = c .before .before .before .before .before .before .before .args .pointer .now in (omega arith, omega (arith, encode-length p (l .at) (omega arith), c .before .width .ensures)))
-    (λ c. let l = c .before .loop in let p = c .before .before .before .before .args .pointer .now in sym (le-leb (length (link p)) (c .before .before .before .before .args .room) (omega (arith, ap length (encode-end p (l .at) (c .loop-test .left)))))))
+    (λ c.
+    let width = c .before .width in
+    let loop = c .before .before .before .before .loop in
+    let args = c .before .before .before .before .before .before .before .args in
+    let p = args .pointer .now in
+    (omega arith, omega (arith, encode-length p (loop .at) (omega arith), width .ensures)))
+    (λ c.
+    let loop = c .before .loop in
+    let args = c .before .before .before .before .args in
+    let p = args .pointer .now in
+    sym (le-leb (length (link p)) (args .room) (omega (arith, ap length (encode-end p (loop .at) (c .loop-test .left)))))))

@@ -5,7 +5,8 @@ use native.Mathlib.Omega.{arith}
 use Rattle.lexer.proofs.Auto.{auto}
 use Rattle.spec.specs.Bytes.{byte}
 use Rattle.fragment.specs.Link.{encodeAll}
-use Rattle.fragment.proofs.WritingLaws.{Laid, laid-starts, laid-length, laid-bound, laid-on, laid-ends, encode-here, encode-length, encode-end, link-length, link-laid}
+use Rattle.fragment.proofs.WritingLaws.{Laid, laid-starts, laid-length, laid-bound, laid-on, laid-ends, encode-here, encode-length, encode-end}
+use Rattle.fragment.proofs.WritingLaws.{link-length, link-laid}
 use Rattle.fragment.proofs.writing.put_link.Statement.{statement}
 use Rattle.fragment.proofs.writing.put_link.Tie as tie
 
@@ -25,9 +26,20 @@ put-link-spec =
     (λ c κs. search auto)
     (λ c. (omega arith, laid-starts 1 _ _))
     (λ c. search auto)
-    (λ c κs. let start = c .before .before .before .before .before .before .before .before .before .before in let l = c .before .before .before .loop in let p = start .args .pointer .now in (omega (arith, laid-bound (l .inv .1), encode-length p (l .at) (omega arith), link-length p, start .pre .0), start .pre .1))
+    (λ c κs.
+    let loop = c .before .before .before .loop in
+    let before = c .before .before .before .before .before .before .before .before .before .before in
+    let start = before in
+    let p = start .args .pointer .now in
+    (omega (arith, laid-bound (loop .inv .1), encode-length p (loop .at) (omega arith), link-length p, start .pre .0), start .pre .1))
     (λ c. search auto)
     (λ c. search auto)
-    (λ c. let l = c .before .before .before .before .before .before .loop in (omega arith, laid-on (l .inv .1) _ (encode-here _ (l .at) (omega arith)) (c .before .before .put-octet .ensures)))
+    (λ c.
+    let put-octet = c .before .before .put-octet in
+    let loop = c .before .before .before .before .before .before .loop in
+    (omega arith, laid-on (loop .inv .1) _ (encode-here _ (loop .at) (omega arith)) (put-octet .ensures)))
     (λ c. laid-length (c .before .loop .inv .1) ∙ ap length (c .before .before .before .before .put .ensures) ∙ simp length-set)
-    (λ c. let l = c .before .loop in link-laid _ _ (rw (c .before .before .before .before .put .ensures) at (laid-ends (l .inv .1) (encode-end _ (l .at) (c .loop-test .left))))))
+    (λ c.
+    let loop = c .before .loop in
+    let put = c .before .before .before .before .put in
+    link-laid _ _ (rw (put .ensures) at (laid-ends (loop .inv .1) (encode-end _ (loop .at) (c .loop-test .left))))))

@@ -14,16 +14,44 @@ put-octet-spec =
     (tie.spec
     (λ c κs. c .before .pre .1)
     (λ c κs. search auto)
-    (λ c. omega (arith, ap length (encoded-kept _ (sym (c .before .before .before .before .before .is-kept .ensures) ∙ c .before .before .before .before .if1 .taken)), c .before .before .before .before .before .before .before .pre .0))
+    (λ c.
+    let if1 = c .before .before .before .before .if1 in
+    let is-kept = c .before .before .before .before .before .is-kept in
+    let pre = c .before .before .before .before .before .before .before .pre in
+    omega (arith, ap length (encoded-kept _ (sym (is-kept .ensures) ∙ if1 .taken)), pre .0))
     (λ c. search auto)
-    (λ c. stored (_ ∷ []) (encoded-kept _ (sym (c .before .before .before .before .before .is-kept .ensures) ∙ c .before .before .before .before .if1 .taken)) (c .before .before .put .ensures) refl)
+    (λ c.
+    let put = c .before .before .put in
+    let if1 = c .before .before .before .before .if1 in
+    let is-kept = c .before .before .before .before .before .is-kept in
+    stored (_ ∷ []) (encoded-kept _ (sym (is-kept .ensures) ∙ if1 .taken)) (put .ensures) refl)
     (λ c κs. search auto)
-    (λ c. omega (arith, ap length (encoded-percent _ (sym (c .before .before .before .before .before .before .is-kept .ensures) ∙ c .before .before .before .before .before .if1 .left)), c .before .before .before .before .before .before .before .before .pre .0))
+    (λ c.
+    let if1 = c .before .before .before .before .before .if1 in
+    let is-kept = c .before .before .before .before .before .before .is-kept in
+    let pre = c .before .before .before .before .before .before .before .before .pre in
+    omega (arith, ap length (encoded-percent _ (sym (is-kept .ensures) ∙ if1 .left)), pre .0))
     (λ c κs. search auto)
     (λ c κs. search auto)
-    (λ c. omega (arith, ap length (encoded-percent _ (sym (c .before .before .before .before .before .before .before .before .before .before .before .is-kept .ensures) ∙ c .before .before .before .before .before .before .before .before .before .before .if1 .left)), c .before .before .before .before .before .before .before .before .before .before .before .before .before .pre .0))
+    (λ c.
+    let if1 = c .before .before .before .before .before .before .before .before .before .before .if1 in
+    let is-kept = c .before .before .before .before .before .before .before .before .before .before .before .is-kept in
+    let pre = c .before .before .before .before .before .before .before .before .before .before .before .before .before .pre in
+    omega (arith, ap length (encoded-percent _ (sym (is-kept .ensures) ∙ if1 .left)), pre .0))
     (λ c κs. search auto)
     (λ c κs. search auto)
-    (λ c. omega (arith, ap length (encoded-percent _ (sym (c .before .before .before .before .before .before .before .before .before .before .before .before .before .before .before .is-kept .ensures) ∙ c .before .before .before .before .before .before .before .before .before .before .before .before .before .before .if1 .left)), c .before .before .before .before .before .before .before .before .before .before .before .before .before .before .before .before .before .pre .0))
+    (λ c.
+    let if1 = c .before .before .before .before .before .before .before .before .before .before .before .before .before .before .if1 in
+    let is-kept = c .before .before .before .before .before .before .before .before .before .before .before .before .before .before .before .is-kept in
+    let pre = c .before .before .before .before .before .before .before .before .before .before .before .before .before .before .before .before .before .pre in
+    omega (arith, ap length (encoded-percent _ (sym (is-kept .ensures) ∙ if1 .left)), pre .0))
     (λ c. search auto)
-    (λ c. percent-stored _ _ (sym (c .before .before .before .before .before .before .before .before .before .before .before .before .before .before .before .is-kept .ensures) ∙ c .before .before .before .before .before .before .before .before .before .before .before .before .before .before .if1 .left) (c .before .before .before .before .before .before .before .before .hex-digit .ensures) (c .before .before .before .hex-digit2 .ensures) (c .before .before .before .before .before .before .before .before .before .before .before .before .put2 .ensures) (c .before .before .before .before .before .before .before .put3 .ensures) (c .before .before .put4 .ensures)))
+    (λ c.
+    let put4 = c .before .before .put4 in
+    let hex-digit2 = c .before .before .before .hex-digit2 in
+    let put3 = c .before .before .before .before .before .before .before .put3 in
+    let hex-digit = c .before .before .before .before .before .before .before .before .hex-digit in
+    let put2 = c .before .before .before .before .before .before .before .before .before .before .before .before .put2 in
+    let if1 = c .before .before .before .before .before .before .before .before .before .before .before .before .before .before .if1 in
+    let is-kept = c .before .before .before .before .before .before .before .before .before .before .before .before .before .before .before .is-kept in
+    percent-stored _ _ (sym (is-kept .ensures) ∙ if1 .left) (hex-digit .ensures) (hex-digit2 .ensures) (put2 .ensures) (put3 .ensures) (put4 .ensures)))

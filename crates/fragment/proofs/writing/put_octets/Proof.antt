@@ -28,7 +28,15 @@ put-octets-spec =
     (λ c. putting-bad (c .before .before .before .before .loop .inv) (c .enum-told .given .1) (c .before .before .octet-at .ensures))
     (λ c κs. search auto)
     (λ c. search auto)
-    (λ c. omega (arith, octet-onward (c .before .before .before .before .before .b .given .1) (c .before .before .before .before .before .before .before .octet-at .ensures)))
-    (λ c. putting-on (c .before .before .before .before .before .before .before .before .before .loop .inv) (c .before .before .before .before .before .b .given .1) (c .before .before .before .before .before .before .before .octet-at .ensures) (c .before .before .put .ensures))
+    (λ c.
+    let b = c .before .before .before .before .before .b in
+    let octet-at = c .before .before .before .before .before .before .before .octet-at in
+    omega (arith, octet-onward (b .given .1) (octet-at .ensures)))
+    (λ c.
+    let put = c .before .before .put in
+    let b = c .before .before .before .before .before .b in
+    let octet-at = c .before .before .before .before .before .before .before .octet-at in
+    let loop = c .before .before .before .before .before .before .before .before .before .loop in
+    putting-on (loop .inv) (b .given .1) (octet-at .ensures) (put .ensures))
     (λ c. c .before .loop .inv .same-length)
     (λ c. putting-ends (c .before .loop .inv) (c .loop-test .left)))
