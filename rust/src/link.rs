@@ -109,9 +109,8 @@ fn call(way: raw::Call, text: &[u8], output: &mut [u8]) -> Result<usize, Refused
     let mut answer = raw::Answer::default();
     // Safety: every pointer and length is of a slice, and the borrows keep those
     // that are written apart from all others.
-    let number = unsafe {
-        way(text.as_ptr(), text.len(), output.as_mut_ptr(), output.len(), &mut answer)
-    };
+    let number =
+        unsafe { way(text.as_ptr(), text.len(), output.as_mut_ptr(), output.len(), &mut answer) };
     match Refused::ALL.into_iter().find(|refused| refused.number() == number) {
         Some(refused) => Err(refused),
         None => Ok(answer.length as usize),

@@ -1,10 +1,11 @@
 -- Texts laid down piece by piece, and a link's length.
-use Prim.Native.Nat.{ℕ, suc, _+_, _/_, _%_, _≤_, _<_}
+use Prim.Native.Nat.{ℕ, suc, _+_, _-_, _/_, _%_, _≤_, _<_}
 use Prim.Native.Char.{code}
 use mathlib.Core.Path.{_≡_, refl, sym, ap, _∙_}
 use mathlib.Core.Bool.{true, false}
 use mathlib.Core.List.{[], _∷_, _++_, append-nil, append-assoc}
 use native.Mathlib.Omega.{arith}
+use borrow.Author.Tests.{lt-ltb, le-ltb}
 use lib.ListN.{length, drop, set, length-set, length-append}
 use lib.Seq.{sets, length-sets}
 use Rattle.spec.specs.Outcome.{Outcome, ok, refused, _>>=_}
@@ -52,6 +53,15 @@ module _ {start : ℕ} {whole rest before out : Bytes} {end : ℕ} (l : Laid sta
       record { next-is = l .end-is ∙ ap (λ t. start + length t) (sym all); after-is = l .out-is ∙ ap (sets before start) (sym all) }
 
 -- ---- an octet in a link
+
+module _ (n : ℕ) where
+  pub upper-digit : n < 10 → upperHex n ≡ 48 + n
+  unfolding upperHex
+  upper-digit h = rw (lt-ltb n 10 h)
+
+  pub upper-letter : 10 ≤ n → upperHex n ≡ 65 + (n - 10)
+  unfolding upperHex
+  upper-letter h = rw (le-ltb n 10 h)
 
 module _ (b : ℕ) where
   pub encoded-kept : isKept b ≡ true → encoded b ≡ b ∷ []

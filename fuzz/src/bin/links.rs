@@ -27,6 +27,9 @@ const UNWRITTEN: u8 = 0xFF;
 /// Enough is told after so many differences.
 const MOST_TOLD: u64 = 10;
 
+/// A text, or the number of a refusal.
+type Answered = Result<Vec<u8>, u32>;
+
 struct Judge {
     input: Arena<u8>,
     output: Arena<u8>,
@@ -34,7 +37,7 @@ struct Judge {
 
 impl Judge {
     /// What the library answers to one call, or what is wrong with it.
-    fn answer(&mut self, way: Call, text: &[u8], room: usize) -> Result<Result<Vec<u8>, u32>, String> {
+    fn answer(&mut self, way: Call, text: &[u8], room: usize) -> Result<Answered, String> {
         let input = self.input.last(text.len());
         input.copy_from_slice(text);
         let output = self.output.last(room);
@@ -63,7 +66,7 @@ impl Judge {
     /// How the two differ on a case, if they do.
     fn difference(&mut self, case: &Case) -> Option<String> {
         let Case { room, text, .. } = case;
-        let calls: [(&str, Call, Result<Vec<u8>, u32>); 2] = [
+        let calls: [(&str, Call, Answered); 2] = [
             ("written", json_patch_write_link, write(text, *room)),
             ("read", json_patch_read_link, read(text, *room)),
         ];

@@ -22,8 +22,17 @@ impl Case {
     pub fn lines(&self) -> Vec<u8> {
         let written = line(write(&self.text, self.room));
         let read = line(read(&self.text, self.room));
-        [self.name.as_bytes(), b" written: ", &written, b"\n", self.name.as_bytes(), b" read: ", &read, b"\n"]
-            .concat()
+        [
+            self.name.as_bytes(),
+            b" written: ",
+            &written,
+            b"\n",
+            self.name.as_bytes(),
+            b" read: ",
+            &read,
+            b"\n",
+        ]
+        .concat()
     }
 
     /// The case as it stands in a file.

@@ -6,11 +6,60 @@ use crate::generate::random::Random;
 
 /// Pieces of pointers, of links, and of what is neither.
 const PIECES: &[&[u8]] = &[
-    b"/", b"/", b"/", b"~0", b"~1", b"~", b"~2", b"a", b"Z", b"0", b"9", b"-", b"?", b"+", b"%", b"%25",
-    b"%2f", b"%2F", b"%7E", b"%7e0", b"%00", b"%4", b"%g1", b"%C3%A9", b"%c3%a9", b"%E2%82%AC", b"%F0%9F%98%80",
-    b"%C0%AF", b"%E0%9F%BF", b"%ED%A0%80", b"%F4%90%80%80", b"%80", b"%FF", b"%E2%82", b"#", b" ", b"\"", b"\\",
-    b"\xC3\xA9", b"\xE2\x82\xAC", b"\xF0\x9F\x98\x80", b"\xC0\xAF", b"\xED\xA0\x80", b"\xFF", b"\x00", b"^", b"foo",
-    b"cut", b"~01", b":@!$&'()*,;=", b"\xEF\xBF\xBF", b"\xF4\x8F\xBF\xBF", b"\x7F", b"%7F",
+    b"/",
+    b"/",
+    b"/",
+    b"~0",
+    b"~1",
+    b"~",
+    b"~2",
+    b"a",
+    b"Z",
+    b"0",
+    b"9",
+    b"-",
+    b"?",
+    b"+",
+    b"%",
+    b"%25",
+    b"%2f",
+    b"%2F",
+    b"%7E",
+    b"%7e0",
+    b"%00",
+    b"%4",
+    b"%g1",
+    b"%C3%A9",
+    b"%c3%a9",
+    b"%E2%82%AC",
+    b"%F0%9F%98%80",
+    b"%C0%AF",
+    b"%E0%9F%BF",
+    b"%ED%A0%80",
+    b"%F4%90%80%80",
+    b"%80",
+    b"%FF",
+    b"%E2%82",
+    b"#",
+    b" ",
+    b"\"",
+    b"\\",
+    b"\xC3\xA9",
+    b"\xE2\x82\xAC",
+    b"\xF0\x9F\x98\x80",
+    b"\xC0\xAF",
+    b"\xED\xA0\x80",
+    b"\xFF",
+    b"\x00",
+    b"^",
+    b"foo",
+    b"cut",
+    b"~01",
+    b":@!$&'()*,;=",
+    b"\xEF\xBF\xBF",
+    b"\xF4\x8F\xBF\xBF",
+    b"\x7F",
+    b"%7F",
 ];
 
 /// The case of a seed and an index.
@@ -67,8 +116,10 @@ fn pointer(random: &mut Random) -> Vec<u8> {
 
 /// Any character; more often one at an end of a row of the table of UTF-8.
 fn character(random: &mut Random) -> char {
-    const ENDS: &[u32] =
-        &[0, 0x1F, 0x7F, 0x80, 0x7FF, 0x800, 0xFFF, 0x1000, 0xD7FF, 0xE000, 0xFFFF, 0x1_0000, 0x10_FFFF];
+    const ENDS: &[u32] = &[
+        0, 0x1F, 0x7F, 0x80, 0x7FF, 0x800, 0xFFF, 0x1000, 0xD7FF, 0xE000, 0xFFFF, 0x1_0000,
+        0x10_FFFF,
+    ];
     let code = if random.chance(40) { random.pick(ENDS) } else { random.below(0x11_0000) as u32 };
     char::from_u32(code).unwrap_or('\u{fffd}')
 }

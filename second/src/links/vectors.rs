@@ -92,11 +92,29 @@ fn every_byte() -> Vec<Vector> {
             _ => Ok(pointer.clone()),
         };
         let raw = if kept { names.clone() } else { Err(22) };
-        vectors.push(vector(format!("raw-{byte:02x}"), ROOM, [b"#/", &[byte][..]].concat(), Err(10), raw));
+        vectors.push(vector(
+            format!("raw-{byte:02x}"),
+            ROOM,
+            [b"#/", &[byte][..]].concat(),
+            Err(10),
+            raw,
+        ));
         let (upper, lower) = (format!("%{byte:02X}"), format!("%{byte:02x}"));
-        vectors.push(vector(format!("percents-{byte:02x}"), ROOM, format!("#/{upper}"), Err(10), names.clone()));
+        vectors.push(vector(
+            format!("percents-{byte:02x}"),
+            ROOM,
+            format!("#/{upper}"),
+            Err(10),
+            names.clone(),
+        ));
         if upper != lower {
-            vectors.push(vector(format!("percents-lower-{byte:02x}"), ROOM, format!("#/{lower}"), Err(10), names.clone()));
+            vectors.push(vector(
+                format!("percents-lower-{byte:02x}"),
+                ROOM,
+                format!("#/{lower}"),
+                Err(10),
+                names.clone(),
+            ));
         }
         let link = match names {
             Err(_) => Err(10),
@@ -119,15 +137,45 @@ fn limits() -> Vec<Vector> {
     vec![
         vector("link-of-32768", ROOM, at.as_str(), Err(10), Ok(read.clone().into_bytes())),
         vector("link-of-32769", ROOM, over.as_str(), Err(10), Err(2)),
-        vector("percents-of-32768", ROOM, percents.as_str(), Err(10), Ok(format!("/{}", letters(10_922)).into_bytes())),
+        vector(
+            "percents-of-32768",
+            ROOM,
+            percents.as_str(),
+            Err(10),
+            Ok(format!("/{}", letters(10_922)).into_bytes()),
+        ),
         vector("long-before-bad", ROOM, bad_and_long.as_str(), Err(10), Err(2)),
         // The pointer whose link has 32,768 bytes, and one whose link has one more:
         // when writing there is no limit but the output.
         vector("pointer-of-32767", ROOM, read.as_str(), Ok(at.clone().into_bytes()), Err(22)),
-        vector("pointer-of-32768", ROOM, format!("/{}", letters(32_767)), Ok(over.clone().into_bytes()), Err(22)),
-        vector("pointer-of-40000", ROOM, format!("/{}", letters(39_999)), Ok(format!("#/{}", letters(39_999)).into_bytes()), Err(2)),
-        vector("link-too-long-for-output", ROOM, format!("/{}", " ".repeat(21_845)), Err(16), Err(22)),
-        vector("link-fills-output", ROOM - 1, format!("/{}", " ".repeat(21_844) + "a"), Ok(format!("#/{}a", "%20".repeat(21_844)).into_bytes()), Err(22)),
+        vector(
+            "pointer-of-32768",
+            ROOM,
+            format!("/{}", letters(32_767)),
+            Ok(over.clone().into_bytes()),
+            Err(22),
+        ),
+        vector(
+            "pointer-of-40000",
+            ROOM,
+            format!("/{}", letters(39_999)),
+            Ok(format!("#/{}", letters(39_999)).into_bytes()),
+            Err(2),
+        ),
+        vector(
+            "link-too-long-for-output",
+            ROOM,
+            format!("/{}", " ".repeat(21_845)),
+            Err(16),
+            Err(22),
+        ),
+        vector(
+            "link-fills-output",
+            ROOM - 1,
+            format!("/{}", " ".repeat(21_844) + "a"),
+            Ok(format!("#/{}a", "%20".repeat(21_844)).into_bytes()),
+            Err(22),
+        ),
     ]
 }
 
