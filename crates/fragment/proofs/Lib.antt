@@ -6,3 +6,4 @@ pub mod WritingLaws
 pub mod TableLaws
 pub mod CallLaws
 pub mod ClaimTheorems
+pub mod ExamplesTheorem

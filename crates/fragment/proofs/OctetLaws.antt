@@ -1,7 +1,7 @@
 -- The octets of a fragment, from a place of a text on.
 use Prim.Native.Nat.{ℕ, _+_, _*_, _≤_, _<_}
 use Prim.Native.Char.{code}
-use mathlib.Core.Path.{_≡_, refl, sym, ap, _∙_}
+use mathlib.Core.Path.{_≡_, refl, sym, _∙_}
 use mathlib.Core.Bool.{true, false}
 use mathlib.Core.List.{[], _∷_}
 use native.Mathlib.Omega.{arith}
@@ -15,7 +15,7 @@ use Rattle.spec.specs.Bytes.{Bytes, byte, within}
 use Rattle.spec.specs.Strings.{hexValue}
 use Rattle.lexer.proofs.ByteLaws.{inside}
 use Rattle.fragment.specs.Kept.{isKept}
-use Rattle.fragment.specs.Link.{bad-link, nothing, percent, digit, isHex, octets}
+use Rattle.fragment.specs.Link.{bad-link, percent, digit, isHex, octets}
 use Rattle.fragment.specs.Scan.{octetsAfter, Onward, OctetAt, PercentAt}
 use Rattle.fragment.specs.declared.octets.Octet.{Octet}
 use Rattle.fragment.specs.declared.octets.Octet.the-variants as Octet

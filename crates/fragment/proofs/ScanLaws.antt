@@ -3,7 +3,7 @@
 use Prim.Native.Nat.{ℕ, zero, suc, _+_, _-_, _*_, _≤_, _<_}
 use mathlib.Core.Path.{_≡_, refl, sym, ap, _∙_}
 use mathlib.Core.Bool.{Bool, true, false}
-use mathlib.Core.List.{List, [], _∷_}
+use mathlib.Core.List.{[], _∷_}
 use native.Mathlib.Omega.{arith}
 use native.Mathlib.Decide.{decLt}
 use borrow.Author.Tests.{eq-eqb, ne-eqb, leb-true, leb-false, ltb-true, ltb-false}
@@ -13,12 +13,11 @@ use Rattle.spec.specs.Outcome.{Outcome, ok, refused, _>>=_, if_then_else_}
 use Rattle.spec.specs.Refusal.{not-json}
 use Rattle.spec.specs.Bytes.{Bytes, Text, byte, within, byteIn}
 use Rattle.spec.specs.Strings.{tail, multibyte}
-use Rattle.spec.specs.Pointer.{tokens}
 use Rattle.pointer.specs.Tokens.{accepted}
 use Rattle.lexer.proofs.Tests.{within-bounds, below-within, above-within, between-within}
 use Rattle.lexer.proofs.ByteLaws.{here}
 use Rattle.fragment.specs.Link.{nothing, octets, precede, characterAt, charactersFrom, characters, isUtf8, isPointer}
-use Rattle.fragment.specs.Scan.{awaiting, between, broken, lowest, highest, firstByte, nextByte, awaited, nextSyntax, syntax, mayEnd, judge, verdict}
+use Rattle.fragment.specs.Scan.{awaiting, between, broken, lowest, highest, firstByte, nextByte, awaited, nextSyntax, syntax, judge, verdict}
 use Rattle.fragment.specs.Scan.{octetsAfter, Onward, OctetAt, counted, fragmentOf}
 use Rattle.fragment.specs.declared.scan.Awaited.{Awaited}
 use Rattle.fragment.specs.declared.scan.Syntax.{Syntax}

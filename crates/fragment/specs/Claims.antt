@@ -10,7 +10,7 @@ use Rattle.spec.specs.Bytes.{Bytes, ascii}
 use Rattle.spec.specs.Numbers.{isDigit}
 use Rattle.spec.specs.Strings.{hexValue}
 use Rattle.fragment.specs.Kept.{isKept, isAlpha, oneOf}
-use Rattle.fragment.specs.Link.{isHex, isPointer, link}
+use Rattle.fragment.specs.Link.{isHex, isPointer}
 use Rattle.fragment.specs.Answer.{writeAnswer, readAnswer, success}
 
 -- RFC 3986's set is document 02's: "ASCII letters, digits and `-._~!$&'()*+,;=:@/?`".

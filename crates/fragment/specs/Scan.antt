@@ -1,6 +1,6 @@
 -- How the code goes through octets, one after another: what of a character is to come, and how far a pointer has been read. proofs/ScanLaws
 -- proves that this is UTF-8 and RFC 6901's syntax as Link has them.
-use Prim.Native.Nat.{ℕ, _+_, _-_, _<_, _≤_}
+use Prim.Native.Nat.{ℕ, _-_, _<_, _≤_}
 use Prim.Native.Char.{code}
 use mathlib.Core.Path.{_≡_}
 use mathlib.Core.List.{List, [], _∷_}

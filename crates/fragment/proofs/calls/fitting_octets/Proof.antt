@@ -8,9 +8,15 @@ pub fitting-octets-spec : {M : Type 1} → statement M
 fitting-octets-spec =
     tie.close
     (tie.spec
+    -- refusal-requires
     (λ c κs. search auto)
+    -- returns
     (λ c. octets-short (omega arith) (c .refusal .ensures))
+    -- put-octets-requires
     (λ c κs. search auto)
+    -- success-requires
     (λ c κs. search auto)
+    -- same-length
     (λ c. search auto)
+    -- returns-2
     (λ c. octets-whole (omega arith) (c .before .before .before .put-octets .ensures) (c .success .ensures)))

@@ -1,4 +1,4 @@
-use mathlib.Core.Path.{_≡_, refl, sym, ap, _∙_}
+use mathlib.Core.Path.{refl}
 use native.Mathlib.Omega.{arith}
 use Rattle.lexer.proofs.Auto.{auto}
 use Rattle.fragment.proofs.TableLaws.{kept-table, tested}
@@ -11,10 +11,15 @@ unfolding tested
 read-link-spec =
     tie.close
     (tie.spec
+    -- refusal-requires
     (λ c κs. search auto)
+    -- returns
     (λ c. refuses 2 (too-long (c .before .before .before .before .args .link .now) _ (omega arith)) (c .refusal .ensures))
+    -- read-short-requires
     (λ c κs. kept-table _ refl refl)
+    -- same-length
     (λ c. search auto)
+    -- returns-2
     (λ c.
     let read-short = c .before .before .read-short in
     let args = c .before .before .before .before .before .before .before .before .args in

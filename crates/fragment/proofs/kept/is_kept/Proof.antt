@@ -7,5 +7,7 @@ pub is-kept-spec : {M : Type 1} → statement M
 is-kept-spec =
     tie.close
     (tie.spec
+    -- element-copy-out-result
     (λ c. search auto)
+    -- returns
     (λ c. c .before .pre .rule (c .before .args .b) (omega arith)))

@@ -8,9 +8,15 @@ unfolding counted
 counted-spec =
     tie.close
     (tie.spec
+    -- enum-told
     (λ c. search auto)
+    -- enum-told-2
     (λ c. search auto)
+    -- enum-told-3
     (λ c. search auto)
+    -- returns
     (λ c. rw (c .enum-told .given .1))
+    -- returns-2
     (λ c. rw (c .enum-told2 .given .1))
+    -- returns-3
     (λ c. rw (c .enum-told3 .given .1)))

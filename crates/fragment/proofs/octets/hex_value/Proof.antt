@@ -9,12 +9,21 @@ unfolding hexValue within
 hex-value-spec =
     tie.close
     (tie.spec
+    -- add-result
     (λ c. search auto)
+    -- add-result-2
     (λ c. search auto)
+    -- returns
     (λ c. search auto)
+    -- returns-2
     (λ c. search auto)
+    -- returns-3
     (λ c. search auto)
+    -- returns-4
     (λ c. search auto)
+    -- returns-5
     (λ c. search auto)
+    -- returns-6
     (λ c. search auto)
+    -- returns-7
     (λ c. search auto))

@@ -1,5 +1,4 @@
-use mathlib.Core.Path.{_≡_, refl, sym, ap, _∙_}
-use native.Mathlib.Omega.{arith}
+use mathlib.Core.Path.{refl, sym, _∙_}
 use Rattle.lexer.proofs.Auto.{auto}
 use Rattle.spec.specs.Bytes.{byte}
 use Rattle.fragment.proofs.OctetLaws.{octet-percent, octet-kept, octet-bad}
@@ -11,17 +10,25 @@ unfolding byte
 octet-at-spec =
     tie.close
     (tie.spec
+    -- shared-slice-read-b
     (λ c. search auto)
+    -- add-percent
     (λ c. search auto)
+    -- percent-requires
     (λ c κs. search auto)
+    -- returns
     (λ c. octet-percent _ _ (c .before .before .before .before .pre .0) refl (c .before .if1 .taken) (c .percent .ensures))
+    -- is-kept-requires
     (λ c κs. search auto)
+    -- add-t10
     (λ c. search auto)
+    -- returns-2
     (λ c.
     let is-kept = c .before .is-kept in
     let if1 = c .before .before .if1 in
     let pre = c .before .before .before .before .before .pre in
     octet-kept _ _ (pre .0) refl (if1 .left) (sym (is-kept .ensures) ∙ c .if2 .taken))
+    -- returns-3
     (λ c.
     let is-kept = c .before .is-kept in
     let if1 = c .before .before .if1 in

@@ -8,6 +8,9 @@ unfolding highest
 highest-spec =
     tie.close
     (tie.spec
+    -- returns
     (λ c. search auto)
+    -- returns-2
     (λ c. search auto)
+    -- returns-3
     (λ c. search auto))

@@ -1,4 +1,4 @@
-use mathlib.Core.Path.{_≡_, refl, sym, ap, _∙_}
+use mathlib.Core.Path.{sym, _∙_}
 use borrow.Author.Tests.{eq-eqb, ne-eqb}
 use Rattle.lexer.proofs.Auto.{auto}
 use Rattle.fragment.specs.Scan.{judge}
@@ -10,7 +10,11 @@ unfolding judge
 judge-spec =
     tie.close
     (tie.spec
+    -- returns
     (λ c. rw (ne-eqb _ 0 (c .if1 .taken)))
+    -- may-end-requires
     (λ c κs. search auto)
+    -- returns-2
     (λ c. rw (eq-eqb _ 0 (c .before .before .if1 .left), sym (c .before .may-end .ensures) ∙ c .if2 .taken))
+    -- returns-3
     (λ c. rw (eq-eqb _ 0 (c .before .before .if1 .left), sym (c .before .may-end .ensures) ∙ c .if2 .left)))

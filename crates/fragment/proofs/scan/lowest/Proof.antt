@@ -8,6 +8,9 @@ unfolding lowest
 lowest-spec =
     tie.close
     (tie.spec
+    -- returns
     (λ c. search auto)
+    -- returns-2
     (λ c. search auto)
+    -- returns-3
     (λ c. search auto))

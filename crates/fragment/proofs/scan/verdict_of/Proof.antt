@@ -1,6 +1,6 @@
-use Prim.Native.Nat.{_+_, _-_, _≤_}
-use lib.ListN.{length, drop}
-use mathlib.Core.Path.{_≡_, refl, sym, ap, _∙_}
+use Prim.Native.Nat.{_-_}
+use lib.ListN.{length}
+use mathlib.Core.Path.{_∙_}
 use native.Mathlib.Omega.{arith}
 use Rattle.lexer.proofs.Auto.{auto}
 use Rattle.spec.specs.Bytes.{byte}
@@ -21,13 +21,23 @@ verdict-of-spec =
     (tie.spec
     Inv-loop
     μ-loop
+    -- awaiting-requires
     (λ c κs. search auto)
+    -- loop-holds
     (λ c. scanning-starts _ (c .awaiting .ensures))
+    -- shared-slice-read-b
     (λ c. search auto)
+    -- next-byte-requires
     (λ c κs. search auto)
+    -- next-syntax-requires
     (λ c κs. search auto)
+    -- add-at
     (λ c. search auto)
+    -- loop-less
     (λ c. search auto)
+    -- loop-again
     (λ c. scanning-on (c .before .before .before .before .loop .inv) (omega arith) (c .before .next-byte .ensures) (c .next-syntax .ensures))
+    -- judge-requires
     (λ c κs. search auto)
+    -- returns
     (λ c. c .judge .ensures ∙ scanning-ends (c .before .before .loop .inv) (c .before .loop-test .left)))

@@ -1,6 +1,6 @@
 use Prim.Native.Nat.{_+_, _-_, _≤_}
 use lib.ListN.{length, drop}
-use mathlib.Core.Path.{_≡_, refl, sym, ap, _∙_}
+use mathlib.Core.Path.{_≡_, sym, ap}
 use native.Mathlib.Omega.{arith}
 use borrow.Author.Tests.{le-leb, lt-leb}
 use Rattle.lexer.proofs.Auto.{auto}
@@ -23,25 +23,35 @@ fits-spec =
     (tie.spec
     Inv-loop
     μ-loop
+    -- returns
     (λ c. let a = c .before .before .args in sym (lt-leb (length (link (a .pointer .now))) (a .room) (omega (arith, link-length (a .pointer .now)))))
+    -- sub-left
     (λ c. search auto)
+    -- loop-holds
     (λ c. (omega arith, omega (arith, link-length (c .before .before .args .pointer .now))))
+    -- shared-slice-read-width
     (λ c. search auto)
+    -- width-requires
     (λ c κs. c .before .before .before .before .before .pre)
+    -- returns-2
     (λ c.
     let width = c .before .width in
     let loop = c .before .before .before .before .loop in
     let args = c .before .before .before .before .before .before .before .args in
     let p = args .pointer .now in
     sym (lt-leb (length (link p)) (args .room) (omega (arith, encode-length p (loop .at) (omega arith), width .ensures))))
+    -- add-at
     (λ c. search auto)
+    -- loop-less
     (λ c. search auto)
+    -- loop-again
     (λ c.
     let width = c .before .width in
     let loop = c .before .before .before .before .loop in
     let args = c .before .before .before .before .before .before .before .args in
     let p = args .pointer .now in
     (omega arith, omega (arith, encode-length p (loop .at) (omega arith), width .ensures)))
+    -- returns-3
     (λ c.
     let loop = c .before .loop in
     let args = c .before .before .before .before .args in

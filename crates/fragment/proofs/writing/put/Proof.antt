@@ -8,7 +8,11 @@ pub put-spec : {M : Type 1} → statement M
 put-spec =
     tie.close
     (tie.spec
+    -- slice-write-out
     (λ c. search auto)
+    -- same-length
     (λ c. search auto)
+    -- returns
     (λ c. refl)
+    -- returns-2
     (λ c. sym (set-out _ _ _ (c .if1 .left))))

@@ -1,6 +1,6 @@
-use Prim.Native.Nat.{_+_, _-_, _≤_}
+use Prim.Native.Nat.{_-_, _≤_}
 use lib.ListN.{length, drop, length-set}
-use mathlib.Core.Path.{_≡_, refl, sym, ap, _∙_}
+use mathlib.Core.Path.{ap, _∙_}
 use native.Mathlib.Omega.{arith}
 use Rattle.lexer.proofs.Auto.{auto}
 use Rattle.spec.specs.Bytes.{byte}
@@ -23,22 +23,31 @@ put-link-spec =
     (tie.spec
     Inv-loop
     μ-loop
+    -- put-requires
     (λ c κs. search auto)
+    -- loop-holds
     (λ c. (omega arith, laid-starts 1 _ _))
+    -- shared-slice-read-put-octet
     (λ c. search auto)
+    -- put-octet-requires
     (λ c κs.
     let loop = c .before .before .before .loop in
     let before = c .before .before .before .before .before .before .before .before .before .before in
     let start = before in
     let p = start .args .pointer .now in
     (omega (arith, laid-bound (loop .inv .1), encode-length p (loop .at) (omega arith), link-length p, start .pre .0), start .pre .1))
+    -- add-at
     (λ c. search auto)
+    -- loop-less
     (λ c. search auto)
+    -- loop-again
     (λ c.
     let put-octet = c .before .before .put-octet in
     let loop = c .before .before .before .before .before .before .loop in
     (omega arith, laid-on (loop .inv .1) _ (encode-here _ (loop .at) (omega arith)) (put-octet .ensures)))
+    -- same-length
     (λ c. laid-length (c .before .loop .inv .1) ∙ ap length (c .before .before .before .before .put .ensures) ∙ simp length-set)
+    -- returns
     (λ c.
     let loop = c .before .loop in
     let put = c .before .before .before .before .put in

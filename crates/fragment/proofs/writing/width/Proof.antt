@@ -1,4 +1,4 @@
-use mathlib.Core.Path.{_≡_, refl, sym, ap, _∙_}
+use mathlib.Core.Path.{sym, _∙_}
 use Rattle.lexer.proofs.Auto.{auto}
 use Rattle.fragment.specs.Link.{encoded}
 use Rattle.fragment.proofs.writing.width.Statement.{statement}
@@ -9,6 +9,9 @@ unfolding encoded
 width-spec =
     tie.close
     (tie.spec
+    -- is-kept-requires
     (λ c κs. search auto)
+    -- returns
     (λ c. rw (sym (c .before .is-kept .ensures) ∙ c .if1 .taken))
+    -- returns-2
     (λ c. rw (sym (c .before .is-kept .ensures) ∙ c .if1 .left)))
