@@ -7,8 +7,8 @@
 // links with the same pointer differ only in percents.
 
 pub mod answer; // what a call answers
-pub mod scan; // octets looked at one after another: UTF-8, and a pointer's syntax
-pub mod octets; // the octets of a fragment
+mod scan; // octets looked at one after another: UTF-8, and a pointer's syntax
+mod octets; // the octets of a fragment
 mod kept; // the bytes that a fragment holds as they are
 mod writing; // a link measured and written
 pub mod calls; // the two calls
