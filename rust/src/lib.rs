@@ -42,6 +42,7 @@
 
 mod explain;
 mod json;
+pub mod link;
 mod place;
 pub mod raw;
 mod refusal;

@@ -14,6 +14,7 @@ pub mod compare;
 pub mod cursor;
 pub mod generate;
 pub mod limits;
+pub mod links;
 mod number;
 mod numeral;
 pub mod operations;

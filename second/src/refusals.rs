@@ -31,3 +31,5 @@ pub const INTO_OWN_CHILD: u32 = 14;
 pub const DIFFERENT: u32 = 15;
 /// The written text is longer than the output.
 pub const NO_ROOM: u32 = 16;
+/// A link that is none: document 02, T-14.
+pub const BAD_LINK: u32 = 22;

@@ -3,6 +3,7 @@
 mod appendix;
 mod generator;
 mod pairs;
+mod links;
 mod parts;
 mod regions;
 mod round_trip;
