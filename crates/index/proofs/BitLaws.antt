@@ -5,13 +5,13 @@ use mathlib.Core.List.{[], _∷_}
 use borrow.Author.Tests.{lt-ltb, le-ltb}
 use Rattle.spec.specs.Bytes.{Bytes, Text}
 use Rattle.text.specs.Decode.{textFrom, textOf}
-use Rattle.tape.specs.Packing.{formOf, spellingOf, hashOf}
+use Rattle.tape.specs.declared.fields.Name.{Name}
 use Rattle.table.specs.Meaning.{partOf, spelled, nameText}
 use Rattle.index.specs.declared.bits.Bits.{Bits}
 use Rattle.index.specs.Bits.{otherMix, otherHashFrom, otherHash, hashBits, Stream, streamFor, onward, refill, bitOf, restOf, streamOf}
 
-module _ (D P : Bytes) (word : ℕ) where
-  pub stream-start : (b : Bits) → b .left ≡ hashBits (hashOf word) → b .next ≡ 0 → streamOf D P word b ≡ streamFor (hashOf word) (nameText D P word)
+module _ (D P : Bytes) (word : Name) where
+  pub stream-start : (b : Bits) → b .left ≡ hashBits (word .hash) → b .next ≡ 0 → streamOf D P word b ≡ streamFor (word .hash) (nameText D P word)
   unfolding streamOf spelled textOf
   stream-start b none first = rw (none, first)
 
@@ -25,20 +25,20 @@ module _ (D P : Bytes) (word : ℕ) where
 
 -- ---- filled up: where a bit is left; behind the last character; and where one is read
 
-module _ (D P : Bytes) (word : ℕ) (b : Bits) where
+module _ (D P : Bytes) (word : Name) (b : Bits) where
   pub filled-still : 1 < b .left → streamOf D P word b ≡ refill (streamOf D P word b)
   unfolding streamOf refill
   filled-still h = rw (lt-ltb 1 (b .left) h)
 
   -- the text is that of the part that the code read, in its form
-  module _ {name form : ℕ} {s : Bytes} (n : name ≡ spellingOf word) (f : form ≡ formOf name) (p : s ≡ partOf D P name) (none : b .left ≤ 1) (after : Bits) where
+  module _ {form : ℕ} {s : Bytes} (f : form ≡ word .text .form) (p : s ≡ partOf D P (word .text)) (none : b .left ≤ 1) (after : Bits) where
     pub filled-end : textFrom form s (b .next) ≡ [] → after .left ≡ 1 → after .next ≡ b .next → streamOf D P word after ≡ refill (streamOf D P word b)
     unfolding streamOf refill onward
-    filled-end t left next = rw (left, next, le-ltb 1 (b .left) none, ← n, ← f, ← p, t)
+    filled-end t left next = rw (left, next, le-ltb 1 (b .left) none, ← p, ← f, t)
 
     pub filled-next : (c : ℕ) → textFrom form s (b .next) ≡ c ∷ textFrom form s (after .next) → after .left ≡ 0x1000_0000 + otherHash (textFrom form s (b .next)) % 0x1000_0000 → streamOf D P word after ≡ refill (streamOf D P word b)
     unfolding streamOf refill onward
-    filled-next c t left = rw (left, le-ltb 1 (b .left) none, ← n, ← f, ← p, t)
+    filled-next c t left = rw (left, le-ltb 1 (b .left) none, ← p, ← f, t)
 
 -- ---- the other hash, character by character
 pub other-ends : {h whole : ℕ} {t : Text} → t ≡ [] → otherHashFrom h t ≡ whole → h ≡ whole

@@ -5,7 +5,7 @@ use lib.Dec.{ltb}
 use Rattle.spec.specs.Outcome.{if_then_else_}
 use Rattle.spec.specs.Bytes.{Bytes, Text}
 use Rattle.text.specs.Decode.{textFrom}
-use Rattle.tape.specs.Packing.{formOf, spellingOf}
+use Rattle.tape.specs.declared.fields.Name.{Name}
 use Rattle.table.specs.Meaning.{partOf}
 use Rattle.index.specs.declared.bits.Bits.{Bits}
 
@@ -25,7 +25,7 @@ otherHash cs = otherHashFrom 0 cs
 
 -- first come the bits of the hash that did not choose the slot, the last one first, below a one that ends them
 abbrev pub hashBits : ℕ → ℕ
-hashBits h = 0x2_0000 + h / 2048 % 0x2_0000
+hashBits h = 0x20 + h / 2048 % 0x20
 
 -- the bits that are left of a hash, and the characters that are left
 abbrev pub Stream : Type 0
@@ -52,5 +52,5 @@ abbrev pub streamFor : ℕ → Text → Stream
 streamFor h name = (hashBits h, name)
 
 -- what the code has of them
-unfoldable pub streamOf : Bytes → Bytes → ℕ → Bits → Stream
-streamOf document patch word bits = (bits .left, textFrom (formOf (spellingOf word)) (partOf document patch (spellingOf word)) (bits .next))
+unfoldable pub streamOf : Bytes → Bytes → Name → Bits → Stream
+streamOf document patch word bits = (bits .left, textFrom (word .text .form) (partOf document patch (word .text)) (bits .next))

@@ -1,4 +1,3 @@
 pub mod Slots
 pub mod Bits
 pub mod Ways
-pub mod Members

@@ -5,8 +5,8 @@ ghost use Rattle.index.specs.Bits.{otherMix, otherHash, hashBits, refill
 ghost use Rattle.text.specs.Decode.{textFrom};
 use lexer::Character;
 use table::spellings::part;
-use tape::words::form;
-use tape::words::spelling;
+use tape::fields::Name;
+use tape::fields::long;
 use text::letter;
 
 // The bits that are left of a hash, below a one that ends them, and the place of the next character.
@@ -40,22 +40,21 @@ fn other_hash(form: u64, s: &[u8], start: usize) -> u32
 }
 
 // The bits of a hash that do not choose a slot, below a one that ends them.
-pub fn hash_bits(hash: u64) -> u32
+pub fn hash_bits(hash: u16) -> u32
     ensures { λ r. ⌜ r ≡ hashBits hash ⌝ }
 {
-    (0x2_0000 + hash / 2048 % 0x2_0000) as u32
+    (0x20 + hash / 2048 % 0x20) as u32
 }
 
 // One bit is left at least: where there was none, there are those of another hash, of the characters from the next on.
-pub fn refilled<'a>(document: &'a [u8], patch: &'a [u8], word: u64, bits: Bits) -> Bits
+pub fn refilled<'a>(document: &'a [u8], patch: &'a [u8], word: Name, bits: Bits) -> Bits
     ensures { λ r. ⌜ streamOf (now (document .entry)) (now (patch .entry)) word r ≡ refill (streamOf (now (document .entry)) (now (patch .entry)) word bits) ⌝ }
 {
     if 1 < bits.left {
         return bits;
     }
-    let name = spelling(word);
-    let s = part(document, patch, name);
-    let f = form(name);
+    let s = part(document, patch, word.text);
+    let f = long(word.text.form);
     let Character::Scalar(_, next) = letter(f, s, bits.next) else {
         return Bits {
             left: 1,

@@ -7,9 +7,6 @@
 mod slots; // numbers of 16 bits in the scratch rows
 mod bits; // the bits of a name
 mod ways; // a member entered, and found again
-mod members; // all members of a tree entered, and one found again
 
-pub use members::index_tree;
-pub use members::lookup;
 pub use ways::enter;
 pub use ways::enter_by_hash;

@@ -12,7 +12,7 @@ use Rattle.spec.specs.Bytes.{Bytes, Text}
 use Rattle.spec.specs.Value.{sameText}
 use Rattle.spec.proofs.TextLaws.{sameText-true}
 use Rattle.text.specs.Decode.{characterIn, before, decodeLoop, decodeFrom, unescapeToken, textFrom, textOf}
-use Rattle.tape.specs.Packing.{formOf, sourceOf, startOf, lengthOf}
+use Rattle.tape.specs.declared.fields.Spelling.{Spelling}
 use Rattle.table.specs.Meaning.{sourceText, partOf, spelled}
 
 before-short : (o : Outcome (ℕ × ℕ)) (rest : ℕ → Text) (n : ℕ) → ((at : ℕ) → length (rest at) ≤ n) → length (before o rest) ≤ suc n
@@ -49,11 +49,11 @@ text-short form s = go (eqb form 1) (eqb form 2) (eqb form 3) (decodeLoop (lengt
     go false false false t h = omega arith
 
 -- what a spelling says has at most so many characters as the spelling has bytes
-spelled-short : (D P : Bytes) (w : ℕ) → length (spelled D P w) ≤ lengthOf w
+spelled-short : (D P : Bytes) (w : Spelling) → length (spelled D P w) ≤ w .length
 unfolding spelled partOf
-spelled-short D P w = omega (arith, text-short (formOf w) (partOf D P w), length-take (lengthOf w) (drop (startOf w) (sourceText D P (sourceOf w))))
+spelled-short D P w = omega (arith, text-short (w .form) (partOf D P w), length-take (w .length) (drop (w .start) (sourceText D P (w .source))))
 
-pub too-short : (D P : Bytes) (w : ℕ) (t : Text) → lengthOf w < length t → false ≡ sameText (spelled D P w) t
+pub too-short : (D P : Bytes) (w : Spelling) (t : Text) → w .length < length t → false ≡ sameText (spelled D P w) t
 too-short D P w t h = go (sameText (spelled D P w) t) refl
   where
     go : (r : Bool) → sameText (spelled D P w) t ≡ r → false ≡ sameText (spelled D P w) t

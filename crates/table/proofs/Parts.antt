@@ -6,7 +6,7 @@ use native.Mathlib.Omega.{arith}
 use lib.ListN.{length, take, drop, length-drop}
 use lib.Seq.{drop-length, take-nil, take-all}
 use Rattle.spec.specs.Bytes.{Bytes}
-use Rattle.tape.specs.Packing.{sourceOf, startOf, lengthOf}
+use Rattle.tape.specs.declared.fields.Spelling.{Spelling}
 use Rattle.table.specs.Meaning.{sourceText, partOf}
 
 drop-past : (a : ℕ) (l : Bytes) → length l ≤ a → drop a l ≡ []
@@ -15,10 +15,10 @@ drop-past zero (b ∷ l) h = absurd (omega arith)
 drop-past (suc a) [] h = refl
 drop-past (suc a) (b ∷ l) h = drop-past a l (omega arith)
 
-module _ (D P : Bytes) (w src first count : ℕ) (s : Bytes) (of-source : src ≡ sourceOf w) (text : s ≡ sourceText D P src) (begins : first ≡ startOf w) (many : count ≡ lengthOf w) where
+module _ (D P : Bytes) (w : Spelling) (first count : ℕ) (s : Bytes) (text : s ≡ sourceText D P (w .source)) (begins : first ≡ w .start) (many : count ≡ w .length) where
   part-is : take count (drop first s) ≡ partOf D P w
   unfolding partOf
-  part-is = rw (text, of-source, begins, many)
+  part-is = rw (text, begins, many)
 
   -- it begins past the end; it runs past the end; it is inside
   pub part-past : length s ≤ first → take (length s - length s) (drop (length s) s) ≡ partOf D P w

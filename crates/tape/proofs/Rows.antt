@@ -1,45 +1,47 @@
--- Laws of nodes by their rows: what a node's word tells in its row, and where its children stand.
+-- Laws of nodes by their rows: what a node's row tells in its row, and where its children stand.
 use Prim.Native.Nat.{ℕ, zero, suc, _+_, _≤_, _<_}
 use native.Mathlib.Nat.{add-zero}
 use native.Mathlib.Numerals.{add-one}
 use native.Mathlib.Omega.{arith}
 use mathlib.Core.Path.{_≡_, refl, sym, ap, _∙_, subst}
-use mathlib.Core.List.{List, _++_}
+use mathlib.Core.List.{List, [], _++_}
 use mathlib.Core.Bool.{Bool, true, false}
 use lib.Dec.{leb, ltb}
 use lib.ListN.{length, getD}
 use borrow.Author.Tests.{lt-ltb, le-ltb, ltb-true, ltb-false, leb-true, leb-false}
 use Rattle.spec.specs.Outcome.{if_then_else_}
 use Rattle.spec.specs.Forest.{Forest, none, Tree, count, size, before, from, nth}
-use Rattle.tape.specs.Packing.{kindOf, spanOf, payloadOf}
+use Rattle.tape.specs.Fields.{Row, kindOf, spanOf, cellOf}
 use Rattle.tape.specs.Tape.{tape}
-use Rattle.tape.specs.Cell.{Cell, word, Node}
+use Rattle.tape.specs.declared.fields.Cell.{Cell}
+use Rattle.tape.specs.Cell.{rowOf, Node}
 use Rattle.tape.specs.Rows.{endOf, childRow, childOf, ForNode, ChildIs, ArityIs, Leaves}
 use Rattle.tape.specs.declared.nodes.Located.the-variants.{At, Fewer}
 use Rattle.tape.proofs.Forests.{size-cut, count-from, before-all, size-before-suc, count-le-size}
 use Rattle.tape.proofs.Tape.{holds-front, holds-kids, holds-size, holds-child}
-use Rattle.tape.proofs.Cells.{kind-word, span-word, payload-word, formed-fit, formed-kids, formed-child}
+use Rattle.tape.proofs.Cells.{kind-row, span-row, cell-row, formed-fit, formed-kids, formed-child}
 
--- ---- a node in a row of the column of values
-module _ {xs : List ℕ} {at : ℕ} {c : Cell} {kids : Forest Cell} (node : Node xs at c kids) where
+-- ---- a node in a row of the table
+module _ {xs : List Row} {at : ℕ} {c : Cell} {kids : Forest Cell} (node : Node xs at c kids) where
   pub inside-here : at < length xs
-  inside-here = holds-front (node .held) 0 .inside
+  inside-here = holds-front (node .held .rows) [] .inside
 
-  pub word-here : getD xs at 0 ≡ word c kids
-  word-here = holds-front (node .held) 0 .here
+  -- whatever is said to stand behind the table
+  pub row-here : (z : Row) → getD xs at z ≡ rowOf c kids
+  row-here z = holds-front (node .held .rows) z .here
 
-  pub kind-here : kindOf (getD xs at 0) ≡ c .kind
-  kind-here = ap kindOf word-here ∙ kind-word (formed-fit (node .formed))
+  pub kind-here : kindOf (getD xs at []) ≡ c .kind
+  kind-here = ap kindOf (row-here []) ∙ kind-row (formed-fit (node .held .formed))
 
-  pub span-here : spanOf (getD xs at 0) ≡ size kids
-  span-here = ap spanOf word-here ∙ span-word (formed-fit (node .formed))
+  pub span-here : spanOf (getD xs at []) ≡ size kids
+  span-here = ap spanOf (row-here []) ∙ span-row c kids
 
-  pub payload-here : payloadOf (getD xs at 0) ≡ c .payload
-  payload-here = ap payloadOf word-here ∙ payload-word (formed-fit (node .formed))
+  pub cell-here : (z : Row) → cellOf (getD xs at z) ≡ c
+  cell-here z = ap cellOf (row-here z) ∙ cell-row (formed-fit (node .held .formed))
 
   -- with spans, the row behind a tree is found in one step
   pub end-here : endOf xs at ≡ at + 1 + size kids
-  end-here = omega (arith, span-here, inside-here, holds-size (holds-kids (node .held)))
+  end-here = omega (arith, span-here, inside-here, holds-size (holds-kids (node .held .rows)))
 
 -- ---- rows of children
 module _ {A : Type 0} (at : ℕ) (kids : Forest A) where
@@ -79,10 +81,14 @@ module _ {A : Type 0} (at k : ℕ) (kids : Forest A) where
       go false p q = let same : n ≡ count kids = cc in (omega (arith, ltb-false k (count kids) p), same)
 
 -- the k-th child of a node; t is any tree
-pub node-child : {xs : List ℕ} {at : ℕ} {c : Cell} {kids : Forest Cell} (t : Tree Cell) (k : ℕ) → Node xs at c kids → k < count kids
+pub node-child : {xs : List Row} {at : ℕ} {c : Cell} {kids : Forest Cell} (t : Tree Cell) (k : ℕ) → Node xs at c kids → k < count kids
     → Node xs (childRow at k kids) (nth t k kids .root) (nth t k kids .kids)
 node-child {kids = kids} t k node l =
-    record { rest = from (suc k) kids; after = tape word (node .rest) ++ node .after; held = holds-child (node .held) t k l; formed = formed-child t k l (formed-kids (node .formed)) }
+    record {
+      rest = from (suc k) kids;
+      held =
+          record { after = tape rowOf (node .rest) ++ node .held .after; rows = holds-child (node .held .rows) t k l; formed = formed-child t k l (formed-kids (node .held .formed)) };
+    }
 
 -- ---- a loop that counts a node's children: the first k are passed, and the next one, or the end, is in a row
 pub record Passed {A : Type 0} (at row k : ℕ) (kids : Forest A) : Type 0 where
@@ -108,7 +114,7 @@ module _ {A : Type 0} {at row k : ℕ} {kids : Forest A} (p : Passed at row k ki
       go false e = absurd (omega (arith, p .place, childRow-inside at kids k (leb-false (count kids) k e)))
 
 -- a turn of the loop, to the row that `end_of` answers
-pub passed-next : {xs : List ℕ} {at row k : ℕ} {c : Cell} {kids : Forest Cell} (next : ℕ) → next ≡ endOf xs row → Node xs at c kids
+pub passed-next : {xs : List Row} {at row k : ℕ} {c : Cell} {kids : Forest Cell} (next : ℕ) → next ≡ endOf xs row → Node xs at c kids
     → Passed at row k kids → row < at + 1 + size kids → Passed at next (k + 1) kids
 passed-next {xs} {at} {row} {k} {c} {kids} next n node p h =
     let l : k < count kids = passed-more p h in
@@ -118,14 +124,14 @@ passed-next {xs} {at} {row} {k} {c} {kids} next n node p h =
 
 -- ---- each way out of `child` and of `arity`
 -- a row behind the column holds no node
-pub no-node : {C : Type 0} {xs : List ℕ} {at : ℕ} {c : Cell} {kids : Forest Cell} → Node xs at c kids → length xs ≤ at → C
+pub no-node : {C : Type 0} {xs : List Row} {at : ℕ} {c : Cell} {kids : Forest Cell} → Node xs at c kids → length xs ≤ at → C
 no-node node h = absurd (omega (arith, inside-here node))
 
 -- so many children are passed, of whatever node the column holds in a row
-abbrev pub Passing : List ℕ → ℕ → ℕ → ℕ → Type 0
+abbrev pub Passing : List Row → ℕ → ℕ → ℕ → Type 0
 Passing xs at row passed = ForNode xs at (λ c kids. Passed at row passed kids)
 
-module _ {xs : List ℕ} {at row passed : ℕ} (p : Passing xs at row passed) (end : ℕ) (end-is : end ≡ endOf xs at) where
+module _ {xs : List Row} {at row passed : ℕ} (p : Passing xs at row passed) (end : ℕ) (end-is : end ≡ endOf xs at) where
   pub passing-next : (next : ℕ) → next ≡ endOf xs row → row < end → Passing xs at next (passed + 1)
   passing-next next n h c kids node = passed-next next n node (p c kids node) (omega (arith, end-here node))
 

@@ -8,6 +8,7 @@ use lib.Dec.{leb}
 use lib.ListN.{length, take, drop, replicate}
 use Rattle.spec.specs.Outcome.{if_then_else_}
 use Rattle.tape.specs.Layout.{scratchRow, rows}
+use Rattle.tape.specs.Fields.{Row, noNode}
 
 -- how many words are in use when `removed` of them are replaced by n
 abbrev pub usedAfter : ℕ → ℕ → ℕ → ℕ
@@ -40,16 +41,27 @@ module _ {W : Type 0} where
       if spliceFits xs used at removed source n then
       replaced (take used xs) at removed (take n (drop source xs)) ++ drop (usedAfter used removed n) xs else xs
 
+  -- whether `removed` words at a row are among the first `used`, there is room for n instead, and another list has n words at the row `start`
+  unfoldable pub spliceFitsFrom : List W → ℕ → ℕ → ℕ → List W → ℕ → ℕ → Bool
+  spliceFitsFrom xs used at removed zs start n =
+      leb (at + removed) used && (leb (max used (usedAfter used removed n)) (length xs) && inside zs start n)
+
+  -- those replaced by these
+  unfoldable pub splicedFrom : List W → ℕ → ℕ → ℕ → List W → ℕ → ℕ → List W
+  splicedFrom xs used at removed zs start n =
+      if spliceFitsFrom xs used at removed zs start n then
+      replaced (take used xs) at removed (take n (drop start zs)) ++ drop (usedAfter used removed n) xs else xs
+
   -- n words at a row made the same
   unfoldable pub filled : W → List W → ℕ → ℕ → List W
   filled x xs start n = if inside xs start n then replaced xs start n (replicate n x) else xs
 
--- n words at a row made 0
-abbrev pub cleared : List ℕ → ℕ → ℕ → List ℕ
-cleared xs start n = filled 0 xs start n
+-- n rows made rows without a node
+abbrev pub wiped : List Row → ℕ → ℕ → List Row
+wiped nodes start n = filled noNode nodes start n
 
 -- only words in the scratch rows change
-pub record Scratched (xs ys : List ℕ) : Type 0 where
+pub record Scratched {W : Type 0} (xs ys : List W) : Type 0 where
   pub before : take scratchRow ys ≡ take scratchRow xs
   pub behind : drop rows ys ≡ drop rows xs
   pub same-length : length ys ≡ length xs

@@ -1,5 +1,5 @@
 pub mod Layout
-pub mod Packing
+pub mod Fields
 pub mod Columns
 pub mod Tape
 pub mod Cell

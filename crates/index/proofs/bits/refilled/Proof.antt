@@ -13,11 +13,9 @@ refilled-spec =
     (tie.spec
     -- returns
     (λ c. filled-still _ _ _ _ (c .if1 .taken))
-    -- spelling-requires
-    (λ c κs. search auto)
     -- part-requires
     (λ c κs. search auto)
-    -- form-requires
+    -- long-requires
     (λ c κs. search auto)
     -- letter-requires
     (λ c κs. search auto)
@@ -29,7 +27,7 @@ refilled-spec =
     (λ c.
     let read = c .before .before in
     let part = read .before .before in
-    filled-end _ _ _ _ (part .before .spelling .ensures) (read .before .form .ensures) (part .part .ensures) (part .before .before .if1 .left) _
+    filled-end _ _ _ _ (read .before .long .ensures) (part .part .ensures) (part .before .if1 .left) _
     (refused-text _ _ _ (read .letter .ensures) _ (c .enum-told .given .1))
     refl
     refl)
@@ -42,6 +40,6 @@ refilled-spec =
     let known = c .before .before in
     let read = known .before .before in
     let part = read .before .before in
-    filled-next _ _ _ _ (part .before .spelling .ensures) (read .before .form .ensures) (part .part .ensures) (part .before .before .if1 .left) _ _
+    filled-next _ _ _ _ (read .before .long .ensures) (part .part .ensures) (part .before .if1 .left) _ _
     (scalar-text _ _ _ (read .letter .ensures) _ _ (known .next .given .1))
     (ap (λ n. 0x1000_0000 + n % 0x1000_0000) (c .other-hash .ensures))))

@@ -3,16 +3,16 @@ use Prim.Native.Nat.{_-_}
 use mathlib.Core.Path.{refl, ap, _∙_}
 use native.Mathlib.Omega.{arith}
 use borrow.Author.Needs.{needs}
-use Rattle.index.specs.Bits.{hashBits}
+use Rattle.tape.specs.Fields.{nameOf}
 use Rattle.index.proofs.WayLaws.{Descending, descending-start, descending-next, descended-none, descended-past}
 use Rattle.index.proofs.ways.descend.Statement.{statement}
 use Rattle.index.proofs.ways.descend.Tie as tie
 
 abbrev Inv-loop : tie.InvT-loop
-Inv-loop document patch values names base limit start word at₀ last₀ same₀ bits₀ at last same bits = Descending document patch values names base limit start word at last same bits
+Inv-loop document patch index nodes base limit start word at₀ last₀ same₀ bits₀ at last same bits = Descending document patch index nodes base limit start word at last same bits
 
 abbrev μ-loop : tie.MeasureT-loop
-μ-loop document patch values names base limit start word at₀ last₀ same₀ bits₀ at last same bits = limit - last
+μ-loop document patch index nodes base limit start word at₀ last₀ same₀ bits₀ at last same bits = limit - last
 
 pub descend-spec : {M : Type 1} → statement M
 descend-spec =
@@ -20,12 +20,10 @@ descend-spec =
     (tie.spec
     Inv-loop
     μ-loop
-    -- hash-requires
-    (λ c κs. search needs)
     -- hash-bits-requires
     (λ c κs. search needs)
     -- loop-holds
-    (λ c. descending-start _ _ _ _ _ _ _ _ _ (c .hash-bits .ensures ∙ ap hashBits (c .before .hash .ensures)) refl (omega arith) (omega arith) (omega arith))
+    (λ c. descending-start _ _ _ _ _ _ _ _ _ (c .hash-bits .ensures) refl (omega arith) (omega arith))
     -- slot-requires
     (λ c κs. search needs)
     -- returns
@@ -35,6 +33,8 @@ descend-spec =
     -- add-load
     (λ c. search needs)
     -- load-requires
+    (λ c κs. search needs)
+    -- name-of-requires
     (λ c κs. search needs)
     -- same-name-requires
     (λ c κs. search needs)
@@ -49,7 +49,8 @@ descend-spec =
     -- loop-again
     (λ c.
     let filled = c .before .before .before in
-    let looked = filled .before .before .before .before .before .before in
-    let asked = looked .before .before .before .before .before .before .before .before .pre in
-    descending-next _ _ _ _ _ _ _ _ (looked .before .loop .inv) _ (looked .slot .ensures) (omega arith) (omega arith) (omega (arith, asked)) _ _ (filled .before .before .before .load .ensures) (filled .before .before .same-name .ensures) (filled .before .either .ensures)
+    let named = filled .before .before .before in
+    let looked = named .before .before .before .before in
+    let asked = looked .before .before .before .before .before .before .pre in
+    descending-next _ _ _ _ _ _ _ _ (looked .before .loop .inv) _ (looked .slot .ensures) (omega arith) (omega arith) (omega (arith, asked)) _ _ (named .name-of .ensures ∙ ap nameOf (named .before .load .ensures)) (filled .before .before .same-name .ensures) (filled .before .either .ensures)
     (filled .refilled .ensures) (c .before .branch .ensures) refl refl))

@@ -1,4 +1,5 @@
 -- `enter` meets its contract: nothing is done where the numbers do not fit, and else the row is put where the way of its name ends.
+use mathlib.Core.Path.{refl}
 use native.Mathlib.Omega.{arith}
 use borrow.Author.Needs.{needs}
 use Rattle.index.proofs.WayLaws.{not-entered, entered}
@@ -17,12 +18,10 @@ enter-spec =
     (λ c. search needs)
     -- returns-3
     (λ c. not-entered _ _ _ _ _ _ _ _ (λ h. omega arith))
-    -- hash-requires
-    (λ c κs. search needs)
     -- bucket-requires
     (λ c κs. search needs)
     -- descend-requires
-    (λ c κs. (omega arith, omega arith, omega arith, omega (arith, c .before .bucket .ensures), omega (arith, c .before .bucket .ensures)))
+    (λ c κs. (omega arith, omega arith, omega arith, omega (arith, c .before .bucket .ensures)))
     -- set-slot-requires
     (λ c κs. search needs)
     -- same-length
@@ -31,4 +30,4 @@ enter-spec =
     (λ c.
     let sought = c .before .before .before .before in
     let start = sought .before .before in
-    entered _ _ _ _ _ _ _ _ _ (start .before .hash .ensures) (start .bucket .ensures) (sought .descend .ensures) (c .before .before .set-slot .ensures)))
+    entered _ _ _ _ _ _ _ _ _ refl (start .bucket .ensures) (sought .descend .ensures) (c .before .before .set-slot .ensures)))

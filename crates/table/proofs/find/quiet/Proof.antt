@@ -1,7 +1,7 @@
 -- `quiet` meets its contract, by what the rows up to i tell.
 use Prim.Native.Nat.{_≤_, _-_}
 use native.Mathlib.Omega.{arith}
-use mathlib.Core.Path.{sym, _∙_}
+use mathlib.Core.Path.{sym}
 use mathlib.Core.Bool.{true≢false}
 use borrow.Author.Needs.{needs}
 use borrow.Author.Tests.{eqb-true}
@@ -11,10 +11,10 @@ use Rattle.table.proofs.find.quiet.Statement.{statement}
 use Rattle.table.proofs.find.quiet.Tie as tie
 
 abbrev Inv-loop : tie.InvT-loop
-Inv-loop values names row stop name spans₀ others₀ i₀ spans others i = (i ≤ block) × Scanned values names name row i spans others
+Inv-loop nodes row stop hash spans₀ seen₀ i₀ spans seen i = (i ≤ block) × Scanned nodes hash row i spans seen
 
 abbrev μ-loop : tie.MeasureT-loop
-μ-loop values names row stop name spans₀ others₀ i₀ spans others i = block - i
+μ-loop nodes row stop hash spans₀ seen₀ i₀ spans seen i = block - i
 
 pub quiet-spec : {M : Type 1} → statement M
 quiet-spec =
@@ -30,29 +30,24 @@ quiet-spec =
     (λ c. λ e. absurd (true≢false (sym e)))
     -- loop-holds
     (λ c. (omega arith, scanned-none))
-    -- add-spans
+    -- add-spans, mul-spans, index-1-spans, index-2-spans
     (λ c. search needs)
-    -- mul-spans
     (λ c. search needs)
-    -- shared-slice-read-spans
     (λ c. search needs)
-    -- add-apart
     (λ c. search needs)
-    -- mul-apart
+    -- add-equal, mul-equal, index-1-equal, index-2-equal
     (λ c. search needs)
-    -- shared-slice-read-apart
     (λ c. search needs)
-    -- apart-requires
+    (λ c. search needs)
+    (λ c. search needs)
+    -- equal-requires
     (λ c κs. search needs)
-    -- add-i
+    -- add-i, loop-less
     (λ c. search needs)
-    -- loop-less
     (λ c. search needs)
     -- loop-again
-    (λ c. (omega arith, scanned-next _ (c .apart .ensures) (c .before .before .before .before .loop .inv .1)))
+    (λ c. (omega arith, scanned-next _ (c .equal .ensures) (c .before .before .before .before .loop .inv .1)))
     -- returns-3
     (λ c. λ e. absurd (true≢false (sym e)))
-    -- span-requires
-    (λ c κs. search needs)
     -- returns-4
-    (λ c. λ e. (omega arith, scanned-quiet block (omega arith) (sym (c .span .ensures) ∙ eqb-true _ _ e) (omega arith) (c .before .before .before .loop .inv .1))))
+    (λ c. λ e. (omega arith, scanned-quiet block (omega arith) (eqb-true _ _ e) (c .if3 .left) (c .before .before .loop .inv .1))))

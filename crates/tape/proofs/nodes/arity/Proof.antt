@@ -9,10 +9,10 @@ use Rattle.tape.proofs.nodes.arity.Statement.{statement}
 use Rattle.tape.proofs.nodes.arity.Tie as tie
 
 abbrev Inv-loop : tie.InvT-loop
-Inv-loop values at end row₀ passed₀ row passed = (passed + at < row) × (row ≤ length values) × Passing values at row passed
+Inv-loop nodes at end row₀ passed₀ row passed = (passed + at < row) × (row ≤ length nodes) × Passing nodes at row passed
 
 abbrev μ-loop : tie.MeasureT-loop
-μ-loop values at end row₀ passed₀ row passed = end - row
+μ-loop nodes at end row₀ passed₀ row passed = end - row
 
 pub arity-spec : {M : Type 1} → statement M
 arity-spec =

@@ -9,10 +9,10 @@ use Rattle.tape.proofs.nodes.child.Statement.{statement}
 use Rattle.tape.proofs.nodes.child.Tie as tie
 
 abbrev Inv-loop : tie.InvT-loop
-Inv-loop values at k end row₀ passed₀ row passed = (at < row) × (row ≤ length values) × (passed ≤ k) × Passing values at row passed
+Inv-loop nodes at k end row₀ passed₀ row passed = (at < row) × (row ≤ length nodes) × (passed ≤ k) × Passing nodes at row passed
 
 abbrev μ-loop : tie.MeasureT-loop
-μ-loop values at k end row₀ passed₀ row passed = end - row
+μ-loop nodes at k end row₀ passed₀ row passed = end - row
 
 pub child-spec : {M : Type 1} → statement M
 child-spec =
