@@ -11,11 +11,12 @@ use Rattle.tape.specs.Layout.{numberKind}
 use Rattle.tape.specs.declared.fields.Spelling.{Spelling}
 use Rattle.table.specs.Meaning.{partOf}
 use Rattle.table.specs.Sound.{NumberFits}
+use Rattle.tape.specs.Lent.{Texts}
 
-module _ {D P : Bytes} {kind : ℕ} {value : Spelling} where
-  pub number-fits : (s : Bytes) (start end : ℕ) → number s start ≡ ok end → partOf D P value ≡ take (end - start) (drop start s)
-      → NumberFits D P kind value
+module _ {T : Texts} {kind : ℕ} {value : Spelling} where
+  pub number-fits : (s : Bytes) (start end : ℕ) → number s start ≡ ok end → partOf T value ≡ take (end - start) (drop start s)
+      → NumberFits T kind value
   number-fits s start end e p = record { is = λ k. ap withinLimits p ∙ number-within-limits s start end e }
 
-  pub other-fits : (kind ≡ numberKind → ⊥) → NumberFits D P kind value
+  pub other-fits : (kind ≡ numberKind → ⊥) → NumberFits T kind value
   other-fits h = record { is = λ k. absurd (h k) }

@@ -11,13 +11,15 @@ use tape::layout::HASH;
 use tape::layout::Node;
 use tape::layout::SPAN;
 use tape::layout::TAGS;
+use tape::layout::Texts;
 use tape::nodes::BLOCK;
 ghost use mathlib.Core.Path.{_≡_};
-ghost use Prim.Native.Nat.{_≤_, _<_, min};
+ghost use Prim.Native.Nat.{_≤_, min};
 ghost use lib.ListN.{length};
 ghost use Rattle.lexer.specs.Hash.{hash};
+ghost use Rattle.tape.specs.Lent.{lent, before};
 ghost use Rattle.table.specs.Meaning.{shortHash};
-ghost use Rattle.table.specs.Find.{SameNameIs, NamedIs, limitOf, QuietIs, FindIs, FindAsciiIs, Between};
+ghost use Rattle.table.specs.Find.{sameName, isNamed, limitOf, QuietIs, FindIs, FindAsciiIs};
 
 pub enum Member {
     // the member's row
@@ -25,14 +27,14 @@ pub enum Member {
     Missing,
 }
 
-// Whether two names are the same. They are told apart by their hashes; only where these are equal are the texts compared.
-pub fn same_name<'a>(document: &'a [u8], patch: &'a [u8], a: Name, b: Name) -> bool
-    ensures { λ r. ⌜ SameNameIs (now (document .entry)) (now (patch .entry)) a b r ⌝ }
+// Whether two names are the same. Their texts are compared only where their hashes are equal.
+pub fn same_name<'a>(texts: Texts<'a>, a: Name, b: Name) -> bool
+    ensures { λ r. ⌜ r ≡ sameName (lent texts) a b ⌝ }
 {
     if a.hash != b.hash {
         return false;
     }
-    same_spelling(document, patch, a.text, b.text)
+    same_spelling(texts, a.text, b.text)
 }
 
 // The rows from `end` on, or behind the table, are not looked at.
@@ -45,7 +47,7 @@ fn limit(nodes: &[Node], end: usize) -> usize
     nodes.len()
 }
 
-// 1 where two fields are the same, and else 0.
+// 1 where two fields are the same, 0 otherwise.
 fn equal(a: u16, b: u16) -> u16
     ensures { λ r. ⌜ (r ≡ 0 → a ≡ b → ⊥) ⌝ }
 {
@@ -83,16 +85,8 @@ fn quiet(nodes: &[Node], row: usize, stop: usize, hash: u16) -> bool
 }
 
 // The first of the trees in the rows from `start` up to `end` that has the name.
-pub fn find<'a>(
-    nodes: &[Node],
-    document: &'a [u8],
-    patch: &'a [u8],
-    start: usize,
-    end: usize,
-    name: Name,
-) -> Member
-    ensures { λ r. ⌜ FindIs (now (document .entry)) (now (patch .entry)) (now (nodes .entry)) start end name r ⌝ }
-    ensures { λ r. ⌜ Between start end (now (nodes .entry)) r ⌝ }
+pub fn find<'a>(texts: Texts<'a>, nodes: &[Node], start: usize, end: usize, name: Name) -> Member
+    ensures { λ r. ⌜ FindIs (before texts nodes) start end name r ⌝ }
 {
     let stop = limit(nodes, end);
     let mut row = start;
@@ -101,10 +95,10 @@ pub fn find<'a>(
             row += BLOCK;
             continue;
         }
-        if same_name(document, patch, name_of(nodes[row]), name) {
+        if same_name(texts, name_of(nodes[row]), name) {
             return Member::At(row);
         }
-        // a scalar has no children; by this test the next turn does not wait for the span, where the processor foresees the kind
+        // a scalar has no children; where its kind is predicted, the next turn does not wait for the span
         if kind_in(nodes[row][TAGS]) < ARRAY {
             row += 1;
             continue;
@@ -135,33 +129,35 @@ pub fn short(hash: u32) -> u16
 }
 
 // Whether a name is the text that is given by its bytes and has the hash `h`.
-fn is_named<'a>(document: &'a [u8], patch: &'a [u8], own: Name, h: u16, name: &[u8]) -> bool
-    ensures { λ r. ⌜ NamedIs (now (document .entry)) (now (patch .entry)) own h (now (name .entry)) r ⌝ }
+fn is_named<'a>(texts: Texts<'a>, own: Name, h: u16, name: &[u8]) -> bool
+    ensures { λ r. ⌜ r ≡ isNamed (lent texts) own h (now (name .entry)) ⌝ }
 {
     if own.hash != h {
         return false;
     }
-    spells(document, patch, own.text, name)
+    spells(texts, own.text, name)
 }
 
 // The same, of a name that is given by its bytes, each of which is a character.
 pub fn find_ascii<'a>(
+    texts: Texts<'a>,
     nodes: &[Node],
-    document: &'a [u8],
-    patch: &'a [u8],
     start: usize,
     end: usize,
     name: &[u8],
 ) -> Member
-    ensures { λ r. ⌜ FindAsciiIs (now (document .entry)) (now (patch .entry)) (now (nodes .entry)) start end (now (name .entry)) r ⌝ }
-    ensures { λ r. ⌜ Between start end (now (nodes .entry)) r ⌝ }
+    ensures { λ r. ⌜ FindAsciiIs (before texts nodes) start end (now (name .entry)) r ⌝ }
 {
     let h = short(hash_ascii(name));
     let stop = limit(nodes, end);
     let mut row = start;
     while row < stop {
-        if is_named(document, patch, name_of(nodes[row]), h, name) {
+        if is_named(texts, name_of(nodes[row]), h, name) {
             return Member::At(row);
+        }
+        if kind_in(nodes[row][TAGS]) < ARRAY {
+            row += 1;
+            continue;
         }
         row = row + 1 + wide(nodes[row][SPAN]);
     }

@@ -5,3 +5,4 @@ pub mod Tape
 pub mod Cell
 pub mod Rows
 pub mod Map
+pub mod Lent

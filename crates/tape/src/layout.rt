@@ -3,6 +3,9 @@
 // A node: eight fields of 16 bits, by their positions.
 pub type Node = [u16; 8];
 
+// The document and the patch.
+pub type Texts<'a> = [&'a [u8]; 2];
+
 // Where its name begins, and the name's bytes.
 pub const NAME_START: usize = 0;
 

@@ -1,7 +1,8 @@
--- `is_named` meets its contract: a text that is the same has the same hash.
+-- `is_named` meets its contract.
 use native.Mathlib.Omega.{arith}
 use borrow.Author.Needs.{needs}
-use Rattle.table.proofs.Search.{other-text}
+use Rattle.tape.specs.Lent.{both}
+use Rattle.table.proofs.Search.{other-named, hash-named}
 use Rattle.table.proofs.find.is_named.Statement.{statement}
 use Rattle.table.proofs.find.is_named.Tie as tie
 
@@ -10,8 +11,8 @@ is-named-spec =
     tie.close
     (tie.spec
     -- returns
-    (λ c. other-text _ (λ e. omega (arith, c .if1 .taken, e)))
+    (λ c. other-named _ _ _ _ (λ e. omega (arith, c .if1 .taken, e)))
     -- spells-requires
     (λ c κs. search needs)
     -- returns-2
-    (λ c hashed is. c .spells .ensures))
+    (λ c. hash-named (both (c .before .before .before .before .args .texts)) (c .before .before .before .before .args .own) _ _ (omega (arith, c .before .if1 .left)) (c .spells .ensures)))

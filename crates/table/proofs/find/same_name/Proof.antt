@@ -1,7 +1,8 @@
--- `same_name` meets its contract: texts that are the same have the same hash.
+-- `same_name` meets its contract.
 use native.Mathlib.Omega.{arith}
 use borrow.Author.Needs.{needs}
-use Rattle.table.proofs.Search.{other-hash}
+use Rattle.tape.specs.Lent.{both}
+use Rattle.table.proofs.Search.{other-named, hash-named}
 use Rattle.table.proofs.find.same_name.Statement.{statement}
 use Rattle.table.proofs.find.same_name.Tie as tie
 
@@ -10,8 +11,8 @@ same-name-spec =
     tie.close
     (tie.spec
     -- returns
-    (λ c. other-hash (λ e. omega (arith, c .if1 .taken, e)))
+    (λ c. other-named _ _ _ _ (λ e. omega (arith, c .if1 .taken, e)))
     -- same-spelling-requires
     (λ c κs. search needs)
     -- returns-2
-    (λ c h i. c .same-spelling .ensures))
+    (λ c. hash-named (both (c .before .before .before .before .args .texts)) (c .before .before .before .before .args .a) _ _ (omega (arith, c .before .if1 .left)) (c .same-spelling .ensures)))
