@@ -28,20 +28,41 @@ childOf at k kids = if ltb k (count kids) then At (childRow at k kids) else Fewe
 abbrev pub ForNode : List Row → ℕ → (Cell → Forest Cell → Type 0) → Type 0
 ForNode nodes at P = (c : Cell) (kids : Forest Cell) → Node nodes at c kids → P c kids
 
--- the answers of `child`, `arity` and `within`
-abbrev pub ChildIs : List Row → ℕ → ℕ → Located → Type 0
-ChildIs nodes at k r = ForNode nodes at (λ c kids. r ≡ childOf at k kids)
+-- ---- whatever the table holds: rows one after another, each the one behind the tree in the row before
+-- n of them lead from a row to another; none of those that are passed is the row `end`, or lies behind it
+pub data Steps (nodes : List Row) (end start : ℕ) : ℕ → ℕ → Type 0 where
+  steps-none : Steps nodes end start 0 start
+  steps-next : {n row : ℕ} → Steps nodes end start n row → row < end → Steps nodes end start (n + 1) (endOf nodes row)
 
-abbrev pub ArityIs : List Row → ℕ → ℕ → Type 0
-ArityIs nodes at r = ForNode nodes at (λ c kids. r ≡ count kids)
+-- the k-th of them behind the row `at`, or how many there are
+pub data ChildRows (nodes : List Row) (at k : ℕ) : Located → Type 0 where
+  child-at : {row : ℕ} → Steps nodes (endOf nodes at) (at + 1) k row → row < endOf nodes at → ChildRows nodes at k (At row)
+  child-fewer : {n last : ℕ} → Steps nodes (endOf nodes at) (at + 1) n last → endOf nodes at ≤ last → n ≤ k → ChildRows nodes at k (Fewer n)
 
-abbrev pub WithinIs : List Row → ℕ → ℕ → Bool → Type 0
-WithinIs nodes at levels r = ForNode nodes at (λ c kids. r ≡ leb (level c (deep kids)) levels)
+pub record ArityRows (nodes : List Row) (at r : ℕ) : Type 0 where
+  pub last : ℕ
+  pub steps : Steps nodes (endOf nodes at) (at + 1) r last
+  pub all : endOf nodes at ≤ last
 
--- whatever the table holds, a child's row is in it, behind its parent's
+-- a child's row is in the table, behind its parent's
 abbrev pub Bounded : List Row → ℕ → ℕ → Located → Type 0
 Bounded nodes at k (At row) = (at < row) × (row < length nodes)
 Bounded nodes at k (Fewer n) = n ≤ k
+
+-- ---- the answers of `child`, `arity` and `within`: whatever the table holds, and where it holds a node in the row
+pub record ChildIs (nodes : List Row) (at k : ℕ) (r : Located) : Type 0 where
+  pub rows : ChildRows nodes at k r
+  pub place : Bounded nodes at k r
+  pub held : ForNode nodes at (λ c kids. r ≡ childOf at k kids)
+
+pub record ArityIs (nodes : List Row) (at r : ℕ) : Type 0 where
+  pub rows : ArityRows nodes at r
+  pub few : r ≤ length nodes
+  pub held : ForNode nodes at (λ c kids. r ≡ count kids)
+
+-- where the table holds no node in the row, the answer is free
+abbrev pub WithinIs : List Row → ℕ → ℕ → Bool → Type 0
+WithinIs nodes at levels r = ForNode nodes at (λ c kids. r ≡ leb (level c (deep kids)) levels)
 
 -- how many rows are looked at together
 abbrev pub block : ℕ

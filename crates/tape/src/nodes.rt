@@ -12,7 +12,7 @@ ghost use lib.ListN.{length, getD, set};
 ghost use mathlib.Core.List.{[]};
 ghost use Rattle.tape.specs.Layout.{values};
 ghost use Rattle.tape.specs.Fields.{kindOf, spanOf, withSpan};
-ghost use Rattle.tape.specs.Rows.{endOf, ChildIs, ArityIs, WithinIs, Bounded, LeavesIs};
+ghost use Rattle.tape.specs.Rows.{endOf, ChildIs, ArityIs, WithinIs, LeavesIs};
 
 // The kind of the node in a row, and 0 behind the table.
 pub fn kind(nodes: &[Node], row: usize) -> u16
@@ -95,7 +95,6 @@ pub enum Located {
 // The k-th child of the node in the row `at`.
 pub fn child(nodes: &[Node], at: usize, k: usize) -> Located
     ensures { λ r. ⌜ ChildIs (now (nodes .entry)) at k r ⌝ }
-    ensures { λ r. ⌜ Bounded (now (nodes .entry)) at k r ⌝ }
 {
     if nodes.len() <= at {
         return Located::Fewer(0);
@@ -121,7 +120,6 @@ pub fn child(nodes: &[Node], at: usize, k: usize) -> Located
 // How many children the node in the row `at` has.
 pub fn arity(nodes: &[Node], at: usize) -> usize
     ensures { λ r. ⌜ ArityIs (now (nodes .entry)) at r ⌝ }
-    ensures { λ r. ⌜ r ≤ length (now (nodes .entry)) ⌝ }
 {
     if nodes.len() <= at {
         return 0;
