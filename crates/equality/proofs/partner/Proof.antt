@@ -1,6 +1,8 @@
 -- `partner` meets its contract, by its two tests.
+use mathlib.Core.Path.{_∙_, ap}
 use borrow.Author.Needs.{needs}
-use Rattle.equality.proofs.PartnerLaws.{partner-element, partner-in-step, partner-sought}
+use Rattle.tape.specs.Fields.{Row, nameOf}
+use Rattle.equality.proofs.PartnerLaws.{name-loaded, partner-element, partner-in-step, partner-sought}
 use Rattle.equality.proofs.partner.Statement.{statement}
 use Rattle.equality.proofs.partner.Tie as tie
 
@@ -10,19 +12,9 @@ partner-spec =
     (tie.spec
     -- returns
     (λ c hints. partner-element (c .if1 .taken))
-    -- load-requires
-    (λ c κs. search needs)
-    -- load-requires-2
-    (λ c κs. search needs)
-    -- same-name-requires
-    (λ c κs. search needs)
     -- returns-2
     (λ c hints.
-    let l = c .before .before .before in
-    partner-in-step (l .before .if1 .left) (l .load .ensures) (c .before .before .load2 .ensures) (c .before .same-name .ensures) (c .if2 .taken))
-    -- sought-requires
-    (λ c κs. search needs)
+    partner-in-step (c .if1 .left) (c .name-of .ensures ∙ ap nameOf (c .load .ensures) ∙ name-loaded _ _) (c .name-of2 .ensures ∙ ap nameOf (c .load2 .ensures) ∙ name-loaded _ _)
+    (c .same-name .ensures) (c .if2 .taken))
     -- returns-3
-    (λ c hints.
-    let l = c .before .before .before .before in
-    partner-sought (l .before .if1 .left) (l .load .ensures) (c .sought .ensures hints)))
+    (λ c hints. partner-sought (c .if1 .left) (c .name-of .ensures ∙ ap nameOf (c .load .ensures) ∙ name-loaded _ _) (c .sought .ensures hints)))
