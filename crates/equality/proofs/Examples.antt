@@ -117,7 +117,14 @@ compute-numbers = tt
 -- a container has no text of its own
 container-fits : {kind : ℕ} → arrayKind ≤ kind → LabelFits texts kind noText
 container-fits h =
-    record { number = other-fits (λ e. omega arith); string = record { form = λ e. absurd (omega arith) }; verbatim = record { is = λ e. absurd (omega arith) } }
+    record {
+      number = other-fits (λ e. omega arith);
+      string = record { form = λ e. absurd (omega arith) };
+      verbatim = record {
+        is = λ e. absurd
+            (omega arith);
+      };
+    }
 
 name-fits : {name : Name} → name .hash ≡ shortHash (hash (nameText texts name))
     → writeCharacters (nameText texts name) ≡ partOf texts (name .text) → NameFits texts name

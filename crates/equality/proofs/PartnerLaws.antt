@@ -25,7 +25,8 @@ use Rattle.table.proofs.Search.{named-hashed}
 use Rattle.index.specs.Members.{Child, NotedIs, LookupIs, noted, not-found}
 use Rattle.equality.specs.Compare.{Hints, SoughtIs, searched, hinted, PartnerIs, element, in-step, sought, EqualIs}
 use Rattle.equality.proofs.MatchLaws.{agree, partner-find, inside, partner-there, agree-element, agree-member, agree-alone}
-use Rattle.equality.proofs.SiblingLaws.{Siblings, siblings-value, siblings-name, siblings-hashed, siblings-asked, Children, children-child, member-found, member-missing}
+use Rattle.equality.proofs.SiblingLaws.{Siblings, siblings-value, siblings-name, siblings-hashed, siblings-asked}
+use Rattle.equality.proofs.SiblingLaws.{Children, children-child, member-found, member-missing}
 use Rattle.tape.specs.Lent.{Texts, Table}
 
 -- the name in a row, whatever is said to stand behind the table
@@ -39,8 +40,10 @@ module _ {w : Table} {index : List ℕ} {top other end : ℕ} {name : Name} wher
   sought-hinted hints h pair (noted x row place few low told) e =
       let to : row ≡ pair = cc in
       let parent : top + (other - top) ≡ other = omega arith in
-      let child : Child (w .nodes) other row = subst (Child (w .nodes) other) (sym place) (subst (λ o. Child (w .nodes) o (top + x)) parent (hints .right h .child x (other - top) few (told .parent))) in
-      subst (λ p. SoughtIs w other end name (At p)) to (hinted child (ap (λ n. sameName (w .texts) n name) (ap (λ r. nameOf (getD (w .nodes) r [])) place ∙ sym (name-loaded (w .nodes) (top + x))) ∙ told .named))
+      let child : Child (w .nodes) other row = subst (Child (w .nodes) other) (sym place)
+      (subst (λ o. Child (w .nodes) o (top + x)) parent (hints .right h .child x (other - top) few (told .parent))) in
+      subst (λ p. SoughtIs w other end name (At p)) to (hinted child (ap (λ n. sameName (w .texts) n name)
+      (ap (λ r. nameOf (getD (w .nodes) r [])) place ∙ sym (name-loaded (w .nodes) (top + x))) ∙ told .named))
   sought-hinted hints h pair not-found e = absurd (let z : _≡_ {A = ℕ} 0 1 = cc in omega arith)
 
 -- ---- each way out of `partner`
@@ -65,33 +68,40 @@ agreeing T object all f g = agree object (members T all) (members T f) (members 
 
 -- two trees whose names are the same
 same-names : {w : Table} {row end next stop : ℕ} {c : Cell} {ks rest : Forest Cell} {d : Cell} {ds after : Forest Cell}
-    → Siblings w row end (tree c ks rest) → Siblings w next stop (tree d ds after) → sameName (w .texts) (nameOf (getD (w .nodes) row [])) (nameOf (getD (w .nodes) next [])) ≡ true
+    → Siblings w row end (tree c ks rest) → Siblings w next stop (tree d ds after) → sameName (w .texts) (nameOf (getD (w .nodes) row []))
+    (nameOf (getD (w .nodes) next [])) ≡ true
     → nameText (w .texts) (c .name) ≡ nameText (w .texts) (d .name)
 same-names {w} x y same =
-    sameText-true _ _ (rw (siblings-name x, siblings-name y) at (sym (named-hashed (w .texts) _ _ _ (siblings-hashed x) (siblings-hashed y .is)) ∙ same))
+    sym (ap (nameText (w .texts)) (siblings-name x))
+    ∙ sameText-true _ _ (sym (named-hashed (w .texts) _ _ _ (siblings-hashed x) (siblings-hashed y .is)) ∙ same)
+    ∙ ap (nameText (w .texts)) (siblings-name y)
 
 -- ---- a turn: the first tree that is left of one, and what `partner` answers for it. Of the other, whose trees are `all`, so many are passed, and a
 -- tree is left too.
 module _ {w : Table} {other row end next stop : ℕ} {all : Forest Cell} (second : Children w other stop all)
     {c : Cell} {ks rest : Forest Cell} (x : Siblings w row end (tree c ks rest))
     {d : Cell} {ds after : Forest Cell} (y : Siblings w next stop (tree d ds after)) where
-  sought-name : {q : Member} → FindIs w (other + 1) stop (nameOf (getD (w .nodes) row [])) q → Found (w .texts) (other + 1) all (nameText (w .texts) (c .name)) q
+  sought-name : {q : Member} → FindIs w (other + 1) stop (nameOf (getD (w .nodes) row [])) q → Found (w .texts) (other + 1) all
+      (nameText (w .texts) (c .name)) q
   sought-name {q} f =
-      subst (λ n. Found (w .texts) (other + 1) all (nameText (w .texts) n) q) (siblings-name x) (f .held all (siblings-asked (second .siblings)) (siblings-hashed x))
+      subst (λ n. Found (w .texts) (other + 1) all (nameText (w .texts) n) q) (siblings-name x)
+      (f .held all (siblings-asked (second .siblings)) (siblings-hashed x))
 
   pub alone : (o : Bool) (q : Member) → PartnerIs w other stop row next o q → q ≡ Missing
       → agreeing (w .texts) o all (tree c ks rest) (tree d ds after) ≡ false
   unfolding mapForest
   alone true q (sought (searched f)) e =
       let no-partner = member-missing (second .siblings) (subst (Found (w .texts) (other + 1) all (nameText (w .texts) (c .name))) e (sought-name f)) in
-      agree-alone (members (w .texts) all) (entryOf (w .texts) c) (members (w .texts) ks) (members (w .texts) rest) (entryOf (w .texts) d) (members (w .texts) ds) (members (w .texts) after) no-partner
+      agree-alone (members (w .texts) all) (entryOf (w .texts) c) (members (w .texts) ks) (members (w .texts) rest) (entryOf (w .texts) d)
+      (members (w .texts) ds) (members (w .texts) after) no-partner
   alone true q (sought (hinted k same)) e = absurd (let z : _≡_ {A = ℕ} 0 1 = cc in omega arith)
   alone true q (in-step same) e = absurd (let z : _≡_ {A = ℕ} 0 1 = cc in omega arith)
   alone false q element e = absurd (let z : _≡_ {A = ℕ} 0 1 = cc in omega arith)
 
   module _ (levels : ℕ) (low : depth (meant (w .texts) c ks) ≤ levels) (pair : ℕ) (r : Bool) (compared : EqualIs w row pair levels r)
       (passed : ℕ) (here : from passed all ≡ tree d ds after) where
-    still : (k : ℕ) {p : Cell} {ps behind : Forest Cell} → from k all ≡ tree p ps behind → from k (members (w .texts) all) ≡ members (w .texts) (tree p ps behind)
+    still : (k : ℕ) {p : Cell} {ps behind : Forest Cell} → from k all ≡ tree p ps behind → from k (members (w .texts) all) ≡ members (w .texts)
+        (tree p ps behind)
     still k is = sym (map-from (entryOf (w .texts)) k all) ∙ ap (members (w .texts)) is
 
     -- a member against the one of its name
@@ -100,8 +110,10 @@ module _ {w : Table} {other row end next stop : ℕ} {all : Forest Cell} (second
         → agreeing (w .texts) true all (tree c ks rest) (tree d ds after) ≡ r && agreeing (w .texts) true all rest after
     unfolding mapForest
     by-name distinct p ps behind is there =
-        let apart = inside (find (nameText (w .texts) (c .name)) (members (w .texts) all)) distinct (sym (partner-find (nameText (w .texts) (c .name)) (members (w .texts) all)) ∙ is) in
-        agree-member (members (w .texts) all) (entryOf (w .texts) c) (members (w .texts) ks) (members (w .texts) rest) (entryOf (w .texts) d) (members (w .texts) ds) (members (w .texts) after)
+        let apart = inside (find (nameText (w .texts) (c .name)) (members (w .texts) all)) distinct
+        (sym (partner-find (nameText (w .texts) (c .name)) (members (w .texts) all)) ∙ is) in
+        agree-member (members (w .texts) all) (entryOf (w .texts) c) (members (w .texts) ks) (members (w .texts) rest) (entryOf (w .texts) d)
+        (members (w .texts) ds) (members (w .texts) after)
         (entryOf (w .texts) p) (members (w .texts) ps) (members (w .texts) behind) is
         ∙ ap (λ b. b && agreeing (w .texts) true all rest after) (sym (compared c ks p ps (siblings-value x) there low apart))
 
@@ -126,6 +138,7 @@ module _ {w : Table} {other row end next stop : ℕ} {all : Forest Cell} (second
         at-place distinct n p ps behind is (sym (same-names z x same)) (at-pair e (siblings-value z))
     paired true distinct q (in-step same) e = at-place distinct passed d ds after here (same-names x y same) (at-pair e (siblings-value y))
     paired false distinct q element e =
-        agree-element (members (w .texts) all) (entryOf (w .texts) c) (members (w .texts) ks) (members (w .texts) rest) (entryOf (w .texts) d) (members (w .texts) ds) (members (w .texts) after)
+        agree-element (members (w .texts) all) (entryOf (w .texts) c) (members (w .texts) ks) (members (w .texts) rest) (entryOf (w .texts) d)
+        (members (w .texts) ds) (members (w .texts) after)
         ∙ ap (λ b. b && agreeing (w .texts) false all rest after)
         (sym (compared c ks d ds (siblings-value x) (at-pair e (siblings-value y)) low (inside passed distinct (still passed here))))

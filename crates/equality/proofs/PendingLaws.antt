@@ -20,7 +20,7 @@ use Rattle.equality.specs.Compare.{PartnerIs, EqualIs}
 use Rattle.equality.proofs.MatchLaws.{agree-end, agree-less, agree-more}
 use Rattle.equality.proofs.SiblingLaws.{Siblings, Children, siblings-none, siblings-first, siblings-next}
 use Rattle.equality.proofs.PartnerLaws.{agreeing, alone, paired}
-use Rattle.tape.specs.Lent.{Texts, Table, valuesOf}
+use Rattle.tape.specs.Lent.{Texts, Table}
 
 module _ (T : Texts) (c : Cell) (kids rest : Forest Cell) where
   depth-first : depth (meant T c kids) ≤ depths (members T (tree c kids rest))

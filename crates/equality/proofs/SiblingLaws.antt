@@ -112,7 +112,8 @@ module _ {w : Table} where
 
   pub children-child : {C : Type 0} {other end row : ℕ} {f : Forest Cell} → Children w other end f → Child (w .nodes) other row
       → ((k : ℕ) (c : Cell) (kids after : Forest Cell) → from k f ≡ tree c kids after → Siblings w row end (tree c kids after) → C) → C
-  children-child {other = other} {row = row} x k then-it = siblings-among (subst (λ e. Among (w .nodes) e row (other + 1)) (x .ends) (k .among)) (x .siblings) then-it
+  children-child {other = other} {row = row} x k then-it = siblings-among (subst (λ e. Among (w .nodes) e row (other + 1)) (x .ends) (k .among)) (x .siblings)
+      then-it
 
   -- ---- a member found among them by its name
   module _ {start end : ℕ} {f : Forest Cell} (s : Siblings w start end f) where
@@ -120,7 +121,8 @@ module _ {w : Table} where
     siblings-asked = record { held = s .left .held; ends = s .left .ends; sound = s .sound }
 
     pub member-found : {C : Type 0} {name : Text} {row : ℕ} → Found (w .texts) start f name (At row)
-        → ((c : Cell) (kids after : Forest Cell) → partner true name (members (w .texts) f) ≡ members (w .texts) (tree c kids after) → NodeHeld w row c kids → C)
+        → ((c : Cell) (kids after : Forest Cell) → partner true name (members (w .texts) f) ≡ members (w .texts) (tree c kids after)
+        → NodeHeld w row c kids → C)
         → C
     unfolding _⧺_
     member-found {name = name} (found k row e few place) then-it =
@@ -128,7 +130,8 @@ module _ {w : Table} where
         let cut : from k f ≡ tree (nth t k f .root) (nth t k f .kids) (from (suc k) f) = from-nth t k f few in
         let here : Siblings w row end (from k f) = subst (λ n. Siblings w n end (from k f)) (sym place) (siblings-from k s) in
         then-it (nth t k f .root) (nth t k f .kids) (from (suc k) f)
-        (partner-find name (members (w .texts) f) ∙ ap (λ n. from n (members (w .texts) f)) e ∙ sym (map-from (entryOf (w .texts)) k f) ∙ ap (members (w .texts)) cut)
+        (partner-find name (members (w .texts) f) ∙ ap (λ n. from n (members (w .texts) f)) e ∙ sym (map-from (entryOf (w .texts)) k f) ∙ ap
+        (members (w .texts)) cut)
         (siblings-value (subst (Siblings w row end) cut here))
 
     pub member-missing : {name : Text} → Found (w .texts) start f name Missing → partner true name (members (w .texts) f) ≡ none

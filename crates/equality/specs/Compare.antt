@@ -19,6 +19,7 @@ use Rattle.table.specs.declared.find.Member.{Member}
 use Rattle.table.specs.declared.find.Member.the-variants.{At}
 use Rattle.index.specs.Members.{Child, Parents}
 use Rattle.tape.specs.Lent.{Texts, Table}
+use Rattle.equality.specs.declared.Pair.{Pair}
 
 -- ---- two labels by their rows
 -- a row of one of the seven kinds; where it is a number's, the number is within the limits
@@ -47,6 +48,9 @@ pub data PartnerIs (w : Table) (other end row next : ℕ) : Bool → Member → 
   element : PartnerIs w other end row next false (At next)
   in-step : sameName (w .texts) (nameOf (getD (w .nodes) row [])) (nameOf (getD (w .nodes) next [])) ≡ true → PartnerIs w other end row next true (At next)
   sought : {r : Member} → SoughtIs w other end (nameOf (getD (w .nodes) row [])) r → PartnerIs w other end row next true r
+
+abbrev pub PartnerOf : Table → Pair → ℕ → ℕ → Member → Type 0
+PartnerOf w pair row next r = PartnerIs w (pair .other) (pair .end) row next (pair .object) r
 
 -- ---- two values
 -- whether the values are equal that the table holds in two rows, whatever they are, if the first nests at most so many containers and no object

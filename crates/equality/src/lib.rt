@@ -1,5 +1,6 @@
-// Equality of two values of the node table: document 01, "Walking and the six operations". Types are told apart first; strings are compared by
-// their unescaped text, numbers by exact value, arrays in order, and objects by name in any order.
+// Equality of two values of the node table: document 01, "Walking and the six operations". Types are told apart
+// first; strings are compared by their unescaped text, numbers by exact value, arrays in order, and objects by name
+// in any order.
 use decimal::same_number;
 use index::SLOTS;
 use index::index_tree;
@@ -19,7 +20,7 @@ use tape::nodes::span;
 ghost use Prim.Native.Nat.{_<_};
 ghost use lib.ListN.{length};
 ghost use Rattle.tape.specs.Lent.{lent, before};
-ghost use Rattle.equality.specs.Compare.{SameLabelIs, Hints, SoughtIs, PartnerIs, EqualIs};
+ghost use Rattle.equality.specs.Compare.{SameLabelIs, Hints, SoughtIs, PartnerOf, EqualIs};
 
 // Whether two nodes have the same label.
 fn same_label<'a>(texts: Texts<'a>, a: Node, b: Node) -> bool
@@ -40,8 +41,8 @@ fn same_label<'a>(texts: Texts<'a>, a: Node, b: Node) -> bool
     true
 }
 
-// The member of a name among the children of the node in the row `other`, which end before the row `end`. Where the index of the tree in the row
-// `top` has it, nothing is searched; 0 stands for no index.
+// The member of a name among the children of the node in the row `other`, which end before the row `end`. Where the
+// index of the tree in the row `top` has it, nothing is searched; 0 stands for no index.
 fn sought<'a>(
     texts: Texts<'a>,
     nodes: &[Node],
@@ -63,7 +64,8 @@ fn sought<'a>(
     Member::At(pair)
 }
 
-// Two containers: the first one's children stand in step with the second's, which is in the row `other` and ends before the row `end`.
+// Two containers: the first one's children stand in step with the second's, which is in the row `other` and ends
+// before the row `end`.
 struct Pair {
     top: usize,
     object: bool,
@@ -71,8 +73,9 @@ struct Pair {
     end: usize,
 }
 
-// The row of what the child in `row` is compared with. In an array that is what stands in the row `next`; in an object, the member of its name among
-// the children of the node in the row `other`. Where both objects have the same order it stands in the row `next` too, so that row is tried first.
+// The row of what the child in `row` is compared with. In an array that is what stands in the row `next`; in an
+// object, the member of its name among the children of the node in the row `other`. Where both objects have the same
+// order it stands in the row `next` too, so that row is tried first.
 fn partner<'a>(
     texts: Texts<'a>,
     nodes: &[Node],
@@ -82,7 +85,7 @@ fn partner<'a>(
     next: usize,
 ) -> Member
     requires { ⌜ pair .other < length (now nodes) ⌝ }
-    ensures { λ r. ⌜ (Hints (now (nodes .entry)) (now (index .entry)) (pair .top) → PartnerIs (before texts nodes) (pair .other) (pair .end) row next (pair .object) r) ⌝ }
+    ensures { λ r. ⌜ (Hints (now (nodes .entry)) (now (index .entry)) (pair .top) → PartnerOf (before texts nodes) pair row next r) ⌝ }
 {
     if !pair.object {
         return Member::At(next);
@@ -94,9 +97,10 @@ fn partner<'a>(
     sought(texts, nodes, index, pair.top, pair.other, pair.end, name)
 }
 
-// Whether the values in the rows `at` and `other` are equal, of which the first nests at most `levels` containers, and no object of the second has
-// two members of one name. The children of both are passed in step, those of an object too: two containers have as many children if both end
-// together. `top` is the row of an indexed tree that the second is part of, or 0.
+// Whether the values in the rows `at` and `other` are equal, of which the first nests at most `levels` containers,
+// and no object of the second has two members of one name. The children of both are passed in step, those of an
+// object too: two containers have as many children if both end together. `top` is the row of an indexed tree that the
+// second is part of, or 0.
 fn equal<'a>(
     texts: Texts<'a>,
     nodes: &[Node],
@@ -152,8 +156,8 @@ fn equal<'a>(
 // A value with so many nodes below it is indexed before it is compared.
 const INDEXED: usize = 64;
 
-// Whether the values in the rows `at` and `other` are equal. Where the second is large it is indexed first, so that members are found without a
-// search in whatever order they stand. What the index holds afterwards is free.
+// Whether the values in the rows `at` and `other` are equal. Where the second is large it is indexed first, so that
+// members are found without a search in whatever order they stand. What the index holds afterwards is free.
 pub fn compare<'a>(
     texts: Texts<'a>,
     nodes: &[Node],

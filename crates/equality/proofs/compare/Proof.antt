@@ -9,9 +9,25 @@ pub compare-spec : {M : Type 1} → statement M
 compare-spec =
     tie.close
     (tie.spec
+    -- span-requires
+    (λ c κs. search needs)
+    -- equal-requires
+    (λ c κs. search needs)
+    -- same-length
+    (λ c. search needs)
     -- returns
     (λ c. c .equal .ensures no-hints)
+    -- equal-requires-2
+    (λ c κs. search needs)
+    -- same-length-2
+    (λ c. search needs)
     -- returns-2
     (λ c. c .equal2 .ensures no-hints)
+    -- index-tree-requires
+    (λ c κs. search needs)
+    -- equal-requires-3
+    (λ c κs. search needs)
+    -- same-length-3
+    (λ c. search needs)
     -- returns-3
-    (λ c. c .equal3 .ensures (record { right = λ _. c .index-tree .ensures .parents (omega arith) })))
+    (λ c. c .equal3 .ensures (record { right = λ _. c .before .before .before .before .index-tree .ensures .parents (omega arith) })))

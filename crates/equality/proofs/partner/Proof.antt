@@ -12,9 +12,30 @@ partner-spec =
     (tie.spec
     -- returns
     (λ c hints. partner-element (c .if1 .taken))
+    -- load-requires
+    (λ c κs. search needs)
+    -- name-of-requires
+    (λ c κs. search needs)
+    -- load-requires-2
+    (λ c κs. search needs)
+    -- name-of-requires-2
+    (λ c κs. search needs)
+    -- same-name-requires
+    (λ c κs. search needs)
     -- returns-2
     (λ c hints.
-    partner-in-step (c .if1 .left) (c .name-of .ensures ∙ ap nameOf (c .load .ensures) ∙ name-loaded _ _) (c .name-of2 .ensures ∙ ap nameOf (c .load2 .ensures) ∙ name-loaded _ _)
-    (c .same-name .ensures) (c .if2 .taken))
+    partner-in-step (c .before .before .before .before .before .before .if1 .left)
+    (c .before .before .before .before .name-of .ensures ∙ ap nameOf (c .before .before .before .before .before .load .ensures) ∙ name-loaded
+    (c .before .before .before .before .before .before .before .before .before .args .nodes .now)
+    (c .before .before .before .before .before .before .before .before .before .args .row))
+    (c .before .before .name-of2 .ensures ∙ ap nameOf (c .before .before .before .load2 .ensures) ∙ name-loaded
+    (c .before .before .before .before .before .before .before .before .before .args .nodes .now)
+    (c .before .before .before .before .before .before .before .before .before .args .next))
+    (c .before .same-name .ensures) (c .if2 .taken))
+    -- sought-requires
+    (λ c κs. search needs)
     -- returns-3
-    (λ c hints. partner-sought (c .if1 .left) (c .name-of .ensures ∙ ap nameOf (c .load .ensures) ∙ name-loaded _ _) (c .sought .ensures hints)))
+    (λ c hints. partner-sought (c .before .before .before .before .before .before .before .if1 .left)
+    (c .before .before .before .before .before .name-of .ensures ∙ ap nameOf (c .before .before .before .before .before .before .load .ensures) ∙ name-loaded
+    (c .before .before .before .before .before .before .before .before .before .before .args .nodes .now)
+    (c .before .before .before .before .before .before .before .before .before .before .args .row)) (c .sought .ensures hints)))
