@@ -41,8 +41,7 @@ pub placed-as : {bytes others : Bytes} {at : ℕ} {before after : Bytes} {next :
     → Placed bytes at before after next
 placed-as {at = at} {before} e p = record {
   next-is = p .next-is ∙ ap (λ b. min (at + length b) (length before)) (sym e);
-  after-is = p .after-is
-      ∙ ap (sets before at) (sym e);
+  after-is = p .after-is ∙ ap (sets before at) (sym e);
 }
 
 -- a part that another crate lays down, in its form

@@ -14,10 +14,10 @@ use Rattle.spec.specs.Write.{writeItems, write}
 use Rattle.tape.specs.Layout.{arrayKind, objectKind}
 use Rattle.tape.specs.Fields.{Row, spanOf}
 use Rattle.tape.specs.declared.fields.Cell.{Cell}
-use Rattle.tape.specs.Cell.{Held}
+use Rattle.tape.specs.Cell.{rowOf, Held}
 use Rattle.tape.specs.Rows.{endOf}
 use Rattle.tape.proofs.Cells.{formed-fit}
-use Rattle.tape.proofs.Rows.{cell-here, end-here, no-node}
+use Rattle.tape.proofs.Rows.{row-here, end-here, no-node}
 use Rattle.tape.proofs.Held.{held-node, held-kids, held-next}
 use Rattle.table.specs.Meaning.{members, meant}
 use Rattle.table.specs.All.{all-tree}
@@ -51,15 +51,11 @@ module _ (nodes : List Row) where
       let e : at + suc n ≡ at + 1 + n = omega arith in
       rw (rows-first at n, e) (omega arith)
 
--- the same of a cell
-abbrev cellBytes : Cell → ℕ
-cellBytes c = c .name .text .length + c .value .length + 9
-
 -- the rows of a node that the table holds
 node-rows : {nodes : List Row} {at : ℕ} {c : Cell} {kids rest : Forest Cell} → Held nodes at (tree c kids rest)
-    → rowsBytes nodes at (suc (size kids)) ≡ cellBytes c + rowsBytes nodes (at + 1) (size kids)
+    → rowsBytes nodes at (suc (size kids)) ≡ rowBytes (rowOf c kids) + rowsBytes nodes (at + 1) (size kids)
 node-rows {nodes} {at} {c} {kids} h =
-    rows-first nodes at (size kids) ∙ ap (λ (d : Cell). cellBytes d + rowsBytes nodes (at + 1) (size kids)) (cell-here (held-node h) [])
+    rows-first nodes at (size kids) ∙ ap (λ r. rowBytes r + rowsBytes nodes (at + 1) (size kids)) (row-here (held-node h) [])
 
 -- ---- a value
 module _ (W : Table) where
@@ -74,14 +70,13 @@ module _ (W : Table) where
       go (no l) = omega (
         arith,
         simp length-append at (ap length (write-container (W .texts) c kids (formed-fit (h .formed)) (omega arith))),
-        below
-            (eqb (c .kind) objectKind),
+        below (eqb (c .kind) objectKind),
       )
 
   -- the values of a container: each takes its own row for what stands before it
   items-short : {at : ℕ} (object first : Bool) (f : Forest Cell) → Held (W .nodes) at f → Sound (W .texts) f
       → length (writeItems object first (members (W .texts) f)) ≤ rowsBytes (W .nodes) at (size f)
-  unfolding size
+  unfolding size rowOf
   items-short object first none h s = omega (arith, ap length (items-none (W .texts) object first))
   items-short {at} object first (tree c kids rest) h (all-tree fits sk sr) =
       let value = value-short h (fits .label .verbatim) (λ b. items-short b true kids (held-kids h) sk) in
@@ -98,8 +93,7 @@ module _ (W : Table) where
         ap (rowsBytes (W .nodes) at) whole,
         ap (λ n. rowsBytes (W .nodes) n (size rest)) place,
         node-rows h,
-        prefix-short (W .texts) object first
-            (c .name),
+        prefix-short (W .texts) object first (c .name),
       )
 
   writable-bytes : {at levels : ℕ} (c : Cell) (kids : Forest Cell) → Writable W at levels c kids
@@ -134,6 +128,7 @@ module _ {nodes : List Row} {at : ℕ} where
     -- where the loop ends, all rows of the node are counted
     pub summed-all : {end room : ℕ} → end ≡ endOf nodes at → end ≤ row → row ≤ max at end → total ≤ room
         → (T : Texts) (levels : ℕ) → ForWritable (record { texts = T; nodes = nodes }) at levels (λ v. length (write v) ≤ room)
+    unfolding rowOf
     summed-all e l m h T levels c kids w =
         let held = w .node .held in
         let all : row - at ≡ suc (size kids) = omega (arith, end-here (held-node held)) in

@@ -35,7 +35,7 @@ module _ {W : Table} {at levels : ℕ} {c : Cell} {kids : Forest Cell} (w : Writ
   kind-is : (tag : ℕ) → tag ≡ kindOf (getD (W .nodes) at []) → tag ≡ c .kind
   kind-is tag e = e ∙ kind-here (held-node (w .node .held))
 
-  -- no node stands behind the column, and with no levels left there is no container
+  -- no node stands behind the table, and with no levels left there is no container
   pub none-there : {C : Type 0} → length (W .nodes) ≤ at → C
   none-there h = absurd (omega (arith, inside-here (held-node (w .node .held))))
 
