@@ -22,6 +22,7 @@ walk-spec =
     -- returns
     (λ c. walk-root _ (c .before .before .before .part .ensures) _ (c .before .before .first .ensures) (c .enum-told .given .1))
     -- returns-2
-    (λ c. walk-at _ (c .before .before .before .before .before .part .ensures) _ (c .before .before .before .before .first .ensures) _ (c .before .before .at .given .1) (c .walk-from .ensures))
+    (λ c. walk-at _ (c .before .before .before .before .before .part .ensures) _ (c .before .before .before .before .first .ensures) _
+    (c .before .before .at .given .1) (c .walk-from .ensures))
     -- returns-3
     (λ c. walk-malformed _ (c .before .before .before .part .ensures) _ (c .before .before .first .ensures) (c .enum-told2 .given .1)))
