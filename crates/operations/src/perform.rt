@@ -35,7 +35,13 @@ fn add<'a>(texts: Texts<'a>, nodes: &mut [Node], used: usize, row: usize, path: 
 }
 
 // Section 4.3: the value at `path` is replaced.
-fn replace<'a>(texts: Texts<'a>, nodes: &mut [Node], used: usize, row: usize, path: Spelling) -> Altered
+fn replace<'a>(
+    texts: Texts<'a>,
+    nodes: &mut [Node],
+    used: usize,
+    row: usize,
+    path: Spelling,
+) -> Altered
     ensures { λ r. ⌜ OperationIs (before texts nodes) (now (nodes .exit)) used row path Operation.replace r ⌝ }
 {
     let Member::At(value) = member(texts, nodes, row, b"value") else {
@@ -45,7 +51,13 @@ fn replace<'a>(texts: Texts<'a>, nodes: &mut [Node], used: usize, row: usize, pa
 }
 
 // Section 4.4: the value at `from` is removed, then added at `path`.
-fn move_to<'a>(texts: Texts<'a>, nodes: &mut [Node], used: usize, row: usize, path: Spelling) -> Altered
+fn move_to<'a>(
+    texts: Texts<'a>,
+    nodes: &mut [Node],
+    used: usize,
+    row: usize,
+    path: Spelling,
+) -> Altered
     ensures { λ r. ⌜ OperationIs (before texts nodes) (now (nodes .exit)) used row path Operation.move r ⌝ }
 {
     let Spelled::As(from) = string_member(texts, nodes, row, b"from") else {
@@ -55,7 +67,13 @@ fn move_to<'a>(texts: Texts<'a>, nodes: &mut [Node], used: usize, row: usize, pa
 }
 
 // Section 4.5: the value at `from` is added at `path`.
-fn copy<'a>(texts: Texts<'a>, nodes: &mut [Node], used: usize, row: usize, path: Spelling) -> Altered
+fn copy<'a>(
+    texts: Texts<'a>,
+    nodes: &mut [Node],
+    used: usize,
+    row: usize,
+    path: Spelling,
+) -> Altered
     ensures { λ r. ⌜ OperationIs (before texts nodes) (now (nodes .exit)) used row path Operation.copy r ⌝ }
 {
     let Spelled::As(from) = string_member(texts, nodes, row, b"from") else {

@@ -1,36 +1,43 @@
--- `perform` meets its contract, by the kind and the path that it finds.
-use Rattle.spec.specs.Bytes.{ascii}
-use Rattle.operations.proofs.PerformLaws.{path-missing, path-found}
+-- `perform` meets its contract, by the operation's kind.
+use native.Mathlib.Omega.{arith}
 use borrow.Author.Needs.{needs}
+use mathlib.Core.Path.{ap}
+use Rattle.spec.specs.Operation as Operation
+use Rattle.shape.specs.Kinds.{kindOutcome}
+use Rattle.operations.proofs.PerformLaws.{path-missing, of-kind, unknown, remove-done}
 use Rattle.operations.proofs.perform.perform.Statement.{statement}
 use Rattle.operations.proofs.perform.perform.Tie as tie
 
 pub perform-spec : {M : Type 1} → statement M
-unfolding ascii
+unfolding kindOutcome
 perform-spec =
     tie.close
     (tie.spec
-    -- kind-of-requires
-    (λ c κs. search needs)
-    -- slice-aggregate-string-member
-    (λ c. search needs)
-    -- string-member-requires
-    (λ c κs. search needs)
-    -- enum-known-path
-    (λ c. search needs)
-    -- enum-told
-    (λ c. search needs)
-    -- same-length
-    (λ c. search needs)
-    -- same-length-2
-    (λ c. search needs)
     -- returns
-    (λ c. path-missing (c .before .before .string-member .ensures) (c .enum-told .given .1))
-    -- of-kind-requires
-    (λ c κs. search needs)
-    -- same-length-3
-    (λ c. search needs)
-    -- same-length-4
-    (λ c. search needs)
+    (λ c. path-missing (c .string-member .ensures) (c .enum-told .given .1))
     -- returns-2
-    (λ c. path-found (c .before .before .before .before .before .before .before .before .before .before .string-member .ensures) _ (c .before .before .before .before .before .before .before .before .path .given .1) (c .before .before .before .before .before .before .before .before .before .before .before .before .before .before .kind-of .ensures) (c .before .before .before .before .of-kind .ensures)))
+    (λ c.
+    of-kind (c .string-member .ensures) (c .kind-of .ensures) Operation.add _ (c .path .given .1) (ap kindOutcome (c .enum-told2 .given .1))
+    (c .add .ensures))
+    -- returns-3
+    (λ c.
+    of-kind (c .string-member .ensures) (c .kind-of .ensures) Operation.remove _ (c .path .given .1) (ap kindOutcome (c .enum-told3 .given .1))
+    (remove-done (c .change-at .ensures)))
+    -- returns-4
+    (λ c.
+    of-kind (c .string-member .ensures) (c .kind-of .ensures) Operation.replace _ (c .path .given .1) (ap kindOutcome (c .enum-told4 .given .1))
+    (c .replace .ensures))
+    -- returns-5
+    (λ c.
+    of-kind (c .string-member .ensures) (c .kind-of .ensures) Operation.move _ (c .path .given .1) (ap kindOutcome (c .enum-told5 .given .1))
+    (c .move-to .ensures))
+    -- returns-6
+    (λ c.
+    of-kind (c .string-member .ensures) (c .kind-of .ensures) Operation.copy _ (c .path .given .1) (ap kindOutcome (c .enum-told6 .given .1))
+    (c .copy .ensures))
+    -- returns-7
+    (λ c.
+    of-kind (c .string-member .ensures) (c .kind-of .ensures) Operation.test _ (c .path .given .1) (ap kindOutcome (c .enum-told7 .given .1))
+    (c .test .ensures))
+    -- returns-8
+    (λ c. unknown (c .string-member .ensures) (c .kind-of .ensures) (ap kindOutcome (c .enum-told8 .given .1))))

@@ -1,5 +1,9 @@
-use Rattle.operations.proofs.AsideLaws.{set-aside}
+-- `set_aside` meets its contract.
+use native.Mathlib.Omega.{arith}
 use borrow.Author.Needs.{needs}
+use mathlib.Core.Path.{_∙_, ap}
+use Rattle.tape.specs.Layout.{scratchRow}
+use Rattle.tape.specs.Columns.{moved}
 use Rattle.operations.proofs.transfers.set_aside.Statement.{statement}
 use Rattle.operations.proofs.transfers.set_aside.Tie as tie
 
@@ -7,15 +11,5 @@ pub set-aside-spec : {M : Type 1} → statement M
 set-aside-spec =
     tie.close
     (tie.spec
-    -- size-requires
-    (λ c κs. search needs)
-    -- slide-requires
-    (λ c κs. search needs)
-    -- slide-requires-2
-    (λ c κs. search needs)
-    -- same-length
-    (λ c. search needs)
-    -- same-length-2
-    (λ c. search needs)
     -- returns
-    (λ c. set-aside _ (c .before .before .before .before .before .before .before .before .size .ensures) (c .before .before .before .before .before .before .slide .ensures) (c .before .before .slide2 .ensures)))
+    (λ c. c .slide .ensures ∙ ap (moved (c .args .nodes .now) scratchRow (c .args .row)) (c .size .ensures)))
