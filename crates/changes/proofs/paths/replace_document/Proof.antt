@@ -1,7 +1,10 @@
-use native.Mathlib.Omega.{arith}
+-- `replace_document` meets its contract.
 use borrow.Author.Needs.{needs}
+use mathlib.Core.Path.{refl}
+use native.Mathlib.Omega.{arith}
 use borrow.Author.Tests.{not-true, not-false}
-use Rattle.changes.proofs.PathLaws.{replace-deep, replace-large, replace-done}
+use Rattle.changes.specs.Rows.{unchanged}
+use Rattle.changes.proofs.PathLaws.{replace-frame, replace-deep, replace-large, replace-done}
 use Rattle.changes.proofs.paths.replace_document.Statement.{statement}
 use Rattle.changes.proofs.paths.replace_document.Tie as tie
 
@@ -14,20 +17,30 @@ replace-document-spec =
     -- same-length
     (λ c. search needs)
     -- returns
-    (λ c. λ D P v d x kids offered. replace-deep d offered (c .before .within .ensures) (not-true _ (c .if1 .taken)))
+    (λ c.
+    record {
+      frame = unchanged refl;
+      held = λ T v d x kids offered. replace-deep offered (c .before .within .ensures) (not-true _ (c .if1 .taken));
+    })
     -- size-requires
     (λ c κs. search needs)
     -- same-length-2
     (λ c. search needs)
     -- returns-2
-    (λ c. λ D P v d x kids offered. replace-large d offered (c .before .before .before .before .within .ensures) (not-false _ (c .before .before .before .if1 .left)) _ (c .before .size .ensures) (omega arith))
+    (λ c.
+    record {
+      frame = unchanged refl;
+      held = λ T v d x kids offered.
+          replace-large offered (c .before .before .before .before .within .ensures) (not-false _ (c .before .before .before .if1 .left)) _ (c .before .size .ensures) (c .if2 .taken);
+    })
     -- splice-requires
-    (λ c κs. search needs)
-    -- splice-requires-2
     (λ c κs. search needs)
     -- same-length-3
     (λ c. search needs)
-    -- same-length-4
-    (λ c. search needs)
     -- returns-3
-    (λ c. λ D P v d x kids offered. replace-done d offered (c .before .before .before .before .before .before .before .before .before .before .before .before .within .ensures) (not-false _ (c .before .before .before .before .before .before .before .before .before .before .before .if1 .left)) _ (c .before .before .before .before .before .before .before .before .before .size .ensures) (omega arith) (c .before .before .before .before .before .before .splice .ensures) (c .before .before .splice2 .ensures)))
+    (λ c.
+    record {
+      frame = replace-frame _ _ _ (c .before .before .before .before .before .before .before .before .before .pre) (c .before .before .before .if2 .left) (c .before .splice .ensures);
+      held = λ T v d x kids offered.
+          replace-done offered (c .before .before .before .before .before .before .before .within .ensures) (not-false _ (c .before .before .before .before .before .before .if1 .left)) _ (c .before .before .before .before .size .ensures) d (c .before .before .before .if2 .left) (c .before .splice .ensures);
+    }))
