@@ -1,3 +1,4 @@
 pub mod SlotLaws
 pub mod BitLaws
 pub mod WayLaws
+pub mod MemberLaws

@@ -1,3 +1,4 @@
 pub mod Slots
 pub mod Bits
 pub mod Ways
+pub mod Members

@@ -3,6 +3,7 @@ use Prim.Native.Nat.{_+_, _%_}
 use mathlib.Core.Path.{refl, ap}
 use Rattle.text.proofs.Auto.{auto}
 use Rattle.text.proofs.LetterLaws.{scalar-text, refused-text}
+use Rattle.index.specs.Bits.{otherHashes}
 use Rattle.index.proofs.BitLaws.{filled-still, filled-end, filled-next}
 use Rattle.index.proofs.bits.refilled.Statement.{statement}
 use Rattle.index.proofs.bits.refilled.Tie as tie
@@ -12,7 +13,7 @@ refilled-spec =
     tie.close
     (tie.spec
     -- returns
-    (λ c. filled-still _ _ _ _ (c .if1 .taken))
+    (λ c. filled-still _ _ _ (c .if1 .taken))
     -- part-requires
     (λ c κs. search auto)
     -- long-requires
@@ -25,21 +26,16 @@ refilled-spec =
     (λ c. search auto)
     -- returns-2
     (λ c.
-    let read = c .before .before in
-    let part = read .before .before in
-    filled-end _ _ _ _ (read .before .long .ensures) (part .part .ensures) (part .before .if1 .left) _
-    (refused-text _ _ _ (read .letter .ensures) _ (c .enum-told .given .1))
+    filled-end _ _ _ (c .before .before .before .long .ensures) (c .before .before .before .before .part .ensures) (c .before .before .before .before .before .if1 .left) _
+    (refused-text _ _ _ (c .before .before .letter .ensures) _ (c .enum-told .given .1))
     refl
     refl)
     -- other-hash-requires
     (λ c κs. search auto)
-    -- add-t13
+    -- add-t12
     (λ c. search auto)
     -- returns-3
     (λ c.
-    let known = c .before .before in
-    let read = known .before .before in
-    let part = read .before .before in
-    filled-next _ _ _ _ (read .before .long .ensures) (part .part .ensures) (part .before .if1 .left) _ _
-    (scalar-text _ _ _ (read .letter .ensures) _ _ (known .next .given .1))
-    (ap (λ n. 0x1000_0000 + n % 0x1000_0000) (c .other-hash .ensures))))
+    filled-next _ _ _ (c .before .before .before .before .before .long .ensures) (c .before .before .before .before .before .before .part .ensures) (c .before .before .before .before .before .before .before .if1 .left) _ _
+    (scalar-text _ _ _ (c .before .before .before .before .letter .ensures) _ _ (c .before .before .next .given .1))
+    (ap (λ n. otherHashes + n % otherHashes) (c .other-hash .ensures))))

@@ -14,8 +14,9 @@ set-slot-spec =
     (tie.spec
     -- narrow-requires
     (λ c κs. search needs)
-    -- mul-index, slice-write-index
+    -- mul-index
     (λ c. search needs)
+    -- slice-write-index
     (λ c. search needs)
     -- same-length
     (λ c. search needs)

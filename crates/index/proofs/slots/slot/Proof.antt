@@ -13,8 +13,9 @@ slot-spec =
     (tie.spec
     -- returns
     (λ c. sym (List·getD-eq-default (c .before .before .args .index .now) 0 (c .if1 .taken)))
-    -- add-wide, shared-slice-read-wide
+    -- mul-wide
     (λ c. search needs)
+    -- shared-slice-read-wide
     (λ c. search needs)
     -- wide-requires
     (λ c κs. search needs)

@@ -4,15 +4,16 @@ use mathlib.Core.Path.{refl, ap, _∙_}
 use native.Mathlib.Omega.{arith}
 use borrow.Author.Needs.{needs}
 use Rattle.tape.specs.Fields.{nameOf}
+use Rattle.tape.specs.Lent.{tableOf}
 use Rattle.index.proofs.WayLaws.{Descending, descending-start, descending-next, descended-none, descended-past}
 use Rattle.index.proofs.ways.descend.Statement.{statement}
 use Rattle.index.proofs.ways.descend.Tie as tie
 
 abbrev Inv-loop : tie.InvT-loop
-Inv-loop document patch index nodes base limit start word at₀ last₀ same₀ bits₀ at last same bits = Descending document patch index nodes base limit start word at last same bits
+Inv-loop texts nodes index base limit start name at₀ last₀ same₀ bits₀ at last same bits = Descending (tableOf texts nodes) index base limit start name at last same bits
 
 abbrev μ-loop : tie.MeasureT-loop
-μ-loop document patch index nodes base limit start word at₀ last₀ same₀ bits₀ at last same bits = limit - last
+μ-loop texts nodes index base limit start name at₀ last₀ same₀ bits₀ at last same bits = limit - last
 
 pub descend-spec : {M : Type 1} → statement M
 descend-spec =
@@ -23,13 +24,13 @@ descend-spec =
     -- hash-bits-requires
     (λ c κs. search needs)
     -- loop-holds
-    (λ c. descending-start _ _ _ _ _ _ _ _ _ (c .hash-bits .ensures) refl (omega arith) (omega arith))
+    (λ c. descending-start _ _ _ _ _ _ _ (c .hash-bits .ensures) refl (omega arith) (omega arith))
     -- slot-requires
     (λ c κs. search needs)
     -- returns
-    (λ c. descended-none _ _ _ _ _ _ _ _ (c .before .before .loop .inv) _ (c .before .slot .ensures) (omega arith))
+    (λ c. descended-none _ _ _ _ _ _ (c .before .before .loop .inv) _ (c .before .slot .ensures) (omega arith))
     -- returns-2
-    (λ c. descended-past _ _ _ _ _ _ _ _ (c .before .before .before .loop .inv) _ (c .before .before .slot .ensures) (omega arith))
+    (λ c. descended-past _ _ _ _ _ _ (c .before .before .before .loop .inv) _ (c .before .before .slot .ensures) (omega arith))
     -- add-load
     (λ c. search needs)
     -- load-requires
@@ -48,9 +49,5 @@ descend-spec =
     (λ c. omega arith)
     -- loop-again
     (λ c.
-    let filled = c .before .before .before in
-    let named = filled .before .before .before in
-    let looked = named .before .before .before .before in
-    let asked = looked .before .before .before .before .before .before .pre in
-    descending-next _ _ _ _ _ _ _ _ (looked .before .loop .inv) _ (looked .slot .ensures) (omega arith) (omega arith) (omega (arith, asked)) _ _ (named .name-of .ensures ∙ ap nameOf (named .before .load .ensures)) (filled .before .before .same-name .ensures) (filled .before .either .ensures)
-    (filled .refilled .ensures) (c .before .branch .ensures) refl refl))
+    descending-next _ _ _ _ _ _ (c .before .before .before .before .before .before .before .before .before .before .before .loop .inv) _ (c .before .before .before .before .before .before .before .before .before .before .slot .ensures) (omega arith) (omega arith) (omega (arith, c .before .before .before .before .before .before .before .before .before .before .before .before .before .before .pre)) _ _
+    (c .before .before .before .before .before .before .name-of .ensures ∙ ap nameOf (c .before .before .before .before .before .before .before .load .ensures)) (c .before .before .before .before .before .same-name .ensures) (c .before .before .before .before .either .ensures) (c .before .before .before .refilled .ensures) (c .before .branch .ensures) refl refl))

@@ -9,10 +9,10 @@ use Rattle.index.proofs.ways.descend_by_hash.Statement.{statement}
 use Rattle.index.proofs.ways.descend_by_hash.Tie as tie
 
 abbrev Inv-loop : tie.InvT-loop
-Inv-loop index nodes base limit start word at₀ last₀ left₀ at last left = (last < limit) × Passing index nodes base limit start word at last left
+Inv-loop nodes index base limit start name at₀ last₀ left₀ at last left = (last < limit) × Passing nodes index base limit start name at last left
 
 abbrev μ-loop : tie.MeasureT-loop
-μ-loop index nodes base limit start word at₀ last₀ left₀ at last left = limit - last
+μ-loop nodes index base limit start name at₀ last₀ left₀ at last left = limit - last
 
 pub descend-by-hash-spec : {M : Type 1} → statement M
 descend-by-hash-spec =
@@ -45,10 +45,8 @@ descend-by-hash-spec =
     -- loop-less
     (λ c. omega arith)
     -- loop-again
-    (λ c.
-    let named = c .before .before .before .before .before in
-    let looked = named .before .before .before .before in (
+    (λ c. (
       omega arith,
-      passing-next (looked .before .loop .inv .1) _ (looked .slot .ensures) (omega arith) (omega arith) (omega arith) (named .name-of .ensures ∙ ap nameOf (named .before .load .ensures))
+      passing-next (c .before .before .before .before .before .before .before .before .before .before .loop .inv .1) _ (c .before .before .before .before .before .before .before .before .before .slot .ensures) (omega arith) (omega arith) (omega arith) (c .before .before .before .before .before .name-of .ensures ∙ ap nameOf (c .before .before .before .before .before .before .load .ensures))
           (λ e. c .before .before .if3 .left e) (omega arith) (c .branch .ensures) refl,
     )))

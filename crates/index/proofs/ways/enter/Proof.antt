@@ -11,13 +11,13 @@ enter-spec =
     tie.close
     (tie.spec
     -- returns
-    (λ c. not-entered _ _ _ _ _ _ _ _ (λ h. omega arith))
+    (λ c. not-entered _ _ _ _ _ _ (λ h. omega arith))
     -- returns-2
-    (λ c. not-entered _ _ _ _ _ _ _ _ (λ h. omega arith))
+    (λ c. not-entered _ _ _ _ _ _ (λ h. omega arith))
     -- sub-new
     (λ c. search needs)
     -- returns-3
-    (λ c. not-entered _ _ _ _ _ _ _ _ (λ h. omega arith))
+    (λ c. not-entered _ _ _ _ _ _ (λ h. omega arith))
     -- bucket-requires
     (λ c κs. search needs)
     -- descend-requires
@@ -28,6 +28,4 @@ enter-spec =
     (λ c. search needs)
     -- returns-4
     (λ c.
-    let sought = c .before .before .before .before in
-    let start = sought .before .before in
-    entered _ _ _ _ _ _ _ _ _ refl (start .bucket .ensures) (sought .descend .ensures) (c .before .before .set-slot .ensures)))
+    entered _ _ _ _ _ _ _ refl (c .before .before .before .before .before .before .bucket .ensures) (c .before .before .before .before .descend .ensures) (c .before .before .set-slot .ensures)))

@@ -32,6 +32,4 @@ enter-by-hash-spec =
     (λ c. search needs)
     -- returns-5
     (λ c.
-    let sought = c .before .before .before .before .before in
-    let start = sought .before .before in
-    entered-by-hash refl (start .bucket .ensures) (sought .descend-by-hash .ensures) (omega arith) (c .before .before .set-slot .ensures)))
+    entered-by-hash refl (c .before .before .before .before .before .before .before .bucket .ensures) (c .before .before .before .before .before .descend-by-hash .ensures) (omega arith) (c .before .before .set-slot .ensures)))
