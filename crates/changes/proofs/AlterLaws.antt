@@ -81,7 +81,8 @@ module _ (w : Table) (c : Cell) (kids : Forest Cell) (fit : Fit c kids) (scalar 
 -- a node that nests no container is one
 alter-scalar : {w : Table} {used row : ℕ} (z : Site w used row 0) {nodes' : List Row} {path : Spelling} {at : ℕ} {change : Change}
     → Alters z nodes' path at change (Refused location-missing)
-alter-scalar {w} z f t ts makes short inside from = answers-refused (scalar-alters w (z .c) (z .kids) (site-fit z) (go (decLt (z .c .kind) arrayKind)) makes t ts)
+alter-scalar {w} z f t ts makes short inside from =
+    answers-refused (scalar-alters w (z .c) (z .kids) (site-fit z) (go (decLt (z .c .kind) arrayKind)) makes t ts)
   where
     go : Dec (z .c .kind < arrayKind) → z .c .kind < arrayKind
     go (yes l) = l
@@ -108,7 +109,8 @@ module _ {w : Table} {p : Parent} {path : Spelling} {at : ℕ} {name : Name} {t 
         frame = changed .frame;
         held = λ z f u us makes short inside from.
             let o = one-left read short inside from end e in
-            let only : atParent f u us (meant (w .texts) (z .c) (z .kids)) ≡ f (nameText (w .texts) name) (meant (w .texts) (z .c) (z .kids)) = rw (o .0, o .1) in
+            let v = meant (w .texts) (z .c) (z .kids) in
+            let only : atParent f u us v ≡ f (nameText (w .texts) name) v = rw (o .0, o .1) in
             same-answers only (changed .held f makes z (read .named .names short inside .token));
       }
 
@@ -263,12 +265,14 @@ module _ {w : Table} {p : Parent} {path : Spelling} {at : ℕ} {name : Name} {en
       let n : ChildOf w p name inner z k = (named, kth, place) in
       let o = atParent f v vs (meant (w .texts) (nth blank k (z .kids) .root) (nth blank k (z .kids) .kids)) in
       let within = next-order (partOf (w .texts) path) at t (read .is) end next e .2 in
-      let answer : Answers (down w p name inner below one-less z k n) nodes' o r = alters (down w p name inner below one-less z k n) f v vs makes short within later in
+      let y = down w p name inner below one-less z k n in
+      let answer : Answers y nodes' o r = alters y f v vs makes short within later in
       let same : atParent f u us (meant (w .texts) (z .c) (z .kids)) ≡ o >>= λ x. ok (put k x (meant (w .texts) (z .c) (z .kids))) =
       rw (more, first) (child-outcome z (nameText (w .texts) name) k below (ap suc one-less) named kth inner place f v vs) in
       same-answers same (up k n o answer)
 
-  back-refused : {nodes' : List Row} {number : ℕ} (z : SiteOf w p) (k : ℕ) (n : ChildOf w p name inner z k) (o : Outcome Value.Value) → Answers (down w p name inner below one-less z k n) nodes' o (Refused number)
+  back-refused : {nodes' : List Row} {number : ℕ} (z : SiteOf w p) (k : ℕ) (n : ChildOf w p name inner z k) (o : Outcome Value.Value)
+      → Answers (down w p name inner below one-less z k n) nodes' o (Refused number)
       → Answers z nodes' (o >>= λ x. ok (put k x (meant (w .texts) (z .c) (z .kids)))) (Refused number)
   back-refused z k n o answer = up-refused z (nameText (w .texts) name) k below (ap suc one-less) (n .0) (n .1) inner (n .2) answer
 

@@ -311,7 +311,8 @@ module _ {w : Table} {p : Parent} {token : Name} {source : ℕ} (k : ℕ) (kind 
       }
 
 -- ---- a child removed and replaced
-module _ {w : Table} {row : ℕ} {token : Name} (s : Child) (is : StepIs w row token s) {used levels : ℕ} (z : Site w used row levels) (t : IsToken (w .texts) token) where
+module _ {w : Table} {row : ℕ} {token : Name} (s : Child) (is : StepIs w row token s) {used levels : ℕ}
+    (z : Site w used row levels) (t : IsToken (w .texts) token) where
   abbrev child-of : Outcome ℕ
   child-of = childAt (nameText (w .texts) token) (meant (w .texts) (z .c) (z .kids))
 

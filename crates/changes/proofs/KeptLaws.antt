@@ -66,7 +66,8 @@ module _ {xs : List Row} where
   -- where the numbers do not fit the list, a splice changes nothing
   pub behind-spliced : (used at removed source n : ℕ) → used ≤ patchRow → usedAfter used removed n ≤ patchRow
       → SameBehind xs (spliced xs used at removed source n)
-  behind-spliced used at removed source n few few-then = go (decLt used (at + removed)) (decLt source used) (decLt source (usedAfter used removed n)) (decLt (length xs) (source + n))
+  behind-spliced used at removed source n few few-then =
+      go (decLt used (at + removed)) (decLt source used) (decLt source (usedAfter used removed n)) (decLt (length xs) (source + n))
     where
       go : Dec (used < at + removed) → Dec (source < used) → Dec (source < usedAfter used removed n) → Dec (length xs < source + n)
           → SameBehind xs (spliced xs used at removed source n)

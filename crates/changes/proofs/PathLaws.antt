@@ -158,7 +158,8 @@ below-root {w = w} (replaces-at source x kids offered) t ts v then-it = then-it 
 
 -- ---- a change at a location
 -- a table with more rows in use than a document may have holds none
-pub change-too-many : {w : Table} {used : ℕ} {path : Spelling} {change : Change} → maxNodes < used → ChangeAtIs w (w .nodes) used path change (Refused too-many-nodes)
+pub change-too-many : {w : Table} {used : ℕ} {path : Spelling} {change : Change} → maxNodes < used
+    → ChangeAtIs w (w .nodes) used path change (Refused too-many-nodes)
 change-too-many h = record { frame = unchanged refl; held = λ v d short ts p f makes. absurd (omega (arith, d .few)) }
 
 -- by where the pointer's tokens begin

@@ -57,7 +57,8 @@ pub resize-is : (nodes : List Row) (row used now : ℕ) {old new : ℕ} → old 
 resize-is nodes row used now e f = rw (f, e)
 
 -- ---- whatever the list holds
-module _ {nodes : List Row} (p : Parent) (low : Low p) (at removed source count now : ℕ) (now-is : now ≡ usedAfter (p .used) removed count) (few : now ≤ maxNodes) where
+module _ {nodes : List Row} (p : Parent) (low : Low p) (at removed source count now : ℕ)
+    (now-is : now ≡ usedAfter (p .used) removed count) (few : now ≤ maxNodes) where
   pub put-frame : (name : Name) → at < maxNodes → {nodes' : List Row}
       → nodes' ≡ resized (renamedAt (spliced nodes (p .used) at removed source count) at name) (p .row) (p .used) now → Frame nodes nodes' (Done now)
   put-frame name inside e =
@@ -66,7 +67,8 @@ module _ {nodes : List Row} (p : Parent) (low : Low p) (at removed source count 
       (behind-set (p .row) _ (omega (arith, low .0, low .1))
       (behind-set at _ (omega arith) (behind-spliced (p .used) at removed source count (omega (arith, low .0)) (omega arith)))))
 
-  pub take-frame : {nodes' : List Row} → nodes' ≡ resized (spliced nodes (p .used) at removed source count) (p .row) (p .used) now → Frame nodes nodes' (Done now)
+  pub take-frame : {nodes' : List Row} → nodes' ≡ resized (spliced nodes (p .used) at removed source count) (p .row) (p .used) now
+      → Frame nodes nodes' (Done now)
   take-frame e =
       rw e
       (framed few

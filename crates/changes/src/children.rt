@@ -23,7 +23,8 @@ use walk::step;
 ghost use Rattle.pointer.specs.declared.answers.Index.the-variants as Index;
 ghost use Rattle.tape.specs.Lent.{before};
 ghost use Rattle.changes.specs.Rows.{Low};
-ghost use Rattle.changes.specs.Change.{InsertionIs, ReplaceTreeIs, AddElementIs, AddMemberIs, AddIs, RemoveIs, ReplaceIs, ChangeChildIs};
+ghost use Rattle.changes.specs.Change.{InsertionIs, ReplaceTreeIs, AddElementIs, AddMemberIs, AddIs};
+ghost use Rattle.changes.specs.Change.{RemoveIs, ReplaceIs, ChangeChildIs};
 
 // The row where an element is added at a position, which may be that behind the last.
 fn position(nodes: &[Node], row: usize, k: usize) -> Child

@@ -66,8 +66,13 @@ pub +alter-spec : {M : Type 1} → statement M
     (λ c. search needs)
     -- returns-2
     (λ c.
-    let read = token-read _ (c .before .before .before .before .before .before .before .part .ensures) (c .before .before .before .before .before .before .token .ensures) (c .before .before .before .before .before .token-name .ensures) in
-    alter-last read _ (c .before .before .before .enum-told .given .1) (c .before .change-child .ensures))
+    let at-change-child = c .before in
+    let at-enum-told = at-change-child .before .before in
+    let at-token-name = at-enum-told .before .before in
+    let at-token = at-token-name .before in
+    let at-part = at-token .before in
+    let read = token-read _ (at-part .part .ensures) (at-token .token .ensures) (at-token-name .token-name .ensures) in
+    alter-last read _ (at-enum-told .enum-told .given .1) (at-change-child .change-child .ensures))
     -- step-requires
     (λ c κs. search needs)
     -- enum-known-child
@@ -76,8 +81,14 @@ pub +alter-spec : {M : Type 1} → statement M
     (λ c. search needs)
     -- returns-3
     (λ c.
-    let read = token-read _ (c .before .before .before .before .before .before .before .before .before .before .before .before .part .ensures) (c .before .before .before .before .before .before .before .before .before .before .before .token .ensures) (c .before .before .before .before .before .before .before .before .before .before .token-name .ensures) in
-    alter-flat _ read (c .before .before .before .before .before .before .before .before .t .given .1) _ refl _ (c .before .before .before .before .before .step .ensures) _ (c .before .before .before .child .given .1) (c .if2 .taken))
+    let at-child = c .before .before .before in
+    let at-step = at-child .before .before in
+    let at-t = at-step .before .before .before in
+    let at-token-name = at-t .before .before in
+    let at-token = at-token-name .before in
+    let at-part = at-token .before in
+    let read = token-read _ (at-part .part .ensures) (at-token .token .ensures) (at-token-name .token-name .ensures) in
+    alter-flat _ read (at-t .t .given .1) _ refl _ (at-step .step .ensures) _ (at-child .child .given .1) (c .if2 .taken))
     -- sub-t27
     (λ c. search needs)
     -- alter-requires
@@ -90,8 +101,17 @@ pub +alter-spec : {M : Type 1} → statement M
     (λ c. search needs)
     -- returns-4
     (λ c.
-    let read = token-read _ (c .before .before .before .before .before .before .before .before .before .before .before .before .before .before .before .before .before .before .part .ensures) (c .before .before .before .before .before .before .before .before .before .before .before .before .before .before .before .before .before .token .ensures) (c .before .before .before .before .before .before .before .before .before .before .before .before .before .before .before .before .token-name .ensures) in
-    alter-not _ read (c .before .before .before .before .before .before .before .before .before .before .before .before .before .before .t .given .1) _ refl _ (c .before .before .before .before .before .before .before .before .before .before .before .step .ensures) _ (c .before .before .before .before .before .before .before .before .before .child .given .1) _ (omega (arith, c .before .before .before .before .before .before .if2 .left)) _ (c .before .before .before .alter .ensures) _
+    let at-alter = c .before .before .before in
+    let at-if2 = at-alter .before .before .before in
+    let at-child = at-if2 .before .before .before in
+    let at-step = at-child .before .before in
+    let at-t = at-step .before .before .before in
+    let at-token-name = at-t .before .before in
+    let at-token = at-token-name .before in
+    let at-part = at-token .before in
+    let read = token-read _ (at-part .part .ensures) (at-token .token .ensures) (at-token-name .token-name .ensures) in
+    alter-not _ read (at-t .t .given .1) _ refl _ (at-step .step .ensures) _ (at-child .child .given .1) _ (omega (arith, at-if2 .if2 .left)) _
+    (at-alter .alter .ensures) _
     (c .enum-told2 .given .1))
     -- resize-requires
     (λ c κs. frame-done (c .before .before .r .given .1) (c .before .before .before .before .before .alter .ensures .frame) .0)
@@ -99,14 +119,33 @@ pub +alter-spec : {M : Type 1} → statement M
     (λ c. search needs)
     -- returns-5
     (λ c.
-    let read = token-read _ (c .before .before .before .before .before .before .before .before .before .before .before .before .before .before .before .before .before .before .before .before .before .before .part .ensures) (c .before .before .before .before .before .before .before .before .before .before .before .before .before .before .before .before .before .before .before .before .before .token .ensures) (c .before .before .before .before .before .before .before .before .before .before .before .before .before .before .before .before .before .before .before .before .token-name .ensures) in
-    alter-done _ read (c .before .before .before .before .before .before .before .before .before .before .before .before .before .before .before .before .before .before .t .given .1) _ refl _ (c .before .before .before .before .before .before .before .before .before .before .before .before .before .before .before .step .ensures) _ (c .before .before .before .before .before .before .before .before .before .before .before .before .before .child .given .1) _ (omega (arith, c .before .before .before .before .before .before .before .before .before .before .if2 .left)) _ (c .before .before .before .before .before .before .before .alter .ensures) (c .before .before .before .before .before .before .before .before .before .before .before .before .before .before .before .before .before .before .before .before .before .before .before .before .before .pre .1) (omega (arith, c .before .before .before .before .before .before .before .before .before .before .before .before .before .before .before .before .before .before .before .before .before .before .before .if1 .left)) _
-    (c .before .before .before .before .r .given .1) (c .before .resize .ensures))
+    let at-resize = c .before in
+    let at-r = at-resize .before .before .before in
+    let at-alter = at-r .before .before .before in
+    let at-if2 = at-alter .before .before .before in
+    let at-child = at-if2 .before .before .before in
+    let at-step = at-child .before .before in
+    let at-t = at-step .before .before .before in
+    let at-token-name = at-t .before .before in
+    let at-token = at-token-name .before in
+    let at-part = at-token .before in
+    let at-if1 = at-part .before in
+    let at-pre = at-if1 .before .before in
+    let read = token-read _ (at-part .part .ensures) (at-token .token .ensures) (at-token-name .token-name .ensures) in
+    alter-done _ read (at-t .t .given .1) _ refl _ (at-step .step .ensures) _ (at-child .child .given .1) _ (omega (arith, at-if2 .if2 .left)) _
+    (at-alter .alter .ensures) (at-pre .pre .1) (omega (arith, at-if1 .if1 .left)) _
+    (at-r .r .given .1) (at-resize .resize .ensures))
     -- enum-known-n
     (λ c. search needs)
     -- same-length-5
     (λ c. search needs)
     -- returns-6
     (λ c.
-    let read = token-read _ (c .before .before .before .before .before .before .before .before .before .before .part .ensures) (c .before .before .before .before .before .before .before .before .before .token .ensures) (c .before .before .before .before .before .before .before .before .token-name .ensures) in
-    alter-refused read _ (c .before .before .before .step .ensures) (c .before .before .before .before .before .before .t .given .1) _ (c .before .n .given .1))
+    let at-n = c .before in
+    let at-step = at-n .before .before in
+    let at-t = at-step .before .before .before in
+    let at-token-name = at-t .before .before in
+    let at-token = at-token-name .before in
+    let at-part = at-token .before in
+    let read = token-read _ (at-part .part .ensures) (at-token .token .ensures) (at-token-name .token-name .ensures) in
+    alter-refused read _ (at-step .step .ensures) (at-t .t .given .1) _ (at-n .n .given .1))

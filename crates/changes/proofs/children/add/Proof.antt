@@ -21,7 +21,11 @@ add-spec =
     -- same-length-2
     (λ c. search needs)
     -- returns-2
-    (λ c. add-object _ (c .before .before .before .before .before .kind .ensures) (c .before .before .before .if2 .taken) (c .before .add-member .ensures))
+    (λ c.
+    let at-add-member = c .before in
+    let at-if2 = at-add-member .before .before in
+    let at-kind = at-if2 .before .before in
+    add-object _ (at-kind .kind .ensures) (at-if2 .if2 .taken) (at-add-member .add-member .ensures))
     -- same-length-3
     (λ c. search needs)
     -- returns-3

@@ -25,11 +25,24 @@ add-element-spec =
     (λ c. search needs)
     -- returns
     (λ c.
-    let i = c .before .before .before .before .before .before .before .before .before .index .ensures in
-    element-added _ (index-is _ _ _ (c .before .before .before .before .before .before .before .before .before .before .part .ensures) _ i) _ (c .before .before .before .before .before .before .before .insertion .ensures) _ (c .before .before .before .before .before .at .given .1) _ (c .before .before .no-name .ensures) (c .before .put .ensures))
+    let at-put = c .before in
+    let at-no-name = at-put .before in
+    let at-at = at-no-name .before .before .before in
+    let at-insertion = at-at .before .before in
+    let at-index = at-insertion .before .before in
+    let at-part = at-index .before in
+    let i = at-index .index .ensures in
+    element-added _ (index-is _ _ _ (at-part .part .ensures) _ i) _ (at-insertion .insertion .ensures) _ (at-at .at .given .1) _
+    (at-no-name .no-name .ensures) (at-put .put .ensures))
     -- enum-known-n
     (λ c. search needs)
     -- same-length-2
     (λ c. search needs)
     -- returns-2
-    (λ c. element-refused _ (index-is _ _ _ (c .before .before .before .before .before .before .part .ensures) _ (c .before .before .before .before .before .index .ensures)) _ (c .before .before .before .insertion .ensures) _ (c .before .n .given .1)))
+    (λ c.
+    let at-n = c .before in
+    let at-insertion = at-n .before .before in
+    let at-index = at-insertion .before .before in
+    let at-part = at-index .before in
+    element-refused _ (index-is _ _ _ (at-part .part .ensures) _ (at-index .index .ensures)) _ (at-insertion .insertion .ensures) _
+    (at-n .n .given .1)))

@@ -21,7 +21,12 @@ add-member-spec =
     -- same-length
     (λ c. search needs)
     -- returns
-    (λ c. member-replaced _ (c .before .before .before .before .before .before .before .before .before .end-of .ensures) _ (c .before .before .before .before .before .before .find .ensures) _ (c .before .before .before .before .at .given .1) (c .before .replace-child .ensures))
+    (λ c.
+    let at-replace-child = c .before in
+    let at-at = at-replace-child .before .before .before in
+    let at-find = at-at .before .before in
+    let at-end-of = at-find .before .before .before in
+    member-replaced _ (at-end-of .end-of .ensures) _ (at-find .find .ensures) _ (at-at .at .given .1) (at-replace-child .replace-child .ensures))
     -- enum-told
     (λ c. search needs)
     -- put-requires
@@ -29,4 +34,9 @@ add-member-spec =
     -- same-length-2
     (λ c. search needs)
     -- returns-2
-    (λ c. member-added _ (c .before .before .before .before .before .before .before .before .end-of .ensures) _ (c .before .before .before .before .before .find .ensures) (c .before .before .before .enum-told .given .1) (c .before .put .ensures)))
+    (λ c.
+    let at-put = c .before in
+    let at-enum-told = at-put .before .before in
+    let at-find = at-enum-told .before .before in
+    let at-end-of = at-find .before .before .before in
+    member-added _ (at-end-of .end-of .ensures) _ (at-find .find .ensures) (at-enum-told .enum-told .given .1) (at-put .put .ensures)))

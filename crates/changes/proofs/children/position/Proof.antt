@@ -22,4 +22,7 @@ position-spec =
     -- end-of-requires
     (λ c κs. search needs)
     -- returns-3
-    (λ c. position-end _ _ (c .before .before .before .before .before .child .ensures) _ (c .before .before .before .n .given .1) (omega arith) _ (c .end-of .ensures)))
+    (λ c.
+    let at-n = c .before .before .before in
+    let at-child = at-n .before .before in
+    position-end _ _ (at-child .child .ensures) _ (at-n .n .given .1) (omega arith) _ (c .end-of .ensures)))

@@ -17,7 +17,11 @@ remove-spec =
     -- same-length
     (λ c. search needs)
     -- returns
-    (λ c. remove-done _ (c .before .before .before .before .before .before .step .ensures) _ (c .before .before .before .before .at .given .1) (c .before .take-out .ensures))
+    (λ c.
+    let at-take-out = c .before in
+    let at-at = at-take-out .before .before .before in
+    let at-step = at-at .before .before in
+    remove-done _ (at-step .step .ensures) _ (at-at .at .given .1) (at-take-out .take-out .ensures))
     -- enum-known-n
     (λ c. search needs)
     -- same-length-2

@@ -17,7 +17,11 @@ replace-spec =
     -- same-length
     (λ c. search needs)
     -- returns
-    (λ c. replace-done _ (c .before .before .before .before .before .before .step .ensures) _ (c .before .before .before .before .at .given .1) (c .before .replace-child .ensures))
+    (λ c.
+    let at-replace-child = c .before in
+    let at-at = at-replace-child .before .before .before in
+    let at-step = at-at .before .before in
+    replace-done _ (at-step .step .ensures) _ (at-at .at .given .1) (at-replace-child .replace-child .ensures))
     -- enum-known-n
     (λ c. search needs)
     -- same-length-2

@@ -21,4 +21,9 @@ replace-child-spec =
     -- same-length
     (λ c. search needs)
     -- returns
-    (λ c. child-replaced _ _ (c .before .before .before .before .before .before .size .ensures) (c .before .before .before .name-of .ensures ∙ ap nameOf (c .before .before .before .before .load .ensures)) (c .before .put .ensures)))
+    (λ c.
+    let at-put = c .before in
+    let at-name-of = at-put .before .before in
+    let at-load = at-name-of .before in
+    let at-size = at-load .before .before in
+    child-replaced _ _ (at-size .size .ensures) (at-name-of .name-of .ensures ∙ ap nameOf (at-load .load .ensures)) (at-put .put .ensures)))

@@ -21,7 +21,13 @@ change-at-spec =
     -- same-length
     (λ c. search needs)
     -- returns-2
-    (λ c. change-root _ (c .before .before .before .before .before .before .part .ensures) _ (c .before .before .before .before .before .first .ensures) (c .before .before .before .enum-told .given .1) (c .before .change-document .ensures))
+    (λ c.
+    let at-change-document = c .before in
+    let at-enum-told = at-change-document .before .before in
+    let at-first = at-enum-told .before .before in
+    let at-part = at-first .before in
+    change-root _ (at-part .part .ensures) _ (at-first .first .ensures) (at-enum-told .enum-told .given .1)
+    (at-change-document .change-document .ensures))
     -- enum-known-at
     (λ c. search needs)
     -- sub-t14
@@ -31,7 +37,12 @@ change-at-spec =
     -- same-length-2
     (λ c. search needs)
     -- returns-3
-    (λ c. change-below _ (c .before .before .before .before .before .before .before .part .ensures) _ (c .before .before .before .before .before .before .first .ensures) _ (c .before .before .before .before .at .given .1) (c .before .alter .ensures))
+    (λ c.
+    let at-alter = c .before in
+    let at-at = at-alter .before .before .before in
+    let at-first = at-at .before .before in
+    let at-part = at-first .before in
+    change-below _ (at-part .part .ensures) _ (at-first .first .ensures) _ (at-at .at .given .1) (at-alter .alter .ensures))
     -- enum-told-2
     (λ c. search needs)
     -- returns-4

@@ -28,10 +28,13 @@ replace-document-spec =
     (λ c. search needs)
     -- returns-2
     (λ c.
+    let at-size = c .before in
+    let at-if1 = at-size .before .before in
+    let at-within = at-if1 .before in
     record {
       frame = unchanged refl;
       held = λ T v d x kids offered.
-          replace-large offered (c .before .before .before .before .within .ensures) (not-false _ (c .before .before .before .if1 .left)) _ (c .before .size .ensures) (c .if2 .taken);
+          replace-large offered (at-within .within .ensures) (not-false _ (at-if1 .if1 .left)) _ (at-size .size .ensures) (c .if2 .taken);
     })
     -- splice-requires
     (λ c κs. search needs)
@@ -39,8 +42,15 @@ replace-document-spec =
     (λ c. search needs)
     -- returns-3
     (λ c.
+    let at-splice = c .before in
+    let at-if2 = at-splice .before .before in
+    let at-size = at-if2 .before in
+    let at-if1 = at-size .before .before in
+    let at-within = at-if1 .before in
+    let at-pre = at-within .before .before in
     record {
-      frame = replace-frame _ _ _ (c .before .before .before .before .before .before .before .before .before .pre) (c .before .before .before .if2 .left) (c .before .splice .ensures);
+      frame = replace-frame _ _ _ (at-pre .pre) (at-if2 .if2 .left) (at-splice .splice .ensures);
       held = λ T v d x kids offered.
-          replace-done offered (c .before .before .before .before .before .before .before .within .ensures) (not-false _ (c .before .before .before .before .before .before .if1 .left)) _ (c .before .before .before .before .size .ensures) d (c .before .before .before .if2 .left) (c .before .splice .ensures);
+          replace-done offered (at-within .within .ensures) (not-false _ (at-if1 .if1 .left)) _ (at-size .size .ensures) d (at-if2 .if2 .left)
+          (at-splice .splice .ensures);
     }))

@@ -33,11 +33,16 @@ put-spec =
     (λ c. search needs)
     -- returns-2
     (λ c.
+    let at-minus = c .before in
+    let at-size = at-minus .before in
+    let at-if1 = at-size .before .before in
+    let at-within = at-if1 .before in
     record {
       rows = put-nothing refl;
       frame = unchanged refl;
       held = λ T z x kids left right container offered fits told cut.
-          put-large offered _ fits told z container cut (c .before .before .before .before .before .within .ensures) (not-false _ (c .before .before .before .before .if1 .left)) _ _ (c .before .before .size .ensures) (c .before .minus .ensures)
+          put-large offered _ fits told z container cut (at-within .within .ensures) (not-false _ (at-if1 .if1 .left)) _ _ (at-size .size .ensures)
+          (at-minus .minus .ensures)
           (c .if2 .taken);
     })
     -- same-length-3
@@ -63,6 +68,18 @@ put-spec =
     (λ c. search needs)
     -- returns-4
     (λ c.
-    let a = c .before .before .before .before .before .before .before .before .before .before .before .before .before .before .before .before .before .args in
-    put-made (a .parent) (c .before .before .before .before .before .before .before .before .before .before .before .before .before .before .before .before .before .pre) (a .at) (a .removed) (a .source) (a .name) _ _ (c .before .before .before .before .before .before .before .before .before .before .before .before .size .ensures) (c .before .before .before .before .before .before .before .before .before .before .before .minus .ensures) (c .before .before .before .before .before .before .before .before .before .before .before .before .before .before .before .within .ensures)
-    (not-false _ (c .before .before .before .before .before .before .before .before .before .before .before .before .before .before .if1 .left)) (c .before .before .before .before .before .before .before .before .before .before .if2 .left) (c .before .before .before .before .before .before .before .before .before .if3 .left) (c .before .before .before .before .before .before .before .splice .ensures) (c .before .before .before .before .rename .ensures) (c .before .resize .ensures)))
+    let at-resize = c .before in
+    let at-rename = at-resize .before .before .before in
+    let at-splice = at-rename .before .before .before in
+    let at-if3 = at-splice .before .before in
+    let at-if2 = at-if3 .before in
+    let at-minus = at-if2 .before in
+    let at-size = at-minus .before in
+    let at-if1 = at-size .before .before in
+    let at-within = at-if1 .before in
+    let at-args = at-within .before .before in
+    let a = at-args .args in
+    put-made (a .parent) (at-args .pre) (a .at) (a .removed) (a .source) (a .name) _ _ (at-size .size .ensures) (at-minus .minus .ensures)
+    (at-within .within .ensures)
+    (not-false _ (at-if1 .if1 .left)) (at-if2 .if2 .left) (at-if3 .if3 .left) (at-splice .splice .ensures) (at-rename .rename .ensures)
+    (at-resize .resize .ensures)))

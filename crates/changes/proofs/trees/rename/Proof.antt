@@ -25,6 +25,13 @@ rename-spec =
     (λ c. search needs)
     -- returns
     (λ c.
-    let a = c .before .before .before .before .before .before .before .before .before .args in
-    c .before .store .ensures
-    ∙ rename-is (a .nodes .now) (a .row) (a .name) (c .before .before .before .before .before .before .before .load .ensures) (c .before .before .before .before .before .before .cell-of .ensures) (c .before .before .before .wide .ensures .0) (c .before .before .node-of .ensures)))
+    let at-store = c .before in
+    let at-node-of = at-store .before in
+    let at-wide = at-node-of .before in
+    let at-cell-of = at-wide .before .before .before in
+    let at-load = at-cell-of .before in
+    let at-args = at-load .before .before in
+    let a = at-args .args in
+    at-store .store .ensures
+    ∙ rename-is (a .nodes .now) (a .row) (a .name) (at-load .load .ensures) (at-cell-of .cell-of .ensures) (at-wide .wide .ensures .0)
+    (at-node-of .node-of .ensures)))

@@ -21,5 +21,9 @@ resize-spec =
     (λ c. search needs)
     -- returns
     (λ c.
-    let a = c .before .before .before .before .before .before .args in
-    c .before .set-span .ensures ∙ resize-is (a .nodes .now) (a .row) (a .used) (a .then) (c .before .before .before .before .span .ensures .0) (c .before .before .before .minus .ensures)))
+    let at-set-span = c .before in
+    let at-minus = at-set-span .before .before in
+    let at-span = at-minus .before in
+    let at-args = at-span .before .before in
+    let a = at-args .args in
+    at-set-span .set-span .ensures ∙ resize-is (a .nodes .now) (a .row) (a .used) (a .then) (at-span .span .ensures .0) (at-minus .minus .ensures)))

@@ -20,5 +20,11 @@ take-out-spec =
     (λ c. search needs)
     -- returns
     (λ c.
-    let a = c .before .before .before .before .before .before .before .before .before .args in
-    take-made (a .parent) (c .before .before .before .before .before .before .before .before .before .pre) (a .at) _ _ (c .before .before .before .before .before .before .before .size .ensures) (c .before .before .before .before .before .before .minus .ensures) (c .before .before .before .before .splice .ensures) (c .before .resize .ensures)))
+    let at-resize = c .before in
+    let at-splice = at-resize .before .before .before in
+    let at-minus = at-splice .before .before in
+    let at-size = at-minus .before in
+    let at-args = at-size .before .before in
+    let a = at-args .args in
+    take-made (a .parent) (at-args .pre) (a .at) _ _ (at-size .size .ensures) (at-minus .minus .ensures) (at-splice .splice .ensures)
+    (at-resize .resize .ensures)))
