@@ -54,8 +54,8 @@ module _ {xs : List Row} where
   patch-before : {ys : List Row} → take scratchRow ys ≡ take scratchRow xs → SamePatch xs ys
   patch-before {ys} e = record { is = sym (drop-take patchRow scratchRow ys) ∙ ap (drop patchRow) e ∙ drop-take patchRow scratchRow xs }
 
-  pub patch-aside : {ys : List Row} {row : ℕ} → SetAsideIs xs ys row → SamePatch xs ys
-  patch-aside {row = row} is = patch-before (ap (take scratchRow) is ∙ take-aside xs row _)
+  pub patch-aside : {ys : List Row} (row : ℕ) → SetAsideIs xs ys row → SamePatch xs ys
+  patch-aside row is = patch-before (ap (take scratchRow) is ∙ take-aside xs row _)
 
   same-patch : {ys : List Row} {row n : ℕ} → patchRow ≤ row → row + n ≤ scratchRow → SamePatch xs ys → SameRows xs ys row n
   same-patch {ys} {row} {n} behind before same =

@@ -109,6 +109,17 @@ module _ (o : Operation.Operation) (v : Value.Value) where
   test-is e = rw e
 
 -- ---- with a value
+-- it stands in the rows of its object, and so behind the document's
+module _ {w : Table} {row : ℕ} {m : Member} (is : MemberIs w row (ascii "value") m) (at : ℕ) (e : m ≡ Member.At at) where
+  operand : {C : Type 0} {o : Operation.Operation} → Listed w row o → usesValue (o .kind) ≡ true
+      → ((x : Cell) (kids : Forest Cell) → Offered w at x kids → meant (w .texts) x kids ≡ o .value → Distinct (meant (w .texts) x kids) → C) → C
+  operand {o = o} l uses then-it =
+      let (x, kids, low, high, node, found) = sought-at at e (is .held (l .c) (l .kids) (l .held)) in
+      let value-is = told _ o (l .is) .value uses in
+      let same : meant (w .texts) x kids ≡ o .value = cc in
+      let distinct = proper-repeats (operation-proper _ o (l .proper) (l .is) .value-proper .items) in
+      then-it x kids (record { behind = omega (arith, l .behind); held = node }) same (subst Distinct (sym same) distinct)
+
 module _ {w : Table} {used row : ℕ} {path : Spelling} {m : Member} (is : MemberIs w row (ascii "value") m) where
   -- an operation that uses a value has one
   pub value-missing : {k : Operation.Kind} {r : Altered} → usesValue k ≡ true → m ≡ Member.Missing → OperationIs w (w .nodes) used row path k r
@@ -121,23 +132,13 @@ module _ {w : Table} {used row : ℕ} {path : Spelling} {m : Member} (is : Membe
       }
 
   module _ (at : ℕ) (e : m ≡ Member.At at) where
-    -- it stands in the rows of its object, and so behind the document's
-    operand : {C : Type 0} {o : Operation.Operation} → Listed w row o → usesValue (o .kind) ≡ true
-        → ((x : Cell) (kids : Forest Cell) → Offered w at x kids → meant (w .texts) x kids ≡ o .value → Distinct (meant (w .texts) x kids) → C) → C
-    operand {o = o} l uses then-it =
-        let (x, kids, low, high, node, found) = sought-at at e (is .held (l .c) (l .kids) (l .held)) in
-        let value-is = told _ o (l .is) .value uses in
-        let same : meant (w .texts) x kids ≡ o .value = cc in
-        let distinct = proper-repeats (operation-proper _ o (l .proper) (l .is) .value-proper .items) in
-        then-it x kids (record { behind = omega (arith, l .behind); held = node }) same (subst Distinct (sym same) distinct)
-
     pub add-done : {nodes' : List Row} {r : Altered} → ChangeAtIs w nodes' used path (Add at) r → OperationIs w nodes' used row path Operation.add r
     unfolding usesValue
     add-done changed =
         record {
           patch = patch-framed (changed .frame);
           held = λ v d short o l kind p.
-              operand l (ap usesValue kind) λ x kids offered means distinct.
+              operand is at e l (ap usesValue kind) λ x kids offered means distinct.
               same-results (add-is o v kind ∙ ap (λ u. judged (addAt (o .path) u v)) (sym means))
               (changed .held v d short (o .path) p _ (adds-at at x kids offered));
         }
@@ -148,7 +149,7 @@ module _ {w : Table} {used row : ℕ} {path : Spelling} {m : Member} (is : Membe
         record {
           patch = patch-framed (changed .frame);
           held = λ v d short o l kind p.
-              operand l (ap usesValue kind) λ x kids offered means distinct.
+              operand is at e l (ap usesValue kind) λ x kids offered means distinct.
               same-results (replace-is o v kind ∙ ap (λ u. judged (replaceAtPath (o .path) u v)) (sym means))
               (changed .held v d short (o .path) p _ (replaces-at at x kids offered));
         }
@@ -159,7 +160,7 @@ module _ {w : Table} {used row : ℕ} {path : Spelling} {m : Member} (is : Membe
         record {
           patch = patch-same;
           held = λ v d short o l kind p.
-              operand l (ap usesValue kind) λ x kids offered means distinct.
+              operand is at e l (ap usesValue kind) λ x kids offered means distinct.
               same-results (test-is o v kind ∙ ap (λ u. judged (testAt (o .path) u v)) (sym means))
               (tested v d short (o .path) p x kids (offered .held) distinct);
         }
@@ -175,6 +176,12 @@ module _ {T : Texts} {o : Outcome Text} {s : Spelled} {t : Text} (is : TextIs T 
       let same : decode (partOf T path) ≡ t = cc in
       record { is = ap tokens same ∙ f }
 
+module _ {w : Table} {row : ℕ} {s : Spelled} (is : StringIs w row (ascii "from") s) (from : Spelling) (e : s ≡ Spelled.As from) where
+  source : {o : Operation.Operation} → Listed w row o → usesFrom (o .kind) ≡ true → PathIs (w .texts) from (o .from)
+  source {o} l uses =
+      let t = told _ o (l .is) in
+      spelled-path (is .held (l .c) (l .kids) (l .held)) (t .from-there uses) e (t .from-is)
+
 module _ {w : Table} {used row : ℕ} {path : Spelling} {s : Spelled} (is : StringIs w row (ascii "from") s) where
   pub from-missing : {k : Operation.Kind} {r : Altered} → usesFrom k ≡ true → s ≡ Spelled.Not → OperationIs w (w .nodes) used row path k r
   from-missing uses e =
@@ -185,17 +192,12 @@ module _ {w : Table} {used row : ℕ} {path : Spelling} {s : Spelled} (is : Stri
       }
 
   module _ (from : Spelling) (e : s ≡ Spelled.As from) where
-    source : {o : Operation.Operation} → Listed w row o → usesFrom (o .kind) ≡ true → PathIs (w .texts) from (o .from)
-    source {o} l uses =
-        let t = told _ o (l .is) in
-        spelled-path (is .held (l .c) (l .kids) (l .held)) (t .from-there uses) e (t .from-is)
-
     pub move-done : {nodes' : List Row} {r : Altered} → MoveIs w nodes' used from path r → OperationIs w nodes' used row path Operation.move r
     unfolding usesFrom
     move-done moved =
         record {
           patch = moved .patch;
-          held = λ v d short o l kind p. same-results (move-is o v kind) (moved .held v d short (o .from) (source l (ap usesFrom kind)) (o .path) p);
+          held = λ v d short o l kind p. same-results (move-is o v kind) (moved .held v d short (o .from) (source is from e l (ap usesFrom kind)) (o .path) p);
         }
 
     pub copy-done : {nodes' : List Row} {r : Altered} → CopyIs w nodes' used from path r → OperationIs w nodes' used row path Operation.copy r
@@ -203,7 +205,7 @@ module _ {w : Table} {used row : ℕ} {path : Spelling} {s : Spelled} (is : Stri
     copy-done copied =
         record {
           patch = copied .patch;
-          held = λ v d short o l kind p. same-results (copy-is o v kind) (copied .held v d short (o .from) (source l (ap usesFrom kind)) (o .path) p);
+          held = λ v d short o l kind p. same-results (copy-is o v kind) (copied .held v d short (o .from) (source is from e l (ap usesFrom kind)) (o .path) p);
         }
 
 pub remove-done : {w : Table} {nodes' : List Row} {used row : ℕ} {path : Spelling} {r : Altered} → ChangeAtIs w nodes' used path Remove r

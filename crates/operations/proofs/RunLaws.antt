@@ -35,8 +35,8 @@ use Rattle.changes.specs.declared.answers.Altered.{Altered}
 use Rattle.changes.specs.declared.answers.Altered.the-variants as Altered
 use Rattle.operations.specs.Perform.{SamePatch, Listed, PerformIs}
 use Rattle.operations.specs.Run.{RanTo, ran, halted, ForRun, ElementsRunIs, RunIs}
-use Rattle.operations.specs.declared.run.Ran.{Ran}
-use Rattle.operations.specs.declared.run.Ran.the-variants as Ran
+use Rattle.operations.specs.declared.runs.Ran.{Ran}
+use Rattle.operations.specs.declared.runs.Ran.the-variants as Ran
 use Rattle.operations.proofs.PatchLaws.{patch-same, patch-then, rows-kept}
 use Rattle.table.specs.Sound.{RowsHeld}
 
@@ -56,7 +56,8 @@ begins op (ok o) (finished later) os e = record { o = o; later = later; is = ref
 begins op (ok o) (stopped number place) os e = absurd (let z : _≡_ {A = ℕ} 0 1 = cc in omega arith)
 begins op (refused number place) others os e = absurd (let z : _≡_ {A = ℕ} 0 1 = cc in omega arith)
 
-first-operation : (T : Texts) (op : ℕ) (c : Cell) (kids rest : Forest Cell) (os : List Operation.Operation) → operations op (members T (tree c kids rest)) ≡ finished os
+first-operation : (T : Texts) (op : ℕ) (c : Cell) (kids rest : Forest Cell) (os : List Operation.Operation) → operations op (members T (tree c kids rest))
+    ≡ finished os
     → Begins (operation (meant T c kids)) (operations (op + 1) (members T rest)) os
 unfolding operations mapForest
 first-operation T op c kids rest os e = begins op (operation (meant T c kids)) (operations (op + 1) (members T rest)) os e
@@ -114,8 +115,10 @@ module _ {w : Table} {used row end op : ℕ} {whole : Run Value.Value} (g : Goin
   going-none : end ≤ row → RanTo (w .texts) (w .nodes) whole (Ran.Done used)
   going-none h =
       let none-left : g .left ≡ none = size-none (g .left) (omega (arith, g .rows .ends)) in
-      let e : operations (op + 1) (members (w .texts) none) ≡ finished (g .os) = subst (λ f. operations (op + 1) (members (w .texts) f) ≡ finished (g .os)) none-left (g .are) in
-      ran (sym (g .gives) ∙ ap (λ os. run limited (op + 1) os (g .now)) (no-operations (w .texts) (op + 1) (g .os) e) ∙ run-none (op + 1) (g .now)) (g .document)
+      let e : operations (op + 1) (members (w .texts) none) ≡ finished (g .os) = subst (λ f. operations (op + 1) (members (w .texts) f) ≡ finished (g .os))
+      none-left (g .are) in
+      ran (sym (g .gives) ∙ ap (λ os. run limited (op + 1) os (g .now)) (no-operations (w .texts) (op + 1) (g .os) e) ∙ run-none (op + 1) (g .now))
+      (g .document)
 
   module _ (more : row < end) where
     -- the row is in the table
@@ -127,7 +130,8 @@ module _ {w : Table} {used row end op : ℕ} {whole : Run Value.Value} (g : Goin
     going-first =
         rows-first (g .rows) more
         (λ c kids rest e r.
-        let b = first-operation (w .texts) (op + 1) c kids rest (g .os) (subst (λ f. operations (op + 1) (members (w .texts) f) ≡ finished (g .os)) e (g .are)) in
+        let b = first-operation (w .texts) (op + 1) c kids rest (g .os) (subst (λ f. operations (op + 1) (members (w .texts) f) ≡ finished (g .os)) e
+        (g .are)) in
         let proper = proper-first (subst (λ f. ProperItems (g .object) (members (w .texts) f)) e (g .proper)) in
         record {
           c = c;
@@ -135,7 +139,16 @@ module _ {w : Table} {used row end op : ℕ} {whole : Run Value.Value} (g : Goin
           rest = rest;
           rows = r;
           o = b .o;
-          listed = record { c = c; kids = kids; held = first-node r; proper = proper .0; behind = g .behind; before = omega (arith, r .ends, g .before); is = b .is };
+          listed = record {
+            c = c;
+            kids = kids;
+            held = first-node r;
+            proper = proper .0;
+            behind = g .behind;
+            before = omega
+                (arith, r .ends, g .before);
+            is = b .is;
+          };
           proper = proper .1;
           later = b .later;
           are = b .are;
@@ -145,7 +158,8 @@ module _ {w : Table} {used row end op : ℕ} {whole : Run Value.Value} (g : Goin
   module _ (first : First w row end op (g .object) (g .os)) {nodes' : List Row} where
     -- it is performed
     going-performs : {r s : Altered} → PerformIs w nodes' used row r → r ≡ s → Results (w .texts) nodes' (limited (first .o) (g .now)) s
-    going-performs is e = subst (Results (w .texts) nodes' (limited (first .o) (g .now))) e (is .held (g .now) (g .document) (g .short) (first .o) (first .listed))
+    going-performs is e = subst (Results (w .texts) nodes' (limited (first .o) (g .now))) e
+        (is .held (g .now) (g .document) (g .short) (first .o) (first .listed))
 
     -- where it is refused, and where it is done
     going-refused : {number : ℕ} → Results (w .texts) nodes' (limited (first .o) (g .now)) (Altered.Refused number)
@@ -153,7 +167,8 @@ module _ {w : Table} {used row end op : ℕ} {whole : Run Value.Value} (g : Goin
     going-refused (refusal e) =
         halted (sym (g .gives) ∙ ap (λ os. run limited (op + 1) os (g .now)) (first .whole) ∙ run-refused (op + 1) (first .o) (first .later) (g .now) e)
 
-    going-done : {used' : ℕ} → SamePatch (w .nodes) nodes' → (next : ℕ) → next ≡ endOf nodes' row → Results (w .texts) nodes' (limited (first .o) (g .now)) (Altered.Done used')
+    going-done : {used' : ℕ} → SamePatch (w .nodes) nodes' → (next : ℕ) → next ≡ endOf nodes' row → Results (w .texts) nodes' (limited (first .o) (g .now))
+        (Altered.Done used')
         → Going (table (w .texts) nodes') used' next end (op + 1) whole
     going-done same next at (results {v = u} e document) =
         let kept = rows-kept same (g .behind) (g .before) (first .rows) in
@@ -258,5 +273,6 @@ run-patch {w} end e is =
       patch = is .patch;
       held = λ v document short c kids node before proper os right.
           let rows = rows-children end e node in
-          is .held v document short kids rows (omega arith) (omega (arith, rows .ends)) _ (proper .items) os (shape-operations (meant (w .texts) c kids) os right);
+          is .held v document short kids rows (omega arith) (omega (arith, rows .ends)) _ (proper .items) os
+          (shape-operations (meant (w .texts) c kids) os right);
     }

@@ -45,7 +45,7 @@ module _ {w : Table} {used : ℕ} {from path : Spelling} (s : Child) (is : WalkI
   unfolding copyTo _>>=_
   copy-done row e aside changed =
       record {
-        patch = patch-then (patch-aside aside) (patch-framed (changed .frame));
+        patch = patch-then (patch-aside row aside) (patch-framed (changed .frame));
         held = λ v d short gs from-is ts path-is.
             the-value s is d short from-is e λ c kids found node inside.
             let there = adds-at scratchRow c kids (aside-offered d node inside aside) in
@@ -103,7 +103,7 @@ module _ {w : Table} {used : ℕ} {from path : Spelling} (s : Child) (is : WalkI
   unfolding moveTo _>>=_
   value-moved row e aside moves =
       record {
-        patch = patch-then (patch-aside aside) (moves .patch);
+        patch = patch-then (patch-aside row aside) (moves .patch);
         held = λ v d short g gs from-is ts path-is.
             the-value s is d short from-is e λ c kids found node inside.
             same-results (rw found)
@@ -116,29 +116,30 @@ module _ {w : Table} {used : ℕ} {from path : Spelling} (s : Child) (is : WalkI
       record { patch = patch-same; held = λ v d short g gs from-is ts path-is. refusal {number = number} (rw (no-value s is d short from-is e)) }
 
 -- from any location
-module _ {w : Table} {used : ℕ} {from path : Spelling} (pointer : Bytes) (pointer-is : pointer ≡ partOf (w .texts) from) (f : First) (is : FirstOf pointer f) where
-  pub move-root : f ≡ First.Root → MoveIs w (w .nodes) used from path (Done used)
-  unfolding moveTo
-  move-root e =
-      record {
-        patch = patch-same;
-        held = λ v d short gs from-is ts path-is.
-            let none-is : gs ≡ [] = first-root (partOf (w .texts) from) f (first-of pointer pointer-is is) gs e (from-is .is) in
-            results {v = v} (rw none-is (document-fits d)) d;
-      }
+module _ {w : Table} {used : ℕ} {from path : Spelling} (pointer : Bytes) (pointer-is : pointer ≡ partOf (w .texts) from) (f : First) (is : FirstOf pointer f)
+  where
+    pub move-root : f ≡ First.Root → MoveIs w (w .nodes) used from path (Done used)
+    unfolding moveTo
+    move-root e =
+        record {
+          patch = patch-same;
+          held = λ v d short gs from-is ts path-is.
+              let none-is : gs ≡ [] = first-root (partOf (w .texts) from) f (first-of pointer pointer-is is) gs e (from-is .is) in
+              results {v = v} (rw none-is (document-fits d)) d;
+        }
 
-  pub move-malformed : {r : Altered} → f ≡ First.Malformed → MoveIs w (w .nodes) used from path r
-  move-malformed e =
-      record {
-        patch = patch-same;
-        held = λ v d short gs from-is ts path-is. absurd (first-malformed (partOf (w .texts) from) f (first-of pointer pointer-is is) gs e (from-is .is));
-      }
+    pub move-malformed : {r : Altered} → f ≡ First.Malformed → MoveIs w (w .nodes) used from path r
+    move-malformed e =
+        record {
+          patch = patch-same;
+          held = λ v d short gs from-is ts path-is. absurd (first-malformed (partOf (w .texts) from) f (first-of pointer pointer-is is) gs e (from-is .is));
+        }
 
-  pub move-at : {nodes' : List Row} {r : Altered} (at : ℕ) → f ≡ First.At at → MoveBelowIs w nodes' used from path r → MoveIs w nodes' used from path r
-  move-at at e moves =
-      record {
-        patch = moves .patch;
-        held = λ v d short gs from-is ts path-is.
-            some-token (partOf (w .texts) from) at gs (first-at (partOf (w .texts) from) f (first-of pointer pointer-is is) at gs e (from-is .is)) λ h hs some.
-            rw some (moves .held v d short h hs (rw some at from-is) ts path-is);
-      }
+    pub move-at : {nodes' : List Row} {r : Altered} (at : ℕ) → f ≡ First.At at → MoveBelowIs w nodes' used from path r → MoveIs w nodes' used from path r
+    move-at at e moves =
+        record {
+          patch = moves .patch;
+          held = λ v d short gs from-is ts path-is.
+              some-token (partOf (w .texts) from) at gs (first-at (partOf (w .texts) from) f (first-of pointer pointer-is is) at gs e (from-is .is)) λ h hs some.
+              rw some (moves .held v d short h hs (rw some at from-is) ts path-is);
+        }

@@ -19,8 +19,8 @@ use Rattle.walk.specs.Names.{Short}
 use Rattle.changes.specs.Site.{table}
 use Rattle.changes.specs.Document.{Document}
 use Rattle.operations.specs.Perform.{SamePatch}
-use Rattle.operations.specs.declared.run.Ran.{Ran}
-use Rattle.operations.specs.declared.run.Ran.the-variants.{Done, Refused}
+use Rattle.operations.specs.declared.runs.Ran.{Ran}
+use Rattle.operations.specs.declared.runs.Ran.the-variants.{Done, Refused}
 
 -- the document is then the result, or the refusal's number with the operation
 pub data RanTo (T : Texts) (nodes' : List Row) (o : Run Value.Value) : Ran → Type 0 where

@@ -9,9 +9,23 @@ pub equal-to-spec : {M : Type 1} → statement M
 equal-to-spec =
     tie.close
     (tie.spec
+    -- walk-requires
+    (λ c κs. search needs)
+    -- enum-known-row
+    (λ c. search needs)
+    -- compare-requires
+    (λ c κs. search needs)
+    -- same-length
+    (λ c. search needs)
     -- returns
-    (λ c. test-equal (c .walk .ensures) _ (c .row .given .1) (c .compare .ensures) (c .if1 .taken))
+    (λ c. test-equal (c .before .before .before .before .before .before .before .before .walk .ensures) _
+    (c .before .before .before .before .before .before .row .given .1) (c .before .before .before .compare .ensures) (c .if1 .taken))
+    -- same-length-2
+    (λ c. search needs)
     -- returns-2
-    (λ c. test-unequal (c .walk .ensures) _ (c .row .given .1) (c .compare .ensures) (c .if1 .left))
+    (λ c. test-unequal (c .before .before .before .before .before .before .before .before .walk .ensures) _
+    (c .before .before .before .before .before .before .row .given .1) (c .before .before .before .compare .ensures) (c .if1 .left))
+    -- enum-known-number
+    (λ c. search needs)
     -- returns-3
-    (λ c. test-lost (c .walk .ensures) _ (c .number .given .1)))
+    (λ c. test-lost (c .before .before .before .walk .ensures) _ (c .before .number .given .1)))

@@ -9,7 +9,20 @@ pub move-aside-spec : {M : Type 1} → statement M
 move-aside-spec =
     tie.close
     (tie.spec
+    -- change-at-requires
+    (λ c κs. search needs)
+    -- enum-known-r
+    (λ c. search needs)
+    -- enum-told
+    (λ c. search needs)
+    -- same-length
+    (λ c. search needs)
     -- returns
-    (λ c. aside-refused _ (c .change-at .ensures) (c .enum-told .given .1))
+    (λ c. aside-refused _ (c .before .before .before .change-at .ensures) (c .enum-told .given .1))
+    -- change-at-requires-2
+    (λ c κs. search needs)
+    -- same-length-2
+    (λ c. search needs)
     -- returns-2
-    (λ c. aside-done _ (c .change-at .ensures) _ (c .r .given .1) (c .change-at2 .ensures)))
+    (λ c. aside-done _ (c .before .before .before .before .before .before .before .change-at .ensures) _ (c .before .before .before .before .r .given .1)
+    (c .before .change-at2 .ensures)))

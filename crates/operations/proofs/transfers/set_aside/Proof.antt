@@ -11,5 +11,12 @@ pub set-aside-spec : {M : Type 1} → statement M
 set-aside-spec =
     tie.close
     (tie.spec
+    -- size-requires
+    (λ c κs. search needs)
+    -- slide-requires
+    (λ c κs. search needs)
+    -- same-length
+    (λ c. search needs)
     -- returns
-    (λ c. c .slide .ensures ∙ ap (moved (c .args .nodes .now) scratchRow (c .args .row)) (c .size .ensures)))
+    (λ c. c .before .slide .ensures ∙ ap (moved (c .before .before .before .before .before .args .nodes .now) scratchRow
+    (c .before .before .before .before .before .args .row)) (c .before .before .before .size .ensures)))

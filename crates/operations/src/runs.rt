@@ -15,7 +15,8 @@ pub enum Ran {
     Refused(u8, usize),
 }
 
-// The operations in the rows from `start` up to `end`, the first of which is operation 1; the first that fails ends the run.
+// The operations in the rows from `start` up to `end`, the first of which is operation 1; the first that fails ends
+// the run.
 fn elements<'a>(
     texts: Texts<'a>,
     nodes: &mut [Node],
