@@ -15,7 +15,11 @@ add-spec =
     -- same-length
     (λ c. search needs)
     -- returns
-    (λ c. add-array _ (c .before .before .before .before .kind .ensures) (c .before .before .before .if1 .taken) (c .before .add-element .ensures))
+    (λ c.
+    let at-add-element = c .before in
+    let at-if1 = at-add-element .before .before in
+    let at-kind = at-if1 .before in
+    add-array _ (at-kind .kind .ensures) (at-if1 .if1 .taken) (at-add-element .add-element .ensures))
     -- add-member-requires
     (λ c κs. search needs)
     -- same-length-2
