@@ -1,4 +1,5 @@
 pub mod AnswerLaws
+pub mod RefusalLaws
 pub mod TextLaws
 pub mod StageLaws
 pub mod CallLaws

@@ -4,7 +4,7 @@ use native.Mathlib.Omega.{arith}
 use mathlib.Core.Path.{_≡_, refl}
 use mathlib.Core.List.{List, [], _∷_}
 use Rattle.spec.specs.Forest.{Forest, none, tree, count, size, before}
-use Rattle.spec.specs.Limits.{workWords, maxNodes}
+use Rattle.spec.specs.Limits.{workNodes, maxNodes}
 use Rattle.tape.specs.Layout.{arrayKind, numberKind, values, patchRow, rows}
 use Rattle.tape.specs.Fields.{Row, noNode}
 use Rattle.tape.specs.Tape.{tape}
@@ -96,5 +96,5 @@ splice-example = refl
 pub patch-part : patchRow ≡ maxNodes
 patch-part = refl
 
-pub all-parts : rows ≡ workWords
+pub all-parts : rows ≡ workNodes
 all-parts = refl

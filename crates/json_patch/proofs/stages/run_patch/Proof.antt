@@ -1,6 +1,7 @@
--- `run_patch` meets its contract, by the patch's shape.
+-- `run_patch` meets its contract, by the patch's shape and by its run.
+use native.Mathlib.Omega.{arith}
 use borrow.Author.Needs.{needs}
-use Rattle.json_patch.proofs.StageLaws.{patch-right, patch-wrong}
+use Rattle.json_patch.proofs.StageLaws.{patch-misshapen, patch-stopped, patch-done}
 use Rattle.json_patch.proofs.stages.run_patch.Statement.{statement}
 use Rattle.json_patch.proofs.stages.run_patch.Tie as tie
 
@@ -8,27 +9,9 @@ pub run-patch-spec : {M : Type 1} → statement M
 run-patch-spec =
     tie.close
     (tie.spec
-    -- shape-of-requires
-    (λ c κs. search needs)
-    -- enum-told
-    (λ c. search needs)
-    -- run-operations-requires
-    (λ c κs. search needs)
-    -- same-length
-    (λ c. search needs)
-    -- same-length-2
-    (λ c. search needs)
-    -- same-length-3
-    (λ c. search needs)
     -- returns
-    (λ c v p d held short. patch-right held (c .before .before .before .before .before .before .before .before .before .before .before .before .shape-of .ensures) (c .before .before .before .before .before .before .before .before .before .before .enum-told .given .1) d short (c .before .before .before .before .before .before .run-operations .ensures))
-    -- enum-known-number
-    (λ c. search needs)
-    -- refusal-requires
-    (λ c κs. search needs)
-    -- same-length-4
-    (λ c. search needs)
-    -- same-length-5
-    (λ c. search needs)
+    (λ c. patch-misshapen (c .shape-of .ensures) (c .enum-told .given .1) (c .misshapen .ensures))
     -- returns-2
-    (λ c v p d held short. patch-wrong held (c .before .before .before .before .shape-of .ensures) v (c .before .before .number .given .1) (c .refusal .ensures)))
+    (λ c. patch-stopped (c .shape-of .ensures) (c .shape .given .1) (c .run .ensures) (c .enum-told2 .given .1) (c .stopped .ensures))
+    -- returns-3
+    (λ c. patch-done (c .shape-of .ensures) (c .shape .given .1) (c .run .ensures) (c .ran .given .1) (c .write-out .ensures)))
