@@ -98,24 +98,22 @@ module _ {w : Table} {s : Shape} (shaped : PatchIs w patchRow s) where
         (ap shape (held .means) ∙ shaped)
 
     pub patch-stopped : {number op : ℕ} → told ≡ Ran.Refused number op → StoppedIs told r → RunPatchIs w out out used r
-    unfolding patched onFinish
+    unfolding patched onFinish answerOf
     patch-stopped t is v p d held short =
         let (os, shaped) = shape-right (shape-told held) e in
         rw shaped (go (ran-told d held short os shaped) t)
       where
         go : {o : Run Value.Value} {ran : Ran} {number op : ℕ} → RanTo (w .texts) nodes' o told → told ≡ Ran.Refused number op → Answered (answerOf (length out) o) out out r
-        unfolding answerOf
         go (ran is d) h = absurd (let z : _≡_ {A = ℕ} 0 1 = cc in omega arith)
         go (halted {number = n} {op} stops) h = rw stops (answered-refusal (is n op refl))
 
     pub patch-done : {rows : ℕ} {out' : Bytes} → told ≡ Ran.Done rows → WriteOutIs (table (w .texts) nodes') out out' r → RunPatchIs w out out' used r
-    unfolding patched onFinish
+    unfolding patched onFinish answerOf
     patch-done {out' = out'} t writes v p d held short =
         let (os, shaped) = shape-right (shape-told held) e in
         rw shaped (go (ran-told d held short os shaped) t)
       where
         go : {o : Run Value.Value} {rows : ℕ} → RanTo (w .texts) nodes' o told → told ≡ Ran.Done rows → Answered (answerOf (length out) o) out out' r
-        unfolding answerOf
         go (ran {used} {u} is d) h = rw is (writes used u d)
         go (halted stops) h = absurd (let z : _≡_ {A = ℕ} 0 1 = cc in omega arith)
 
