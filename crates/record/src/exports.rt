@@ -1,5 +1,5 @@
-// The functions for C. A list is a pointer and a count there. A record goes by value, both ways: it has 16 bytes, which C passes and returns in two
-// registers on x86-64, and so does the compiled function. So no pointer to a result is lent that could overlap the list.
+// The functions for C. A list is a pointer and a count there. A record goes by value, both ways, as C passes a struct
+// of 16 bytes: a pointer to a result would be one more thing for the caller to lend, and could overlap the list.
 use crate::Node;
 use crate::clear;
 use crate::read;

@@ -1,13 +1,15 @@
-// A node of the table as a record, its fields by their names: the typed way to look at a lent list of nodes and to clear it.
+// A node of the table as a record, its fields by their names: the typed way to look at a lent list of nodes and to
+// clear it.
 //
-// A record lies in memory as the engine's row does, `tape::layout::Node`: eight fields of 16 bits in the same order. specs/Rows.antt says what these
-// functions do to a record's fields: what the engine's do to its row. Each is total.
+// A record has the fields of the engine's row, `tape::layout::Node`, in the same order. What these functions do to a
+// record's fields is what those of `tape::moves` do to its row (specs/Rows.antt). Each is total.
 ghost use mathlib.Core.Path.{_≡_};
 ghost use lib.ListN.{set, getD};
 ghost use Rattle.record.specs.Records.{noRecord};
 
 // the functions for C
 mod exports;
+
 pub use exports::json_patch_node_clear;
 pub use exports::json_patch_node_read;
 pub use exports::json_patch_node_store;

@@ -85,7 +85,8 @@ module _ {M : Type 1} (𝓤 : URA M) (H : Heap 𝓤) (A : Atoms 𝓤) (W : Given
       suffices
       !
       _
-      (ends-at 𝓤 H A store′.ended stayed (store′.clauses 𝓤 H A mem run) W (((κ, tt), (q, tt), tt, a, at), tt) vunit tt (zs, (tt, (tt, tt))) (l, (tt, (tt, tt)))) $
+      (ends-at 𝓤 H A store′.ended stayed (store′.clauses 𝓤 H A mem run) W (((κ, tt), (q, tt), tt, a, at), tt) vunit tt
+      (zs, (tt, (tt, tt))) (l, (tt, (tt, tt)))) $
       says ! e $ nothing ! $ move ! (3 ∷ 0 ∷ []) $ join ! $ frame ! $ fjoin ! $
       pureI ! (at-slice R (x zs) (at .0)) (tt, (tt, tt)) (ap (λ (m : ℕ). sliceVal (b, o) m ∷ []) (sym l), subst (Room R) (sym l) gn) $
       fjoin ! $ fjoin ! $ frame ! $ feqI ! (List Val) (vunit ∷ []) (vunit ∷ []) refl $ done !
@@ -98,10 +99,10 @@ module _ {M : Type 1} (𝓤 : URA M) (H : Heap 𝓤) (A : Atoms 𝓤) (W : Given
     abbrev Meet : Bool → List Node → List (Item 𝓤)
     Meet y zs =
         Lent zs
-        (‵ (froom tyPtr l₇ 0) ∷ ‵ (fdies tyPtr l₇) ∷ ‵ (froom word l₆ 0) ∷ ‵ (fdies word l₆) 
+        (‵ (froom tyPtr l₇ 0) ∷ ‵ (fdies tyPtr l₇) ∷ ‵ (froom word l₆ 0) ∷ ‵ (fdies word l₆)
         ∷ ‵ (fat fullShare tyBool l₅ 0 (vbool y)) ∷ ‵ (fdies tyBool l₅) ∷ ‵ (fat fullShare word l₄ 0 (vint w64 (length ys))) ∷ ‵ (fdies word l₄)
-        ∷ ‵ (fat fullShare T′.mir l₃ 0 mach) ∷ ‵ (fdies T′.mir l₃) ∷ ‵ (fat fullShare word l₂ 0 (vint w64 i)) ∷ ‵ (fdies word l₂) ∷ ‵ (fat fullShare (list mut) l₁ 0 (sliceVal (b, o) (length ys)))
-        ∷ ‵ (fdies (list mut) l₁) ∷ ‵ (froom tyUnit l₀ 0) ∷ ‵ (fdies tyUnit l₀) ∷ [])
+        ∷ ‵ (fat fullShare T′.mir l₃ 0 mach) ∷ ‵ (fdies T′.mir l₃) ∷ ‵ (fat fullShare word l₂ 0 (vint w64 i)) ∷ ‵ (fdies word l₂)
+        ∷ ‵ (fat fullShare (list mut) l₁ 0 (sliceVal (b, o) (length ys))) ∷ ‵ (fdies (list mut) l₁) ∷ ‵ (froom tyUnit l₀ 0) ∷ ‵ (fdies tyUnit l₀) ∷ [])
 
     ends : (y : Bool) (zs : List Node) → zs ≡ set ys i v → length zs ≡ length ys → Sq W (Meet y zs) (runs C Λ E mir.t-4 (atRet E Post))
     ends y zs e l =
@@ -125,7 +126,8 @@ module _ {M : Type 1} (𝓤 : URA M) (H : Heap 𝓤) (A : Atoms 𝓤) (W : Given
         -- [obs; the borrow; the token; row's and node's; _7; …; _6; …; _5; …; _4; …; node; …; row; …; nodes; …; room for _0; …]
         assigns ! (of-opd ! (load ! (from ! (fld ! refl (stop !))) (look-in ! 16 (sub ! 1 refl (whole !))))) (from ! (stop !))
         (init ! 10 refl (tt, record { fits = gn .0 })) $
-        assigns ! (bin ! (load ! (from ! (stop !)) (look ! 14 refl)) (load ! (from ! (stop !)) (look ! 10 refl)) tt) (from ! (stop !)) (init ! 8 refl (tt, tt)) $
+        assigns ! (bin ! (load ! (from ! (stop !)) (look ! 14 refl)) (load ! (from ! (stop !)) (look ! 10 refl)) tt)
+        (from ! (stop !)) (init ! 8 refl (tt, tt)) $
         first ! $ branches ! (load ! (from ! (stop !)) (look ! 8 refl))
         (λ test. let l : i < length ys = ltb→lt i (length ys) test in
         assigns ! (bin ! (load ! (from ! (stop !)) (look ! 14 refl)) (lit ! tt) (record { fits = place-fits i (length ys) l (gn .1) })) (from ! (stop !))
@@ -160,9 +162,10 @@ module _ {M : Type 1} (𝓤 : URA M) (H : Heap 𝓤) (A : Atoms 𝓤) (W : Given
 store-meets : {M : Type 1} (𝓤 : URA M) (H : Heap 𝓤) (A : Atoms 𝓤) → Given 𝓤 H A → (mem : Memory → SProp 𝓤) (run : Routine → Fun 𝓤) (𝓣 : Tables 𝓤 H)
     → Meets 𝓤 H A store′.signature (WpFn 𝓤 H (𝓣 .C) (𝓣 .Λ) code.function) (store′.spec 𝓤 H A mem run)
 store-meets 𝓤 H A W mem run 𝓣 =
-    walk-meets 𝓤 H A store′.ended stayed W
-    (goes-slice 𝓤 H A W 1 0 tt (plain (λ _. R)),
-    (goes-none 𝓤 H A W 1 (λ _. usize) yes (λ κs x f. refl), (goes-none 𝓤 H A W 1 (λ _. R) yes (λ κs x f. refl), tt))) (store′.clauses 𝓤 H A mem run)
+    walk-meets 𝓤 H A store′.ended stayed W (
+      goes-slice 𝓤 H A W 1 0 tt (plain (λ _. R)),
+      (goes-none 𝓤 H A W 1 (λ _. usize) yes (λ κs x f. refl), (goes-none 𝓤 H A W 1 (λ _. R) yes (λ κs x f. refl), tt)),
+    ) (store′.clauses 𝓤 H A mem run)
     (WpFn 𝓤 H (𝓣 .C) (𝓣 .Λ) code.function) (WpFn-mono 𝓤 H (W .laws) 𝓣 code.function) (store-walks 𝓤 H A W mem run (𝓣 .C) (𝓣 .Λ))
 
 pub store-spec : {M : Type 1} → stated.statement M
