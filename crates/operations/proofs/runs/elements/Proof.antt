@@ -5,16 +5,17 @@ use native.Mathlib.Omega.{arith}
 use mathlib.Core.Path.{_≡_, refl}
 use lib.ListN.{length}
 use borrow.Author.Needs.{needs}
+use Rattle.tape.specs.Lent.{tableOf}
 use Rattle.operations.proofs.RunLaws.{GoingAny, going-all, run-ends, run-inside, run-halts, run-next}
-use Rattle.operations.proofs.run.elements.Statement.{statement}
-use Rattle.operations.proofs.run.elements.Tie as tie
+use Rattle.operations.proofs.runs.elements.Statement.{statement}
+use Rattle.operations.proofs.runs.elements.Tie as tie
 
 abbrev Inv-loop : tie.InvT-loop
-Inv-loop document patch values₀ names₀ used start end rows₀ row₀ op₀ values names rows row op =
-    (op ≤ row) × (length values ≡ length values₀) × (length names ≡ length names₀) × GoingAny document patch values₀ names₀ used start end values names rows row op
+Inv-loop texts nodes₀ index₀ used start end rows₀ row₀ op₀ nodes index rows row op =
+    (op ≤ row) × (length nodes ≡ length nodes₀) × (length index ≡ length index₀) × GoingAny (tableOf texts nodes₀) used start end nodes rows row op
 
 abbrev μ-loop : tie.MeasureT-loop
-μ-loop document patch values₀ names₀ used start end rows₀ row₀ op₀ values names rows row op = end - row
+μ-loop texts nodes₀ index₀ used start end rows₀ row₀ op₀ nodes index rows row op = end - row
 
 pub elements-spec : {M : Type 1} → statement M
 elements-spec =
@@ -23,7 +24,7 @@ elements-spec =
     Inv-loop
     μ-loop
     -- loop-holds
-    (λ c. (omega arith, refl, refl, going-all _ _ _ _ _ _ _))
+    (λ c. (omega arith, refl, refl, going-all _ _ _ _))
     -- same-length
     (λ c. search needs)
     -- same-length-2
@@ -41,7 +42,14 @@ elements-spec =
     -- loop-less
     (λ c. search needs)
     -- loop-again
-    (λ c. (search needs, search needs, search needs, run-next (c .before .before .before .before .before .before .before .before .before .before .before .before .before .before .loop .inv .3) (omega arith) (c .before .before .before .before .before .before .before .before .before .perform .ensures) (c .before .before .before .n .given .1) _ (c .end-of .ensures)))
+    (λ c. (
+      search needs,
+      search needs,
+      search needs,
+      run-next
+          (c .before .before .before .before .before .before .before .before .before .before .before .before .before .loop .inv .3) (omega arith)
+          (c .before .before .before .before .before .before .before .before .perform .ensures) (c .before .before .before .n .given .1) _ (c .end-of .ensures),
+    ))
     -- enum-known-number
     (λ c. search needs)
     -- same-length-3
@@ -49,7 +57,8 @@ elements-spec =
     -- same-length-4
     (λ c. search needs)
     -- returns-2
-    (λ c. run-halts (c .before .before .before .before .before .before .before .before .before .before .before .before .loop .inv .3) (omega arith) (c .before .before .before .before .before .before .before .perform .ensures) (c .before .number .given .1))
+    (λ c. run-halts (c .before .before .before .before .before .before .before .before .before .before .before .loop .inv .3) (omega arith)
+    (c .before .before .before .before .before .before .perform .ensures) (c .before .number .given .1))
     -- same-length-5
     (λ c. search needs)
     -- same-length-6

@@ -1,8 +1,8 @@
 -- `run` meets its contract, by its elements.
 use borrow.Author.Needs.{needs}
 use Rattle.operations.proofs.RunLaws.{run-patch}
-use Rattle.operations.proofs.run.run.Statement.{statement}
-use Rattle.operations.proofs.run.run.Tie as tie
+use Rattle.operations.proofs.runs.run.Statement.{statement}
+use Rattle.operations.proofs.runs.run.Tie as tie
 
 pub run-spec : {M : Type 1} → statement M
 run-spec =
@@ -19,4 +19,4 @@ run-spec =
     -- same-length-2
     (λ c. search needs)
     -- returns
-    (λ c. run-patch _ (c .before .before .before .before .before .before .before .end-of .ensures) (c .before .before .before .before .elements .ensures)))
+    (λ c. run-patch _ (c .before .before .before .before .before .before .end-of .ensures) (c .before .before .before .elements .ensures)))
