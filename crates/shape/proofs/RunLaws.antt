@@ -74,7 +74,7 @@ pub record Left (w : Table) (end row op : ℕ) (f : Forest Cell) : Type 0 where
   pub rows : RowsHeld w row end left
   pub whole : (r : Shape) → ShapeIs (operations (op + 1) (members (w .texts) left)) r → ShapeIs (operations 1 (members (w .texts) f)) r
 
--- of whatever trees the columns hold
+-- of whatever trees the table holds
 abbrev pub LeftAny : Table → ℕ → ℕ → ℕ → ℕ → Type 0
 LeftAny w start end row op = (f : Forest Cell) → RowsHeld w start end f → Left w end row op f
 

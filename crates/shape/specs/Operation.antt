@@ -22,7 +22,7 @@ use Rattle.shape.specs.Members.{ForNode, textOutcome, TextIs, StringIs}
 use Rattle.shape.specs.declared.kinds.Kind.{Kind}
 use Rattle.shape.specs.declared.members.Spelled.{Spelled}
 
--- a number that stands for an outcome: 0 for a result, and else that of the refusal
+-- a number that stands for an outcome: 0 for a result, and the number of a refusal
 pub data Answers {A : Type 0} : Outcome A → ℕ → Type 0 where
   right : (a : A) → Answers (ok a) 0
   wrong : (number : ℕ) → 0 < number → Answers (refused number 0) number

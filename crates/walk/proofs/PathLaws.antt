@@ -2,6 +2,7 @@
 use Prim.Native.Nat.{ℕ, _+_, _-_, _<_, _≤_}
 use native.Mathlib.Omega.{arith}
 use mathlib.Core.Path.{_≡_, refl, ap, sym, _∙_, subst}
+use mathlib.Core.Bool.{Bool, true, false, true≢false}
 use mathlib.Core.List.{List, [], _∷_}
 use lib.ListN.{length}
 use Rattle.spec.specs.Outcome.{Outcome, ok}
@@ -10,27 +11,28 @@ use Rattle.spec.specs.Bytes.{Bytes}
 use Rattle.spec.specs.Forest.{Forest, size, nth}
 use Rattle.spec.specs.Value as Value
 use Rattle.spec.specs.Value.{valueOf}
-use Rattle.spec.specs.Pointer.{Tokens, childAt, walk}
+use Rattle.spec.specs.Pointer.{Tokens, tokens, childAt, walk}
 use Rattle.spec.proofs.PlaceLaws.{walk-on, walk-off}
-use Rattle.text.specs.Decode.{textOf}
+use Rattle.text.specs.Decode.{decode, textOf}
 use Rattle.tape.specs.declared.fields.Spelling.{Spelling}
 use Rattle.tape.specs.declared.fields.Name.{Name}
 use Rattle.tape.specs.declared.fields.Cell.{Cell}
 use Rattle.tape.proofs.Cells.{blank}
 use Rattle.tape.specs.Rows.{childRow}
 use Rattle.table.specs.Meaning.{partOf, nameText, meant}
-use Rattle.pointer.specs.Tokens.{tokensFrom, tokenBytes, FirstOf, TokenAt}
+use Rattle.pointer.specs.Tokens.{accepted, tokensFrom, tokenBytes, FirstOf, TokenAt}
 use Rattle.pointer.specs.declared.answers.First.{First}
 use Rattle.pointer.specs.declared.answers.First.the-variants as First
 use Rattle.pointer.specs.declared.answers.Token.{Token}
 use Rattle.pointer.specs.declared.answers.Token.the-variants as Token
+use Rattle.pointer.proofs.AcceptLaws.{accepted-ok}
 use Rattle.pointer.proofs.WalkLaws as WalkLaws
 use Rattle.pointer.proofs.WalkLaws.{Unfolds, first-token, next-order, tokensBehind, behind-last, behind-next}
 use Rattle.walk.specs.Names.{Short, NamesToken, tokenName, TokenNameIs}
 use Rattle.table.specs.Sound.{NodeHeld, ForHeld}
 use Rattle.walk.specs.Step.{Stepped, stepped, missed, StepRows, StepIs}
 use Rattle.walk.specs.Path.{TokensFrom, Walked, reached, lost, WalkFromIs, WalkIs}
-use Rattle.walk.specs.Path.{WalkRows, walk-lost, walk-last, walk-next, PathRows, path-root, path-malformed, path-below}
+use Rattle.walk.specs.Path.{WalkRows, walk-lost, walk-last, walk-next, path-root, path-below, isPointer}
 use Rattle.walk.specs.declared.steps.Child.{Child}
 use Rattle.walk.specs.declared.steps.Child.the-variants.{At, Refused}
 use Rattle.walk.proofs.Children.{child-meant, child-held, child-inside}
@@ -166,38 +168,47 @@ module _ {w : Table} {start : ℕ} {path : Spelling} {first at row : ℕ} {name 
 pub first-of : {f : First} (pointer : Bytes) {s : Bytes} → pointer ≡ s → FirstOf pointer f → FirstOf s f
 first-of {f} pointer e is = subst (λ s. FirstOf s f) e is
 
-module _ {w : Table} {start : ℕ} {path : Spelling} (pointer : Bytes) (pointer-is : pointer ≡ partOf (w .texts) path) (f : First)
-    (is : FirstOf pointer f) where
-  pub walk-root : f ≡ First.Root → WalkIs w start path (At start)
-  unfolding walk
-  walk-root e =
+module _ {w : Table} {start : ℕ} {path : Spelling} (pointer : Bytes) (pointer-is : pointer ≡ partOf (w .texts) path) where
+  -- a text without tokens is no pointer
+  pub walk-malformed : accepted (tokens (decode pointer)) ≡ false → WalkIs w start path (Refused malformed-pointer)
+  unfolding accepted
+  walk-malformed h =
+      let no : isPointer (w .texts) path ≡ false = rw (← pointer-is) h in
       record {
-        first = f;
-        is = first-of pointer pointer-is is;
-        rows = subst (λ g. PathRows w start path g (At start)) (sym e) path-root;
-        held = λ ts short p c kids n.
-            let none : ts ≡ [] = WalkLaws.first-root (partOf (w .texts) path) f (first-of pointer pointer-is is) ts e (p .is) in
-            reached (ap (λ us. walk us (meant (w .texts) c kids)) none) n (omega arith) (omega arith);
+        malformed = λ e. refl;
+        rows = λ e. absurd (true≢false (sym e ∙ no));
+        held = λ ts short p c kids n. absurd (true≢false (sym (ap accepted (p .is)) ∙ no));
       }
 
-  pub walk-malformed : f ≡ First.Malformed → WalkIs w start path (Refused malformed-pointer)
-  walk-malformed e =
-      record {
-        first = f;
-        is = first-of pointer pointer-is is;
-        rows = subst (λ g. PathRows w start path g (Refused malformed-pointer)) (sym e) path-malformed;
-        held = λ ts short p c kids n. absurd (WalkLaws.first-malformed (partOf (w .texts) path) f (first-of pointer pointer-is is) ts e (p .is));
-      }
+  module _ (well : accepted (tokens (decode pointer)) ≡ true) (f : First) (is : FirstOf pointer f) where
+    pub walk-root : f ≡ First.Root → WalkIs w start path (At start)
+    unfolding walk
+    walk-root e =
+        let first-is = first-of pointer pointer-is is in
+        let is-pointer : isPointer (w .texts) path ≡ true = rw (← pointer-is) well in
+        record {
+          malformed = λ no. absurd (true≢false (sym is-pointer ∙ no));
+          rows = λ yes. path-root (subst (FirstOf (partOf (w .texts) path)) e first-is);
+          held = λ ts short p c kids n.
+              let none : ts ≡ [] = WalkLaws.first-root (partOf (w .texts) path) f first-is ts e (p .is) in
+              reached (ap (λ us. walk us (meant (w .texts) c kids)) none) n (omega arith) (omega arith);
+        }
 
-  pub walk-at : (at : ℕ) → f ≡ First.At at → {r : Child} → WalkFromIs w start path at r → WalkIs w start path r
-  walk-at at e {r} g =
-      record {
-        first = f;
-        is = first-of pointer pointer-is is;
-        rows = subst (λ h. PathRows w start path h r) (sym e) (path-below (g .rows));
-        held = λ ts short p.
-            let first-is = first-of pointer pointer-is is in
-            let inside = WalkLaws.first-inside (partOf (w .texts) path) f first-is at e in
-            let from = WalkLaws.first-at (partOf (w .texts) path) f first-is at ts e (p .is) in
-            g .held ts short inside (record { is = from });
-      }
+    pub walk-at : (at : ℕ) → f ≡ First.At at → {r : Child} → WalkFromIs w start path at r → WalkIs w start path r
+    walk-at at e {r} g =
+        let first-is = first-of pointer pointer-is is in
+        let is-pointer : isPointer (w .texts) path ≡ true = rw (← pointer-is) well in
+        record {
+          malformed = λ no. absurd (true≢false (sym is-pointer ∙ no));
+          rows = λ yes. path-below (subst (FirstOf (partOf (w .texts) path)) e first-is) (g .rows);
+          held = λ ts short p.
+              let inside = WalkLaws.first-inside (partOf (w .texts) path) f first-is at e in
+              let from = WalkLaws.first-at (partOf (w .texts) path) f first-is at ts e (p .is) in
+              g .held ts short inside (record { is = from });
+        }
+
+    -- a pointer begins with a slash, or is empty
+    pub walk-never : f ≡ First.Malformed → {r : Child} → WalkIs w start path r
+    walk-never e =
+        let some = accepted-ok (tokens (decode pointer)) well in
+        absurd (WalkLaws.first-malformed pointer f is (some .0) e (some .1))

@@ -78,7 +78,7 @@ pub few-children : {c : Cell} {kids : Forest Cell} → Fit c kids → count kids
 few-children {c} {kids} fit = omega (arith, count-le-size kids, fit .small)
 
 -- what the code reads is the token's text
-index-is : (T : Texts) (token : Name) (part : Bytes) → part ≡ partOf T (token .text) → (i : Index) → i ≡ indexOf (textOf 3 part) → IsToken T token
+pub index-is : (T : Texts) (token : Name) (part : Bytes) → part ≡ partOf T (token .text) → (i : Index) → i ≡ indexOf (textOf 3 part) → IsToken T token
     → indexOf (nameText T token) ≡ i
 unfolding spelled
 index-is T token part there i is t =

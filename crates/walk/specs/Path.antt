@@ -1,7 +1,7 @@
 -- What a walk along a pointer answers.
 use Prim.Native.Nat.{ℕ, _+_, _≤_}
 use mathlib.Core.Path.{_≡_}
-use mathlib.Core.List.{List}
+use mathlib.Core.Bool.{Bool, true, false}
 use lib.ListN.{length}
 use Rattle.spec.specs.Outcome.{Outcome, ok, refused}
 use Rattle.spec.specs.Refusal.{malformed-pointer}
@@ -12,8 +12,7 @@ use Rattle.text.specs.Decode.{decode}
 use Rattle.tape.specs.declared.fields.Spelling.{Spelling}
 use Rattle.tape.specs.declared.fields.Cell.{Cell}
 use Rattle.table.specs.Meaning.{partOf, meant}
-use Rattle.pointer.specs.Tokens.{tokensFrom, FirstOf, TokenAt}
-use Rattle.pointer.specs.declared.answers.First.{First}
+use Rattle.pointer.specs.Tokens.{accepted, tokensFrom, FirstOf, TokenAt}
 use Rattle.pointer.specs.declared.answers.First.the-variants as First
 use Rattle.pointer.specs.declared.answers.Token.{Token}
 use Rattle.pointer.specs.declared.answers.Token.the-variants as Token
@@ -48,11 +47,14 @@ pub data WalkRows (w : Table) (path : Spelling) : ℕ → ℕ → Child → Type
   walk-next : {at row child : ℕ} {r : Child} (end next : ℕ) → TokenAt (partOf (w .texts) path) at (Token.Next end next)
       → StepRows w row (tokenName (w .texts) path at (Token.Next end next)) (At child) → WalkRows w path next child r → WalkRows w path at row r
 
--- along all tokens, where the pointer has any; the empty pointer leads to the node itself, and a text that begins with no slash leads nowhere
-pub data PathRows (w : Table) (row : ℕ) (path : Spelling) : First → Child → Type 0 where
-  path-root : PathRows w row path First.Root (At row)
-  path-malformed : PathRows w row path First.Malformed (Refused malformed-pointer)
-  path-below : {at : ℕ} {r : Child} → WalkRows w path at row r → PathRows w row path (First.At at) r
+-- along all tokens, where the pointer has any; the empty pointer leads to the node itself
+pub data PathRows (w : Table) (row : ℕ) (path : Spelling) : Child → Type 0 where
+  path-root : FirstOf (partOf (w .texts) path) First.Root → PathRows w row path (At row)
+  path-below : {at : ℕ} {r : Child} → FirstOf (partOf (w .texts) path) (First.At at) → WalkRows w path at row r → PathRows w row path r
+
+-- whether a path spells a pointer
+abbrev pub isPointer : Texts → Spelling → Bool
+isPointer T path = accepted (tokens (decode (partOf T path)))
 
 -- ---- from a node in a row, along the tokens from a place of the pointer on, or along all
 pub record WalkFromIs (w : Table) (row : ℕ) (path : Spelling) (at : ℕ) (r : Child) : Type 0 where
@@ -61,8 +63,7 @@ pub record WalkFromIs (w : Table) (row : ℕ) (path : Spelling) (at : ℕ) (r : 
       → ForHeld w row (λ c kids. Walked w row (size kids) (walk ts (meant (w .texts) c kids)) r)
 
 pub record WalkIs (w : Table) (row : ℕ) (path : Spelling) (r : Child) : Type 0 where
-  pub first : First
-  pub is : FirstOf (partOf (w .texts) path) first
-  pub rows : PathRows w row path first r
+  pub malformed : isPointer (w .texts) path ≡ false → r ≡ Refused malformed-pointer
+  pub rows : isPointer (w .texts) path ≡ true → PathRows w row path r
   pub held : (ts : Tokens) → Short (w .texts) → PathIs (w .texts) path ts
       → ForHeld w row (λ c kids. Walked w row (size kids) (walk ts (meant (w .texts) c kids)) r)

@@ -15,8 +15,8 @@ ghost use mathlib.Core.Path.{_≡_};
 ghost use Rattle.tape.specs.Lent.{lent};
 ghost use Rattle.walk.specs.Names.{noName, sourceOf, TokenNameIs};
 
-// The name without a text.
-fn no_name() -> Name
+// The name without a text, as an array's elements have it.
+pub fn no_name() -> Name
     ensures { λ r. ⌜ r ≡ noName ⌝ }
 {
     Name {

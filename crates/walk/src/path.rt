@@ -5,6 +5,7 @@ use crate::steps::step;
 use pointer::First;
 use pointer::Token;
 use pointer::first;
+use pointer::is_pointer;
 use pointer::token;
 use spec::refusal;
 use table::spellings::part;
@@ -42,12 +43,15 @@ fn walk_from<'a>(
     }
 }
 
-// From the node in the row `start`, along the pointer that `path` spells. A text that begins
-// with no slash is no pointer, and is refused with 10.
+// From the node in the row `start`, along the pointer that `path` spells. A text that is no pointer is refused with 10.
 pub fn walk<'a>(texts: Texts<'a>, nodes: &[Node], start: usize, path: Spelling) -> Child
     ensures { λ r. ⌜ WalkIs (before texts nodes) start path r ⌝ }
 {
-    match first(part(texts, path)) {
+    let pointer = part(texts, path);
+    if !is_pointer(pointer) {
+        return Child::Refused(refusal::MALFORMED_POINTER);
+    }
+    match first(pointer) {
         First::Root => Child::At(start),
         First::At(at) => walk_from(texts, nodes, start, path, at),
         First::Malformed => Child::Refused(refusal::MALFORMED_POINTER),

@@ -42,15 +42,18 @@ token-name-spec =
     (λ c κs. search needs)
     -- returns-2
     (λ c.
-    let a = c .before .before .before .before .before .before .before .before .before .before .args in
-    token-named (both (a .texts)) (a .path) (a .at) (a .token) _
-    (c .before .before .before .before .before .before .before .before .before .part .ensures) _ _ _ _
-    (omega (arith, c .before .before .before .before .before .wide .ensures))
-    (c .before .before .before .before .before .before .before .before .if1 .left)
-    (c .before .before .before .before .before .before .source-of .ensures)
-    (c .before .before .before .before .narrow .ensures ∙ ap (λ n. (n + a .at) % values)
-    (c .before .before .before .before .before .wide .ensures .0))
-    (c .before .before .before .narrow2 .ensures ∙ ap (λ (l : Bytes). length l % values)
-    (c .before .before .before .before .before .before .before .token-part .ensures))
-    (c .short .ensures ∙ ap shortHash (c .before .hash-text .ensures ∙ rw
-    (c .before .before .long .ensures, c .before .before .before .before .before .before .before .token-part .ensures)))))
+    let at-hash-text = c .before in
+    let at-long = at-hash-text .before in
+    let at-narrow2 = at-long .before in
+    let at-narrow = at-narrow2 .before in
+    let at-wide = at-narrow .before in
+    let at-source-of = at-wide .before in
+    let at-token-part = at-source-of .before in
+    let at-if1 = at-token-part .before in
+    let at-part = at-if1 .before in
+    let at-args = at-part .before in
+    let a = at-args .args in
+    token-named (both (a .texts)) (a .path) (a .at) (a .token) _ (at-part .part .ensures) _ _ _ _ (omega (arith, at-wide .wide .ensures))
+    (at-if1 .if1 .left) (at-source-of .source-of .ensures) (at-narrow .narrow .ensures ∙ ap (λ n. (n + a .at) % values) (at-wide .wide .ensures .0))
+    (at-narrow2 .narrow2 .ensures ∙ ap (λ (l : Bytes). length l % values) (at-token-part .token-part .ensures))
+    (c .short .ensures ∙ ap shortHash (at-hash-text .hash-text .ensures ∙ rw (at-long .long .ensures, at-token-part .token-part .ensures)))))

@@ -34,30 +34,47 @@ walk-from-spec =
     -- enum-told
     (λ c. search needs)
     -- returns
-    (λ c. walking-lost (c .before .before .before .before .before .loop .inv) _
-    (c .before .before .before .before .before .before .part .ensures) (c .before .before .before .before .token .ensures)
-    (c .before .before .before .token-name .ensures) _ (c .before .before .step .ensures) _ (c .enum-told .given .1))
+    (λ c.
+    let at-step = c .before .before in
+    let at-token-name = at-step .before in
+    let at-token = at-token-name .before in
+    let at-loop = at-token .before in
+    let at-part = at-loop .before in
+    walking-lost (at-loop .loop .inv) _ (at-part .part .ensures) (at-token .token .ensures) (at-token-name .token-name .ensures) _
+    (at-step .step .ensures) _ (c .enum-told .given .1))
     -- enum-known-t
     (λ c. search needs)
     -- enum-told-2
     (λ c. search needs)
     -- returns-2
-    (λ c. walking-done (c .before .before .before .before .before .before .before .before .loop .inv) _
-    (c .before .before .before .before .before .before .before .before .before .part .ensures)
-    (c .before .before .before .before .before .before .before .token .ensures)
-    (c .before .before .before .before .before .before .token-name .ensures) _ (c .before .before .before .before .before .step .ensures) _
-    (c .before .before .before .r .given .1) _ (c .enum-told2 .given .1))
+    (λ c.
+    let at-r = c .before .before .before in
+    let at-step = at-r .before .before in
+    let at-token-name = at-step .before in
+    let at-token = at-token-name .before in
+    let at-loop = at-token .before in
+    let at-part = at-loop .before in
+    walking-done (at-loop .loop .inv) _ (at-part .part .ensures) (at-token .token .ensures) (at-token-name .token-name .ensures) _
+    (at-step .step .ensures) _ (at-r .r .given .1) _ (c .enum-told2 .given .1))
     -- loop-less
-    (λ c. walking-less (c .before .before .before .before .before .before .before .before .before .loop .inv) _
-    (c .before .before .before .before .before .before .before .before .before .before .part .ensures)
-    (c .before .before .before .before .before .before .before .before .token .ensures)
-    (c .before .before .before .before .before .before .before .token-name .ensures) _
-    (c .before .before .before .before .before .before .step .ensures) _ (c .before .before .before .before .r .given .1) _ _
-    (c .before .t .given .1))
+    (λ c.
+    let at-t = c .before in
+    let at-r = at-t .before .before .before in
+    let at-step = at-r .before .before in
+    let at-token-name = at-step .before in
+    let at-token = at-token-name .before in
+    let at-loop = at-token .before in
+    let at-part = at-loop .before in
+    walking-less (at-loop .loop .inv) _ (at-part .part .ensures) (at-token .token .ensures) (at-token-name .token-name .ensures) _
+    (at-step .step .ensures) _ (at-r .r .given .1) _ _ (at-t .t .given .1))
     -- loop-again
-    (λ c. walking-next (c .before .before .before .before .before .before .before .before .before .loop .inv) _
-    (c .before .before .before .before .before .before .before .before .before .before .part .ensures)
-    (c .before .before .before .before .before .before .before .before .token .ensures)
-    (c .before .before .before .before .before .before .before .token-name .ensures) _
-    (c .before .before .before .before .before .before .step .ensures) _ (c .before .before .before .before .r .given .1) _ _
-    (c .before .t .given .1)))
+    (λ c.
+    let at-t = c .before in
+    let at-r = at-t .before .before .before in
+    let at-step = at-r .before .before in
+    let at-token-name = at-step .before in
+    let at-token = at-token-name .before in
+    let at-loop = at-token .before in
+    let at-part = at-loop .before in
+    walking-next (at-loop .loop .inv) _ (at-part .part .ensures) (at-token .token .ensures) (at-token-name .token-name .ensures) _
+    (at-step .step .ensures) _ (at-r .r .given .1) _ _ (at-t .t .given .1)))

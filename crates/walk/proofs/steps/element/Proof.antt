@@ -16,8 +16,11 @@ element-spec =
     -- nth-requires
     (λ c κs. search needs)
     -- returns
-    (λ c. element-at _ (c .before .before .before .before .before .part .ensures) _ (c .before .before .before .before .index .ensures) _
-    (c .before .before .i .given .1) (c .nth .ensures))
+    (λ c.
+    let at-i = c .before .before in
+    let at-index = at-i .before .before in
+    let at-part = at-index .before in
+    element-at _ (at-part .part .ensures) _ (at-index .index .ensures) _ (at-i .i .given .1) (c .nth .ensures))
     -- enum-told
     (λ c. search needs)
     -- returns-2

@@ -22,4 +22,8 @@ member-spec =
     -- returns-2
     (λ c. member-missing _ (c .before .before .before .end-of .ensures) _ (c .before .before .find .ensures) (c .enum-told .given .1))
     -- returns-3
-    (λ c. member-at _ (c .before .before .before .before .end-of .ensures) _ (c .before .before .before .find .ensures) _ (c .before .at .given .1)))
+    (λ c.
+    let at-at = c .before in
+    let at-find = at-at .before .before in
+    let at-end-of = at-find .before in
+    member-at _ (at-end-of .end-of .ensures) _ (at-find .find .ensures) _ (at-at .at .given .1)))
