@@ -50,8 +50,8 @@ pub data Answers {w : Table} {used row levels : ℕ} (z : Site w used row levels
 abbrev pub SiteOf : Table → Parent → Type 0
 SiteOf w p = Site w (p .used) (p .row) (suc (p .below))
 
--- ---- Each contract says what holds whatever the table holds, and what holds where the parent stands in it. Where it does not, which of the
--- refusals is answered, and what becomes of the document's rows, is free.
+-- ---- Each contract says what holds whatever the table holds, and what holds where the parent stands in it. Where it does not, the answer and the
+-- document's rows are free within that frame.
 -- a tree put among the children of a container
 pub record PutIs (nodes nodes' : List Row) (p : Parent) (at removed source : ℕ) (name : Name) (r : Altered) : Type 0 where
   pub rows : PutRows nodes nodes' p at removed source name r

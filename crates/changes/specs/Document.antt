@@ -57,8 +57,8 @@ pub data MakesAt (w : Table) : Change → AtLocation → Type 0 where
   replaces-at : (source : ℕ) (x : Cell) (kids : Forest Cell) → Offered w source x kids
       → MakesAt w (Replace source) (λ ts v. replaceAtPath ts (meant (w .texts) x kids) v)
 
--- ---- Each contract says what holds whatever the table holds, and what holds where it holds a document. Where it does not, which of the refusals
--- is answered, and what becomes of the document's rows, is free.
+-- ---- Each contract says what holds whatever the table holds, and what holds where it holds a document. Where it holds none, the answer and the
+-- document's rows are free within that frame; so they are where the path spells no pointer, or no tree is offered in the row of a new value.
 -- the tree in a row behind the document's becomes the document
 pub record ReplaceDocumentIs (nodes nodes' : List Row) (used source : ℕ) (r : Altered) : Type 0 where
   pub frame : Frame nodes nodes' r

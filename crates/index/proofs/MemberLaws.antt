@@ -36,8 +36,8 @@ indexed-entered {xs = xs} {ys = ys} e =
       beyond = beyond-parents xs ys (e .behind);
     }
 
-module _ {nodes : List Row} {top object row : ℕ} (xs ys : List ℕ) (stored : ys ≡ slotSet xs (parentSlot (row - top)) (object - top + 1)) (k : Child nodes object row) (low : top ≤ object) (above : object < row)
-    (near : row < top + room) (long : slots ≤ length xs) where
+module _ {nodes : List Row} {top object row : ℕ} (xs ys : List ℕ) (stored : ys ≡ slotSet xs (parentSlot (row - top)) (object - top + 1))
+    (k : Child nodes object row) (low : top ≤ object) (above : object < row) (near : row < top + room) (long : slots ≤ length xs) where
   noted-here : (r o : ℕ) → r ≡ row - top → slotAt ys (parentSlot r) ≡ suc o → Child nodes (top + o) (top + r)
   noted-here r o e is =
       let put : slotAt ys (parentSlot r) ≡ object - top + 1 =
@@ -80,7 +80,8 @@ pub indexing-next : {w : Table} {top object : ℕ} {xs ys zs : List ℕ} {row : 
     → (next : ℕ) → next ≡ row + 1 + spanOf (getD (w .nodes) row []) → Indexing (w .nodes) top object xs ws next
 indexing-next {w} {top} {object} {xs} {ys} {zs} {row} i low long here near inside entered place ws stored next is =
     let child : Child (w .nodes) object row = record { low = here; among = i .onward row (first inside) } in
-    let noted-too : Indexed top (w .nodes) zs ws = indexed-noted zs ws (stored ∙ ap (λ s. slotSet zs s (object - top + 1)) place) child low (i .above) near long in
+    let put : ws ≡ slotSet zs (parentSlot (row - top)) (object - top + 1) = stored ∙ ap (λ s. slotSet zs s (object - top + 1)) place in
+    let noted-too : Indexed top (w .nodes) zs ws = indexed-noted zs ws put child low (i .above) near long in
     record {
       indexed = indexed-on (i .indexed) (indexed-on (indexed-entered entered) noted-too);
       above = omega (arith, i .above);

@@ -8,7 +8,8 @@ use tape::fields::wide;
 // Rows that a search path can lead to. Rows are counted from a base.
 pub const ROOM: usize = 2048;
 
-// The slots from 0 on begin search paths; those from BRANCHES on are branches of rows, two of each; those from PARENTS on are parents of rows.
+// The slots from 0 on begin search paths. Those from BRANCHES on are branches of rows, two of each, and those from
+// PARENTS on are parents of rows.
 const BRANCHES: usize = 2048;
 
 const PARENTS: usize = 6144;

@@ -26,8 +26,12 @@ refilled-spec =
     (λ c. search auto)
     -- returns-2
     (λ c.
-    filled-end _ _ _ (c .before .before .before .long .ensures) (c .before .before .before .before .part .ensures) (c .before .before .before .before .before .if1 .left) _
-    (refused-text _ _ _ (c .before .before .letter .ensures) _ (c .enum-told .given .1))
+    let at-long = c .before .before .before .long in
+    let at-part = c .before .before .before .before .part in
+    let at-if1 = c .before .before .before .before .before .if1 in
+    let at-letter = c .before .before .letter in
+    filled-end _ _ _ (at-long .ensures) (at-part .ensures) (at-if1 .left) _
+    (refused-text _ _ _ (at-letter .ensures) _ (c .enum-told .given .1))
     refl
     refl)
     -- other-hash-requires
@@ -36,6 +40,11 @@ refilled-spec =
     (λ c. search auto)
     -- returns-3
     (λ c.
-    filled-next _ _ _ (c .before .before .before .before .before .long .ensures) (c .before .before .before .before .before .before .part .ensures) (c .before .before .before .before .before .before .before .if1 .left) _ _
-    (scalar-text _ _ _ (c .before .before .before .before .letter .ensures) _ _ (c .before .before .next .given .1))
+    let at-long = c .before .before .before .before .before .long in
+    let at-part = c .before .before .before .before .before .before .part in
+    let at-if1 = c .before .before .before .before .before .before .before .if1 in
+    let at-letter = c .before .before .before .before .letter in
+    let at-next = c .before .before .next in
+    filled-next _ _ _ (at-long .ensures) (at-part .ensures) (at-if1 .left) _ _
+    (scalar-text _ _ _ (at-letter .ensures) _ _ (at-next .given .1))
     (ap (λ n. otherHashes + n % otherHashes) (c .other-hash .ensures))))

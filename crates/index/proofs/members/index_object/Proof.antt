@@ -58,13 +58,15 @@ index-object-spec =
     (λ c. search needs)
     -- loop-again
     (λ c.
-    let asked = c .before .before .before .before .before .before .before .before .before .before .before .before .before .before .before .before .before .before .before .before .pre in
-    let span = c .before .before .before .before .before .before .before .before .before .before .before .before .before .before .before .before .behind .ensures in
+    let begun = c .before .before .before .before .before .before .before .before .before .before .before .before .before in
+    let inv = begun .loop .inv .1 in
+    let span = begun .before .before .before .behind .ensures in
+    let asked = begun .before .before .before .before .before .before .before .pre in
     let entered = c .before .before .before .before .before .before .before .before .enter .ensures in
     let place = c .before .before .before .before .parent .ensures in
     let stored = c .before .before .before .set-slot .ensures in (
       omega arith,
-      indexing-next (c .before .before .before .before .before .before .before .before .before .before .before .before .before .loop .inv .1) (omega (arith, asked)) (omega arith) (omega arith) (omega arith) (omega (arith, span)) entered place _ stored _
+      indexing-next inv (omega (arith, asked)) (omega arith) (omega arith) (omega arith) (omega (arith, span)) entered place _ stored _
           (c .behind2 .ensures .0),
     ))
     -- same-length

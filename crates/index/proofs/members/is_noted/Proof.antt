@@ -35,8 +35,11 @@ is-noted-spec =
     -- returns-2
     (λ c.
     let a = c .before .before .before .before .before .before .before .args in
+    let place = c .before .before .before .before .before .parent .ensures in
+    let noted = c .before .before .before .before .slot .ensures in
+    let own = c .before .name-of .ensures ∙ ap nameOf (c .before .before .load .ensures) in
     λ e.
     record {
-      parent = ap (slotAt (a .index .now)) (sym (c .before .before .before .before .before .parent .ensures)) ∙ sym (c .before .before .before .before .slot .ensures) ∙ omega (arith, c .before .before .before .if1 .left);
-      named = ap (λ n. sameName (both (a .texts)) n (a .name)) (sym (c .before .name-of .ensures ∙ ap nameOf (c .before .before .load .ensures))) ∙ sym (c .same-name .ensures) ∙ e;
+      parent = ap (slotAt (a .index .now)) (sym place) ∙ sym noted ∙ omega (arith, c .before .before .before .if1 .left);
+      named = ap (λ n. sameName (both (a .texts)) n (a .name)) (sym own) ∙ sym (c .same-name .ensures) ∙ e;
     }))

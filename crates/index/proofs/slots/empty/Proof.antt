@@ -48,5 +48,6 @@ empty-spec =
     (λ c. search needs)
     -- returns-2
     (λ c.
+    let at-args = c .before .before .before .args in
     let e : c .before .loop .i ≡ slots = omega arith in
-    c .before .loop .inv .2 ∙ ap (λ n. replaced (c .before .before .before .args .index .now) 0 n (replicate n 0)) e ∙ sym (filled-in (c .before .before .before .args .index .now) 0 0 slots (omega arith))))
+    c .before .loop .inv .2 ∙ ap (λ n. replaced (at-args .index .now) 0 n (replicate n 0)) e ∙ sym (filled-in (at-args .index .now) 0 0 slots (omega arith))))

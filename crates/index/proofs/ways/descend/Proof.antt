@@ -10,7 +10,8 @@ use Rattle.index.proofs.ways.descend.Statement.{statement}
 use Rattle.index.proofs.ways.descend.Tie as tie
 
 abbrev Inv-loop : tie.InvT-loop
-Inv-loop texts nodes index base limit start name at₀ last₀ same₀ bits₀ at last same bits = Descending (tableOf texts nodes) index base limit start name at last same bits
+Inv-loop texts nodes index base limit start name at₀ last₀ same₀ bits₀ at last same bits =
+    Descending (tableOf texts nodes) index base limit start name at last same bits
 
 abbrev μ-loop : tie.MeasureT-loop
 μ-loop texts nodes index base limit start name at₀ last₀ same₀ bits₀ at last same bits = limit - last
@@ -49,5 +50,13 @@ descend-spec =
     (λ c. omega arith)
     -- loop-again
     (λ c.
-    descending-next _ _ _ _ _ _ (c .before .before .before .before .before .before .before .before .before .before .before .loop .inv) _ (c .before .before .before .before .before .before .before .before .before .before .slot .ensures) (omega arith) (omega arith) (omega (arith, c .before .before .before .before .before .before .before .before .before .before .before .before .before .before .pre)) _ _
-    (c .before .before .before .before .before .before .name-of .ensures ∙ ap nameOf (c .before .before .before .before .before .before .before .load .ensures)) (c .before .before .before .before .before .same-name .ensures) (c .before .before .before .before .either .ensures) (c .before .before .before .refilled .ensures) (c .before .branch .ensures) refl refl))
+    let inv = c .before .before .before .before .before .before .before .before .before .before .before .loop .inv in
+    let slot-is = c .before .before .before .before .before .before .before .before .before .before .slot .ensures in
+    let asked = c .before .before .before .before .before .before .before .before .before .before .before .before .before .before .pre in
+    let name-of-is = c .before .before .before .before .before .before .name-of .ensures in
+    let load-is = c .before .before .before .before .before .before .before .load .ensures in
+    let same-name-is = c .before .before .before .before .before .same-name .ensures in
+    let either-is = c .before .before .before .before .either .ensures in
+    let refilled-is = c .before .before .before .refilled .ensures in
+    descending-next _ _ _ _ _ _ inv _ slot-is (omega arith) (omega arith) (omega (arith, asked)) _ _
+    (name-of-is ∙ ap nameOf load-is) same-name-is either-is refilled-is (c .before .branch .ensures) refl refl))

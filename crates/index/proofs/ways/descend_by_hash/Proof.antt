@@ -45,8 +45,13 @@ descend-by-hash-spec =
     -- loop-less
     (λ c. omega arith)
     -- loop-again
-    (λ c. (
+    (λ c.
+    let inv = c .before .before .before .before .before .before .before .before .before .before .loop .inv .1 in
+    let slot-is = c .before .before .before .before .before .before .before .before .before .slot .ensures in
+    let name-of-is = c .before .before .before .before .before .name-of .ensures in
+    let load-is = c .before .before .before .before .before .before .load .ensures in
+    let if3-is = c .before .before .if3 .left in (
       omega arith,
-      passing-next (c .before .before .before .before .before .before .before .before .before .before .loop .inv .1) _ (c .before .before .before .before .before .before .before .before .before .slot .ensures) (omega arith) (omega arith) (omega arith) (c .before .before .before .before .before .name-of .ensures ∙ ap nameOf (c .before .before .before .before .before .before .load .ensures))
-          (λ e. c .before .before .if3 .left e) (omega arith) (c .branch .ensures) refl,
+      passing-next inv _ slot-is (omega arith) (omega arith) (omega arith) (name-of-is ∙ ap nameOf load-is)
+          (λ e. if3-is e) (omega arith) (c .branch .ensures) refl,
     )))

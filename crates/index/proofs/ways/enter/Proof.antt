@@ -28,4 +28,7 @@ enter-spec =
     (λ c. search needs)
     -- returns-4
     (λ c.
-    entered _ _ _ _ _ _ _ refl (c .before .before .before .before .before .before .bucket .ensures) (c .before .before .before .before .descend .ensures) (c .before .before .set-slot .ensures)))
+    let at-bucket = c .before .before .before .before .before .before .bucket in
+    let at-descend = c .before .before .before .before .descend in
+    let at-set-slot = c .before .before .set-slot in
+    entered _ _ _ _ _ _ _ refl (at-bucket .ensures) (at-descend .ensures) (at-set-slot .ensures)))

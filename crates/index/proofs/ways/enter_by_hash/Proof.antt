@@ -32,4 +32,7 @@ enter-by-hash-spec =
     (λ c. search needs)
     -- returns-5
     (λ c.
-    entered-by-hash refl (c .before .before .before .before .before .before .before .bucket .ensures) (c .before .before .before .before .before .descend-by-hash .ensures) (omega arith) (c .before .before .set-slot .ensures)))
+    let at-bucket = c .before .before .before .before .before .before .before .bucket in
+    let at-descend-by-hash = c .before .before .before .before .before .descend-by-hash in
+    let at-set-slot = c .before .before .set-slot in
+    entered-by-hash refl (at-bucket .ensures) (at-descend-by-hash .ensures) (omega arith) (at-set-slot .ensures)))

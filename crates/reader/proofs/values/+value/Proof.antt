@@ -1,28 +1,30 @@
 -- `value` meets its contract: a container's items so far stand in the rows behind its own, and the measure of the loop is what is left of the text.
 use Prim.Native.Nat.{ℕ, _-_, _<_}
 use native.Mathlib.Omega.{arith}
-use mathlib.Core.Path.{ap, _∙_}
+use mathlib.Core.Path.{refl, ap, _∙_}
 use lib.ListN.{length}
 use borrow.Author.Needs.{needs}
 use borrow.Fn.Kinds.{In}
 use borrow.Fn.PlainCycle.{Measures, is, falls, and}
 use Rattle.reader.specs.Begins.{beginning}
-use Rattle.reader.proofs.ReadingLaws.{Filling, filling-none, turn, turn-begins, turn-next, value-way-refused, begun, value-starts, value-fits, value-way-scalar, value-levels, value-way-unread, value-way-handed, value-way-closed}
+use Rattle.reader.proofs.ReadingLaws.{Filling, filling-none, lent-filling, turn, lent-turn, turn-begins, turn-next, value-way-refused}
+use Rattle.reader.proofs.ReadingLaws.{begun, value-starts, value-fits, value-way-scalar, value-levels}
+use Rattle.reader.proofs.ReadingLaws.{value-way-unread, value-way-handed, value-way-closed}
 use Rattle.reader.proofs.values.value.Reads as value
 use Rattle.reader.proofs.values.value.Kinds as value-kinds
 use Rattle.reader.proofs.values.+value.Lts-value as value-lts
 use Rattle.lexer.proofs.peek.Reads as peek-reads
 use Rattle.reader.proofs.begins.beginning.Reads as beginning-reads
-use Rattle.reader.proofs.begins.refusal.Reads as refusal-reads
+use Rattle.reader.proofs.begins.refusal_at.Reads as refusal-at-reads
 use Rattle.reader.proofs.items.next_item.Reads as next-item-reads
-use Rattle.reader.proofs.values.put.Reads as put-reads
+use Rattle.reader.proofs.values.close.Reads as close-reads
 use Rattle.reader.proofs.values.scalar_value.Reads as scalar-value-reads
 use Rattle.reader.proofs.values.+value.{statement}
 use Rattle.reader.proofs.values.+value.Tie.{close}
 
 -- the levels fall
 abbrev μ-value : Measures 3 value-kinds.ps ℕ
-μ-value κs a = a .1 .1 .0
+μ-value κs a = a .1 .1 .1 .1 .0
 
 abbrev value-at : ℕ → In 3 value-kinds.ps
 value-at t = and 3 value-kinds.ps (is 3 value-kinds.ps μ-value t) value.Pre
@@ -31,11 +33,11 @@ abbrev value-below : ℕ → In 3 value-kinds.ps
 value-below t = and 3 value-kinds.ps (falls 3 value-kinds.ps _<_ μ-value t) value.Pre
 
 abbrev value-Inv-loop : value-lts.InvT-loop
-value-Inv-loop s levels source name base row values₀ names₀ kind number next₀ end₀ values names next end =
-    Filling source s (next₀ .at) levels kind base row values₀ names₀ values names (next .at) end
+value-Inv-loop s nodes₀ index₀ levels source name base row kind number object next₀ end₀ nodes index next end =
+    Filling source s (next₀ .at) levels kind base row (record { nodes = nodes₀; index = index₀ }) (record { nodes = nodes; index = index }) (next .at) end
 
 abbrev value-μ-loop : value-lts.MeasureT-loop
-value-μ-loop s levels source name base row values₀ names₀ kind number next₀ end₀ values names next end = length s - next .at
+value-μ-loop s nodes₀ index₀ levels source name base row kind number object next₀ end₀ nodes index next end = length s - next .at
 
 pub +value-spec : {M : Type 1} → statement M
 +value-spec = close μ-value λ t. value-lts.spec (
@@ -43,16 +45,16 @@ pub +value-spec : {M : Type 1} → statement M
   peek-reads.Learnt,
   beginning-reads.Asked,
   beginning-reads.Learnt,
-  refusal-reads.Asked,
-  refusal-reads.Learnt,
+  refusal-at-reads.Asked,
+  refusal-at-reads.Learnt,
   scalar-value-reads.Asked,
   scalar-value-reads.Learnt,
   next-item-reads.Asked,
   next-item-reads.Learnt,
   value-below t,
   value.Post,
-  put-reads.Asked,
-  put-reads.Learnt,
+  close-reads.Asked,
+  close-reads.Learnt,
 )
     (value-at t)
     value.Post
@@ -62,127 +64,122 @@ pub +value-spec : {M : Type 1} → statement M
     (λ c κs. search needs)
     -- beginning-requires
     (λ c κs. search needs)
-    -- refusal-requires
+    -- refusal-at-requires
     (λ c κs. search needs)
     -- returns
-    (λ c. value-way-refused _ _ _ _ (c .before .before .beginning .ensures ∙ ap beginning (c .before .before .before .peek .ensures)) (c .before .refusal .ensures) (c .if1 .taken))
+    (λ c.
+    value-way-refused _ _ _ _ (c .before .before .beginning .ensures ∙ ap beginning (c .before .before .before .peek .ensures)) (c .before .refusal-at .ensures) (c .if1 .taken))
     -- scalar-value-requires
     (λ c κs.
-    let passed = c .before .before .before in
-    let p = passed .before .before .before .before .before .before .before .pre .1 in
-    let b = begun _ _ _ _ _ _ _ (passed .before .before .beginning .ensures ∙ ap beginning (passed .before .before .before .peek .ensures)) (passed .before .refusal .ensures) (p .1 .1) (passed .if1 .left) in
-    (p .0, (value-starts b, c .before .before .if2 .taken, omega (arith, value-fits b, p .1))))
+    let passed = c .before .before in
+    let b = begun _ _ _ _ _ _ _ (passed .before .before .beginning .ensures ∙ ap beginning (passed .before .before .before .peek .ensures)) (passed .before .refusal-at .ensures) (passed .before .before .before .before .before .before .pre .1 .1 .1) (passed .if1 .left) in
+    let p = passed .before .before .before .before .before .before .pre .1 in
+    ((value-starts b, c .before .if2 .taken, omega (arith, value-fits b, p .1), p .0 .nodes-long), (p .0 .source<, p .0 .short)))
     -- same-length
-    (λ c. search needs)
-    -- same-length-2
     (λ c. search needs)
     -- returns-2
     (λ c.
-    let passed = c .before .before .before .before .before .before .before .before in
-    let p = passed .before .before .before .before .before .before .before .pre .1 in
-    let b = begun _ _ _ _ _ _ _ (passed .before .before .beginning .ensures ∙ ap beginning (passed .before .before .before .peek .ensures)) (passed .before .refusal .ensures) (p .1 .1) (passed .if1 .left) in
-    value-way-scalar b (c .before .before .before .before .before .before .before .if2 .taken) (c .before .before .before .before .scalar-value .ensures))
+    let passed = c .before .before .before .before in
+    let b = begun _ _ _ _ _ _ _ (passed .before .before .beginning .ensures ∙ ap beginning (passed .before .before .before .peek .ensures)) (passed .before .refusal-at .ensures) (passed .before .before .before .before .before .before .pre .1 .1 .1) (passed .if1 .left) in
+    value-way-scalar b (c .before .before .before .if2 .taken) (c .before .scalar-value .ensures))
     -- add-t28
     (λ c.
     let passed = c .before .before in
-    let p = passed .before .before .before .before .before .before .before .pre .1 in
-    let b = begun _ _ _ _ _ _ _ (passed .before .before .beginning .ensures ∙ ap beginning (passed .before .before .before .peek .ensures)) (passed .before .refusal .ensures) (p .1 .1) (passed .if1 .left) in
+    let b = begun _ _ _ _ _ _ _ (passed .before .before .beginning .ensures ∙ ap beginning (passed .before .before .before .peek .ensures)) (passed .before .refusal-at .ensures) (passed .before .before .before .before .before .before .pre .1 .1 .1) (passed .if1 .left) in
     omega (arith, value-starts b))
     -- add-end
     (λ c. search needs)
     -- loop-holds
     (λ c.
     let passed = c .before .before in
-    let p = passed .before .before .before .before .before .before .before .pre .1 in
-    let b = begun _ _ _ _ _ _ _ (passed .before .before .beginning .ensures ∙ ap beginning (passed .before .before .before .peek .ensures)) (passed .before .refusal .ensures) (p .1 .1) (passed .if1 .left) in
+    let b = begun _ _ _ _ _ _ _ (passed .before .before .beginning .ensures ∙ ap beginning (passed .before .before .before .peek .ensures)) (passed .before .refusal-at .ensures) (passed .before .before .before .before .before .before .pre .1 .1 .1) (passed .if1 .left) in
     let l = value-starts b in
-    filling-none _ _ _ _ _ _ _ _ _ (omega arith) (omega arith) (value-fits b))
+    filling-none _ _ _ _ _ _ _ _ (omega arith) (omega arith) (value-fits b))
     -- next-item-requires
     (λ c κs.
-    let p = c .before .before .before .before .before .before .before .before .before .before .before .before .pre .1 in
+    let passed = c .before .before .before .before .before in
+    let p = passed .before .before .before .before .before .before .pre .1 in
     let i = c .before .before .loop .inv in
-    (record { source< = p .0 .source<; short = p .0 .short; values-long = omega (arith, p .0 .values-long, i .values-length); names-long = omega (arith, p .0 .names-long, i .names-length) }, (p .1 .1, omega (arith, i .filled .ends), i .room, p .1 .3)))
+    (lent-filling (p .0) i, record { from-base = p .1 .1; grows = omega (arith, i .filled .ends); room = i .room; low = p .1 .3 }))
     -- enum-known-first
     (λ c. search needs)
     -- sub-value
     (λ c.
-    let passed = c .before .before .before .before .before .before .before .before .before .before .before in
-    let p = passed .before .before .before .before .before .before .before .pre .1 in
-    let b = begun _ _ _ _ _ _ _ (passed .before .before .beginning .ensures ∙ ap beginning (passed .before .before .before .peek .ensures)) (passed .before .refusal .ensures) (p .1 .1) (passed .if1 .left) in
-    omega (arith, value-levels b (c .before .before .before .before .before .before .before .before .before .before .if2 .left)))
+    let asked = c .before .before .before .before .before .before .before in
+    let passed = asked .before .before .before .before .before .before in
+    let b = begun _ _ _ _ _ _ _ (passed .before .before .beginning .ensures ∙ ap beginning (passed .before .before .before .peek .ensures)) (passed .before .refusal-at .ensures) (passed .before .before .before .before .before .before .pre .1 .1 .1) (passed .if1 .left) in
+    omega (arith, value-levels b (asked .before .before .before .before .before .if2 .left)))
     -- value-requires
     (λ c κs.
     let asked = c .before .before .before .before .before .before .before in
     let passed = asked .before .before .before .before .before .before in
-    let p = passed .before .before .before .before .before .before .before .pre .1 in
-    let b = begun _ _ _ _ _ _ _ (passed .before .before .beginning .ensures ∙ ap beginning (passed .before .before .before .peek .ensures)) (passed .before .refusal .ensures) (p .1 .1) (passed .if1 .left) in
+    let p = passed .before .before .before .before .before .before .pre .1 in
+    let b = begun _ _ _ _ _ _ _ (passed .before .before .beginning .ensures ∙ ap beginning (passed .before .before .before .peek .ensures)) (passed .before .refusal-at .ensures) (passed .before .before .before .before .before .before .pre .1 .1 .1) (passed .if1 .left) in
     let i = asked .before .before .before .loop .inv in
-    let t = turn i (p .1 .1) (asked .next-item .ensures .0) (asked .next-item .ensures .1) (asked .next-item .kept .1 .1 .1 .1 .1 .1 .1 .0) in
+    let t = turn (asked .before .before .before .loop .inv) (passed .before .before .before .before .before .before .pre .1 .1 .1) (asked .next-item .ensures) (asked .next-item .kept .1 .1 .0) in
     let f = turn-begins t _ _ (c .before .before .before .first .given .1) in
-    (omega (arith, passed .before .before .before .before .before .before .before .pre .0, value-levels b (asked .before .before .before .before .before .if2 .left)), (record { source< = p .0 .source<; short = p .0 .short; values-long = omega (arith, p .0 .values-long, i .values-length, t .same-length); names-long = omega (arith, p .0 .names-long, i .names-length) }, (f .1, omega (arith, i .filled .ends, p .1 .1), i .room, p .1 .3))))
+    (omega (arith, passed .before .before .before .before .before .before .pre .0, value-levels b (asked .before .before .before .before .before .if2 .left)), (lent-turn (p .0) t, (f .1, omega (arith, i .filled .ends, p .1 .1), i .room, p .1 .3))))
     -- enum-known-r
     (λ c. search needs)
     -- enum-told
     (λ c. search needs)
+    -- same-length-2
+    (λ c. search needs)
     -- same-length-3
     (λ c. search needs)
-    -- same-length-4
-    (λ c. search needs)
     -- returns-3
+    (λ c.
+    let call = c .before .before .before .before .before in
+    let asked = call .before .before .before .before .before .before .before .before in
+    let passed = asked .before .before .before .before .before .before in
+    let b = begun _ _ _ _ _ _ _ (passed .before .before .beginning .ensures ∙ ap beginning (passed .before .before .before .peek .ensures)) (passed .before .refusal-at .ensures) (passed .before .before .before .before .before .before .pre .1 .1 .1) (passed .if1 .left) in
+    let t = turn (asked .before .before .before .loop .inv) (passed .before .before .before .before .before .before .pre .1 .1 .1) (asked .next-item .ensures) (asked .next-item .kept .1 .1 .0) in
+    value-way-handed b (asked .before .before .before .before .before .if2 .left) t _ _ (call .before .before .before .before .first .given .1) (call .value .ensures) _ _ (c .enum-told .given .1))
+    -- loop-less
     (λ c.
     let call = c .before .before .before .before .before .before in
     let asked = call .before .before .before .before .before .before .before .before in
     let passed = asked .before .before .before .before .before .before in
-    let p = passed .before .before .before .before .before .before .before .pre .1 in
-    let b = begun _ _ _ _ _ _ _ (passed .before .before .beginning .ensures ∙ ap beginning (passed .before .before .before .peek .ensures)) (passed .before .refusal .ensures) (p .1 .1) (passed .if1 .left) in
-    let t = turn (asked .before .before .before .loop .inv) (p .1 .1) (asked .next-item .ensures .0) (asked .next-item .ensures .1) (asked .next-item .kept .1 .1 .1 .1 .1 .1 .1 .0) in
-    value-way-handed b (asked .before .before .before .before .before .if2 .left) t _ _ (call .before .before .before .before .first .given .1) (call .value .ensures) _ _ (c .enum-told .given .1))
-    -- loop-less
-    (λ c.
-    let call = c .before .before .before .before .before .before .before in
-    let asked = call .before .before .before .before .before .before .before .before in
-    let p = asked .before .before .before .before .before .before .before .before .before .before .before .before .before .pre .1 in
-    let t = turn (asked .before .before .before .loop .inv) (p .1 .1) (asked .next-item .ensures .0) (asked .next-item .ensures .1) (asked .next-item .kept .1 .1 .1 .1 .1 .1 .1 .0) in
-    let n = turn-next t _ _ (call .before .before .before .before .first .given .1) (call .value .ensures) _ _ (c .before .r .given .1) (call .value .kept .1 .1 .1 .1 .1 .1 .1 .0) (call .value .kept .1 .1 .1 .1 .1 .1 .1 .1 .0) in
+    let t = turn (asked .before .before .before .loop .inv) (passed .before .before .before .before .before .before .pre .1 .1 .1) (asked .next-item .ensures) (asked .next-item .kept .1 .1 .0) in
+    let n = turn-next t _ _ (call .before .before .before .before .first .given .1) (call .value .ensures) _ _ (c .before .r .given .1) (call .value .kept .1 .0) (call .value .kept .1 .1 .0) in
     omega (arith, n .0, n .1 .within))
     -- loop-again
     (λ c.
-    let call = c .before .before .before .before .before .before .before in
+    let call = c .before .before .before .before .before .before in
     let asked = call .before .before .before .before .before .before .before .before in
-    let p = asked .before .before .before .before .before .before .before .before .before .before .before .before .before .pre .1 in
-    let t = turn (asked .before .before .before .loop .inv) (p .1 .1) (asked .next-item .ensures .0) (asked .next-item .ensures .1) (asked .next-item .kept .1 .1 .1 .1 .1 .1 .1 .0) in
-    turn-next t _ _ (call .before .before .before .before .first .given .1) (call .value .ensures) _ _ (c .before .r .given .1) (call .value .kept .1 .1 .1 .1 .1 .1 .1 .0) (call .value .kept .1 .1 .1 .1 .1 .1 .1 .1 .0) .1)
+    let passed = asked .before .before .before .before .before .before in
+    let t = turn (asked .before .before .before .loop .inv) (passed .before .before .before .before .before .before .pre .1 .1 .1) (asked .next-item .ensures) (asked .next-item .kept .1 .1 .0) in
+    turn-next t _ _ (call .before .before .before .before .first .given .1) (call .value .ensures) _ _ (c .before .r .given .1) (call .value .kept .1 .0) (call .value .kept .1 .1 .0) .1)
     -- enum-known-after
     (λ c. search needs)
-    -- sub-put
+    -- sub-close
     (λ c. search needs)
-    -- sub-put-2
+    -- sub-close-2
     (λ c. search needs)
-    -- put-requires
+    -- close-requires
     (λ c κs. search needs)
-    -- same-length-5
+    -- same-length-4
     (λ c. search needs)
-    -- same-length-6
+    -- same-length-5
     (λ c. search needs)
     -- returns-4
     (λ c.
-    let asked = c .before .before .before .before .before .before .before .before .before .before .before .before in
+    let asked = c .before .before .before .before .before .before .before .before in
     let passed = asked .before .before .before .before .before .before in
-    let p = passed .before .before .before .before .before .before .before .pre .1 in
-    let b = begun _ _ _ _ _ _ _ (passed .before .before .beginning .ensures ∙ ap beginning (passed .before .before .before .peek .ensures)) (passed .before .refusal .ensures) (p .1 .1) (passed .if1 .left) in
-    let t = turn (asked .before .before .before .loop .inv) (p .1 .1) (asked .next-item .ensures .0) (asked .next-item .ensures .1) (asked .next-item .kept .1 .1 .1 .1 .1 .1 .1 .0) in
-    value-way-closed b (asked .before .before .before .before .before .if2 .left) t _ (c .before .before .before .before .before .before .before .before .after .given .1) (p .1 .3) (omega (arith, p .0 .values-long)) (p .0 .names-long) (c .before .before .before .before .put .ensures .0) (c .before .before .before .before .put .ensures .1))
+    let p = passed .before .before .before .before .before .before .pre .1 in
+    let b = begun _ _ _ _ _ _ _ (passed .before .before .beginning .ensures ∙ ap beginning (passed .before .before .before .peek .ensures)) (passed .before .refusal-at .ensures) (passed .before .before .before .before .before .before .pre .1 .1 .1) (passed .if1 .left) in
+    let t = turn (asked .before .before .before .loop .inv) (passed .before .before .before .before .before .before .pre .1 .1 .1) (asked .next-item .ensures) (asked .next-item .kept .1 .1 .0) in
+    value-way-closed b (asked .before .before .before .before .before .if2 .left) t _ (c .before .before .before .before .after .given .1) (p .1 .3) (p .0 .nodes-long) refl (c .before .close .ensures))
     -- enum-known-number
     (λ c. search needs)
-    -- same-length-7
+    -- same-length-6
     (λ c. search needs)
-    -- same-length-8
+    -- same-length-7
     (λ c. search needs)
     -- returns-5
     (λ c.
     let asked = c .before .before .before .before .before in
     let passed = asked .before .before .before .before .before .before in
-    let p = passed .before .before .before .before .before .before .before .pre .1 in
-    let b = begun _ _ _ _ _ _ _ (passed .before .before .beginning .ensures ∙ ap beginning (passed .before .before .before .peek .ensures)) (passed .before .refusal .ensures) (p .1 .1) (passed .if1 .left) in
-    let t = turn (asked .before .before .before .loop .inv) (p .1 .1) (asked .next-item .ensures .0) (asked .next-item .ensures .1) (asked .next-item .kept .1 .1 .1 .1 .1 .1 .1 .0) in
+    let b = begun _ _ _ _ _ _ _ (passed .before .before .beginning .ensures ∙ ap beginning (passed .before .before .before .peek .ensures)) (passed .before .refusal-at .ensures) (passed .before .before .before .before .before .before .pre .1 .1 .1) (passed .if1 .left) in
+    let t = turn (asked .before .before .before .loop .inv) (passed .before .before .before .before .before .before .pre .1 .1 .1) (asked .next-item .ensures) (asked .next-item .kept .1 .1 .0) in
     value-way-unread b (asked .before .before .before .before .before .if2 .left) t _ _ (c .before .number .given .1))

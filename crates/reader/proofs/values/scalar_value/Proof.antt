@@ -1,3 +1,4 @@
+-- `scalar_value` meets its contract.
 use Rattle.lexer.proofs.Auto.{auto}
 use native.Mathlib.Omega.{arith}
 use Rattle.reader.proofs.ReadingLaws.{scalar-taken, scalar-refusal}
@@ -10,7 +11,7 @@ scalar-value-spec =
     (tie.spec
     -- scalar-requires
     (λ c κs. search auto)
-    -- enum-known-word
+    -- enum-known-spelled
     (λ c. search auto)
     -- enum-told
     (λ c. search auto)
@@ -20,13 +21,12 @@ scalar-value-spec =
     (λ c. scalar-refusal (omega arith) (omega arith) (c .before .before .before .scalar .ensures) _ _ _ (c .before .enum-told .given .1) (c .read-to .ensures))
     -- put-requires
     (λ c κs. search auto)
-    -- add-t17
+    -- add-t15
     (λ c. search auto)
     -- same-length
     (λ c. search auto)
-    -- same-length-2
-    (λ c. search auto)
     -- returns-2
     (λ c.
-    let taken = c .before .before .before .before .before .before .before .before in
-    scalar-taken (omega arith) (omega arith) (taken .before .before .scalar .ensures) _ _ (taken .word .given .1) (omega arith) (omega arith) (omega arith) (c .before .before .before .before .put .ensures .0) (c .before .before .before .before .put .ensures .1)))
+    let scalar-is = c .before .before .before .before .before .before .scalar .ensures in
+    let spelled-is = c .before .before .before .before .spelled .given .1 in
+    scalar-taken (omega arith) (omega arith) scalar-is _ _ spelled-is (omega arith) (omega arith) (c .before .put .ensures)))

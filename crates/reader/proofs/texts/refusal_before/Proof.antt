@@ -1,11 +1,11 @@
 use Rattle.lexer.proofs.Auto.{auto}
 use Rattle.reader.specs.Texts.{refusalBefore}
-use Rattle.reader.proofs.texts.refusal.Statement.{statement}
-use Rattle.reader.proofs.texts.refusal.Tie as tie
+use Rattle.reader.proofs.texts.refusal_before.Statement.{statement}
+use Rattle.reader.proofs.texts.refusal_before.Tie as tie
 
-pub refusal-spec : {M : Type 1} → statement M
+pub refusal-before-spec : {M : Type 1} → statement M
 unfolding refusalBefore
-refusal-spec =
+refusal-before-spec =
     tie.close
     (tie.spec
     -- returns

@@ -1,11 +1,11 @@
 use Rattle.lexer.proofs.Auto.{auto}
 use Rattle.reader.specs.Begins.{refusalFor}
-use Rattle.reader.proofs.begins.refusal.Statement.{statement}
-use Rattle.reader.proofs.begins.refusal.Tie as tie
+use Rattle.reader.proofs.begins.refusal_at.Statement.{statement}
+use Rattle.reader.proofs.begins.refusal_at.Tie as tie
 
-pub refusal-spec : {M : Type 1} → statement M
+pub refusal-at-spec : {M : Type 1} → statement M
 unfolding refusalFor
-refusal-spec =
+refusal-at-spec =
     tie.close
     (tie.spec
     -- returns
