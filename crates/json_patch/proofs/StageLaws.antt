@@ -82,40 +82,41 @@ module _ {w : Table} {s : Shape} (shaped : PatchIs w patchRow s) where
 
   pub patch-misshapen : {used : ℕ} {out : Bytes} {number op : ℕ} {r : Answer} → s ≡ Shape.Refused number op → MisshapenIs s r → RunPatchIs w out out used r
   unfolding patched onFinish answerOf
-  patch-misshapen {out = out} {r = r} e is v p d held short = go (shape-told held) e
+  patch-misshapen {out = out} {r = r} e is v p d held short = go (shape-told held) refl
     where
-      go : {o : Run (List Operation.Operation)} {number op : ℕ} → ShapeIs o s → s ≡ Shape.Refused number op
+      go : {o : Run (List Operation.Operation)} {q : Shape} → ShapeIs o q → s ≡ q
           → Answered (answerOf (length out) (onFinish o (λ os. run limited 1 os v))) out out r
-      go (right os) h = absurd (let z : _≡_ {A = ℕ} 0 1 = cc in omega arith)
-      go (wrong number op) h = answered-refusal (is number op refl)
+      go (right os) f = absurd (let z : _≡_ {A = ℕ} 0 1 = cc in omega arith)
+      go (wrong number op) f = answered-refusal (is number op f)
 
-  -- ---- the operations run
-  module _ (e : s ≡ Shape.Right) {nodes' : List Row} {used : ℕ} {told : Ran} (runs : RunIs w nodes' used told) {out : Bytes} {r : Answer} where
-    ran-told : {v p : Value.Value} → Document w used v → PatchHeld w p → Short (w .texts)
-        → (os : List Operation.Operation) → shape p ≡ finished os → RanTo (w .texts) nodes' (run limited 1 os v) told
-    ran-told {v} d held short os shaped =
-        runs .held v d short (held .c) (held .kids) (held .held) (held .inside) (subst Proper (sym (held .means)) (held .proper)) os
-        (ap shape (held .means) ∙ shaped)
+-- ---- the operations run
+ran-told : {w : Table} {nodes' : List Row} {used : ℕ} {told : Ran} {v p : Value.Value} → RunIs w nodes' used told → Document w used v → PatchHeld w p
+    → Short (w .texts) → (os : List Operation.Operation) → shape p ≡ finished os → RanTo (w .texts) nodes' (run limited 1 os v) told
+ran-told {v = v} runs d held short os shaped =
+    runs .held v d short (held .c) (held .kids) (held .held) (held .inside) (subst Proper (sym (held .means)) (held .proper)) os
+    (ap shape (held .means) ∙ shaped)
 
-    pub patch-stopped : {number op : ℕ} → told ≡ Ran.Refused number op → StoppedIs told r → RunPatchIs w out out used r
-    unfolding patched onFinish answerOf
-    patch-stopped t is v p d held short =
-        let (os, shaped) = shape-right (shape-told held) e in
-        rw shaped (go (ran-told d held short os shaped) t)
-      where
-        go : {o : Run Value.Value} {ran : Ran} {number op : ℕ} → RanTo (w .texts) nodes' o told → told ≡ Ran.Refused number op → Answered (answerOf (length out) o) out out r
-        go (ran is d) h = absurd (let z : _≡_ {A = ℕ} 0 1 = cc in omega arith)
-        go (halted {number = n} {op} stops) h = rw stops (answered-refusal (is n op refl))
+module _ {w : Table} {s : Shape} (shaped : PatchIs w patchRow s) (e : s ≡ Shape.Right) {nodes' : List Row} {used : ℕ} {told : Ran}
+    (runs : RunIs w nodes' used told) {out : Bytes} {r : Answer} where
+  pub patch-stopped : {number op : ℕ} → told ≡ Ran.Refused number op → StoppedIs told r → RunPatchIs w out out used r
+  unfolding patched onFinish answerOf
+  patch-stopped t is v p d held short =
+      let (os, right-shape) = shape-right (shape-told shaped held) e in
+      rw right-shape (go (ran-told runs d held short os right-shape) refl)
+    where
+      go : {o : Run Value.Value} {q : Ran} → RanTo (w .texts) nodes' o q → told ≡ q → Answered (answerOf (length out) o) out out r
+      go (ran is d) f = absurd (let z : _≡_ {A = ℕ} 0 1 = cc in omega arith)
+      go (halted {number = n} {op} stops) f = rw stops (answered-refusal (is n op f))
 
-    pub patch-done : {rows : ℕ} {out' : Bytes} → told ≡ Ran.Done rows → WriteOutIs (table (w .texts) nodes') out out' r → RunPatchIs w out out' used r
-    unfolding patched onFinish answerOf
-    patch-done {out' = out'} t writes v p d held short =
-        let (os, shaped) = shape-right (shape-told held) e in
-        rw shaped (go (ran-told d held short os shaped) t)
-      where
-        go : {o : Run Value.Value} {rows : ℕ} → RanTo (w .texts) nodes' o told → told ≡ Ran.Done rows → Answered (answerOf (length out) o) out out' r
-        go (ran {used} {u} is d) h = rw is (writes used u d)
-        go (halted stops) h = absurd (let z : _≡_ {A = ℕ} 0 1 = cc in omega arith)
+  pub patch-done : {rows : ℕ} {out' : Bytes} → told ≡ Ran.Done rows → WriteOutIs (table (w .texts) nodes') out out' r → RunPatchIs w out out' used r
+  unfolding patched onFinish answerOf
+  patch-done {out' = out'} t writes v p d held short =
+      let (os, right-shape) = shape-right (shape-told shaped held) e in
+      rw right-shape (go (ran-told runs d held short os right-shape) refl)
+    where
+      go : {o : Run Value.Value} {q : Ran} → RanTo (w .texts) nodes' o q → told ≡ q → Answered (answerOf (length out) o) out out' r
+      go (ran {used = n} {v = u} is d) f = rw is (writes n u d)
+      go (halted stops) f = absurd (let z : _≡_ {A = ℕ} 0 1 = cc in omega arith)
 
 -- ---- the two texts read
 module _ {T : Texts} {w w' : Work} {told : Read} (long : workNodes ≤ length (w .nodes)) (longer : workEntries ≤ length (w .index))

@@ -10,7 +10,15 @@ pub misshapen-spec : {M : Type 1} → statement M
 misshapen-spec =
     tie.close
     (tie.spec
+    -- enum-told
+    (λ c. search needs)
+    -- success-requires
+    (λ c κs. search needs)
     -- returns
-    (λ c. misshapen-not (c .enum-told .given .1))
+    (λ c. misshapen-not (c .before .enum-told .given .1))
+    -- enum-known-shape
+    (λ c. search needs)
+    -- refused-requires
+    (λ c κs. search needs)
     -- returns-2
-    (λ c. misshapen-as (c .number .given .1) (c .refused .ensures)))
+    (λ c. misshapen-as (c .before .before .shape .given .1) (c .refused .ensures)))

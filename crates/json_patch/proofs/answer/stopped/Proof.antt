@@ -10,7 +10,15 @@ pub stopped-spec : {M : Type 1} → statement M
 stopped-spec =
     tie.close
     (tie.spec
+    -- enum-told
+    (λ c. search needs)
+    -- success-requires
+    (λ c κs. search needs)
     -- returns
-    (λ c. stopped-not (c .enum-told .given .1))
+    (λ c. stopped-not (c .before .enum-told .given .1))
+    -- enum-known-ran
+    (λ c. search needs)
+    -- refused-requires
+    (λ c κs. search needs)
     -- returns-2
-    (λ c. stopped-as (c .number .given .1) (c .refused .ensures)))
+    (λ c. stopped-as (c .before .before .ran .given .1) (c .refused .ensures)))

@@ -10,7 +10,15 @@ pub unread-spec : {M : Type 1} → statement M
 unread-spec =
     tie.close
     (tie.spec
+    -- enum-told
+    (λ c. search needs)
+    -- success-requires
+    (λ c κs. search needs)
     -- returns
-    (λ c. unread-not (c .enum-told .given .1))
+    (λ c. unread-not (c .before .enum-told .given .1))
+    -- enum-known-read
+    (λ c. search needs)
+    -- refused-requires
+    (λ c κs. search needs)
     -- returns-2
-    (λ c. unread-as (c .number .given .1) (c .refused .ensures)))
+    (λ c. unread-as (c .before .before .read .given .1) (c .refused .ensures)))
