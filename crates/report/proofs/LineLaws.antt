@@ -2,7 +2,7 @@
 use Prim.Native.Nat.{ℕ, _-_, _≤_, _<_, min}
 use native.Mathlib.Omega.{arith}
 use native.Mathlib.Decide.{ℕ-discrete}
-use mathlib.Core.Path.{_≡_, sym, ap, _∙_}
+use mathlib.Core.Path.{_≡_, sym, ap, _∙_, subst}
 use mathlib.Core.List.{List, [], _++_, append-assoc}
 use lib.ListN.{length, take, drop, length-append, take-append-drop}
 use lib.Seq.{length-sets, length-take-le, drop-append-le, take-append-seam}
@@ -26,9 +26,12 @@ use Rattle.report.specs.Report.{ending, lentTo, lineLimit, RunIs}
 use Rattle.report.proofs.DecimalLaws.{decimal-short}
 
 -- a text of form 1 is laid down as it stands
-pub laid-plain : {s before after : Bytes} {count n : ℕ} → LaidDown (written 1 s) before after count → n ≡ min count (length after) → Placed s 0 before after n
+pub laid-plain : {s before after : Bytes} {form count n : ℕ} → form ≡ 1 → LaidDown (written form s) before after count → n ≡ min count (length after)
+    → Placed s 0 before after n
 unfolding written
-laid-plain {s} {before} d e = record { next-is = omega (arith, e, d .count-is, ap length (d .after-is), length-sets before 0 s); after-is = d .after-is }
+laid-plain {s} {before} {after} {count = count} plain laid e =
+    let d : LaidDown (written 1 s) before after count = subst (λ f. LaidDown (written f s) before after count) plain laid in
+    record { next-is = omega (arith, e, d .count-is, ap length (d .after-is), length-sets before 0 s); after-is = d .after-is }
 
 -- past the end nothing is laid down
 pub placed-past : (bytes before : Bytes) (at : ℕ) → length before < at → Placed bytes at before before (length before)
