@@ -1,28 +1,22 @@
 //! Comparing numbers by exact value, from their source text.
 //!
-//! A number is its sign and the digits that are not zero, each with its place:
-//! place 0 is the ones, place 1 the tens, place -1 the tenths. No number has
-//! two such lists, so two numbers are equal when sign and list are. A zero has
-//! an empty list whatever its exponent; its sign is kept, so that `-0` and `0`
-//! are different.
+//! A number is the list of its digits that are not zero, each with its place
+//! and with the number's sign: place 0 is the ones, place 1 the tens, place -1
+//! the tenths, and `-1.5` is -1 at place 0 and -5 at place -1. No number has two
+//! such lists, so two numbers are equal when the lists are. A zero's list is
+//! empty, whatever its sign and its exponent.
 
 /// Whether two numbers in JSON's grammar have the same exact value.
 pub fn equal(left: &str, right: &str) -> bool {
     exact(left) == exact(right)
 }
 
-/// The exact value of a number.
-#[derive(PartialEq, Eq, Debug)]
-struct Exact {
-    negative: bool,
-    /// The digits other than zero, from the highest place down.
-    digits: Vec<(i64, u8)>,
-}
-
-fn exact(source: &str) -> Exact {
-    let (negative, size) = match source.strip_prefix('-') {
-        Some(size) => (true, size),
-        None => (false, source),
+/// The exact value of a number: its digits other than zero, signed, from the
+/// highest place down.
+fn exact(source: &str) -> Vec<(i64, i8)> {
+    let (sign, size) = match source.strip_prefix('-') {
+        Some(size) => (-1, size),
+        None => (1, source),
     };
     let (plain, exponent) = match size.split_once(['e', 'E']) {
         Some((plain, written)) => (plain, signed(written)),
@@ -32,14 +26,13 @@ fn exact(source: &str) -> Exact {
 
     // The last digit of the whole part stands at the place the exponent says.
     let highest = exponent + whole.len() as i64 - 1;
-    let digits = whole
+    whole
         .bytes()
         .chain(fraction.bytes())
         .enumerate()
-        .map(|(steps, digit)| (highest - steps as i64, digit))
         .filter(|&(_, digit)| digit != b'0')
-        .collect();
-    Exact { negative, digits }
+        .map(|(steps, digit)| (highest - steps as i64, sign * (digit - b'0') as i8))
+        .collect()
 }
 
 /// The value of an exponent such as `7`, `+07` or `-7`. The reader lets none

@@ -6,10 +6,10 @@ use mathlib.Core.List.{[], _∷_, _++_, reverse, reverse-cons, reverse-append, r
 use Prim.Native.Nat.{ℕ, zero, suc, _+_, _-_, _*_, _^_, _%_, _<_, _≤_}
 use native.Mathlib.Nat.{pow-succ', zero-mul, mul-pos}
 use native.Mathlib.Omega.{arith}
-use lib.Dec.{eqb, leb}
+use lib.Dec.{eqb, leb, ltb}
 use lib.ListN.{length, replicate, length-append, length-replicate}
 use lib.IntN.{ℤ, pos, _+ℤ_, _-ℤ_, +ℤ-assoc}
-use borrow.Author.Tests.{eqb-true, eqb-false, leb-true, le-leb}
+use borrow.Author.Tests.{eqb-true, eqb-false, leb-true, le-leb, lt-ltb}
 use Rattle.spec.specs.Outcome.{if_then_else_}
 use Rattle.spec.specs.Bytes.{Bytes, within}
 use Rattle.spec.specs.Numbers.{isDigit, isE}
@@ -239,22 +239,28 @@ normal ds x f h = rw (decimal-dropZeros ds) (go (dropZeros ds) (first ds) (digit
 
 -- Two normal forms are equal exactly where the numbers are.
 
+-- digits of which the last is not 0 write no zero
+positive : (n t k : ℕ) → (t % 10 ≡ 0 → ⊥) → n ≡ t * 10 ^ k → 0 < n
+positive n t k l v = rw v (mul-pos (go t l) (ten-positive k))
+  where
+    go : (t : ℕ) → (t % 10 ≡ 0 → ⊥) → 0 < t
+    go zero l = absurd (l refl)
+    go (suc t) l = omega arith
+
 -- no zero is equal to what is none, however both are scaled
 not-zero : (m n t k x y : ℕ) → m ≡ 0 → (t % 10 ≡ 0 → ⊥) → n ≡ t * 10 ^ k → m * 10 ^ x ≡ n * 10 ^ y → ⊥
 not-zero m n t k x y g l v h =
     let z : m * 10 ^ x ≡ 0 = rw g (zero-mul (10 ^ x)) in
-    let n-positive : 0 < n = rw v (mul-pos (positive t l) (ten-positive k)) in
-    let positive-product = mul-pos n-positive (ten-positive y) in
+    let positive-product = mul-pos (positive n t k l v) (ten-positive y) in
     omega arith
-  where
-    positive : (t : ℕ) → (t % 10 ≡ 0 → ⊥) → 0 < t
-    positive zero l = absurd (l refl)
-    positive (suc t) l = omega arith
+
+index-some : (s : Bytes) → isIndex s ≡ true → 0 < length s
+unfolding isIndex
+index-some [] i = absurd (true≢false (sym i))
+index-some (c ∷ s) i = omega arith
 
 empty-index : (s : Bytes) → isIndex s ≡ true → s ≡ [] → ⊥
-unfolding isIndex
-empty-index [] i h = true≢false (sym i)
-empty-index (c ∷ s) i h = let z : _≡_ {A = ℕ} 0 1 = cc in omega arith
+empty-index s i h = let l = ap length h in omega (arith, index-some s i)
 
 -- what is scaled twice, on both sides
 scaled-both : (m n s t j k a b : ℕ) → m ≡ s * 10 ^ j → n ≡ t * 10 ^ k → (m * 10 ^ a ≡ n * 10 ^ b) ↔ (s * 10 ^ (j + a) ≡ t * 10 ^ (k + b))
@@ -291,3 +297,10 @@ equal-value (is-zero g) (is-nonzero {s} y) =
 equal-value (is-nonzero {s} x) (is-zero g) =
     (λ h. absurd (empty-index s (x .index) (h .0)), λ h. absurd (not-zero _ _ _ (x .many) _ _ g (x .last) (x .value) (sym h)))
 equal-value (is-nonzero x) (is-nonzero y) = with-digits _ _ _ _ _ _ _ _ x y
+
+-- A number is zero, however it is scaled, exactly where its form has no digits.
+pub zero-digits : {n : ℕ} {e : ℤ} {s : Bytes} {p : ℤ} (k : ℕ) → Normal n e s p → ltb 0 (n * 10 ^ k) ≡ ltb 0 (length s)
+zero-digits k (is-zero g) = rw (g, zero-mul (10 ^ k))
+zero-digits {n = n} k (is-nonzero {s} x) =
+    let scaled = mul-pos (positive n _ (x .many) (x .last) (x .value)) (ten-positive k) in
+    rw (lt-ltb 0 (n * 10 ^ k) (omega arith), lt-ltb 0 (length s) (index-some s (x .index)))

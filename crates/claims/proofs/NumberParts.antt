@@ -13,7 +13,7 @@ use Rattle.spec.specs.Numbers.{isDigit, isE}
 use Rattle.spec.specs.Worth.{decimal, mantissa, fractionDigits, signedExponent, exponent, isNegative}
 use Rattle.spec.specs.Pointer.{allDigits}
 use Rattle.claims.specs.Numbers as Statement
-use Rattle.claims.specs.Numbers.{positional, Exact, Digits, Minus, Int, nonzero, Frac, point, Exp, plain, plus, Writes, writes}
+use Rattle.claims.specs.Numbers.{positional, Exact, Digits, Minus, withSign, Int, nonzero, Frac, point, Exp, plain, plus, Writes, writes}
 use Rattle.claims.proofs.Normal.{digit-bounds, is-digit, is-e, digits-cons, digits-parts, all-digits, digits-append, decimal-is-positional}
 
 -- One byte: which tests it passes
@@ -104,9 +104,8 @@ int-positive r (nonzero d ds h n a) = ne-eqb d 45 (omega arith)
 
 -- what Worth finds in a number's text is its exact value
 pub record Found (t : Bytes) (x : Exact) : Type 0 where
-  pub negative : isNegative t ≡ x .negative
   pub digits : allDigits (mantissa t) ≡ true
-  pub significand : decimal 0 (mantissa t) ≡ x .significand
+  pub integer : x .integer ≡ withSign (isNegative t) (decimal 0 (mantissa t))
   pub power : exponent t -ℤ pos (fractionDigits t) ≡ x .power
 
 -- [ minus ] changes the sign alone
@@ -129,9 +128,8 @@ worth-finds (writes m i f x negative fraction e sign int frac exp) =
     let all : mantissa (m ++ (i ++ (f ++ x))) ≡ i ++ fraction =
     s .digits ∙ mantissa-digits i (f ++ x) whole ∙ ap (λ r. i ++ r) (tail .digits) in
     record {
-      negative = s .sign;
       digits = rw all (digits-append i fraction whole (frac-digits frac));
-      significand = ap (decimal 0) all ∙ decimal-is-positional (i ++ fraction);
+      integer = ap₂ withSign (sym (s .sign)) (sym (ap (decimal 0) all ∙ decimal-is-positional (i ++ fraction)));
       power =
           ap₂ (λ z n. z -ℤ pos n) (s .power ∙ exponent-digits i (f ++ x) whole ∙ tail .power)
           (s .after-point ∙ fraction-digits i (f ++ x) whole ∙ tail .after-point);

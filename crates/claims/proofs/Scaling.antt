@@ -1,14 +1,14 @@
 -- Integers times powers of ten: comparing them by scaling both to the smaller power, or to any power below both, is the same.
 use mathlib.Core.Path.{_≡_, refl, ap, ap₂, sym, _∙_}
 use mathlib.Core.Logic.{_↔_, Iff·rfl, Iff·symm, Iff·trans}
-use mathlib.Core.Bool.{Bool, true, false, cond}
-use Prim.Native.Nat.{ℕ, zero, suc, _+_, _-_, _*_, _^_, _%_, _≤_}
-use native.Mathlib.Nat.{pow-succ', sub-zero, zero-sub, suc-sub-suc, one-le-pow, zero-add, suc-add, mul-assoc}
+use mathlib.Core.Bool.{Bool, true, false, cond, _&&_}
+use Prim.Native.Nat.{ℕ, zero, suc, _+_, _-_, _*_, _^_, _%_, _<_, _≤_}
+use native.Mathlib.Nat.{pow-succ', sub-zero, zero-sub, suc-sub-suc, one-le-pow, zero-add, suc-add, mul-assoc, zero-mul, mul-pos}
 use native.Mathlib.Omega.{arith}
 use lib.Dec.{ltb}
-use lib.IntN.{ℤ, pos, negsuc, negℤ, _+ℤ_, _-ℤ_, +ℤ-assoc, +ℤ-comm, +ℤ-idl, +ℤ-idr, +ℤ-invr, negℤ-+ℤ, -ℤ-+ℤ-cancel}
-use borrow.Author.Tests.{ltb-true}
-use Rattle.claims.specs.Numbers.{natural, above}
+use lib.IntN.{ℤ, pos, negsuc, negℤ, natAbs, _+ℤ_, _-ℤ_, _*ℤ_, +ℤ-assoc, +ℤ-comm, +ℤ-idl, +ℤ-idr, +ℤ-invr, negℤ-+ℤ, -ℤ-+ℤ-cancel}
+use borrow.Author.Tests.{ltb-true, lt-ltb}
+use Rattle.claims.specs.Numbers.{withSign, natural, above}
 
 -- Integers
 
@@ -100,3 +100,66 @@ over-one-base m n e f o =
     let up = ap₂ above (o .first-is) (o .second-is) ∙ above-base (o .base) (o .first) (o .second) in
     let down = ap₂ above (o .second-is) (o .first-is) ∙ above-base (o .base) (o .second) (o .first) in
     rw (up, down) (Iff·symm (scale m n (o .first) (o .second)))
+
+-- Signs
+
+pub sign-scaled : (a : Bool) (n k : ℕ) → withSign a n *ℤ pos k ≡ withSign a (n * k)
+unfolding withSign
+sign-scaled false n k = refl
+sign-scaled true zero k = rw (zero-mul k)
+sign-scaled true (suc n) k = refl
+
+sign-size : (a : Bool) (n : ℕ) → natAbs (withSign a n) ≡ n
+unfolding withSign
+sign-size false n = refl
+sign-size true zero = refl
+sign-size true (suc n) = refl
+
+belowZero : ℤ → Bool
+belowZero (pos n) = false
+belowZero (negsuc n) = true
+
+-- a zero is not below zero, whatever sign it has
+sign-below : (a : Bool) (n : ℕ) → belowZero (withSign a n) ≡ (a && ltb 0 n)
+unfolding withSign belowZero
+sign-below false n = refl
+sign-below true zero = refl
+sign-below true (suc n) = sym (lt-ltb 0 (suc n) (omega arith))
+
+sign-needed : (a : Bool) (n : ℕ) → withSign (a && ltb 0 n) n ≡ withSign a n
+unfolding withSign
+sign-needed false n = refl
+sign-needed true zero = refl
+sign-needed true (suc n) = rw (lt-ltb 0 (suc n) (omega arith))
+
+-- an integer is its size, and whether it is below zero
+pub same-signed : (a b : Bool) (m n : ℕ) → ((m ≡ n) × ((a && ltb 0 m) ≡ (b && ltb 0 n))) ↔ (withSign a m ≡ withSign b n)
+same-signed a b m n = (
+  λ h. sym (sign-needed a m) ∙ ap₂ withSign (h .1) (h .0) ∙ sign-needed b n,
+  λ h. (
+    sym (sign-size a m) ∙ ap natAbs h ∙ sign-size b n,
+    sym (sign-below a m) ∙ ap belowZero h ∙ sign-below b n,
+  ),
+)
+
+-- Zero
+
+product-size : (z : ℤ) (k : ℕ) → natAbs (z *ℤ pos k) ≡ natAbs z * k
+product-size (pos n) k = refl
+product-size (negsuc n) k = negated (suc n * k)
+  where
+    negated : (n : ℕ) → natAbs (negℤ (pos n)) ≡ n
+    negated zero = refl
+    negated (suc n) = refl
+
+-- only zero is zero, scaled
+pub zero-scaled : (z : ℤ) (k : ℕ) → z *ℤ pos (10 ^ k) ≡ pos 0 → z ≡ pos 0
+zero-scaled z k h = go z (sym (product-size z (10 ^ k)) ∙ ap natAbs h)
+  where
+    positive : (n : ℕ) → suc n * 10 ^ k ≡ 0 → ⊥
+    positive n h = let one : 0 < suc n = omega arith in let product = mul-pos one (ten-positive k) in omega arith
+
+    go : (z : ℤ) → natAbs z * 10 ^ k ≡ 0 → z ≡ pos 0
+    go (pos zero) h = refl
+    go (pos (suc n)) h = absurd (positive n h)
+    go (negsuc n) h = absurd (positive n h)

@@ -1,6 +1,6 @@
 -- What comparing two numbers by their worth means: document 01, "Numbers by exact value", and RFC 6902, section 4.6, "numbers: are
 -- considered equal if their values are numerically equal". The exact value of a number's text is read off RFC 8259's grammar, with no
--- digit dropped and nothing rounded.
+-- digit dropped and nothing rounded. No rule speaks of zero: an integer has one zero, so minus zero is zero (document 02, T-04).
 use mathlib.Core.Path.{_≡_}
 use mathlib.Core.Logic.{_↔_}
 use Prim.Native.Nat.{ℕ, _+_, _-_, _*_, _^_, _≤_}
@@ -8,7 +8,7 @@ use Prim.Native.Char.{code}
 use mathlib.Core.List.{[], _∷_, _++_}
 use mathlib.Core.Bool.{Bool, true, false}
 use lib.ListN.{length}
-use lib.IntN.{ℤ, pos, negsuc, negℤ, _-ℤ_}
+use lib.IntN.{ℤ, pos, negsuc, negℤ, _-ℤ_, _*ℤ_}
 use Rattle.spec.specs.Outcome.{ok}
 use Rattle.spec.specs.Bytes.{Bytes}
 use Rattle.spec.specs.Value.{Label, leaf}
@@ -20,10 +20,9 @@ use Rattle.spec.specs.Equality.{sameWorth}
 abbrev pub NumberText : Bytes → Type 0
 NumberText t = read t ≡ ok (leaf (Label.number t))
 
--- an integer times a power of ten, with its sign, which a zero has too
+-- an integer times a power of ten
 pub record Exact : Type 0 where
-  pub negative : Bool
-  pub significand : ℕ
+  pub integer : ℤ
   pub power : ℤ
 
 -- the integer that digits write: each digit times the power of ten of its position
@@ -50,6 +49,11 @@ pub data Minus : Bytes → Bool → Type 0 where
   none : Minus [] false
   minus : Minus (code "-" ∷ []) true
 
+-- an integer with a minus before it, or with none
+unfoldable pub withSign : Bool → ℕ → ℤ
+withSign false n = pos n
+withSign true n = negℤ (pos n)
+
 -- int = zero / ( digit1-9 *DIGIT )
 pub data Int : Bytes → Type 0 where
   zero : Int (code "0" ∷ [])
@@ -72,12 +76,12 @@ pub data Exp : Bytes → ℤ → Type 0 where
   plus : (e : ℕ) (ds : Bytes) → E e → Digits ds → Exp (e ∷ code "+" ∷ ds) (pos (positional ds))
   minus : (e : ℕ) (ds : Bytes) → E e → Digits ds → Exp (e ∷ code "-" ∷ ds) (negℤ (pos (positional ds)))
 
--- number = [ minus ] int [ frac ] [ exp ], and its exact value: the integer of all the digits on either side of the point, times ten to the
--- exponent less the number of digits after the point.
+-- number = [ minus ] int [ frac ] [ exp ], and its exact value: the integer of all the digits on either side of the point, with its sign,
+-- times ten to the exponent less the number of digits after the point.
 pub data Writes : Bytes → Exact → Type 0 where
   writes : (m i f x : Bytes) (negative : Bool) (fraction : Bytes) (exponent : ℤ) → Minus m negative → Int i → Frac f fraction → Exp x exponent →
       Writes (m ++ (i ++ (f ++ x)))
-      (record { negative = negative; significand = positional (i ++ fraction); power = exponent -ℤ pos (length fraction) })
+      (record { integer = withSign negative (positional (i ++ fraction)); power = exponent -ℤ pos (length fraction) })
 
 -- an integer, and 0 where it is negative
 unfoldable pub natural : ℤ → ℕ
@@ -88,15 +92,17 @@ natural (negsuc n) = 0
 unfoldable pub above : ℤ → ℤ → ℕ
 above e f = natural (e -ℤ f)
 
--- Numerically equal, and of the same sign: both significands are scaled to the smaller of the two powers.
+-- Numerically equal: both integers, scaled to the smaller of the two powers, are the same.
 pub record SameNumber (x y : Exact) : Type 0 where
-  pub sign : x .negative ≡ y .negative
-  pub value : x .significand * 10 ^ above (x .power) (y .power) ≡ y .significand * 10 ^ above (y .power) (x .power)
+  pub value : x .integer *ℤ pos (10 ^ above (x .power) (y .power)) ≡ y .integer *ℤ pos (10 ^ above (y .power) (x .power))
 
 pub record NumbersStatement : Type 0 where
   -- a text that is one number has an exact value
   pub valued : (t : Bytes) → NumberText t → (x : Exact) × Writes t x
   -- and only one, however the text is cut
   pub one-value : (t : Bytes) (x y : Exact) → Writes t x → Writes t y → SameNumber x y
-  -- "Numbers by exact value. [..] A zero keeps its sign, so -0 and 0 differ."
+  -- "Numbers by exact value", and by nothing else
   pub by-value : (s t : Bytes) (x y : Exact) → Writes s x → Writes t y → sameWorth (worth s) (worth t) ≡ true ↔ SameNumber x y
+  -- document 02, T-04: "a zero of either sign, with any exponent, equals any other", and nothing else
+  pub zeros : (s t : Bytes) (x y : Exact) → Writes s x → Writes t y → x .integer ≡ pos 0 →
+      (sameWorth (worth s) (worth t) ≡ true) ↔ (y .integer ≡ pos 0)

@@ -1,4 +1,5 @@
--- Numbers that are equal and numbers that are not, by computation: those of document 01, "Examples on each side", and one for each rule.
+-- Numbers that are equal and numbers that are not, by computation: those of document 01, "Examples on each side", one for each rule, and the
+-- zeros of document 02, T-04.
 use mathlib.Core.Path.{_≡_, refl}
 use mathlib.Core.List.{List, [], _∷_}
 use mathlib.Core.Bool.{true, false}
@@ -28,7 +29,11 @@ pub examples :
     equal "0.10" "1e-1" ∷
     equal "1E+2" "100" ∷
     equal "0e5" "0.000" ∷
-    differ "-0" "0" ∷
+    equal "-0" "0" ∷
+    equal "0.0" "-0e5" ∷
+    equal "0E-9999" "-0" ∷
+    differ "0" "1e-9999" ∷
+    differ "-0" "-1e-9999" ∷
     differ "-1" "1" ∷
     differ "1" "10" ∷
     differ "0.5" "5" ∷
@@ -36,4 +41,4 @@ pub examples :
     -- the exponent is over its limit
     differ "1e10000" "1e10000" ∷ [])
 unfolding ascii within isDigit isE mantissa fractionDigits decimal signedExponent exponent dropZeros trimmed isNegative power worth sameText sameBool sameInteger sameWorth withinLimits sameNumber
-examples = (refl, (refl, (refl, (refl, (refl, (refl, (refl, (refl, (refl, (refl, (refl, tt)))))))))))
+examples = (refl, (refl, (refl, (refl, (refl, (refl, (refl, (refl, (refl, (refl, (refl, (refl, (refl, (refl, (refl, tt)))))))))))))))

@@ -3,14 +3,14 @@ use Prim.Native.Nat.{ℕ, suc, _+_, _-_, _≤_, _<_, min}
 use Prim.Native.Char.{code}
 use mathlib.Core.Path.{_≡_, refl, sym, _∙_, ap}
 use mathlib.Core.List.{[], _∷_, reverse, reverse-cons, reverse-reverse}
-use mathlib.Core.Bool.{Bool, true, false, and-true, and-false, true≢false}
+use mathlib.Core.Bool.{Bool, true, false, _&&_, and-true, and-false, true≢false}
 use native.Mathlib.Omega.{arith}
 use native.Mathlib.Nat.{min-le-left, min-eq-left, min-eq-right}
 use native.Mathlib.Decide.{decLt}
 use borrow.Author.Tests.{eq-eqb, ne-eqb, le-leb, lt-leb}
 use lib.ListN.{length, take, drop, length-reverse}
 use lib.Seq.{take-append-le, take-all}
-use lib.Dec.{eqb, leb, eqb·suc-zero}
+use lib.Dec.{eqb, leb, ltb, eqb·suc-zero}
 use lib.IntN.{ℤ, pos, negℤ, natAbs, _+ℤ_, _-ℤ_}
 use Rattle.spec.specs.Outcome.{if_then_else_}
 use Rattle.spec.specs.Limits.{maxNumber, maxExponent}
@@ -128,15 +128,16 @@ power-count (b ∷ s) e f d = rw (eqb·suc-zero (length s))
 
 -- What the code counts, put together. A count is of the mantissa from the first significant digit on.
 module _ (t : Bytes) (n : Normal) (e : ℤ) (fraction all : ℕ) where
-  pub normal-is : n .negative ≡ isNegative t → n .first ≡ firstDigit t → n .count ≡ length (trimmed (mantissa (drop (n .first) t))) →
+  pub normal-is : n .negative ≡ (isNegative t && ltb 0 (n .count)) → n .first ≡ firstDigit t → n .count ≡ length (trimmed (mantissa (drop (n .first) t))) →
       e ≡ exponent t → fraction ≡ fractionDigits t → all ≡ length (mantissa (drop (n .first) t)) →
       n .power ≡ (if eqb (n .count) 0 then pos 0 else ((e -ℤ pos fraction) +ℤ pos (all - n .count))) → n ≡ normalForm t
   unfolding normalForm worth
   normal-is is-negative is-first is-count is-e is-fraction is-all is-power =
       let digits : mantissa (drop (n .first) t) ≡ dropZeros (mantissa t) = rw is-first (first-digits t) in
       let kept : n .count ≡ length (trimmed (dropZeros (mantissa t))) = rw digits at is-count in
+      let sign : n .negative ≡ worth t .negative = is-negative ∙ rw kept in
       let shift : n .power ≡ worth t .power = is-power ∙ rw (power-count, kept, is-e, is-fraction, is-all, digits) in
-      λ i. record { negative = is-negative i; first = is-first i; count = kept i; power = shift i }
+      λ i. record { negative = sign i; first = is-first i; count = kept i; power = shift i }
 
 -- ---- the limits
 

@@ -11,7 +11,7 @@ use Rattle.spec.specs.Outcome.{if_then_else_}
 use Rattle.spec.specs.Limits.{maxNumber, maxExponent}
 use Rattle.spec.specs.Bytes.{Bytes, within}
 use Rattle.spec.specs.Numbers.{isE}
-use Rattle.spec.specs.Worth.{exponent, isNegative, worth}
+use Rattle.spec.specs.Worth.{exponent, worth}
 use Rattle.spec.specs.Equality.{sameWorth}
 use Rattle.decimal.specs.declared.Normal.{Normal}
 use Rattle.decimal.specs.declared.Normalized.{Normalized}
@@ -33,7 +33,7 @@ withinLimits t = leb (length t) maxNumber && leb (natAbs (exponent t)) maxExpone
 unfoldable pub normalForm : Bytes → Normal
 normalForm t =
     record {
-      negative = isNegative t;
+      negative = worth t .negative;
       first = firstDigit t;
       count = length (worth t .significand);
       power = worth t .power;

@@ -1,4 +1,5 @@
-// Equality of two JSON numbers by their exact value: document 01, "drop zeros on both ends of the digits and adjust a signed power of ten".
+// Equality of two JSON numbers by their exact value: document 01, "drop zeros on both ends of the digits and adjust a
+// signed power of ten". A zero of either sign is zero (document 02, T-04).
 // Each function reads a number's text where it lies: no digit is copied, and no float is made.
 
 mod exponent; // exponent.rt: what is written after the letter e
@@ -14,7 +15,8 @@ use mantissa::significant;
 ghost use mathlib.Core.Path.{_≡_};
 ghost use Prim.Native.Nat.{_≤_};
 ghost use lib.ListN.{length, take, drop};
-ghost use lib.Dec.{eqb};
+ghost use mathlib.Core.Bool.{_&&_};
+ghost use lib.Dec.{eqb, ltb};
 ghost use lib.IntN.{pos, negℤ, natAbs, _+ℤ_, _-ℤ_};
 ghost use Rattle.spec.specs.Outcome.{if_then_else_};
 ghost use Rattle.spec.specs.Limits.{maxNumber, maxExponent};
@@ -28,8 +30,9 @@ const MAX_NUMBER: usize = 128;
 
 const MAX_EXPONENT: usize = 9_999;
 
-// A number's text in normal form: its sign; where its significant digits begin, and how many they are, without zeros at either end and with the
-// point between them not counted; and the power of ten of the last of them. A zero has no significant digits and the power 0.
+// A number's text in normal form: whether it is below zero; where its significant digits begin, and how many they are,
+// without zeros at either end and with the point between them not counted; and the power of ten of the last of them. A
+// zero has no significant digits, the power 0 and no sign.
 pub struct Normal {
     pub negative: bool,
     pub first: usize,
@@ -80,7 +83,7 @@ fn normal_form(t: &[u8], exponent: i32) -> Normal
     let count = significant(t, first);
     let dropped = digits(t, first) - count;
     Normal {
-        negative: minus_at(t, 0),
+        negative: below_zero(minus_at(t, 0), count),
         first,
         count,
         power: power(count, exponent, fraction(t), dropped),
@@ -95,6 +98,13 @@ fn minus_at(t: &[u8], at: usize) -> bool
         return t[at] == b'-';
     }
     false
+}
+
+// Whether a number with `count` significant digits is below zero. Document 02, T-04: a zero is not, even with a minus.
+fn below_zero(minus: bool, count: usize) -> bool
+    ensures { λ r. ⌜ r ≡ (minus && ltb 0 count) ⌝ }
+{
+    if count == 0 { false } else { minus }
 }
 
 // The exponent of a sign and a size.
@@ -136,7 +146,7 @@ fn same_normal(a: &[u8], x: Normal, b: &[u8], y: Normal) -> bool
     same_digits(a, x.first, b, y.first, x.count)
 }
 
-// A zero keeps its sign, so -0 and 0 differ.
+// Whether two numbers are on the same side of zero.
 fn same_sign(a: bool, b: bool) -> bool
     ensures { λ r. ⌜ r ≡ sameBool a b ⌝ }
 {

@@ -1,4 +1,4 @@
--- The starred examples of document 01, proved of the definitions by computation.
+-- The examples of documents 01 and 02, proved of the definitions by computation.
 use mathlib.Core.Path.{refl}
 use Rattle.spec.specs.Outcome.{_>>=_, require}
 use Rattle.spec.specs.Bytes.{ascii, byte, within, byteIn}
@@ -14,7 +14,7 @@ use Rattle.spec.specs.Pointer.{prepend, segments, tilde, unescape, unesc
 use Rattle.spec.specs.Operation.{put, atParent, insertElement, insertMember, insertChild, removeChild, replaceChild, addAt, removeAtPath, replaceAtPath, moveTo, copyTo, testAt, perform, notTooDeep, notTooLarge, limited}
 use Rattle.spec.specs.Patch.{member, stringOf, stringMember, kindNamed, usesValue, usesFrom, isMove, valueFor, fromFor, membersFor, operationMembers, properPrefix, withPointers, operation, atOp, onFinish, operations, shape, run}
 use Rattle.spec.specs.Answer.{workSuffices, fitting, answerOf, patched, onPatch, onDocument, answerIn, answer}
-use Rattle.spec.specs.Examples.{All, starred}
+use Rattle.spec.specs.Examples.{All, starred, zeros}
 
 -- the definitions that compute the answer, layer by layer: to unfold one of these names is to unfold all that its line names
 unfoldable compute-outcomes : Unit {0}
@@ -61,6 +61,14 @@ unfoldable compute-answers : Unit {0}
 unfolding workSuffices fitting answerOf patched onPatch onDocument answerIn answer
 compute-answers = tt
 
-pub examples : All starred
+unfoldable compute : Unit {0}
 unfolding compute-outcomes compute-strings compute-numbers compute-forests compute-values compute-reading compute-writing compute-pointers compute-operations compute-patches compute-answers
+compute = tt
+
+pub examples : All starred
+unfolding compute
 examples = (refl, (refl, (refl, (refl, (refl, (refl, (refl, (refl, (refl, (refl, (refl, (refl, (refl, tt)))))))))))))
+
+pub zeros-examples : All zeros
+unfolding compute
+zeros-examples = (refl, (refl, (refl, (refl, tt))))

@@ -1,4 +1,4 @@
--- Equality of values: RFC 6902, section 4.6, as document 01 reads it under "Walking and the six operations".
+-- Equality of values: RFC 6902, section 4.6, as document 01 reads it under "Walking and the six operations", mended by document 02, T-04.
 use mathlib.Core.Bool.{Bool, true, false, _&&_, not}
 use lib.Dec.{eqb}
 use lib.IntN.{ℤ, pos, negsuc}
@@ -19,7 +19,7 @@ sameInteger (pos m) (negsuc n) = false
 sameInteger (negsuc m) (pos n) = false
 sameInteger (negsuc m) (negsuc n) = eqb m n
 
--- "Numbers by exact value. A zero keeps its sign, so -0 and 0 differ."
+-- "Numbers by exact value", and T-04: "RFC 6902 says numerically equal, so 01 was wrong"; a zero has no sign (Worth).
 unfoldable pub sameWorth : Worth → Worth → Bool
 sameWorth v w =
     sameBool (v .negative) (w .negative) && (sameText (v .significand) (w .significand) && sameInteger (v .power) (w .power))

@@ -1,4 +1,5 @@
--- The starred examples of document 01, "Examples on each side": whole answers. proofs/ExamplesTheorem proves them by computation.
+-- The starred examples of document 01, "Examples on each side", and examples of document 02: whole answers. proofs/ExamplesTheorem proves
+-- them by computation.
 use mathlib.Core.Path.{_≡_}
 use Prim.Native.Nat.{ℕ}
 use Prim.Native.String.{String}
@@ -39,4 +40,13 @@ starred =
     gives "{\"a/b\":1}" "[{\"op\":\"replace\",\"path\":\"/a~1b\",\"value\":5}]" "{\"a/b\":5}" ∷
     gives "4400" "[{\"op\":\"test\",\"path\":\"\",\"value\":4.4e3}]" "4400" ∷
     refuses "9007199254740993" "[{\"op\":\"test\",\"path\":\"\",\"value\":9007199254740992}]" 15 0 1 0 ∷
+    []
+
+-- T-04: "a zero of either sign, with any exponent, equals any other", and nothing else; it is written as it stands.
+abbrev pub zeros : List Example
+zeros =
+    gives "[-0,0,0.0,-0e5,0E-9999]" "[{\"op\":\"test\",\"path\":\"\",\"value\":[0E-9999,-0,0,0.0,-0e5]}]" "[-0,0,0.0,-0e5,0E-9999]" ∷
+    gives "{\"a\":[{\"b\":0}]}" "[{\"op\":\"test\",\"path\":\"\",\"value\":{\"a\":[{\"b\":-0}]}}]" "{\"a\":[{\"b\":0}]}" ∷
+    refuses "-0" "[{\"op\":\"test\",\"path\":\"\",\"value\":-1e-9999}]" 15 0 1 0 ∷
+    refuses "1" "[{\"op\":\"test\",\"path\":\"\",\"value\":-1}]" 15 0 1 0 ∷
     []

@@ -3,16 +3,16 @@
 use Prim.Native.Nat.{ℕ, _+_, _-_, _*_}
 use Prim.Native.Char.{code}
 use mathlib.Core.List.{[], _∷_, reverse}
-use mathlib.Core.Bool.{Bool, false}
+use mathlib.Core.Bool.{Bool, false, _&&_}
 use lib.ListN.{length}
-use lib.Dec.{eqb}
+use lib.Dec.{eqb, ltb}
 use lib.IntN.{ℤ, pos, negℤ, _+ℤ_, _-ℤ_}
 use Rattle.spec.specs.Outcome.{if_then_else_}
 use Rattle.spec.specs.Bytes.{Bytes}
 use Rattle.spec.specs.Numbers.{isDigit, isE}
 
 -- The significand is the digits, in ASCII, with no zero at either end: the number is that integer times ten to the power, with its sign.
--- A zero has no digits and the power 0, and keeps its sign.
+-- Document 02, T-04: "a zero of either sign, with any exponent, equals any other". So a zero has no digits, the power 0 and no sign.
 pub record Worth : Type 0 where
   pub negative : Bool
   pub significand : Bytes
@@ -53,6 +53,7 @@ dropZeros (b ∷ t) = if eqb b (code "0") then dropZeros t else b ∷ t
 unfoldable pub trimmed : Bytes → Bytes
 trimmed t = reverse (dropZeros (reverse t))
 
+-- whether a minus stands in front
 unfoldable pub isNegative : Bytes → Bool
 isNegative [] = false
 isNegative (b ∷ t) = eqb b (code "-")
@@ -62,13 +63,13 @@ unfoldable pub power : Bytes → ℤ → ℕ → ℕ → ℤ
 power [] exponent fraction dropped = pos 0
 power (b ∷ t) exponent fraction dropped = (exponent -ℤ pos fraction) +ℤ pos dropped
 
--- the worth of a number by its source text
+-- The worth of a number by its source text. It is below zero where it has a minus, and a digit that is not 0.
 unfoldable pub worth : Bytes → Worth
 worth t =
     let digits = dropZeros (mantissa t) in
     let significand = trimmed digits in
     record {
-      negative = isNegative t;
+      negative = isNegative t && ltb 0 (length significand);
       significand = significand;
       power = power significand (exponent t) (fractionDigits t) (length digits - length significand);
     }

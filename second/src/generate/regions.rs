@@ -89,8 +89,8 @@ fn growing(random: &mut Random) -> Parts {
         for _ in 0..random.below(7) {
             drafts.push(match random.below(12) {
                 0 => operation("remove", format!("{region}/1"), None, None),
-                1 => operation("test", format!("{region}/0/0"), None, Some("0")),
-                2 => operation("test", format!("{region}/0/0"), None, Some("-0")),
+                1 => operation("test", format!("{region}/0/0"), None, Some("-0")),
+                2 => operation("test", format!("{region}/0/0"), None, Some("-1")),
                 3 => operation("replace", format!("{region}/0"), None, Some("1")),
                 _ => operation("copy", format!("{region}/-"), Some(format!("{region}/0")), None),
             });

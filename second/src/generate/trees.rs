@@ -21,7 +21,7 @@ const PIECES: &[&str] = &[
 /// Numbers that meet one another in comparisons.
 #[rustfmt::skip]
 const NUMERALS: &[&str] = &[
-    "0", "-0", "0.0", "-0.0", "0e5", "-0e-5", "1", "-1", "1.0", "10e-1", "0.1e1", "10", "1e1",
+    "0", "-0", "0.0", "-0e5", "0E-9999", "1", "-1", "1.0", "10e-1", "0.1e1", "10", "1e1",
     "100", "1E2", "1e+2", "0.10", "1e-1", "4400", "4.4e3", "9007199254740993", "9007199254740992",
     "1e9999", "10e9998", "1e-9999", "0.1e-9998", "3.0", "3", "12345678901234567890", "1.5e300",
     "1.5e-300", "18446744073709551616", "0.000000000000000000000000000001", "1e0", "1e00",
@@ -113,9 +113,10 @@ pub fn text(random: &mut Random) -> String {
 
 /// A number within its limits.
 pub fn numeral(random: &mut Random) -> String {
-    match random.below(10) {
-        0..=4 => random.pick(NUMERALS).to_string(),
-        5..=7 => random.below(1000).to_string(),
+    match random.below(20) {
+        0..=9 => random.pick(NUMERALS).to_string(),
+        10..=14 => random.below(1000).to_string(),
+        15 => zero(random),
         _ => {
             let sign = random.pick(&["", "-"]);
             let whole = random.below(100_000);
@@ -129,6 +130,18 @@ pub fn numeral(random: &mut Random) -> String {
             format!("{sign}{whole}{fraction}{exponent}")
         }
     }
+}
+
+/// A zero of either sign, with any exponent.
+fn zero(random: &mut Random) -> String {
+    let sign = random.pick(&["", "-"]);
+    let fraction = random.pick(&["", ".0", ".000"]);
+    let exponent = match random.below(3) {
+        0 => String::new(),
+        1 => format!("{}{}", random.pick(&["e", "E", "e+", "e-", "E-00"]), random.below(10_000)),
+        _ => random.pick(&["e0", "E-9999", "e9999", "e5"]).to_string(),
+    };
+    format!("{sign}0{fraction}{exponent}")
 }
 
 /// A value equal to the given one: numbers spelled otherwise, members in another
@@ -201,14 +214,16 @@ fn respelled(random: &mut Random, source: &str) -> String {
     };
     // All digits as one whole number with a power of ten.
     let digits = format!("{whole}{fraction}");
-    let digits = digits.trim_start_matches('0');
+    let mut digits = digits.trim_start_matches('0').to_string();
+    if digits.is_empty() {
+        return zero(random);
+    }
     let mut power = exponent - fraction.len() as i64;
-    let mut digits = if digits.is_empty() { "0".to_string() } else { digits.to_string() };
     for _ in 0..random.below(4) {
         if digits.len() > 1 && digits.ends_with('0') && random.chance(50) {
             digits.pop();
             power += 1;
-        } else if digits != "0" {
+        } else {
             digits.push('0');
             power -= 1;
         }

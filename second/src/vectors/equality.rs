@@ -25,8 +25,8 @@ const PAIRS: &[(&str, &str, &str, bool)] = &[
     ("last-digit", "1234567", "1234568", false),
     ("zero-point-zero", "0", "0.000", true),
     ("zero-exponents", "0e9999", "0.0e-9999", true),
-    ("zero-minus-zero", "0", "-0", false),
-    ("zero-minus-zero-forms", "0.0e1", "-0.00", false),
+    ("zero-minus-zero", "0", "-0", true),
+    ("zero-minus-zero-forms", "0.0e1", "-0.00", true),
     ("minus-zero-forms", "-0", "-0.0e7", true),
     ("zero-and-tiny", "0", "1e-9999", false),
     ("minus-zero-and-minus-tiny", "-0", "-1e-9999", false),
@@ -95,6 +95,17 @@ const PAIRS: &[(&str, &str, &str, bool)] = &[
     ("object-empty", "{}", "{ }", true),
 ];
 
+/// Zeros: each equals each, and nothing else does.
+const ZEROS: &[&str] = &["0", "-0", "0.0", "-0e5", "0E-9999"];
+
+/// What no zero equals: other numbers, however small, and values of other types.
+#[rustfmt::skip]
+const NO_ZEROS: &[(&str, &str)] = &[
+    ("tiny", "1e-9999"), ("minus-tiny", "-1e-9999"), ("minus-one", "-1"), ("null", "null"),
+    ("false", "false"), ("string", r#""0""#), ("minus-string", r#""-0""#), ("array", "[]"),
+    ("object", "{}"), ("in-array", "[0]"),
+];
+
 /// Equality below the root.
 #[rustfmt::skip]
 pub const ROWS: &[Row] = &[
@@ -104,13 +115,14 @@ pub const ROWS: &[Row] = &[
     ("copied-with-original", r#"{"a":[-0,"\u0000"]}"#, r#"[{"op":"copy","from":"/a","path":"/b"},{"op":"test","path":"/b","value":[-0.0,"\u0000"]}]"#, r#"{"a":[-0,"\u0000"],"b":[-0,"\u0000"]}"#),
 ];
 
-/// The pairs, both ways, and numbers of the greatest length.
+/// The pairs, both ways, zeros, and numbers of the greatest length.
 pub fn vectors() -> Vec<Vector> {
     let mut vectors = Vec::new();
     for (name, left, right, equal) in PAIRS {
         vectors.push(tested(name, "", left, right, *equal));
         vectors.push(tested(name, "-turned", right, left, *equal));
     }
+    vectors.extend(zeros());
 
     // Long numbers: equal by a shift of the point, different in the last digit.
     let digits = "1234567890".repeat(12);
@@ -122,6 +134,39 @@ pub fn vectors() -> Vec<Vector> {
     let last_two = format!("{digits}12345672");
     vectors.push(tested("long-same", "", &last_one, &last_one, true));
     vectors.push(tested("long-last-digit", "", &last_one, &last_two, false));
+    vectors
+}
+
+/// Each zero against each, at the root, 30 levels deep in arrays and in objects,
+/// and among others; and each against what is none.
+fn zeros() -> Vec<Vector> {
+    let deep = |open: &str, zero: &str, close: &str| {
+        format!("{}{zero}{}", open.repeat(30), close.repeat(30))
+    };
+    let mut vectors = Vec::new();
+    for left in ZEROS {
+        for right in ZEROS {
+            let way = format!("-{left}-and-{right}");
+            let mut pair = |name: &str, left: String, right: String| {
+                vectors.push(tested(name, &way, &left, &right, true));
+            };
+            pair("zeros", left.to_string(), right.to_string());
+            pair("zeros-in-arrays", deep("[", left, "]"), deep("[", right, "]"));
+            pair("zeros-in-objects", deep(r#"{"a":"#, left, "}"), deep(r#"{"a":"#, right, "}"));
+            pair(
+                "zeros-among-others",
+                format!(r#"{{"a":[1,{left}],"b":{left}}}"#),
+                format!(r#"{{"b":{right},"a":[1.0,{right}]}}"#),
+            );
+        }
+        for (name, right) in NO_ZEROS {
+            let way = format!("-{left}-and-{name}");
+            vectors.push(tested("no-zero", &way, left, right, false));
+            vectors.push(tested("no-zero-turned", &way, right, left, false));
+            let [left, right] = [left, right].map(|zero| format!(r#"{{"a":[{zero}]}}"#));
+            vectors.push(tested("no-zero-inside", &way, &left, &right, false));
+        }
+    }
     vectors
 }
 

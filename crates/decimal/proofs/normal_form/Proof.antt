@@ -21,11 +21,13 @@ normal-form-spec =
     (λ c. rw (c .before .significant .ensures, c .digits .ensures) (trimmed-shorter _))
     -- minus-at-requires
     (λ c κs. tt)
+    -- below-zero-requires
+    (λ c κs. tt)
     -- fraction-requires
     (λ c κs. tt)
     -- power-requires
     (λ c κs.
-    let d = c .before .before in
+    let d = c .before .before .before in
     let first = d .before .before .first-digit .result in
     let s = d .before .before .before .before in
     let t = s .args .t .now in (
@@ -37,10 +39,11 @@ normal-form-spec =
     ))
     -- returns
     (λ c.
-    let d = c .before .before .before in
+    let d = c .before .before .before .before in
     let s = d .before .before .before .before in
+    let sign = c .before .before in
     normal-is _ _ _ _ _
-    (c .before .before .minus-at .ensures)
+    (sign .below-zero .ensures ∙ rw (sign .before .minus-at .ensures))
     (d .before .before .first-digit .ensures)
     (d .before .significant .ensures)
     (back (s .args .exponent) (s .fits .exponent .sfits) ∙ s .pre .1 .0)
