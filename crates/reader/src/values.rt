@@ -78,8 +78,8 @@ fn scalar_value(
     name: Name,
     row: usize,
 ) -> Read
-    requires { ⌜ (at .at < length (now s)) × (kind < arrayKind) × (row < scratchRow) × (scratchRow ≤ length (now nodes)) ⌝ }
-    requires { ⌜ (source < sources) × (length (now s) < values) ⌝ }
+    requires { ⌜ (at .at < length (now s)) × (kind < arrayKind) × (row < scratchRow) ⌝ }
+    requires { ⌜ (source < sources) × (length (now s) < values) × (scratchRow ≤ length (now nodes)) ⌝ }
     ensures { λ r. ⌜ ScalarTaken source (now (s .entry)) (at .at) kind name row (now (nodes .entry)) (now (nodes .exit)) r ⌝ }
 {
     let spelled = scalar(s, at, kind, source);
@@ -100,8 +100,8 @@ fn scalar_value(
     Read::Value(next, row + 1)
 }
 
-// The value at a cursor is stored from `row` on, under a name. The text's rows begin at `base`: as many values have begun
-// before as there are rows from there.
+// The value at a cursor is stored from `row` on, under a name. The text's rows begin at `base`: as many values have
+// begun before as there are rows from there.
 pub fn value(
     s: &[u8],
     nodes: &mut [Node],

@@ -8,7 +8,7 @@ use borrow.Fn.Kinds.{In}
 use borrow.Fn.PlainCycle.{Measures, is, falls, and}
 use Rattle.reader.specs.Begins.{beginning}
 use Rattle.reader.proofs.ReadingLaws.{Filling, filling-none, lent-filling, turn, lent-turn, turn-begins, turn-next, value-way-refused}
-use Rattle.reader.proofs.ReadingLaws.{begun, value-starts, value-fits, value-way-scalar, value-levels}
+use Rattle.reader.proofs.ReadingLaws.{begun, value-starts, value-fits, value-way-scalar, opened, turn-levels}
 use Rattle.reader.proofs.ReadingLaws.{value-way-unread, value-way-handed, value-way-closed}
 use Rattle.reader.proofs.values.value.Reads as value
 use Rattle.reader.proofs.values.value.Kinds as value-kinds
@@ -68,33 +68,40 @@ pub +value-spec : {M : Type 1} → statement M
     (λ c κs. search needs)
     -- returns
     (λ c.
-    value-way-refused _ _ _ _ (c .before .before .beginning .ensures ∙ ap beginning (c .before .before .before .peek .ensures)) (c .before .refusal-at .ensures) (c .if1 .taken))
+    let kind-is = c .before .before .beginning .ensures ∙ ap beginning (c .before .before .before .peek .ensures) in
+    value-way-refused _ _ _ _ kind-is (c .before .refusal-at .ensures) (c .if1 .taken))
     -- scalar-value-requires
     (λ c κs.
     let passed = c .before .before in
-    let b = begun _ _ _ _ _ _ _ (passed .before .before .beginning .ensures ∙ ap beginning (passed .before .before .before .peek .ensures)) (passed .before .refusal-at .ensures) (passed .before .before .before .before .before .before .pre .1 .1 .1) (passed .if1 .left) in
     let p = passed .before .before .before .before .before .before .pre .1 in
-    ((value-starts b, c .before .if2 .taken, omega (arith, value-fits b, p .1), p .0 .nodes-long), (p .0 .source<, p .0 .short)))
+    let kind-is = passed .before .before .beginning .ensures ∙ ap beginning (passed .before .before .before .peek .ensures) in
+    let b = begun _ _ _ _ _ _ _ kind-is (passed .before .refusal-at .ensures) (p .1 .1) (passed .if1 .left) in
+    ((value-starts b, c .before .if2 .taken, omega (arith, value-fits b, p .1)), (p .0 .source<, p .0 .short, p .0 .nodes-long)))
     -- same-length
     (λ c. search needs)
     -- returns-2
     (λ c.
     let passed = c .before .before .before .before in
-    let b = begun _ _ _ _ _ _ _ (passed .before .before .beginning .ensures ∙ ap beginning (passed .before .before .before .peek .ensures)) (passed .before .refusal-at .ensures) (passed .before .before .before .before .before .before .pre .1 .1 .1) (passed .if1 .left) in
+    let p = passed .before .before .before .before .before .before .pre .1 in
+    let kind-is = passed .before .before .beginning .ensures ∙ ap beginning (passed .before .before .before .peek .ensures) in
+    let b = begun _ _ _ _ _ _ _ kind-is (passed .before .refusal-at .ensures) (p .1 .1) (passed .if1 .left) in
     value-way-scalar b (c .before .before .before .if2 .taken) (c .before .scalar-value .ensures))
     -- add-t28
     (λ c.
     let passed = c .before .before in
-    let b = begun _ _ _ _ _ _ _ (passed .before .before .beginning .ensures ∙ ap beginning (passed .before .before .before .peek .ensures)) (passed .before .refusal-at .ensures) (passed .before .before .before .before .before .before .pre .1 .1 .1) (passed .if1 .left) in
+    let p = passed .before .before .before .before .before .before .pre .1 in
+    let kind-is = passed .before .before .beginning .ensures ∙ ap beginning (passed .before .before .before .peek .ensures) in
+    let b = begun _ _ _ _ _ _ _ kind-is (passed .before .refusal-at .ensures) (p .1 .1) (passed .if1 .left) in
     omega (arith, value-starts b))
     -- add-end
     (λ c. search needs)
     -- loop-holds
     (λ c.
     let passed = c .before .before in
-    let b = begun _ _ _ _ _ _ _ (passed .before .before .beginning .ensures ∙ ap beginning (passed .before .before .before .peek .ensures)) (passed .before .refusal-at .ensures) (passed .before .before .before .before .before .before .pre .1 .1 .1) (passed .if1 .left) in
-    let l = value-starts b in
-    filling-none _ _ _ _ _ _ _ _ (omega arith) (omega arith) (value-fits b))
+    let p = passed .before .before .before .before .before .before .pre .1 in
+    let kind-is = passed .before .before .beginning .ensures ∙ ap beginning (passed .before .before .before .peek .ensures) in
+    let b = begun _ _ _ _ _ _ _ kind-is (passed .before .refusal-at .ensures) (p .1 .1) (passed .if1 .left) in
+    filling-none _ _ _ _ _ _ _ _ (opened b (c .before .if2 .left)))
     -- next-item-requires
     (λ c κs.
     let passed = c .before .before .before .before .before in
@@ -106,19 +113,18 @@ pub +value-spec : {M : Type 1} → statement M
     -- sub-value
     (λ c.
     let asked = c .before .before .before .before .before .before .before in
-    let passed = asked .before .before .before .before .before .before in
-    let b = begun _ _ _ _ _ _ _ (passed .before .before .beginning .ensures ∙ ap beginning (passed .before .before .before .peek .ensures)) (passed .before .refusal-at .ensures) (passed .before .before .before .before .before .before .pre .1 .1 .1) (passed .if1 .left) in
-    omega (arith, value-levels b (asked .before .before .before .before .before .if2 .left)))
+    let t = turn (asked .before .before .before .loop .inv) (asked .next-item .ensures) (asked .next-item .kept .1 .1 .0) in
+    omega (arith, turn-levels t))
     -- value-requires
     (λ c κs.
     let asked = c .before .before .before .before .before .before .before in
     let passed = asked .before .before .before .before .before .before in
     let p = passed .before .before .before .before .before .before .pre .1 in
-    let b = begun _ _ _ _ _ _ _ (passed .before .before .beginning .ensures ∙ ap beginning (passed .before .before .before .peek .ensures)) (passed .before .refusal-at .ensures) (passed .before .before .before .before .before .before .pre .1 .1 .1) (passed .if1 .left) in
     let i = asked .before .before .before .loop .inv in
-    let t = turn (asked .before .before .before .loop .inv) (passed .before .before .before .before .before .before .pre .1 .1 .1) (asked .next-item .ensures) (asked .next-item .kept .1 .1 .0) in
+    let t = turn (asked .before .before .before .loop .inv) (asked .next-item .ensures) (asked .next-item .kept .1 .1 .0) in
     let f = turn-begins t _ _ (c .before .before .before .first .given .1) in
-    (omega (arith, passed .before .before .before .before .before .before .pre .0, value-levels b (asked .before .before .before .before .before .if2 .left)), (lent-turn (p .0) t, (f .1, omega (arith, i .filled .ends, p .1 .1), i .room, p .1 .3))))
+    let falls = passed .before .before .before .before .before .before .pre .0 in
+    (omega (arith, falls, turn-levels t), (lent-turn (p .0) t, (f .1, omega (arith, i .filled .ends, p .1 .1), i .room, p .1 .3))))
     -- enum-known-r
     (λ c. search needs)
     -- enum-told
@@ -131,25 +137,23 @@ pub +value-spec : {M : Type 1} → statement M
     (λ c.
     let call = c .before .before .before .before .before in
     let asked = call .before .before .before .before .before .before .before .before in
-    let passed = asked .before .before .before .before .before .before in
-    let b = begun _ _ _ _ _ _ _ (passed .before .before .beginning .ensures ∙ ap beginning (passed .before .before .before .peek .ensures)) (passed .before .refusal-at .ensures) (passed .before .before .before .before .before .before .pre .1 .1 .1) (passed .if1 .left) in
-    let t = turn (asked .before .before .before .loop .inv) (passed .before .before .before .before .before .before .pre .1 .1 .1) (asked .next-item .ensures) (asked .next-item .kept .1 .1 .0) in
-    value-way-handed b (asked .before .before .before .before .before .if2 .left) t _ _ (call .before .before .before .before .first .given .1) (call .value .ensures) _ _ (c .enum-told .given .1))
+    let t = turn (asked .before .before .before .loop .inv) (asked .next-item .ensures) (asked .next-item .kept .1 .1 .0) in
+    value-way-handed _ t _ _ (call .before .before .before .before .first .given .1) (call .value .ensures) _ _ (c .enum-told .given .1))
     -- loop-less
     (λ c.
     let call = c .before .before .before .before .before .before in
     let asked = call .before .before .before .before .before .before .before .before in
-    let passed = asked .before .before .before .before .before .before in
-    let t = turn (asked .before .before .before .loop .inv) (passed .before .before .before .before .before .before .pre .1 .1 .1) (asked .next-item .ensures) (asked .next-item .kept .1 .1 .0) in
-    let n = turn-next t _ _ (call .before .before .before .before .first .given .1) (call .value .ensures) _ _ (c .before .r .given .1) (call .value .kept .1 .0) (call .value .kept .1 .1 .0) in
+    let t = turn (asked .before .before .before .loop .inv) (asked .next-item .ensures) (asked .next-item .kept .1 .1 .0) in
+    let begins = call .before .before .before .before .first .given .1 in
+    let n = turn-next t _ _ begins (call .value .ensures) _ _ (c .before .r .given .1) (call .value .kept .1 .0) (call .value .kept .1 .1 .0) in
     omega (arith, n .0, n .1 .within))
     -- loop-again
     (λ c.
     let call = c .before .before .before .before .before .before in
     let asked = call .before .before .before .before .before .before .before .before in
-    let passed = asked .before .before .before .before .before .before in
-    let t = turn (asked .before .before .before .loop .inv) (passed .before .before .before .before .before .before .pre .1 .1 .1) (asked .next-item .ensures) (asked .next-item .kept .1 .1 .0) in
-    turn-next t _ _ (call .before .before .before .before .first .given .1) (call .value .ensures) _ _ (c .before .r .given .1) (call .value .kept .1 .0) (call .value .kept .1 .1 .0) .1)
+    let t = turn (asked .before .before .before .loop .inv) (asked .next-item .ensures) (asked .next-item .kept .1 .1 .0) in
+    let begins = call .before .before .before .before .first .given .1 in
+    turn-next t _ _ begins (call .value .ensures) _ _ (c .before .r .given .1) (call .value .kept .1 .0) (call .value .kept .1 .1 .0) .1)
     -- enum-known-after
     (λ c. search needs)
     -- sub-close
@@ -167,9 +171,8 @@ pub +value-spec : {M : Type 1} → statement M
     let asked = c .before .before .before .before .before .before .before .before in
     let passed = asked .before .before .before .before .before .before in
     let p = passed .before .before .before .before .before .before .pre .1 in
-    let b = begun _ _ _ _ _ _ _ (passed .before .before .beginning .ensures ∙ ap beginning (passed .before .before .before .peek .ensures)) (passed .before .refusal-at .ensures) (passed .before .before .before .before .before .before .pre .1 .1 .1) (passed .if1 .left) in
-    let t = turn (asked .before .before .before .loop .inv) (passed .before .before .before .before .before .before .pre .1 .1 .1) (asked .next-item .ensures) (asked .next-item .kept .1 .1 .0) in
-    value-way-closed b (asked .before .before .before .before .before .if2 .left) t _ (c .before .before .before .before .after .given .1) (p .1 .3) (p .0 .nodes-long) refl (c .before .close .ensures))
+    let t = turn (asked .before .before .before .loop .inv) (asked .next-item .ensures) (asked .next-item .kept .1 .1 .0) in
+    value-way-closed _ t _ (c .before .before .before .before .after .given .1) (p .1 .3) (p .0 .nodes-long) refl (c .before .close .ensures))
     -- enum-known-number
     (λ c. search needs)
     -- same-length-6
@@ -179,7 +182,5 @@ pub +value-spec : {M : Type 1} → statement M
     -- returns-5
     (λ c.
     let asked = c .before .before .before .before .before in
-    let passed = asked .before .before .before .before .before .before in
-    let b = begun _ _ _ _ _ _ _ (passed .before .before .beginning .ensures ∙ ap beginning (passed .before .before .before .peek .ensures)) (passed .before .refusal-at .ensures) (passed .before .before .before .before .before .before .pre .1 .1 .1) (passed .if1 .left) in
-    let t = turn (asked .before .before .before .loop .inv) (passed .before .before .before .before .before .before .pre .1 .1 .1) (asked .next-item .ensures) (asked .next-item .kept .1 .1 .0) in
-    value-way-unread b (asked .before .before .before .before .before .if2 .left) t _ _ (c .before .number .given .1))
+    let t = turn (asked .before .before .before .loop .inv) (asked .next-item .ensures) (asked .next-item .kept .1 .1 .0) in
+    value-way-unread _ t _ _ (c .before .number .given .1))
