@@ -21,13 +21,13 @@ use Rattle.tape.specs.declared.fields.Spelling.{Spelling}
 use Rattle.tape.specs.declared.fields.Name.{Name}
 use Rattle.tape.specs.Lent.{Texts}
 use Rattle.table.specs.Meaning.{labelOf}
-use Rattle.reader.specs.Begins.{beginning, refusalFor, scalarOf}
+use Rattle.reader.specs.Begins.{beginning, roomRefusal, refusalFor, scalarOf}
 use Rattle.reader.specs.Work.{Work}
 use Rattle.reader.specs.Words.{noSpelling, Titles, ScalarIs, scalar-read, scalar-refused}
 use Rattle.reader.specs.Filled.{Between, SameBeyond, Noted, Filled, Reached, Marked, marked-none}
 use Rattle.reader.specs.Names.{Lent, LeadsNext}
 use Rattle.reader.specs.Items.{Next, closed, begins, nextItem, ItemIs, item-begins, item-closed, item-refused, NextItemIs}
-use Rattle.reader.specs.Taken.{readTo, scalarCell, containerCell, Ahead, Taken, taken, refusal, ForTitle, ScalarTaken, ValueTaken}
+use Rattle.reader.specs.Taken.{readTo, scalarCell, containerCell, Ahead, Taken, taken, refusal, Closing, ScalarTaken, ValueTaken}
 use Rattle.reader.specs.declared.names.Container.{Container}
 use Rattle.reader.specs.declared.words.Spelled.{Spelled}
 use Rattle.reader.specs.declared.words.Spelled.the-variants as Spelled
@@ -35,7 +35,8 @@ use Rattle.reader.specs.declared.items.Item.{Item}
 use Rattle.reader.specs.declared.items.Item.the-variants as Item
 use Rattle.reader.specs.declared.values.Read.{Read}
 use Rattle.reader.specs.declared.values.Read.the-variants as Read
-use Rattle.reader.proofs.ValueLaws.{whole, value-refused, value-room, value-inside, value-kind, value-scalar, value-level, value-container}
+use Rattle.reader.proofs.ValueLaws.{whole, refusal-scalar, value-refused, value-room, value-inside, value-kind, value-scalar, value-level}
+use Rattle.reader.proofs.ValueLaws.{value-container}
 use Rattle.reader.proofs.ItemLaws.{rest, after, contents-rest, rest-step}
 use Rattle.reader.proofs.PastLaws.{scalar-ok-past, item-ok-past}
 use Rattle.reader.proofs.WordLaws.{textless-labels}
@@ -43,40 +44,6 @@ use Rattle.reader.proofs.RowLaws.{unchanged, change-then, change-wider,
 use Rattle.reader.proofs.FilledLaws.{beyond-none, beyond-then, noted-none, noted-then, noted-below, filled-none, filled-kept, filled-join}
 use Rattle.reader.proofs.FilledLaws.{filled-tree, filled-size}
 use Rattle.reader.proofs.MemberLaws.{marked-stays, marked-more}
-
--- ---- each way out of `scalar_value`
-module _ {source : ℕ} {s : Bytes} {at kind : ℕ} {w : Spelled} (inside : at < length s) (scalar : kind < arrayKind)
-    (told : ScalarIs source s kind (scalarOf kind s at) w) where
-  pub scalar-taken : {nodes nodes' : List Row} {row : ℕ} {name : Name} (next : Cursor) (payload : Spelling) → w ≡ Spelled.Read next payload
-      → row < scratchRow → scratchRow ≤ length nodes → nodes' ≡ set nodes row (rowWith (scalarCell kind payload name) (0 % values))
-      → ScalarTaken source s at kind name row nodes nodes' (Read.Value next (row + 1))
-  scalar-taken {nodes} {nodes'} {row} {name} next payload e room long stored base xs text titles = go w told e
-    where
-      go : (w : Spelled) → ScalarIs source s kind (scalarOf kind s at) w → w ≡ Spelled.Read next payload
-          → Taken source s at text base row (row + 1) (record { nodes = nodes; index = xs }) (record { nodes = nodes'; index = xs }) (scalarOf kind s at)
-          (Read.Value next (row + 1))
-      go w (scalar-refused number place q) e = absurd (let z : _≡_ {A = ℕ} 0 1 = cc in omega arith)
-      go w (scalar-read label next' payload' q l) e =
-          let a : next' ≡ next = cc in
-          let b : payload' ≡ payload = cc in
-          let o : scalarOf kind s at ≡ ok (leaf label, next .at) = q ∙ ap (λ m. ok (leaf label, m .at)) a in
-          let k = scalar-ok-past kind s at (leaf label) (next .at) inside o in
-          taken (leaf label) next (row + 1) o (record { past = k .0; inside = k .1; grows = omega arith; room = omega arith })
-          (filled-tree kind payload name 0 label text (rw b at l) titles (omega arith) (λ h. refl) (omega arith) long (omega arith) stored
-          (filled-none (row + 1) nodes))
-          (rw stored (change-set row (row + 1) nodes row _ (omega arith) (omega arith)))
-          noted-none
-
-  pub scalar-refusal : {nodes : List Row} {row : ℕ} {name : Name} {r : Read} (n place end : ℕ) → w ≡ Spelled.Refused n place → r ≡ readTo w end
-      → ScalarTaken source s at kind name row nodes nodes r
-  unfolding readTo
-  scalar-refusal {nodes} {row} n place end e is base xs text titles = rw is (go w told e)
-    where
-      go : (w : Spelled) → ScalarIs source s kind (scalarOf kind s at) w → w ≡ Spelled.Refused n place
-          → Taken source s at text base row (row + 1) (record { nodes = nodes; index = xs }) (record { nodes = nodes; index = xs }) (scalarOf kind s at)
-          (readTo w end)
-      go w (scalar-read label next payload q l) e = absurd (let z : _≡_ {A = ℕ} 0 1 = cc in omega arith)
-      go w (scalar-refused n' place' q) e = refusal n' place' q (unchanged row (row + 1) nodes) beyond-none
 
 -- ---- a value of a kind begins, and may begin
 pub record Begun (s : Bytes) (at levels base row kind : ℕ) : Type 0 where
@@ -112,7 +79,7 @@ opened-begun : {s : Bytes} {at levels base row kind : ℕ} → Opened s (at + 1)
 opened-begun {s} {at} {levels} {base} {row} {kind} o =
     let same : o .at ≡ at = omega (arith, o .here) in subst (λ n. Begun s n levels base row kind) same (o .begun)
 
-opened-levels : {s : Bytes} {start levels base row kind : ℕ} → Opened s start levels base row kind → levels ≡ suc (levels - 1)
+pub opened-levels : {s : Bytes} {start levels base row kind : ℕ} → Opened s start levels base row kind → levels ≡ suc (levels - 1)
 opened-levels {s} {start} {levels} {base} {row} {kind} o = go levels refl
   where
     b : Begun s (o .at) levels base row kind
@@ -387,13 +354,7 @@ module _ {source : ℕ} {s : Bytes} {start levels kind base row : ℕ} {w w' : W
         index-long = omega (arith, l .index-long, t .filling .index-length, t .same-length);
       }
 
--- ---- each way out of `value`
-taken-wider : {source : ℕ} {s : Bytes} {at : ℕ} {text : Text} {base row limit : ℕ} {w w' : Work} {o o' : Outcome (Value.Value × ℕ)} {r : Read}
-    (limit' : ℕ) → limit ≤ limit' → o' ≡ o → Taken source s at text base row limit w w' o r → Taken source s at text base row limit' w w' o' r
-taken-wider limit' l e (taken v next end q ahead f c m) =
-    taken v next end (e ∙ q) (record { past = ahead .past; inside = ahead .inside; grows = ahead .grows; room = omega (arith, ahead .room) }) f c m
-taken-wider limit' l e (refusal number place q c b) = refusal number place (e ∙ q) (change-wider _ limit' (omega arith) l c) b
-
+-- ---- each way out of `container`
 -- a container's label is its kind
 container-says : (T : Texts) (kind : ℕ) → arrayKind ≤ kind → kind ≤ objectKind → labelOf T kind noSpelling ≡ containerLabel (eqb kind objectKind)
 unfolding labelOf containerLabel
@@ -409,13 +370,60 @@ pub value-way-refused : {source : ℕ} {s : Bytes} {at row : ℕ} {name : Name} 
 value-way-refused {s = s} {at} {row} {w = w} levels base kind number kind-is number-is n text titles =
     refusal number at (value-refused s at (row - base) levels number (rw (← kind-is) number-is) n) (unchanged row (base + maxNodes) (w .nodes)) beyond-none
 
-module _ {s : Bytes} {at levels base row kind : ℕ} (b : Begun s at levels base row kind) where
-  pub value-way-scalar : {source : ℕ} {name : Name} {nodes nodes' : List Row} {xs : List ℕ} {r : Read} → kind < arrayKind
-      → ScalarTaken source s at kind name row nodes nodes' r
-      → ValueTaken source s at levels name base row (record { nodes = nodes; index = xs }) (record { nodes = nodes'; index = xs }) r
-  value-way-scalar {xs = xs} h told text titles =
-      taken-wider (base + maxNodes) (omega (arith, value-fits b))
-      (value-scalar s at (row - base) levels (begins-here b) (rw (← b .kind-is) h) ∙ ap (λ k. scalarOf k s at) (sym (b .kind-is))) (told base xs text titles)
+-- ---- each way out of `scalar_value`
+-- a scalar begins, and there is room for it
+pub begun-scalar : (s : Bytes) (at base row kind number : ℕ) → kind ≡ beginning (byte s at) → kind < arrayKind → number ≡ roomRefusal (row - base)
+    → base ≤ row → number ≡ 0 → (levels : ℕ) → Begun s at levels base row kind
+begun-scalar s at base row kind number kind-is scalar number-is l z levels =
+    record { kind-is = kind-is; from-base = l; passes = refusal-scalar kind levels (row - base) scalar ∙ sym number-is ∙ z }
+
+pub scalar-no-room : {source : ℕ} {s : Bytes} {at row : ℕ} {name : Name} {nodes : List Row} (base kind number : ℕ) → kind ≡ beginning (byte s at)
+    → kind < arrayKind → number ≡ roomRefusal (row - base) → (number ≡ 0 → ⊥) → ScalarTaken source s at name base row nodes nodes (Read.Refused number at)
+scalar-no-room {row = row} base kind number kind-is scalar number-is n levels xs =
+    value-way-refused levels base kind number kind-is (number-is ∙ sym (refusal-scalar kind levels (row - base) scalar)) n
+
+module _ {source : ℕ} {s : Bytes} {at base row kind : ℕ} {w : Spelled} (b : (levels : ℕ) → Begun s at levels base row kind) (scalar : kind < arrayKind)
+    (told : ScalarIs source s kind (scalarOf kind s at) w) where
+  -- the definition reads a scalar
+  by-scalar : (levels : ℕ) → value levels s at (row - base) ≡ scalarOf kind s at
+  by-scalar levels =
+      value-scalar s at (row - base) levels (begins-here (b levels)) (rw (← b levels .kind-is) scalar)
+      ∙ ap (λ k. scalarOf k s at) (sym (b levels .kind-is))
+
+  pub scalar-taken : {nodes nodes' : List Row} {name : Name} (next : Cursor) (payload : Spelling) → w ≡ Spelled.Read next payload
+      → base + maxNodes ≤ scratchRow → scratchRow ≤ length nodes → nodes' ≡ set nodes row (rowWith (scalarCell kind payload name) (0 % values))
+      → ScalarTaken source s at name base row nodes nodes' (Read.Value next (row + 1))
+  scalar-taken {nodes} {nodes'} {name} next payload e room long stored levels xs text titles = go w told e
+    where
+      fits : row < base + maxNodes
+      fits = value-fits (b levels)
+
+      go : (w : Spelled) → ScalarIs source s kind (scalarOf kind s at) w → w ≡ Spelled.Read next payload
+          → Taken source s at text base row (base + maxNodes) (record { nodes = nodes; index = xs }) (record { nodes = nodes'; index = xs })
+          (value levels s at (row - base)) (Read.Value next (row + 1))
+      go w (scalar-refused number place q) e = absurd (let z : _≡_ {A = ℕ} 0 1 = cc in omega arith)
+      go w (scalar-read label next' payload' q l) e =
+          let x : next' ≡ next = cc in
+          let y : payload' ≡ payload = cc in
+          let o : scalarOf kind s at ≡ ok (leaf label, next .at) = q ∙ ap (λ m. ok (leaf label, m .at)) x in
+          let k = scalar-ok-past kind s at (leaf label) (next .at) (value-starts (b levels)) o in
+          taken (leaf label) next (row + 1) (by-scalar levels ∙ o) (record { past = k .0; inside = k .1; grows = omega arith; room = omega (arith, fits) })
+          (filled-tree kind payload name 0 label text (rw y at l) titles (omega arith) (λ h. refl) (omega (arith, fits)) long (omega arith) stored
+          (filled-none (row + 1) nodes))
+          (rw stored (change-set row (row + 1) nodes row _ (omega arith) (omega arith)))
+          noted-none
+
+  pub scalar-refusal : {nodes : List Row} {name : Name} {r : Read} (n place end : ℕ) → w ≡ Spelled.Refused n place → r ≡ readTo w end
+      → ScalarTaken source s at name base row nodes nodes r
+  unfolding readTo
+  scalar-refusal {nodes} n place end e is levels xs text titles = rw is (go w told e)
+    where
+      go : (w : Spelled) → ScalarIs source s kind (scalarOf kind s at) w → w ≡ Spelled.Refused n place
+          → Taken source s at text base row (base + maxNodes) (record { nodes = nodes; index = xs }) (record { nodes = nodes; index = xs })
+          (value levels s at (row - base)) (readTo w end)
+      go w (scalar-read label next payload q l) e = absurd (let z : _≡_ {A = ℕ} 0 1 = cc in omega arith)
+      go w (scalar-refused n' place' q) e =
+          refusal n' place' (by-scalar levels ∙ q) (unchanged row (base + maxNodes) nodes) beyond-none
 
 -- ---- a container's items
 module _ {s : Bytes} {levels base row kind : ℕ} (at : ℕ) (o : Opened s (at + 1) levels base row kind) where
@@ -457,11 +465,11 @@ module _ {source : ℕ} {s : Bytes} {levels kind base row : ℕ} {name : Name} {
       rw e (items-refused at (t .filling .opened) n place (base + maxNodes) (omega arith) (c .0) (c .1) (c .2))
 
   -- its closing bracket, and its own row stored
-  pub value-way-closed : {nodes : List Row} {span : ℕ} (last : Cursor) → i ≡ Item.Closed last → base + maxNodes ≤ scratchRow
-      → scratchRow ≤ length (w .nodes) → span ≡ end - row - 1 → nodes ≡ set (w' .nodes) row (rowWith (containerCell kind name) (span % values))
-      → ValueTaken source s at levels name base row w (record { nodes = nodes; index = ys }) (Read.Value last end)
+  pub value-way-closed : {nodes : List Row} {r : Read} (last : Cursor) → i ≡ Item.Closed last → base + maxNodes ≤ scratchRow
+      → scratchRow ≤ length (w .nodes) → Closing kind name row end (w' .nodes) nodes last r
+      → ValueTaken source s at levels name base row w (record { nodes = nodes; index = ys }) r
   unfolding whole _>>=_
-  value-way-closed {span = span} last is room long span-is stored text titles =
+  value-way-closed last is room long closing text titles =
       let z = turn-closed t last is in
       let o = t .filling .opened in
       let b = opened-begun o in
@@ -474,9 +482,11 @@ module _ {source : ℕ} {s : Bytes} {levels kind base row : ℕ} {name : Name} {
       let grows : row < end = omega (arith, f .ends) in
       let fits : end ≤ base + maxNodes = t .filling .room in
       let long' : scratchRow ≤ length (w' .nodes) = omega (arith, t .filling .nodes-length) in
-      taken (record { label = label; kids = t .filling .so-far }) last end (by-items at o source (ok (t .filling .so-far, last .at)) (z .0))
+      rw (closing .answer)
+      (taken (record { label = label; kids = t .filling .so-far }) last end (by-items at o source (ok (t .filling .so-far, last .at)) (z .0))
       (record { past = omega (arith, z .1, t .filling .forward); inside = z .2; grows = grows; room = fits })
-      (filled-tree kind noSpelling name span label text labels titles m (λ h. absurd (omega (arith, least))) (omega arith) long' span-is stored f)
+      (filled-tree kind noSpelling name (end - row - 1) label text labels titles m (λ h. absurd (omega (arith, least))) (omega arith) long' refl
+      (closing .stored) f)
       (change-then (change-wider row end (omega arith) (omega arith) (t .filling .changed))
-      (rw stored (change-set row end (w' .nodes) row _ (omega arith) grows)))
-      (noted-so-far t)
+      (rw (closing .stored) (change-set row end (w' .nodes) row _ (omega arith) grows)))
+      (noted-so-far t))

@@ -84,7 +84,7 @@ no-room nodes at n e h = go (ltb nodes maxNodes) e
     go false e = rw e
 
 -- ---- the refusal at the first byte of a value of a kind
-refusal-scalar : (kind levels nodes : ℕ) → kind < arrayKind → refusalFor kind levels nodes ≡ roomRefusal nodes
+pub refusal-scalar : (kind levels nodes : ℕ) → kind < arrayKind → refusalFor kind levels nodes ≡ roomRefusal nodes
 unfolding refusalFor
 refusal-scalar kind levels nodes h = rw (ne-eqb kind noKind (λ e. omega arith), lt-ltb kind arrayKind h)
 

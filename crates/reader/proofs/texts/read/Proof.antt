@@ -2,7 +2,6 @@
 use Rattle.lexer.proofs.Auto.{auto}
 use native.Mathlib.Omega.{arith}
 use mathlib.Core.Path.{refl}
-use Rattle.lexer.proofs.BlankLaws.{blanks-within}
 use Rattle.reader.proofs.TextLaws.{text-whole, text-more, text-unread}
 use Rattle.reader.proofs.texts.read.Statement.{statement}
 use Rattle.reader.proofs.texts.read.Tie as tie
@@ -16,9 +15,7 @@ read-spec =
     -- no-name-requires
     (λ c κs. search auto)
     -- value-requires
-    (λ c κs.
-    let p = c .before .before .before .before .before .before .pre in
-    (p .0, (rw (c .before .before .before .blanks .ensures) (blanks-within _ 0 (omega arith)), omega arith, omega arith, p .1)))
+    (λ c κs. (c .before .before .before .before .before .before .pre .0, (omega arith, c .before .before .before .before .before .before .pre .1)))
     -- enum-known-r
     (λ c. search auto)
     -- enum-told
