@@ -18,14 +18,20 @@ pub fn all_zero(entries: &[u16]) -> bool
     true
 }
 
+// All fields of a record are 0.
+fn clear(node: Node) -> bool
+    ensures { λ r. ⌜ r ≡ allAre 0 node ⌝ }
+{
+    all_zero(&node)
+}
+
 // All fields of all records are 0.
 pub fn all_clear(nodes: &[Node]) -> bool
     ensures { λ r. ⌜ r ≡ allClear (now (nodes .entry)) ⌝ }
 {
     let mut i = 0;
     while i < nodes.len() {
-        let node = nodes[i];
-        if !all_zero(&node) {
+        if !clear(nodes[i]) {
             return false;
         }
         i += 1;

@@ -23,11 +23,31 @@ all-clear-spec =
     (tie.spec
     Inv-loop
     μ-loop
+    -- loop-holds
+    (λ c. search needs)
+    -- mul-clear
+    (λ c. search needs)
+    -- shared-slice-copy-out-clear
+    (λ c. search needs)
+    -- clear-requires
+    (λ c κs. search needs)
     -- returns
     (λ c.
-    sym (every-not (allAre 0) (c .args .nodes .now) [] (c .loop .i) (omega arith) (sym (c .all-zero .ensures) ∙ not-true _ (c .if1 .taken))) ∙ c .loop .inv)
+    let l = c .before .before .before .before in
+    let a = l .before .args in
+    let zero = sym (c .before .clear .ensures) ∙ not-true _ (c .if1 .taken) in
+    sym (every-not (allAre 0) (a .nodes .now) [] (l .loop .i) (omega arith) zero) ∙ l .loop .inv)
+    -- add-i
+    (λ c. search needs)
+    -- loop-less
+    (λ c. search needs)
     -- loop-again
     (λ c.
-    sym (every-next (allAre 0) (c .args .nodes .now) [] (c .loop .i) (omega arith) (sym (c .all-zero .ensures) ∙ not-false _ (c .if1 .left))) ∙ c .loop .inv)
+    let l = c .before .before .before .before in
+    let a = l .before .args in
+    let zero = sym (c .before .clear .ensures) ∙ not-false _ (c .if1 .left) in
+    sym (every-next (allAre 0) (a .nodes .now) [] (l .loop .i) (omega arith) zero) ∙ l .loop .inv)
     -- returns-2
-    (λ c. sym (every-all (allAre 0) (c .args .nodes .now) [] (c .loop .i) (omega arith)) ∙ c .loop .inv))
+    (λ c.
+    let a = c .before .before .args in
+    sym (every-all (allAre 0) (a .nodes .now) [] (c .before .loop .i) (omega arith)) ∙ c .before .loop .inv))
