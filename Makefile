@@ -7,7 +7,8 @@
 #   make clean            what make has made; proofs stay
 #
 # Needs rt (the Rattle toolchain), a C compiler, cargo (Rust 1.82 or later) and
-# GNU make; for 'make check' also a C++ compiler, pkg-config and python3.
+# GNU make; for 'make check' also a C++ compiler, pkg-config and python3, and gdb
+# if there is one.
 
 PREFIX ?= /usr/local
 DESTDIR ?=
@@ -33,7 +34,7 @@ VERSION := $(shell sed -n 's/.*JSON_PATCH_VERSION "\(.*\)"/\1/p' include/json_pa
 # function or a struct of the header changes after a release.
 ABI := 0
 
-# The folder of the static library, if it is not the one that rt makes here.
+# The folder of the two proved archives, if it is not the one that rt makes here.
 ifdef JSON_PATCH_LIB
 prebuilt := yes
 endif
@@ -41,7 +42,11 @@ override JSON_PATCH_LIB := $(abspath $(or $(JSON_PATCH_LIB),target/staticlib))
 export JSON_PATCH_LIB
 
 out := target/make
-static := $(JSON_PATCH_LIB)/libjson_patch.a
+# As rt makes them: the call, and the functions on one record.
+proved_call := $(JSON_PATCH_LIB)/libjson_patch.a
+proved_record := $(JSON_PATCH_LIB)/librecord.a
+# The library as it is installed: both.
+static := $(out)/libjson_patch.a
 shared := libjson_patch.so.$(VERSION)
 soname := libjson_patch.so.$(ABI)
 command := $(out)/json-patch
@@ -53,13 +58,25 @@ rust := $(shell find rust/src rust/cli/src -name '*.rs') rust/build.rs rust/Carg
 all: $(static) $(out)/$(soname) $(command) $(completions)
 
 ifndef prebuilt
-$(static): $(proved)
+$(proved_call): $(proved)
 	@command -v rt >/dev/null || { echo "no rt: the Rattle toolchain proves and makes $@" >&2; exit 1; }
 	rt staticlib json_patch
 	@touch $@
+
+# After the other: both prove the crates that they share.
+$(proved_record): $(proved_call)
+	rt staticlib record
+	@touch $@
 endif
 
-# The shared library is the proved archive, linked whole.
+# The proved objects, unchanged, in one archive.
+$(static): $(proved_call) $(proved_record)
+	@rm -rf $(out)/objects $@
+	@mkdir -p $(out)/objects
+	cd $(out)/objects && $(AR) x $(proved_call) && $(AR) x $(proved_record)
+	$(AR) rcs $@ $(out)/objects/*.o
+
+# The shared library is the archive, linked whole.
 $(out)/$(shared): $(static)
 	@mkdir -p $(out)
 	$(CC) -shared $(LDFLAGS) -Wl,-soname,$(soname) -Wl,-z,defs -Wl,-z,relro -Wl,-z,now \
@@ -68,7 +85,7 @@ $(out)/$(shared): $(static)
 $(out)/$(soname): $(out)/$(shared)
 	ln -sf $(shared) $@
 
-$(command): $(rust) $(static)
+$(command): $(rust) $(proved_call)
 	@mkdir -p $(out)
 	$(CARGO) build --release $(CARGO_FLAGS) --manifest-path rust/Cargo.toml --package json-patch-cli --target-dir rust/target
 	cp rust/target/release/json-patch $@
@@ -85,6 +102,8 @@ check: all
 	examples/run.sh
 	@echo "== the header: C and C++, both sanitizers"
 	tests/header.sh
+	@echo "== the work area in a debugger, and docs/WORK-AREA.md"
+	tests/dump.sh --check
 	@echo "== Rust: the library, its documented examples, the command line"
 	$(CARGO) test $(CARGO_FLAGS) --workspace --manifest-path rust/Cargo.toml --target-dir rust/target
 	@echo "== Python"
