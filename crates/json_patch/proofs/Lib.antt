@@ -4,3 +4,4 @@ pub mod TextLaws
 pub mod StageLaws
 pub mod CallLaws
 pub mod RegionTheorem
+pub mod ColumnsTheorem

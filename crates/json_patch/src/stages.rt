@@ -37,7 +37,8 @@ fn write_out<'a>(texts: Texts<'a>, output: &mut [u8], nodes: &[Node]) -> Answer
     ) {
         return refused(refusal::OUTPUT_TOO_SHORT, 0, 0, 0);
     }
-    success(write(texts, nodes, layout::DOCUMENT, limits::MAX_DEPTH, output))
+    let length = write(texts, nodes, layout::DOCUMENT, limits::MAX_DEPTH, output);
+    success(length)
 }
 
 // The patch, which is read, is applied to the document, which has `used` rows.

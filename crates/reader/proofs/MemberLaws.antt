@@ -164,8 +164,8 @@ module _ {s : Bytes} {k : Container} {w : Work} {ys : List ℕ} {name : Name} {r
       let one = one-text s (k .source) in
       let held = filled-held (omega (arith, lent .nodes-long, inside .room, inside .low)) f in
       let few =
-      absent (w .nodes) (k .base) (k .end - k .base) (k .row) (t .says (twice s) one) (t .fits (twice s) one .hashed) (entered .others e) m (f .cells) held (f .sound (twice s) one)
-      (f .meant (twice s) one) (omega (arith, inside .from-base)) (omega (arith, f .ends, inside .from-base)) in
+      absent (w .nodes) (k .base) (k .end - k .base) (k .row) (t .says (twice s) one) (t .fits (twice s) one .hashed) (entered .others e) m
+      (f .cells) held (f .sound (twice s) one) (f .meant (twice s) one) (omega (arith, inside .from-base)) (omega (arith, f .ends, inside .from-base)) in
       sym (le-ltb (find text all) (count all) few)
 
   long-rows : k .end ≤ length (w .nodes)

@@ -2,7 +2,7 @@
 use Prim.Native.Nat.{ℕ, zero, suc, _+_, _-_, _≤_, _<_, _%_}
 use native.Mathlib.Omega.{arith}
 use native.Mathlib.Decide.{ℕ-discrete}
-use mathlib.Core.Path.{_≡_, refl, sym, ap, ap₂, _∙_}
+use mathlib.Core.Path.{_≡_, refl, sym, ap, ap₂, _∙_, subst}
 use mathlib.Core.Bool.{Bool, true}
 use mathlib.Core.List.{List}
 use lib.Dec.{eqb}
@@ -21,13 +21,13 @@ use Rattle.tape.specs.declared.fields.Spelling.{Spelling}
 use Rattle.tape.specs.declared.fields.Name.{Name}
 use Rattle.tape.specs.Lent.{Texts}
 use Rattle.table.specs.Meaning.{labelOf}
-use Rattle.reader.specs.Begins.{beginning, refusalFor, scalarOf}
+use Rattle.reader.specs.Begins.{beginning, roomRefusal, refusalFor, scalarOf}
 use Rattle.reader.specs.Work.{Work}
 use Rattle.reader.specs.Words.{noSpelling, Titles, ScalarIs, scalar-read, scalar-refused}
 use Rattle.reader.specs.Filled.{Between, SameBeyond, Noted, Filled, Reached, Marked, marked-none}
 use Rattle.reader.specs.Names.{Lent, LeadsNext}
 use Rattle.reader.specs.Items.{Next, closed, begins, nextItem, ItemIs, item-begins, item-closed, item-refused, NextItemIs}
-use Rattle.reader.specs.Taken.{readTo, scalarCell, containerCell, Ahead, Taken, taken, refusal, ForTitle, ScalarTaken, ValueTaken}
+use Rattle.reader.specs.Taken.{readTo, scalarCell, containerCell, Ahead, Taken, taken, refusal, Closing, ScalarTaken, ValueTaken}
 use Rattle.reader.specs.declared.names.Container.{Container}
 use Rattle.reader.specs.declared.words.Spelled.{Spelled}
 use Rattle.reader.specs.declared.words.Spelled.the-variants as Spelled
@@ -35,7 +35,8 @@ use Rattle.reader.specs.declared.items.Item.{Item}
 use Rattle.reader.specs.declared.items.Item.the-variants as Item
 use Rattle.reader.specs.declared.values.Read.{Read}
 use Rattle.reader.specs.declared.values.Read.the-variants as Read
-use Rattle.reader.proofs.ValueLaws.{whole, value-refused, value-room, value-inside, value-kind, value-scalar, value-level, value-container}
+use Rattle.reader.proofs.ValueLaws.{whole, refusal-scalar, value-refused, value-room, value-inside, value-kind, value-scalar, value-level}
+use Rattle.reader.proofs.ValueLaws.{value-container}
 use Rattle.reader.proofs.ItemLaws.{rest, after, contents-rest, rest-step}
 use Rattle.reader.proofs.PastLaws.{scalar-ok-past, item-ok-past}
 use Rattle.reader.proofs.WordLaws.{textless-labels}
@@ -44,39 +45,49 @@ use Rattle.reader.proofs.FilledLaws.{beyond-none, beyond-then, noted-no
 use Rattle.reader.proofs.FilledLaws.{filled-tree, filled-size}
 use Rattle.reader.proofs.MemberLaws.{marked-stays, marked-more}
 
--- ---- each way out of `scalar_value`
-module _ {source : ℕ} {s : Bytes} {at kind : ℕ} {w : Spelled} (inside : at < length s) (scalar : kind < arrayKind)
-    (told : ScalarIs source s kind (scalarOf kind s at) w) where
-  pub scalar-taken : {nodes nodes' : List Row} {row : ℕ} {name : Name} (next : Cursor) (payload : Spelling) → w ≡ Spelled.Read next payload
-      → row < scratchRow → scratchRow ≤ length nodes → nodes' ≡ set nodes row (rowWith (scalarCell kind payload name) (0 % values))
-      → ScalarTaken source s at kind name row nodes nodes' (Read.Value next (row + 1))
-  scalar-taken {nodes} {nodes'} {row} {name} next payload e room long stored base xs text titles = go w told e
-    where
-      go : (w : Spelled) → ScalarIs source s kind (scalarOf kind s at) w → w ≡ Spelled.Read next payload
-          → Taken source s at text base row (row + 1) (record { nodes = nodes; index = xs }) (record { nodes = nodes'; index = xs }) (scalarOf kind s at)
-          (Read.Value next (row + 1))
-      go w (scalar-refused number place q) e = absurd (let z : _≡_ {A = ℕ} 0 1 = cc in omega arith)
-      go w (scalar-read label next' payload' q l) e =
-          let a : next' ≡ next = cc in
-          let b : payload' ≡ payload = cc in
-          let o : scalarOf kind s at ≡ ok (leaf label, next .at) = q ∙ ap (λ m. ok (leaf label, m .at)) a in
-          let k = scalar-ok-past kind s at (leaf label) (next .at) inside o in
-          taken (leaf label) next (row + 1) o (record { past = k .0; inside = k .1; grows = omega arith; room = omega arith })
-          (filled-tree kind payload name 0 label text (rw b at l) titles (omega arith) (λ h. refl) (omega arith) long (omega arith) stored
-          (filled-none (row + 1) nodes))
-          (rw stored (change-set row (row + 1) nodes row _ (omega arith) (omega arith)))
-          noted-none
+-- ---- a value of a kind begins, and may begin
+pub record Begun (s : Bytes) (at levels base row kind : ℕ) : Type 0 where
+  pub kind-is : kind ≡ beginning (byte s at)
+  pub from-base : base ≤ row
+  pub passes : refusalFor kind levels (row - base) ≡ 0
 
-  pub scalar-refusal : {nodes : List Row} {row : ℕ} {name : Name} {r : Read} (n place end : ℕ) → w ≡ Spelled.Refused n place → r ≡ readTo w end
-      → ScalarTaken source s at kind name row nodes nodes r
-  unfolding readTo
-  scalar-refusal {nodes} {row} n place end e is base xs text titles = rw is (go w told e)
-    where
-      go : (w : Spelled) → ScalarIs source s kind (scalarOf kind s at) w → w ≡ Spelled.Refused n place
-          → Taken source s at text base row (row + 1) (record { nodes = nodes; index = xs }) (record { nodes = nodes; index = xs }) (scalarOf kind s at)
-          (readTo w end)
-      go w (scalar-read label next payload q l) e = absurd (let z : _≡_ {A = ℕ} 0 1 = cc in omega arith)
-      go w (scalar-refused n' place' q) e = refusal n' place' q (unchanged row (row + 1) nodes) beyond-none
+pub begun : (s : Bytes) (at levels base row kind number : ℕ) → kind ≡ beginning (byte s at) → number ≡ refusalFor kind levels (row - base)
+    → base ≤ row → number ≡ 0 → Begun s at levels base row kind
+begun s at levels base row kind number k n l z = record { kind-is = k; from-base = l; passes = sym n ∙ z }
+
+module _ {s : Bytes} {at levels base row kind : ℕ} (b : Begun s at levels base row kind) where
+  begins-here : refusalFor (beginning (byte s at)) levels (row - base) ≡ 0
+  begins-here = rw (← b .kind-is) (b .passes)
+
+  pub value-starts : at < length s
+  value-starts = value-inside s at (row - base) levels begins-here
+
+  pub value-fits : row < base + maxNodes
+  value-fits = omega (arith, value-room s at (row - base) levels begins-here, b .from-base)
+
+-- ---- a container was opened: a value of its kind begins before the place `start`
+pub record Opened (s : Bytes) (start levels base row kind : ℕ) : Type 0 where
+  pub at : ℕ
+  pub here : start ≡ at + 1
+  pub begun : Begun s at levels base row kind
+  pub container : arrayKind ≤ kind
+
+pub opened : {s : Bytes} {at levels base row kind : ℕ} → Begun s at levels base row kind → arrayKind ≤ kind → Opened s (at + 1) levels base row kind
+opened {at = at} b c = record { at = at; here = refl; begun = b; container = c }
+
+opened-begun : {s : Bytes} {at levels base row kind : ℕ} → Opened s (at + 1) levels base row kind → Begun s at levels base row kind
+opened-begun {s} {at} {levels} {base} {row} {kind} o =
+    let same : o .at ≡ at = omega (arith, o .here) in subst (λ n. Begun s n levels base row kind) same (o .begun)
+
+pub opened-levels : {s : Bytes} {start levels base row kind : ℕ} → Opened s start levels base row kind → levels ≡ suc (levels - 1)
+opened-levels {s} {start} {levels} {base} {row} {kind} o = go levels refl
+  where
+    b : Begun s (o .at) levels base row kind
+    b = o .begun
+
+    go : (l : ℕ) → levels ≡ l → l ≡ suc (l - 1)
+    go zero e = absurd (value-level s (o .at) (row - base) levels (begins-here b) (rw (← b .kind-is) (o .container)) e)
+    go (suc l) e = omega arith
 
 -- ---- the loop over a container's items
 module _ (source : ℕ) (s : Bytes) (start levels kind base row : ℕ) where
@@ -99,6 +110,7 @@ module _ (source : ℕ) (s : Bytes) (start levels kind base row : ℕ) where
 
   -- the items so far are in the rows behind the container's own, up to the row `end`, and the next one is looked for at `next`
   pub record Filling (w w' : Work) (next end : ℕ) : Type 0 where
+    pub opened : Opened s start levels base row kind
     pub so-far : Members
     pub fuel : ℕ
     pub enough : length s < suc fuel + next
@@ -113,24 +125,25 @@ module _ (source : ℕ) (s : Bytes) (start levels kind base row : ℕ) where
     pub nodes-length : length (w' .nodes) ≡ length (w .nodes)
     pub index-length : length (w' .index) ≡ length (w .index)
 
-  pub filling-none : (w : Work) → 0 < start → start ≤ length s → row < base + maxNodes → Filling w w start (row + 1)
-  filling-none w h l m = go (length s) refl
+  pub filling-none : (w : Work) → Opened s start levels base row kind → Filling w w start (row + 1)
+  filling-none w o = go (length s) refl
     where
       go : (n : ℕ) → length s ≡ n → Filling w w start (row + 1)
-      go zero e = absurd (omega arith)
+      go zero e = absurd (omega (arith, value-starts (o .begun)))
       go (suc fuel) e =
           record {
+            opened = o;
             so-far = none;
             fuel = fuel;
-            enough = omega arith;
+            enough = omega (arith, o .here);
             same = contents-rest (value (levels - 1) s) object s (row - base + 1) start ∙ ap (λ n. left n none start) e;
             filled = filled-none (row + 1) (w .nodes);
             marked = λ _. marked-none;
             changed = unchanged (row + 1) (row + 1) (w .nodes);
             noted = noted-none;
             forward = omega arith;
-            within = l;
-            room = omega arith;
+            within = omega (arith, o .here, value-starts (o .begun));
+            room = omega (arith, value-fits (o .begun));
             nodes-length = refl;
             index-length = refl;
           }
@@ -138,16 +151,15 @@ module _ (source : ℕ) (s : Bytes) (start levels kind base row : ℕ) where
   -- a turn of the loop: the next item is asked for, and the index leads to it
   pub record Turn (w w' : Work) (ys : List ℕ) (next end : ℕ) (i : Item) : Type 0 where
     pub filling : Filling w w' next end
-    pub from-base : base ≤ row
     pub told : NextItemIs s (containerAt end) w' ys next i
     pub same-length : length ys ≡ length (w' .index)
 
 -- ---- what a turn comes to
 module _ {source : ℕ} {s : Bytes} {start levels kind base row : ℕ} {w w' : Work} {ys : List ℕ} {next end : ℕ} {i : Item} where
-  pub turn : Filling source s start levels kind base row w w' next end → base ≤ row
+  pub turn : Filling source s start levels kind base row w w' next end
       → NextItemIs s (containerAt source s start levels kind base row end) w' ys next i → length ys ≡ length (w' .index)
       → Turn source s start levels kind base row w w' ys next end i
-  turn g l told e = record { filling = g; from-base = l; told = told; same-length = e }
+  turn g told e = record { filling = g; told = told; same-length = e }
 
   module _ (t : Turn source s start levels kind base row w w' ys next end i) where
     abbrev is-object : Bool
@@ -172,8 +184,11 @@ module _ {source : ℕ} {s : Bytes} {start levels kind base row : ℕ} {w w' : W
         ∙ ap (λ o. o >>= behind source s start levels kind base row (g .fuel) (g .so-far)) e
 
     -- so many values have begun before the next
+    from-base : base ≤ row
+    from-base = g .opened .begun .from-base
+
     nodes-before : row - base + 1 + size (g .so-far) ≡ end - base
-    nodes-before = omega (arith, filled-size (g .filled))
+    nodes-before = omega (arith, filled-size (g .filled), from-base)
 
     item : ItemIs s (containerAt source s start levels kind base row end) ys item-of i
     item = t .told .answer (g .so-far) (g .filled) (g .marked)
@@ -263,6 +278,7 @@ module _ {source : ℕ} {s : Bytes} {start levels kind base row : ℕ} {w w' : W
           more v (suc fuel) some o ahead f c m =
               let whole : value (levels - 1) s (first .at) (end - base) ≡ ok (v, last .at) = o in
               record {
+                opened = g .opened;
                 so-far = g .so-far ⧺ single (named (n .text) v);
                 fuel = fuel;
                 enough = omega (arith, g .enough, from-next);
@@ -271,9 +287,9 @@ module _ {source : ℕ} {s : Bytes} {start levels kind base row : ℕ} {w w' : W
                     ∙ ap (λ k. remaining k (g .so-far ⧺ single (named (n .text) v)) (last .at)) some;
                 filled = filled-join (filled-kept c (g .filled)) f;
                 marked = λ e.
-                    let so-far = marked-stays (g .marked e) (t .told .noted) (omega arith) (omega (arith, filled-size (g .filled))) in
-                    let still = marked-stays so-far m (omega arith) (omega (arith, filled-size (g .filled))) in
-                    let below : end - base < end + 1 - base = omega (arith, g .filled .ends, t .from-base) in
+                    let so-far = marked-stays (g .marked e) (t .told .noted) (omega (arith, from-base)) (omega (arith, filled-size (g .filled))) in
+                    let still = marked-stays so-far m (omega (arith, from-base)) (omega (arith, filled-size (g .filled))) in
+                    let below : end - base < end + 1 - base = omega (arith, g .filled .ends, from-base) in
                     let reached = n .reached e (omega (arith, ahead .grows, ahead .room)) in
                     marked-more still (filled-size (g .filled)) (named (n .text) v) (m .kept _ _ _ below reached);
                 changed =
@@ -338,13 +354,7 @@ module _ {source : ℕ} {s : Bytes} {start levels kind base row : ℕ} {w w' : W
         index-long = omega (arith, l .index-long, t .filling .index-length, t .same-length);
       }
 
--- ---- each way out of `value`
-taken-wider : {source : ℕ} {s : Bytes} {at : ℕ} {text : Text} {base row limit : ℕ} {w w' : Work} {o o' : Outcome (Value.Value × ℕ)} {r : Read}
-    (limit' : ℕ) → limit ≤ limit' → o' ≡ o → Taken source s at text base row limit w w' o r → Taken source s at text base row limit' w w' o' r
-taken-wider limit' l e (taken v next end q ahead f c m) =
-    taken v next end (e ∙ q) (record { past = ahead .past; inside = ahead .inside; grows = ahead .grows; room = omega (arith, ahead .room) }) f c m
-taken-wider limit' l e (refusal number place q c b) = refusal number place (e ∙ q) (change-wider _ limit' (omega arith) l c) b
-
+-- ---- each way out of `container`
 -- a container's label is its kind
 container-says : (T : Texts) (kind : ℕ) → arrayKind ≤ kind → kind ≤ objectKind → labelOf T kind noSpelling ≡ containerLabel (eqb kind objectKind)
 unfolding labelOf containerLabel
@@ -360,90 +370,123 @@ pub value-way-refused : {source : ℕ} {s : Bytes} {at row : ℕ} {name : Name} 
 value-way-refused {s = s} {at} {row} {w = w} levels base kind number kind-is number-is n text titles =
     refusal number at (value-refused s at (row - base) levels number (rw (← kind-is) number-is) n) (unchanged row (base + maxNodes) (w .nodes)) beyond-none
 
--- a value of a kind begins, and may begin
-pub record Begun (s : Bytes) (at levels base row kind : ℕ) : Type 0 where
-  pub kind-is : kind ≡ beginning (byte s at)
-  pub from-base : base ≤ row
-  pub passes : refusalFor kind levels (row - base) ≡ 0
+-- ---- each way out of `scalar_value`
+-- a scalar begins, and there is room for it
+pub begun-scalar : (s : Bytes) (at base row kind number : ℕ) → kind ≡ beginning (byte s at) → kind < arrayKind → number ≡ roomRefusal (row - base)
+    → base ≤ row → number ≡ 0 → (levels : ℕ) → Begun s at levels base row kind
+begun-scalar s at base row kind number kind-is scalar number-is l z levels =
+    record { kind-is = kind-is; from-base = l; passes = refusal-scalar kind levels (row - base) scalar ∙ sym number-is ∙ z }
 
-pub begun : (s : Bytes) (at levels base row kind number : ℕ) → kind ≡ beginning (byte s at) → number ≡ refusalFor kind levels (row - base)
-    → base ≤ row → number ≡ 0 → Begun s at levels base row kind
-begun s at levels base row kind number k n l z = record { kind-is = k; from-base = l; passes = sym n ∙ z }
+pub scalar-no-room : {source : ℕ} {s : Bytes} {at row : ℕ} {name : Name} {nodes : List Row} (base kind number : ℕ) → kind ≡ beginning (byte s at)
+    → kind < arrayKind → number ≡ roomRefusal (row - base) → (number ≡ 0 → ⊥) → ScalarTaken source s at name base row nodes nodes (Read.Refused number at)
+scalar-no-room {row = row} base kind number kind-is scalar number-is n levels xs =
+    value-way-refused levels base kind number kind-is (number-is ∙ sym (refusal-scalar kind levels (row - base) scalar)) n
 
-module _ {s : Bytes} {at levels base row kind : ℕ} (b : Begun s at levels base row kind) where
-  begins-here : refusalFor (beginning (byte s at)) levels (row - base) ≡ 0
-  begins-here = rw (← b .kind-is) (b .passes)
+module _ {source : ℕ} {s : Bytes} {at base row kind : ℕ} {w : Spelled} (b : (levels : ℕ) → Begun s at levels base row kind) (scalar : kind < arrayKind)
+    (told : ScalarIs source s kind (scalarOf kind s at) w) where
+  -- the definition reads a scalar
+  by-scalar : (levels : ℕ) → value levels s at (row - base) ≡ scalarOf kind s at
+  by-scalar levels =
+      value-scalar s at (row - base) levels (begins-here (b levels)) (rw (← b levels .kind-is) scalar)
+      ∙ ap (λ k. scalarOf k s at) (sym (b levels .kind-is))
 
-  pub value-starts : at < length s
-  value-starts = value-inside s at (row - base) levels begins-here
+  pub scalar-taken : {nodes nodes' : List Row} {name : Name} (next : Cursor) (payload : Spelling) → w ≡ Spelled.Read next payload
+      → base + maxNodes ≤ scratchRow → scratchRow ≤ length nodes → nodes' ≡ set nodes row (rowWith (scalarCell kind payload name) (0 % values))
+      → ScalarTaken source s at name base row nodes nodes' (Read.Value next (row + 1))
+  scalar-taken {nodes} {nodes'} {name} next payload e room long stored levels xs text titles = go w told e
+    where
+      fits : row < base + maxNodes
+      fits = value-fits (b levels)
 
-  pub value-fits : row < base + maxNodes
-  value-fits = omega (arith, value-room s at (row - base) levels begins-here, b .from-base)
+      go : (w : Spelled) → ScalarIs source s kind (scalarOf kind s at) w → w ≡ Spelled.Read next payload
+          → Taken source s at text base row (base + maxNodes) (record { nodes = nodes; index = xs }) (record { nodes = nodes'; index = xs })
+          (value levels s at (row - base)) (Read.Value next (row + 1))
+      go w (scalar-refused number place q) e = absurd (let z : _≡_ {A = ℕ} 0 1 = cc in omega arith)
+      go w (scalar-read label next' payload' q l) e =
+          let x : next' ≡ next = cc in
+          let y : payload' ≡ payload = cc in
+          let o : scalarOf kind s at ≡ ok (leaf label, next .at) = q ∙ ap (λ m. ok (leaf label, m .at)) x in
+          let k = scalar-ok-past kind s at (leaf label) (next .at) (value-starts (b levels)) o in
+          taken (leaf label) next (row + 1) (by-scalar levels ∙ o) (record { past = k .0; inside = k .1; grows = omega arith; room = omega (arith, fits) })
+          (filled-tree kind payload name 0 label text (rw y at l) titles (omega arith) (λ h. refl) (omega (arith, fits)) long (omega arith) stored
+          (filled-none (row + 1) nodes))
+          (rw stored (change-set row (row + 1) nodes row _ (omega arith) (omega arith)))
+          noted-none
 
-  pub value-way-scalar : {source : ℕ} {name : Name} {nodes nodes' : List Row} {xs : List ℕ} {r : Read} → kind < arrayKind
-      → ScalarTaken source s at kind name row nodes nodes' r
-      → ValueTaken source s at levels name base row (record { nodes = nodes; index = xs }) (record { nodes = nodes'; index = xs }) r
-  value-way-scalar {xs = xs} h told text titles =
-      taken-wider (base + maxNodes) (omega (arith, value-fits))
-      (value-scalar s at (row - base) levels begins-here (rw (← b .kind-is) h) ∙ ap (λ k. scalarOf k s at) (sym (b .kind-is))) (told base xs text titles)
+  pub scalar-refusal : {nodes : List Row} {name : Name} {r : Read} (n place end : ℕ) → w ≡ Spelled.Refused n place → r ≡ readTo w end
+      → ScalarTaken source s at name base row nodes nodes r
+  unfolding readTo
+  scalar-refusal {nodes} n place end e is levels xs text titles = rw is (go w told e)
+    where
+      go : (w : Spelled) → ScalarIs source s kind (scalarOf kind s at) w → w ≡ Spelled.Refused n place
+          → Taken source s at text base row (base + maxNodes) (record { nodes = nodes; index = xs }) (record { nodes = nodes; index = xs })
+          (value levels s at (row - base)) (readTo w end)
+      go w (scalar-read label next payload q l) e = absurd (let z : _≡_ {A = ℕ} 0 1 = cc in omega arith)
+      go w (scalar-refused n' place' q) e =
+          refusal n' place' (by-scalar levels ∙ q) (unchanged row (base + maxNodes) nodes) beyond-none
 
-  module _ (container : arrayKind ≤ kind) where
-    pub value-levels : levels ≡ suc (levels - 1)
-    value-levels = go levels refl
-      where
-        go : (l : ℕ) → levels ≡ l → l ≡ suc (l - 1)
-        go zero e = absurd (value-level s at (row - base) levels begins-here (rw (← b .kind-is) container) e)
-        go (suc l) e = omega arith
+-- ---- a container's items
+module _ {s : Bytes} {levels base row kind : ℕ} (at : ℕ) (o : Opened s (at + 1) levels base row kind) where
+  by-items : (source : ℕ) (r : Outcome (Members × ℕ)) → allItems source s (at + 1) levels kind base row ≡ r
+      → value levels s at (row - base) ≡ (r >>= whole (eqb kind objectKind))
+  by-items source r e =
+      let b = opened-begun o in
+      value-container s at (row - base) levels (begins-here b) (rw (← b .kind-is) (o .container)) (levels - 1) (opened-levels o)
+      ∙ ap (λ k. contents (value (levels - 1) s) (eqb k objectKind) s (row - base + 1) (at + 1) >>= whole (eqb k objectKind)) (sym (b .kind-is))
+      ∙ ap (λ o. o >>= whole (eqb kind objectKind)) e
 
-    by-items : (source : ℕ) (o : Outcome (Members × ℕ)) → allItems source s (at + 1) levels kind base row ≡ o
-        → value levels s at (row - base) ≡ (o >>= whole (eqb kind objectKind))
-    by-items source o e =
-        value-container s at (row - base) levels begins-here (rw (← b .kind-is) container) (levels - 1) value-levels
-        ∙ ap (λ k. contents (value (levels - 1) s) (eqb k objectKind) s (row - base + 1) (at + 1) >>= whole (eqb k objectKind)) (sym (b .kind-is))
-        ∙ ap (λ o. o >>= whole (eqb kind objectKind)) e
+  -- a refusal among them
+  items-refused : {source : ℕ} {name : Name} {w w' : Work} (n place end : ℕ) → end ≤ base + maxNodes
+      → allItems source s (at + 1) levels kind base row ≡ refused n place → Between (row + 1) end (w .nodes) (w' .nodes)
+      → SameBeyond (w .index) (w' .index) → ValueTaken source s at levels name base row w w' (Read.Refused n place)
+  unfolding _>>=_
+  items-refused {source} n place end room e c m text titles =
+      refusal n place (by-items source (refused n place) e) (change-wider row (base + maxNodes) (omega arith) room c) m
 
-    -- a refusal among its items
-    items-refused : {source : ℕ} {name : Name} {w w' : Work} (n place end : ℕ) → end ≤ base + maxNodes
-        → allItems source s (at + 1) levels kind base row ≡ refused n place → Between (row + 1) end (w .nodes) (w' .nodes)
-        → SameBeyond (w .index) (w' .index) → ValueTaken source s at levels name base row w w' (Read.Refused n place)
-    unfolding _>>=_
-    items-refused {source} n place end room e c m text titles =
-        refusal n place (by-items source (refused n place) e) (change-wider row (base + maxNodes) (omega arith) room c) m
+-- there is a level left
+pub turn-levels : {source : ℕ} {s : Bytes} {start levels kind base row : ℕ} {w w' : Work} {ys : List ℕ} {next end : ℕ} {i : Item}
+    → Turn source s start levels kind base row w w' ys next end i → levels ≡ suc (levels - 1)
+turn-levels t = opened-levels (t .filling .opened)
 
-    module _ {source : ℕ} {name : Name} {w w' : Work} {ys : List ℕ} {next end : ℕ} {i : Item}
-        (t : Turn source s (at + 1) levels kind base row w w' ys next end i) where
-      -- no next item
-      pub value-way-unread : (n place : ℕ) → i ≡ Item.Refused n place
-          → ValueTaken source s at levels name base row w (record { nodes = w' .nodes; index = ys }) (Read.Refused n place)
-      value-way-unread n place e =
-          items-refused n place end (t .filling .room) (turn-unread t n place e) (t .filling .changed) (noted-so-far t .beyond)
+module _ {source : ℕ} {s : Bytes} {levels kind base row : ℕ} {name : Name} {w w' : Work} {ys : List ℕ} {next end : ℕ} {i : Item} (at : ℕ)
+    (t : Turn source s (at + 1) levels kind base row w w' ys next end i) where
+  -- no next item
+  pub value-way-unread : (n place : ℕ) → i ≡ Item.Refused n place
+      → ValueTaken source s at levels name base row w (record { nodes = w' .nodes; index = ys }) (Read.Refused n place)
+  value-way-unread n place e =
+      items-refused at (t .filling .opened) n place end (t .filling .room) (turn-unread t n place e) (t .filling .changed) (noted-so-far t .beyond)
 
-      -- an item's value is refused, and the refusal handed on
-      pub value-way-handed : {w3 : Work} {r : Read} (first : Cursor) (title : Name) → i ≡ Item.Begins first title
-          → ValueTaken source s (first .at) (levels - 1) title base end (record { nodes = w' .nodes; index = ys }) w3 r → (n place : ℕ)
-          → r ≡ Read.Refused n place → ValueTaken source s at levels name base row w w3 r
-      value-way-handed first title is read n place e =
-          let c = turn-refused t first title is read n place e in
-          rw e (items-refused n place (base + maxNodes) (omega arith) (c .0) (c .1) (c .2))
+  -- an item's value is refused, and the refusal handed on
+  pub value-way-handed : {w3 : Work} {r : Read} (first : Cursor) (title : Name) → i ≡ Item.Begins first title
+      → ValueTaken source s (first .at) (levels - 1) title base end (record { nodes = w' .nodes; index = ys }) w3 r → (n place : ℕ)
+      → r ≡ Read.Refused n place → ValueTaken source s at levels name base row w w3 r
+  value-way-handed first title is read n place e =
+      let c = turn-refused t first title is read n place e in
+      rw e (items-refused at (t .filling .opened) n place (base + maxNodes) (omega arith) (c .0) (c .1) (c .2))
 
-      -- its closing bracket, and its own row stored
-      pub value-way-closed : {nodes : List Row} {span : ℕ} (last : Cursor) → i ≡ Item.Closed last → base + maxNodes ≤ scratchRow
-          → scratchRow ≤ length (w .nodes) → span ≡ end - row - 1 → nodes ≡ set (w' .nodes) row (rowWith (containerCell kind name) (span % values))
-          → ValueTaken source s at levels name base row w (record { nodes = nodes; index = ys }) (Read.Value last end)
-      unfolding whole _>>=_
-      value-way-closed {span = span} last is room long span-is stored text titles =
-          let z = turn-closed t last is in
-          let k = value-kind s at (row - base) levels begins-here in
-          let m : kind ≤ objectKind = omega (arith, b .kind-is) in
-          let label = containerLabel (eqb kind objectKind) in
-          let labels = textless-labels source s kind label (λ h. omega arith) (λ h. omega arith) (λ T. container-says T kind container m) in
-          let f = t .filling .filled in
-          let grows : row < end = omega (arith, f .ends) in
-          let fits : end ≤ base + maxNodes = t .filling .room in
-          let long' : scratchRow ≤ length (w' .nodes) = omega (arith, t .filling .nodes-length) in
-          taken (record { label = label; kids = t .filling .so-far }) last end (by-items source (ok (t .filling .so-far, last .at)) (z .0))
-          (record { past = omega (arith, z .1, t .filling .forward); inside = z .2; grows = grows; room = fits })
-          (filled-tree kind noSpelling name span label text labels titles m (λ h. absurd (omega arith)) (omega arith) long' span-is stored f)
-          (change-then (change-wider row end (omega arith) (omega arith) (t .filling .changed))
-          (rw stored (change-set row end (w' .nodes) row _ (omega arith) grows)))
-          (noted-so-far t)
+  -- its closing bracket, and its own row stored
+  pub value-way-closed : {nodes : List Row} {r : Read} (last : Cursor) → i ≡ Item.Closed last → base + maxNodes ≤ scratchRow
+      → scratchRow ≤ length (w .nodes) → Closing kind name row end (w' .nodes) nodes last r
+      → ValueTaken source s at levels name base row w (record { nodes = nodes; index = ys }) r
+  unfolding whole _>>=_
+  value-way-closed last is room long closing text titles =
+      let z = turn-closed t last is in
+      let o = t .filling .opened in
+      let b = opened-begun o in
+      let k = value-kind s at (row - base) levels (begins-here b) in
+      let m : kind ≤ objectKind = omega (arith, b .kind-is) in
+      let label = containerLabel (eqb kind objectKind) in
+      let least = o .container in
+      let labels = textless-labels source s kind label (λ h. omega (arith, least)) (λ h. omega (arith, least)) (λ T. container-says T kind least m) in
+      let f = t .filling .filled in
+      let grows : row < end = omega (arith, f .ends) in
+      let fits : end ≤ base + maxNodes = t .filling .room in
+      let long' : scratchRow ≤ length (w' .nodes) = omega (arith, t .filling .nodes-length) in
+      rw (closing .answer)
+      (taken (record { label = label; kids = t .filling .so-far }) last end (by-items at o source (ok (t .filling .so-far, last .at)) (z .0))
+      (record { past = omega (arith, z .1, t .filling .forward); inside = z .2; grows = grows; room = fits })
+      (filled-tree kind noSpelling name (end - row - 1) label text labels titles m (λ h. absurd (omega (arith, least))) (omega arith) long' refl
+      (closing .stored) f)
+      (change-then (change-wider row end (omega arith) (omega arith) (t .filling .changed))
+      (rw (closing .stored) (change-set row end (w' .nodes) row _ (omega arith) grows)))
+      (noted-so-far t))

@@ -15,7 +15,7 @@ use Rattle.tape.specs.declared.fields.Name.{Name}
 use Rattle.reader.specs.Work.{Work}
 use Rattle.reader.specs.Words.{Titles}
 use Rattle.reader.specs.Filled.{Noted}
-use Rattle.reader.specs.Names.{LeadsNext, Having}
+use Rattle.reader.specs.Names.{LeadsNext, Having, NamedIs}
 use Rattle.reader.specs.declared.names.Container.{Container}
 use Rattle.reader.specs.declared.words.Named.{Named}
 use Rattle.reader.specs.declared.words.Named.the-variants as Named
@@ -56,7 +56,10 @@ pub data ItemIs (s : Bytes) (k : Container) (ys : List ℕ) (o : Outcome Next) :
   item-closed : (next : Cursor) → o ≡ ok (closed (next .at)) → ItemIs s k ys o (Closed next)
   item-refused : (number place : ℕ) → o ≡ refused number place → ItemIs s k ys o (Refused number place)
 
--- its answer, given the items so far, and the index afterwards
+-- its answer of the next name, and of the next item, given the items so far; and the index afterwards
+abbrev pub NextNameIs : Bytes → Container → Work → List ℕ → ℕ → Named → Type 0
+NextNameIs s k w ys at r = NamedIs s k w ys (λ all. nextName (k .object) s all at) r
+
 pub record NextItemIs (s : Bytes) (k : Container) (w : Work) (ys : List ℕ) (at : ℕ) (r : Item) : Type 0 where
   pub answer : Having s k w (λ all. ItemIs s k ys (nextItem (k .object) s all at) r)
   pub noted : Noted (k .base) (k .end) (w .index) ys

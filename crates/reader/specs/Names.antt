@@ -9,7 +9,7 @@ use Rattle.spec.specs.Outcome.{Outcome, ok, refused, _>>=_}
 use Rattle.spec.specs.Limits.{maxNodes}
 use Rattle.spec.specs.Bytes.{Bytes, Text, byteIn}
 use Rattle.spec.specs.Value.{Members, has}
-use Rattle.spec.specs.Read.{blanks}
+use Rattle.spec.specs.Read.{blanks, nameFor}
 use Rattle.lexer.specs.declared.cursor.Cursor.{Cursor}
 use Rattle.tape.specs.Layout.{values, sources, scratchRow}
 use Rattle.tape.specs.Fields.{Row}
@@ -72,3 +72,10 @@ Having s k w P = (all : Members) → Holding s k (w .nodes) all → (k .object �
 pub record NamedIs (s : Bytes) (k : Container) (w : Work) (ys : List ℕ) (o : Members → Outcome (Text × ℕ)) (r : Named) : Type 0 where
   pub answer : Having s k w (λ all. NameIs s k ys (o all) r)
   pub noted : Noted (k .base) (k .end) (w .index) ys
+
+-- of a member's name, and of an item's
+abbrev pub MemberNameIs : Bytes → Container → Work → List ℕ → ℕ → Named → Type 0
+MemberNameIs s k w ys at r = NamedIs s k w ys (λ all. nameFor true s all at) r
+
+abbrev pub ItemNameIs : Bytes → Container → Work → List ℕ → ℕ → Named → Type 0
+ItemNameIs s k w ys at r = NamedIs s k w ys (λ all. nameFor (k .object) s all at) r

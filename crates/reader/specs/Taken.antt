@@ -1,8 +1,8 @@
 -- What reading a value comes to.
-use Prim.Native.Nat.{ℕ, _+_, _-_, _<_, _≤_}
+use Prim.Native.Nat.{ℕ, _+_, _-_, _%_, _<_, _≤_}
 use mathlib.Core.Path.{_≡_}
 use mathlib.Core.List.{List}
-use lib.ListN.{length}
+use lib.ListN.{length, set}
 use Rattle.spec.specs.Outcome.{Outcome, ok, refused}
 use Rattle.spec.specs.Bytes.{Bytes, Text}
 use Rattle.spec.specs.Forest.{single}
@@ -11,12 +11,12 @@ use Rattle.spec.specs.Value.{named}
 use Rattle.spec.specs.Limits.{maxNodes}
 use Rattle.spec.specs.Read.{value}
 use Rattle.lexer.specs.declared.cursor.Cursor.{Cursor}
-use Rattle.tape.specs.Fields.{Row}
+use Rattle.tape.specs.Layout.{values}
+use Rattle.tape.specs.Fields.{Row, rowWith}
 use Rattle.tape.specs.declared.fields.Spelling.{Spelling}
 use Rattle.tape.specs.declared.fields.Name.{Name}
 use Rattle.tape.specs.declared.fields.Cell.{Cell}
 use Rattle.reader.specs.Work.{Work}
-use Rattle.reader.specs.Begins.{scalarOf}
 use Rattle.reader.specs.Words.{noSpelling, Titles}
 use Rattle.reader.specs.Filled.{Between, SameBeyond, Noted, Filled}
 use Rattle.reader.specs.declared.words.Spelled.{Spelled}
@@ -57,13 +57,17 @@ pub data Taken (source : ℕ) (s : Bytes) (at : ℕ) (text : Text) (base row lim
 abbrev pub ForTitle : ℕ → Bytes → Name → (Text → Type 0) → Type 0
 ForTitle source s name P = (text : Text) → Titles source s text name → P text
 
--- what reading a scalar of a kind comes to; it leaves the index alone
-abbrev pub ScalarTaken : ℕ → Bytes → ℕ → ℕ → Name → ℕ → List Row → List Row → Declared.Read → Type 0
-ScalarTaken source s at kind name row nodes nodes' r =
-    (base : ℕ) (xs : List ℕ) → ForTitle source s name λ text.
-    Taken source s at text base row (row + 1) (record { nodes = nodes; index = xs }) (record { nodes = nodes'; index = xs }) (scalarOf kind s at) r
-
 -- what reading a value comes to, with so many levels left, in a text whose rows begin at `base`
 abbrev pub ValueTaken : ℕ → Bytes → ℕ → ℕ → Name → ℕ → ℕ → Work → Work → Declared.Read → Type 0
 ValueTaken source s at levels name base row w w' r =
     ForTitle source s name λ text. Taken source s at text base row (base + maxNodes) w w' (value levels s at (row - base)) r
+
+-- the same of a scalar: it needs no level, and leaves the index alone
+abbrev pub ScalarTaken : ℕ → Bytes → ℕ → Name → ℕ → ℕ → List Row → List Row → Declared.Read → Type 0
+ScalarTaken source s at name base row nodes nodes' r =
+    (levels : ℕ) (xs : List ℕ) → ValueTaken source s at levels name base row (record { nodes = nodes; index = xs }) (record { nodes = nodes'; index = xs }) r
+
+-- a container's node is stored when its items are known
+pub record Closing (kind : ℕ) (name : Name) (row end : ℕ) (nodes nodes' : List Row) (next : Cursor) (r : Declared.Read) : Type 0 where
+  pub stored : nodes' ≡ set nodes row (rowWith (containerCell kind name) ((end - row - 1) % values))
+  pub answer : r ≡ Read.Value next end

@@ -26,9 +26,9 @@ pub fn beginning(b: u8) -> u16
     }
 }
 
-// The number of a refusal at a value's first byte, and 0 for none: of a value that is to begin in `row`, where the text's
-// rows begin at `base`.
-fn room_refusal(base: usize, row: usize) -> u8
+// The number of a refusal at a value's first byte, and 0 for none: of a value that is to begin in `row`, where the
+// text's rows begin at `base`.
+pub fn room_refusal(base: usize, row: usize) -> u8
     requires { ⌜ base ≤ row ⌝ }
     ensures { λ r. ⌜ r ≡ roomRefusal (row - base) ⌝ }
 {

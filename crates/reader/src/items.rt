@@ -1,10 +1,10 @@
 // The next item of a container.
 ghost use mathlib.Core.Path.{_≡_};
-ghost use Rattle.spec.specs.Read.{closingBracket, nameFor};
+ghost use Rattle.spec.specs.Read.{closingBracket};
 ghost use Rattle.lexer.specs.Answers.{scanOutcome};
 ghost use Rattle.reader.specs.Work.{workBefore};
-ghost use Rattle.reader.specs.Names.{Lent, Inside, NamedIs};
-ghost use Rattle.reader.specs.Items.{afterComma, nextName, itemOf, NextItemIs};
+ghost use Rattle.reader.specs.Names.{Lent, Inside, ItemNameIs};
+ghost use Rattle.reader.specs.Items.{afterComma, itemOf, NextNameIs, NextItemIs};
 use crate::names::Container;
 use crate::names::member_name;
 use crate::words::Named;
@@ -48,7 +48,7 @@ fn comma(s: &[u8], at: Cursor, first: bool) -> Scan
 fn item_name(s: &[u8], nodes: &[Node], index: &mut [u16], at: Cursor, container: Container) -> Named
     requires { ⌜ Lent (container .source) (now s) (record { nodes = now nodes; index = now index }) ⌝ }
     requires { ⌜ Inside container ⌝ }
-    ensures { λ r. ⌜ NamedIs (now (s .entry)) container (workBefore nodes index) (now (index .exit)) (λ all. nameFor (container .object) (now (s .entry)) all (at .at)) r ⌝ }
+    ensures { λ r. ⌜ ItemNameIs (now (s .entry)) container (workBefore nodes index) (now (index .exit)) (at .at) r ⌝ }
 {
     if container.object {
         return member_name(s, nodes, index, at, container);
@@ -60,7 +60,7 @@ fn item_name(s: &[u8], nodes: &[Node], index: &mut [u16], at: Cursor, container:
 fn next_name(s: &[u8], nodes: &[Node], index: &mut [u16], at: Cursor, container: Container) -> Named
     requires { ⌜ Lent (container .source) (now s) (record { nodes = now nodes; index = now index }) ⌝ }
     requires { ⌜ Inside container ⌝ }
-    ensures { λ r. ⌜ NamedIs (now (s .entry)) container (workBefore nodes index) (now (index .exit)) (λ all. nextName (container .object) (now (s .entry)) all (at .at)) r ⌝ }
+    ensures { λ r. ⌜ NextNameIs (now (s .entry)) container (workBefore nodes index) (now (index .exit)) (at .at) r ⌝ }
 {
     let scan = comma(s, at, container.end == container.row + 1);
     let Scan::To(first) = scan else {

@@ -1,10 +1,9 @@
 // A member's name, with the colon after it.
 ghost use mathlib.Core.Path.{_≡_};
 ghost use mathlib.Core.Bool.{true};
-ghost use Rattle.spec.specs.Read.{nameFor};
 ghost use Rattle.lexer.specs.Answers.{scanOutcome};
 ghost use Rattle.reader.specs.Work.{workBefore};
-ghost use Rattle.reader.specs.Names.{Lent, Inside, afterColon, RepeatedIs, NamedIs};
+ghost use Rattle.reader.specs.Names.{Lent, Inside, afterColon, RepeatedIs, MemberNameIs};
 use crate::words::Named;
 use crate::words::spell_string;
 use crate::words::unnamed;
@@ -22,8 +21,8 @@ use table::find::short;
 use tape::fields;
 use tape::layout::Node;
 
-// A container that is being read: whether it is an object, in which text it stands, where the text's rows begin, its own
-// row, and the row behind its items so far.
+// A container that is being read: whether it is an object, in which text it stands, where the text's rows begin, its
+// own row, and the row behind its items so far.
 pub struct Container {
     pub object: bool,
     pub source: u16,
@@ -81,7 +80,7 @@ pub fn member_name(
 ) -> Named
     requires { ⌜ Lent (object .source) (now s) (record { nodes = now nodes; index = now index }) ⌝ }
     requires { ⌜ Inside object × (object .object ≡ true) ⌝ }
-    ensures { λ r. ⌜ NamedIs (now (s .entry)) object (workBefore nodes index) (now (index .exit)) (λ all. nameFor true (now (s .entry)) all (at .at)) r ⌝ }
+    ensures { λ r. ⌜ MemberNameIs (now (s .entry)) object (workBefore nodes index) (now (index .exit)) (at .at) r ⌝ }
 {
     let read = at.name(s);
     let Name::Read { next, hash, plain } = read else {

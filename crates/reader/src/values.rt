@@ -1,17 +1,18 @@
 // Values, one level inside the other.
 ghost use mathlib.Core.Path.{_≡_};
-ghost use Prim.Native.Nat.{ℕ, _+_, _-_, _%_, _<_, _≤_};
+ghost use Prim.Native.Nat.{_+_, _%_, _<_, _≤_};
 ghost use lib.ListN.{length, set};
 ghost use Rattle.spec.specs.Limits.{maxNodes};
-ghost use Rattle.spec.specs.Read.{value};
+ghost use Rattle.spec.specs.Bytes.{byte};
 ghost use Rattle.tape.specs.Layout.{values, sources, arrayKind, scratchRow};
 ghost use Rattle.tape.specs.Fields.{rowWith};
-ghost use Rattle.reader.specs.Begins.{scalarOf};
+ghost use Rattle.reader.specs.Begins.{beginning};
 ghost use Rattle.reader.specs.Work.{workBefore, workAfter};
 ghost use Rattle.reader.specs.Names.{Lent};
-ghost use Rattle.reader.specs.Taken.{readTo, containerCell, ScalarTaken, ValueTaken};
+ghost use Rattle.reader.specs.Taken.{readTo, Closing, ScalarTaken, ValueTaken};
 use crate::begins::beginning;
 use crate::begins::refusal_at;
+use crate::begins::room_refusal;
 use crate::items::Item;
 use crate::items::next_item;
 use crate::names::Container;
@@ -20,6 +21,7 @@ use crate::words::no_spelling;
 use crate::words::scalar;
 use lexer::Cursor;
 use lexer::peek;
+use spec::refusal;
 use tape::fields::Cell;
 use tape::fields::Name;
 use tape::fields::node_of;
@@ -50,9 +52,10 @@ fn read_to(spelled: Spelled, end: usize) -> Read
     }
 }
 
-// A container's node is stored in its row, when its items are known.
-fn close(nodes: &mut [Node], row: usize, kind: u16, name: Name, span: usize)
-    ensures { λ _. ⌜ now (nodes .exit) ≡ set (now (nodes .entry)) row (rowWith (containerCell kind name) (span % values)) ⌝ }
+// The end of a container: its node is stored in its row. Its items stand in the rows behind it, up to `end`.
+fn close(nodes: &mut [Node], row: usize, kind: u16, name: Name, next: Cursor, end: usize) -> Read
+    requires { ⌜ row < end ⌝ }
+    ensures { λ r. ⌜ Closing kind name row end (now (nodes .entry)) (now (nodes .exit)) next r ⌝ }
 {
     let value = no_spelling();
     put(
@@ -64,11 +67,13 @@ fn close(nodes: &mut [Node], row: usize, kind: u16, name: Name, span: usize)
             name,
             origin: 0,
         },
-        span,
+        end - row - 1,
     );
+    Read::Value(next, end)
 }
 
-// A scalar of a kind is stored in a row, under a name.
+// A scalar of a kind is stored in a row, under a name. The text's rows begin at `base`: as many values have begun
+// before as there are rows from there.
 fn scalar_value(
     s: &[u8],
     nodes: &mut [Node],
@@ -76,12 +81,17 @@ fn scalar_value(
     kind: u16,
     source: u16,
     name: Name,
+    base: usize,
     row: usize,
 ) -> Read
-    requires { ⌜ (at .at < length (now s)) × (kind < arrayKind) × (row < scratchRow) × (scratchRow ≤ length (now nodes)) ⌝ }
-    requires { ⌜ (source < sources) × (length (now s) < values) ⌝ }
-    ensures { λ r. ⌜ ScalarTaken source (now (s .entry)) (at .at) kind name row (now (nodes .entry)) (now (nodes .exit)) r ⌝ }
+    requires { ⌜ (kind ≡ beginning (byte (now s) (at .at))) × (kind < arrayKind) × (base ≤ row) × (base + maxNodes ≤ scratchRow) ⌝ }
+    requires { ⌜ (source < sources) × (length (now s) < values) × (scratchRow ≤ length (now nodes)) ⌝ }
+    ensures { λ r. ⌜ ScalarTaken source (now (s .entry)) (at .at) name base row (now (nodes .entry)) (now (nodes .exit)) r ⌝ }
 {
+    let number = room_refusal(base, row);
+    if number != refusal::DONE {
+        return Read::Refused(number, at.at);
+    }
     let spelled = scalar(s, at, kind, source);
     let Spelled::Read(next, value) = spelled else {
         return read_to(spelled, row);
@@ -100,8 +110,67 @@ fn scalar_value(
     Read::Value(next, row + 1)
 }
 
-// The value at a cursor is stored from `row` on, under a name. The text's rows begin at `base`: as many values have begun
-// before as there are rows from there.
+// The same of what is no scalar: a container is stored from `row` on. Its scalars are read in the loop, so that only
+// containers take a level of the stack.
+fn container(
+    s: &[u8],
+    nodes: &mut [Node],
+    index: &mut [u16],
+    at: Cursor,
+    levels: u32,
+    kind: u16,
+    source: u16,
+    name: Name,
+    base: usize,
+    row: usize,
+) -> Read
+    requires { ⌜ Lent source (now s) (record { nodes = now nodes; index = now index }) ⌝ }
+    requires { ⌜ (kind ≡ beginning (byte (now s) (at .at))) × (arrayKind ≤ kind) × (base ≤ row) × (base + maxNodes ≤ scratchRow) ⌝ }
+    ensures { λ r. ⌜ ValueTaken source (now (s .entry)) (at .at) levels name base row (workBefore nodes index) (workAfter nodes index) r ⌝ }
+{
+    let number = refusal_at(kind, levels, base, row);
+    if number != refusal::DONE {
+        return Read::Refused(number, at.at);
+    }
+    let object = kind == layout::OBJECT;
+    let left = levels - 1;
+    let mut next = Cursor { at: at.at + 1 };
+    let mut end = row + 1;
+    loop {
+        let items = Container {
+            object,
+            source,
+            base,
+            row,
+            end,
+        };
+        match next_item(s, nodes, index, next, items) {
+            Item::Begins(first, title) => {
+                // the kind of the item
+                let item = beginning(peek(s, first.at));
+                if item < layout::ARRAY {
+                    let r = scalar_value(s, nodes, first, item, source, title, base, end);
+                    let Read::Value(after, free) = r else {
+                        return r;
+                    };
+                    next = after;
+                    end = free;
+                    continue;
+                }
+                let r = container(s, nodes, index, first, left, item, source, title, base, end);
+                let Read::Value(after, free) = r else {
+                    return r;
+                };
+                next = after;
+                end = free;
+            }
+            Item::Closed(after) => return close(nodes, row, kind, name, after, end),
+            Item::Refused(number, place) => return Read::Refused(number, place),
+        }
+    }
+}
+
+// The value at a cursor is stored from `row` on, under a name.
 pub fn value(
     s: &[u8],
     nodes: &mut [Node],
@@ -114,42 +183,12 @@ pub fn value(
     row: usize,
 ) -> Read
     requires { ⌜ Lent source (now s) (record { nodes = now nodes; index = now index }) ⌝ }
-    requires { ⌜ (at .at ≤ length (now s)) × (base ≤ row) × (row ≤ base + maxNodes) × (base + maxNodes ≤ scratchRow) ⌝ }
+    requires { ⌜ (base ≤ row) × (base + maxNodes ≤ scratchRow) ⌝ }
     ensures { λ r. ⌜ ValueTaken source (now (s .entry)) (at .at) levels name base row (workBefore nodes index) (workAfter nodes index) r ⌝ }
 {
     let kind = beginning(peek(s, at.at));
-    let number = refusal_at(kind, levels, base, row);
-    if number != 0 {
-        return Read::Refused(number, at.at);
-    }
     if kind < layout::ARRAY {
-        return scalar_value(s, nodes, at, kind, source, name, row);
+        return scalar_value(s, nodes, at, kind, source, name, base, row);
     }
-    let object = kind == layout::OBJECT;
-    let mut next = Cursor { at: at.at + 1 };
-    let mut end = row + 1;
-    loop {
-        let container = Container {
-            object,
-            source,
-            base,
-            row,
-            end,
-        };
-        match next_item(s, nodes, index, next, container) {
-            Item::Begins(first, title) => {
-                let r = value(s, nodes, index, first, levels - 1, source, title, base, end);
-                let Read::Value(after, free) = r else {
-                    return r;
-                };
-                next = after;
-                end = free;
-            }
-            Item::Closed(after) => {
-                close(nodes, row, kind, name, end - row - 1);
-                return Read::Value(after, end);
-            }
-            Item::Refused(number, place) => return Read::Refused(number, place),
-        }
-    }
+    container(s, nodes, index, at, levels, kind, source, name, base, row)
 }

@@ -47,18 +47,8 @@ fn limit(nodes: &[Node], end: usize) -> usize
     nodes.len()
 }
 
-// 1 where two fields are the same, 0 otherwise.
-fn equal(a: u16, b: u16) -> u16
-    ensures { λ r. ⌜ (r ≡ 0 → a ≡ b → ⊥) ⌝ }
-{
-    if a == b {
-        return 1;
-    }
-    0
-}
-
-// Whether the row is a multiple of BLOCK and in the BLOCK rows from it on no node has children and no name has this hash. No row waits for what
-// another one holds, so that several are compared at a time.
+// Whether the row is a multiple of BLOCK and in the BLOCK rows from it on no node has children and no name has this hash.
+// Such rows are passed together: no turn waits for another row's span.
 fn quiet(nodes: &[Node], row: usize, stop: usize, hash: u16) -> bool
     requires { ⌜ (row ≤ stop) × (stop ≤ length (now nodes)) ⌝ }
     ensures { λ r. ⌜ QuietIs (now (nodes .entry)) row stop hash r ⌝ }
@@ -71,15 +61,13 @@ fn quiet(nodes: &[Node], row: usize, stop: usize, hash: u16) -> bool
     }
     // an `or` is 0 only if each of its numbers is
     let mut spans: u16 = 0;
-    let mut seen: u16 = 0;
     let mut i = 0;
     while i < BLOCK {
+        if nodes[row + i][HASH] == hash {
+            return false;
+        }
         spans |= nodes[row + i][SPAN];
-        seen |= equal(nodes[row + i][HASH], hash);
         i += 1;
-    }
-    if seen != 0 {
-        return false;
     }
     spans == 0
 }

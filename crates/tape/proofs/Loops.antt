@@ -5,11 +5,8 @@ use native.Mathlib.Omega.{arith}
 use mathlib.Core.Path.{_≡_, sym, ap, _∙_}
 use mathlib.Core.List.{List, [], _∷_, _++_, append-assoc}
 use lib.ListN.{length, take, drop, getD, set, replicate, replicate-append-replicate, length-drop, length-replicate, take-append-drop}
-use lib.Seq.{length-take-le, paste-zero, sets-eq, drop-cons, take-suc, getD-drop, take-take, drop-drop, take-add}
-use mathlib.Core.Bool.{and-false}
-use borrow.Author.Tests.{le-leb, lt-leb}
-use Prim.Native.Nat.{max}
-use Rattle.tape.specs.Columns.{replaced, copied, inside, moved, usedAfter, spliced, splicedFrom, spliceFitsFrom, filled}
+use lib.Seq.{paste-zero, sets-eq, drop-cons, take-suc, getD-drop, take-take, drop-drop, take-add}
+use Rattle.tape.specs.Columns.{replaced, copied, moved, usedAfter, spliced, filled}
 use Rattle.spec.proofs.ListLaws.{drop-take}
 use Rattle.tape.proofs.Columns.{Room, moved-in, spliced-in, filled-in, length-replaced, take-replaced, words-replaced, drop-replaced, replaced-one, replaced-further, replaced-before, length-words}
 
@@ -139,54 +136,3 @@ module _ {W : Type 0} (xs : List W) (used at removed source n : ℕ) (in-use : a
       let left : used - (at + removed) ≡ t = omega arith in
       let kept : drop (at + removed) (take used xs) ≡ tail = rw (drop-take (at + removed) used xs, left) in
       rw (first, second, front, behind, rest, spliced-in xs used at removed source n in-use room, kept, take-take at used xs (omega arith), after) (simp append-assoc)
-
--- ---- words of another list
-module _ {W : Type 0} (xs zs : List W) (to start : ℕ) where
-  pub brought-none : replaced xs to 0 (take 0 (drop start zs)) ≡ xs
-  unfolding replaced
-  brought-none = sym (paste-zero xs to (drop start zs))
-
-  pub brought-more : (z : W) (i : ℕ) → to + i < length xs → start + i < length zs
-      → set (replaced xs to i (take i (drop start zs))) (to + i) (getD zs (start + i) z) ≡ replaced xs to (i + 1) (take (i + 1) (drop start zs))
-  brought-more z i h k =
-      let new : List W = take i (drop start zs) in
-      let word : W = getD zs (start + i) z in
-      let there : i < length (drop start zs) = simp length-drop (omega arith) in
-      let many : length new ≡ i = length-take-le i (drop start zs) (omega arith) in
-      let long : length (replaced xs to i new) ≡ length xs = length-replaced xs to i new (omega arith) ∙ omega arith in
-      let last : getD (drop start zs) i z ≡ word = getD-drop start zs i z in
-      let more : new ++ (word ∷ []) ≡ take (i + 1) (drop start zs) = rw (add-one, take-suc (drop start zs) i z there, last) in
-      replaced-one (replaced xs to i new) (to + i) word (omega arith) ∙ replaced-further xs to i 1 new (word ∷ []) (omega arith) many ∙ ap (replaced xs to (i + 1)) more
-
-module _ {W : Type 0} (xs : List W) (used at removed : ℕ) (zs : List W) (start n : ℕ) where
-  pub from-not-used : used < at + removed → splicedFrom xs used at removed zs start n ≡ xs
-  unfolding splicedFrom spliceFitsFrom inside
-  from-not-used h = rw (lt-leb (at + removed) used h, splicedFrom)
-
-  pub from-no-room : length xs < max used (usedAfter used removed n) → splicedFrom xs used at removed zs start n ≡ xs
-  unfolding splicedFrom spliceFitsFrom inside
-  from-no-room h = rw (lt-leb (max used (usedAfter used removed n)) (length xs) h, and-false, splicedFrom)
-
-  pub from-no-source : length zs < start + n → splicedFrom xs used at removed zs start n ≡ xs
-  unfolding splicedFrom spliceFitsFrom inside
-  from-no-source h = rw (lt-leb (start + n) (length zs) h, and-false, and-false, splicedFrom)
-
-  module _ (in-use : at + removed ≤ used) (before : used ≤ length xs) (after : usedAfter used removed n ≤ length xs) (there : start + n ≤ length zs) where
-    pub from-in : splicedFrom xs used at removed zs start n ≡ replaced (take used xs) at removed (take n (drop start zs)) ++ drop (usedAfter used removed n) xs
-    unfolding splicedFrom spliceFitsFrom inside
-    from-in = rw (le-leb (at + removed) used in-use, le-leb (max used (usedAfter used removed n)) (length xs) (omega arith), le-leb (start + n) (length zs) there, splicedFrom)
-
-    -- what `splice_from` does
-    pub move-and-bring : replaced (moved xs (at + n) (at + removed) (used - removed - at)) at n (take n (drop start zs)) ≡ splicedFrom xs used at removed zs start n
-    unfolding copied replaced
-    move-and-bring =
-        let t : ℕ = used - removed - at in
-        let tail : List W = take t (drop (at + removed) xs) in
-        let m : List W = replaced xs (at + n) t tail in
-        let front : take at m ≡ take at xs = take-replaced xs (at + n) t tail (omega arith) at (omega arith) in
-        let rest : drop (at + n) m ≡ tail ++ drop (at + n + t) xs = words-replaced xs (at + n) t tail (omega arith) in
-        let first : moved xs (at + n) (at + removed) t ≡ m = moved-in xs (at + n) (at + removed) t (omega arith) (omega arith) in
-        let after-it : at + n + t ≡ usedAfter used removed n = omega arith in
-        let left : used - (at + removed) ≡ t = omega arith in
-        let kept : drop (at + removed) (take used xs) ≡ tail = rw (drop-take (at + removed) used xs, left) in
-        rw (first, front, rest, from-in, kept, take-take at used xs (omega arith), after-it) (simp append-assoc)

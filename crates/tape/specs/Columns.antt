@@ -41,17 +41,6 @@ module _ {W : Type 0} where
       if spliceFits xs used at removed source n then
       replaced (take used xs) at removed (take n (drop source xs)) ++ drop (usedAfter used removed n) xs else xs
 
-  -- whether `removed` words at a row are among the first `used`, there is room for n instead, and another list has n words at the row `start`
-  unfoldable pub spliceFitsFrom : List W → ℕ → ℕ → ℕ → List W → ℕ → ℕ → Bool
-  spliceFitsFrom xs used at removed zs start n =
-      leb (at + removed) used && (leb (max used (usedAfter used removed n)) (length xs) && inside zs start n)
-
-  -- those replaced by these
-  unfoldable pub splicedFrom : List W → ℕ → ℕ → ℕ → List W → ℕ → ℕ → List W
-  splicedFrom xs used at removed zs start n =
-      if spliceFitsFrom xs used at removed zs start n then
-      replaced (take used xs) at removed (take n (drop start zs)) ++ drop (usedAfter used removed n) xs else xs
-
   -- n words at a row made the same
   unfoldable pub filled : W → List W → ℕ → ℕ → List W
   filled x xs start n = if inside xs start n then replaced xs start n (replicate n x) else xs

@@ -5,9 +5,9 @@ use crate::layout::ROWS;
 ghost use mathlib.Core.Path.{_≡_};
 ghost use Rattle.tape.specs.Layout.{rows};
 ghost use Prim.Native.Nat.{_+_, _≤_};
-ghost use lib.ListN.{length, getD, set, take, drop};
+ghost use lib.ListN.{length, getD, set};
 ghost use Rattle.tape.specs.Fields.{noNode};
-ghost use Rattle.tape.specs.Columns.{copied, moved, spliced, wiped, replaced, splicedFrom};
+ghost use Rattle.tape.specs.Columns.{copied, moved, spliced, wiped};
 
 // The node in a row, and none behind the table.
 pub fn load(nodes: &[Node], row: usize) -> Node
@@ -130,51 +130,4 @@ pub fn splice(
     }
     slide(nodes, at + count, at + removed, kept - at);
     slide(nodes, at, source, count);
-}
-
-// `count` nodes of another table, from `start` on, are copied to the rows from `to` on.
-fn bring(nodes: &mut [Node], to: usize, source: &[Node], start: usize, count: usize)
-    requires { ⌜ (to + count ≤ length (now nodes)) × (start + count ≤ length (now source)) ⌝ }
-    ensures { λ _. ⌜ now (nodes .exit) ≡ replaced (now (nodes .entry)) to count (take count (drop start (now (source .entry)))) ⌝ }
-{
-    let mut i = 0;
-    while i < count {
-        nodes[to + i] = source[start + i];
-        i += 1;
-    }
-}
-
-// In the first `used` rows, `removed` nodes at `at` are replaced by `count` nodes of another table.
-pub fn splice_from(
-    nodes: &mut [Node],
-    used: usize,
-    at: usize,
-    removed: usize,
-    source: &[Node],
-    start: usize,
-    count: usize,
-)
-    ensures { λ _. ⌜ now (nodes .exit) ≡ splicedFrom (now (nodes .entry)) used at removed (now (source .entry)) start count ⌝ }
-{
-    if used < removed {
-        return;
-    }
-    let kept = used - removed;
-    if kept < at {
-        return;
-    }
-    if nodes.len() < used {
-        return;
-    }
-    if nodes.len() - kept < count {
-        return;
-    }
-    if source.len() < count {
-        return;
-    }
-    if source.len() - count < start {
-        return;
-    }
-    slide(nodes, at + count, at + removed, kept - at);
-    bring(nodes, at, source, start, count);
 }

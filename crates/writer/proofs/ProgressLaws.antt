@@ -20,7 +20,7 @@ use Rattle.table.specs.Meaning.{members, meant}
 use Rattle.table.specs.Sound.{Sound, NodeHeld}
 use Rattle.table.proofs.AllLaws.{all-first, all-kids, all-rest}
 use Rattle.writer.specs.Pieces.{prefixBytes}
-use Rattle.writer.specs.Writing.{Writable}
+use Rattle.writer.specs.Writing.{Writable, ForWritable}
 use Rattle.writer.proofs.PieceLaws.{items-tree, items-none}
 use Rattle.tape.specs.Lent.{Table}
 
@@ -53,7 +53,7 @@ module _ {W : Table} where
   module _ {object : Bool} {levels : ℕ} {kids : Forest Cell} {row end : ℕ} {first : Bool} {R : Bytes → Type 0}
       (p : Progress W object levels kids row end first R) where
     -- a turn: what the code does to the text, given the value in the row
-    pub progress-next : {R' : Bytes → Type 0} → row < end → (next : ℕ) → next ≡ endOf (W .nodes) row
+    pub progress-next : {R' : Bytes → Type 0} → row < end → (next : ℕ) → ForWritable W row levels (λ v. next ≡ endOf (W .nodes) row)
         → ((c : Cell) (ks : Forest Cell) → Writable W row levels c ks → (text : Bytes) → R text
         → R' (text ++ prefixBytes (W .texts) object first (nameOf (getD (W .nodes) row [])) ++ write (meant (W .texts) c ks)))
         → Progress W object levels kids next end false R'
@@ -71,7 +71,7 @@ module _ {W : Table} where
           text = p .text ++ before ++ value;
           so-far = rw name at (step c ks w (p .text) (p .so-far));
           left = rest;
-          remaining = remaining-next next n r;
+          remaining = remaining-next next (n c ks w) r;
           sound = all-rest s;
           nested = omega arith;
           whole =

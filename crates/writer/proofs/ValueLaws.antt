@@ -7,7 +7,7 @@ use mathlib.Core.List.{List, [], _∷_, _++_}
 use lib.Dec.{eqb}
 use lib.ListN.{length, getD, length-append}
 use Rattle.spec.specs.Bytes.{Bytes}
-use Rattle.spec.specs.Forest.{Forest}
+use Rattle.spec.specs.Forest.{Forest, size}
 use Rattle.spec.specs.Write.{writeItems, write}
 use Rattle.tape.specs.Layout.{arrayKind, objectKind}
 use Rattle.tape.specs.Fields.{kindOf, nameOf, valueOf}
@@ -18,11 +18,11 @@ use Rattle.tape.specs.Cell.{Fit, deep}
 use Rattle.tape.specs.Rows.{endOf}
 use Rattle.tape.proofs.Cells.{formed-fit}
 use Rattle.tape.proofs.Depth.{level-container}
-use Rattle.tape.proofs.Rows.{inside-here, kind-here, cell-here}
+use Rattle.tape.proofs.Rows.{inside-here, kind-here, cell-here, end-here}
 use Rattle.tape.proofs.Held.{held-node}
 use Rattle.table.specs.Meaning.{members, meant}
 use Rattle.writer.specs.Pieces.{scalarBytes, openingBracket, closingBracket, prefixBytes}
-use Rattle.writer.specs.Writing.{Placed, PlacedSome, Writable, MeasureIs, WriteIs, lengthLimit}
+use Rattle.writer.specs.Writing.{Placed, PlacedSome, Writable, ForWritable, MeasureIs, WriteIs, lengthLimit}
 use Rattle.writer.proofs.PlacedLaws.{lent, back, placed-as, placed-none, placed-on, placed-then, some-none, some-then, some-on}
 use Rattle.writer.proofs.PieceLaws.{write-scalar, write-container}
 use Rattle.writer.proofs.ProgressLaws.{Progress, progress-all, progress-next, progress-none}
@@ -48,6 +48,14 @@ module _ {W : Table} {at levels : ℕ} {c : Cell} {kids : Forest Cell} (w : Writ
       let k = kind-is tag e in
       write-scalar (W .texts) c kids fit (omega arith) (w .node .label .verbatim)
       ∙ sym (ap₂ (scalarBytes (W .texts)) k (f ∙ ap (λ (d : Cell). d .value) (cell-here (held-node (w .node .held)) [])))
+
+  -- a scalar takes one row
+  pub scalar-end : (tag : ℕ) → tag ≡ kindOf (getD (W .nodes) at []) → tag < arrayKind → at + 1 ≡ endOf (W .nodes) at
+  unfolding size
+  scalar-end tag e h =
+      let k = kind-is tag e in
+      let none-below : size kids ≡ 0 = ap size (fit .scalar (omega arith)) in
+      omega (arith, end-here (held-node (w .node .held)), none-below)
 
   module _ (tag : ℕ) (tag-is : tag ≡ kindOf (getD (W .nodes) at [])) (container : arrayKind ≤ tag) where
     abbrev items : Bytes
@@ -95,7 +103,7 @@ module _ {W : Table} {at levels : ℕ} where
       → (total' : ℕ) → total' ≡ min (total + before + value) lengthLimit
       → Measuring W at levels object next end false total'
   measuring-next {object} {first} {row} {end} {total} m more next n name name-is before before-is value value-is total' total-is c kids w =
-      progress-next (m c kids w) more next n λ d ks w' text r.
+      progress-next (m c kids w) more next (λ d ks w'. n) λ d ks w' text r.
       let own : Bytes = prefixBytes (W .texts) object first (nameOf (getD (W .nodes) row [])) in
       let here : before ≡ length own = before-is ∙ ap (λ m. length (prefixBytes (W .texts) object first m)) name-is in
       let one = length-append text own in
@@ -135,7 +143,7 @@ module _ {W : Table} {at levels : ℕ} where
 
   pub laying-next : {object first : Bool} {row end put₀ put n m : ℕ} {out₀ out part last : Bytes}
       → Laying W at levels object row end first put₀ out₀ out put → row < end
-      → (next : ℕ) → next ≡ endOf (W .nodes) row
+      → (next : ℕ) → ForWritable W row (levels - 1) (λ v. next ≡ endOf (W .nodes) row)
       → (name : Name) → name ≡ nameOf (getD (W .nodes) row [])
       → Placed (prefixBytes (W .texts) object first name) 0 (lent out put) part n
       → WriteIs W row (levels - 1) (lent (back out put part) (put + n)) last m

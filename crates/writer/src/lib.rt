@@ -1,6 +1,6 @@
 // A tree of the node table written as text: document 01, "Writing". `fits` says whether an output has room for the text
 // before a byte of it is written. `write` lays the text down in the output, one value after another. It calls itself on
-// nested values, and the levels fall.
+// nested containers, and the levels fall; their scalars are written in the loop.
 //
 // What is proved: of a node that the table holds (`NodeHeld` of table) and that nests at most `levels` containers,
 // `fits` answers whether the text of the definitions has at most so many bytes, and `write` lays that text down; behind

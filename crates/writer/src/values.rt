@@ -77,9 +77,17 @@ pub fn write<'a>(texts: Texts<'a>, nodes: &[Node], at: usize, levels: u32, out: 
     while row < end {
         let before = write_prefix(texts, object, first, name_of(nodes[row]), &mut out[put..]);
         put += before;
+        first = false;
+        let item = nodes[row];
+        let sort = kind_in(item[layout::TAGS]);
+        if sort < layout::ARRAY {
+            let value = write_scalar(texts, sort, value_of(item), &mut out[put..]);
+            put += value;
+            row += 1;
+            continue;
+        }
         let value = write(texts, nodes, row, levels - 1, &mut out[put..]);
         put += value;
-        first = false;
         row = end_of(nodes, row);
     }
     let last = put_byte(closing_bracket(object), &mut out[put..]);

@@ -20,7 +20,9 @@ member-name-spec =
     -- untitled-requires
     (λ c κs. search auto)
     -- returns
-    (λ c. member-no-string _ _ _ (c .before .before .before .before .before .before .pre .1 .1) _ (name-handed _ _ _ (c .before .before .before .name .ensures) (c .before .enum-told .given .1) (c .untitled .ensures)))
+    (λ c.
+    let h = name-handed _ _ _ (c .before .before .before .name .ensures) (c .before .enum-told .given .1) (c .untitled .ensures) in
+    member-no-string _ _ _ (c .before .before .before .before .before .before .pre .1 .1) _ h)
     -- add-spell-string
     (λ c.
     let told = c .before .before in
@@ -46,8 +48,9 @@ member-name-spec =
     let named = entered .before .before .before in
     let told = named .before .before .before in
     let r = name-told _ _ _ _ _ (told .before .before .name .ensures) (told .read .given .1) in
-    let t = read-titles _ (told .before .before .before .before .before .pre .0 .source<) r (named .spell-string .ensures) (entered .before .before .short .ensures) in
-    member-repeated _ _ _ (told .before .before .before .before .before .pre .1 .1) _ r _ t (entered .repeated .ensures) (c .before .if1 .taken))
+    let p = told .before .before .before .before .before .pre in
+    let t = read-titles _ (p .0 .source<) r (named .spell-string .ensures) (entered .before .before .short .ensures) in
+    member-repeated _ _ _ (p .1 .1) _ r _ t (entered .repeated .ensures) (c .before .if1 .taken))
     -- colon-requires
     (λ c κs. search auto)
     -- enum-known-scan
@@ -64,9 +67,10 @@ member-name-spec =
     let named = entered .before .before .before in
     let told = named .before .before .before in
     let r = name-told _ _ _ _ _ (told .before .before .name .ensures) (told .read .given .1) in
-    let t = read-titles _ (told .before .before .before .before .before .pre .0 .source<) r (named .spell-string .ensures) (entered .before .before .short .ensures) in
+    let p = told .before .before .before .before .before .pre in
+    let t = read-titles _ (p .0 .source<) r (named .spell-string .ensures) (entered .before .before .short .ensures) in
     let h = scan-unnamed _ _ (c .before .before .before .colon .ensures) (c .before .enum-told2 .given .1) (c .unnamed .ensures) in
-    member-no-colon _ _ _ (told .before .before .before .before .before .pre .1 .1) _ r _ t (entered .repeated .ensures) (c .before .before .before .before .if1 .left) h)
+    member-no-colon _ _ _ (p .1 .1) _ r _ t (entered .repeated .ensures) (c .before .before .before .before .if1 .left) h)
     -- same-length-3
     (λ c. search auto)
     -- returns-4
@@ -75,6 +79,7 @@ member-name-spec =
     let named = entered .before .before .before in
     let told = named .before .before .before in
     let r = name-told _ _ _ _ _ (told .before .before .name .ensures) (told .read .given .1) in
-    let t = read-titles _ (told .before .before .before .before .before .pre .0 .source<) r (named .spell-string .ensures) (entered .before .before .short .ensures) in
+    let p = told .before .before .before .before .before .pre in
+    let t = read-titles _ (p .0 .source<) r (named .spell-string .ensures) (entered .before .before .short .ensures) in
     let first = to-ok _ (c .before .before .before .colon .ensures) (c .before .scan .given .1) in
-    member-read _ _ _ (told .before .before .before .before .before .pre .1 .1) _ r _ t (entered .repeated .ensures) (c .before .before .before .before .if1 .left) _ first))
+    member-read _ _ _ (p .1 .1) _ r _ t (entered .repeated .ensures) (c .before .before .before .before .if1 .left) _ first))

@@ -2,7 +2,6 @@
 use Rattle.lexer.proofs.Auto.{auto}
 use native.Mathlib.Omega.{arith}
 use mathlib.Core.Path.{refl}
-use Rattle.lexer.proofs.BlankLaws.{blanks-within}
 use Rattle.reader.proofs.TextLaws.{text-whole, text-more, text-unread}
 use Rattle.reader.proofs.texts.read.Statement.{statement}
 use Rattle.reader.proofs.texts.read.Tie as tie
@@ -16,7 +15,7 @@ read-spec =
     -- no-name-requires
     (λ c κs. search auto)
     -- value-requires
-    (λ c κs. (c .before .before .before .before .before .before .pre .0, (rw (c .before .before .before .blanks .ensures) (blanks-within _ 0 (omega arith)), omega arith, omega arith, c .before .before .before .before .before .before .pre .1)))
+    (λ c κs. (c .before .before .before .before .before .before .pre .0, (omega arith, c .before .before .before .before .before .before .pre .1)))
     -- enum-known-r
     (λ c. search auto)
     -- enum-told
@@ -28,7 +27,8 @@ read-spec =
     -- returns
     (λ c.
     let call = c .before .before .before .before .before in
-    text-unread _ _ (call .before .before .before .before .blanks .ensures) (call .before .no-name .ensures) (call .value .ensures) _ _ (c .enum-told .given .1))
+    let first = call .before .before .before .before .blanks .ensures in
+    text-unread _ _ first (call .before .no-name .ensures) (call .value .ensures) _ _ (c .enum-told .given .1))
     -- blanks-requires-2
     (λ c κs. search auto)
     -- same-length-3
@@ -40,8 +40,10 @@ read-spec =
     let taken = c .before .before .before .before in
     let call = taken .before .before .before .before .before in
     let long = call .value .kept .1 .0 in
-    text-whole _ _ (call .before .before .before .before .blanks .ensures) (call .before .no-name .ensures) (call .value .ensures) _ _ _ (taken .r .given .1) (c .before .before .blanks2 .ensures) _ refl (c .if1 .taken)
-    (call .before .before .before .before .before .before .before .pre .1) (omega (arith, call .before .before .before .before .before .before .before .pre .0 .nodes-long, long)))
+    let first = call .before .before .before .before .blanks .ensures in
+    let p = call .before .before .before .before .before .before .before .pre in
+    text-whole _ _ first (call .before .no-name .ensures) (call .value .ensures) _ _ _ (taken .r .given .1) (c .before .before .blanks2 .ensures) _ refl
+    (c .if1 .taken) (p .1) (omega (arith, p .0 .nodes-long, long)))
     -- same-length-5
     (λ c. search auto)
     -- same-length-6
@@ -50,4 +52,6 @@ read-spec =
     (λ c.
     let taken = c .before .before .before .before in
     let call = taken .before .before .before .before .before in
-    text-more _ _ (call .before .before .before .before .blanks .ensures) (call .before .no-name .ensures) (call .value .ensures) _ _ _ (taken .r .given .1) (c .before .before .blanks2 .ensures) (c .if1 .left)))
+    let first = call .before .before .before .before .blanks .ensures in
+    text-more _ _ first (call .before .no-name .ensures) (call .value .ensures) _ _ _ (taken .r .given .1) (c .before .before .blanks2 .ensures)
+    (c .if1 .left)))

@@ -1,7 +1,7 @@
 -- `close` meets its contract.
 use Rattle.lexer.proofs.Auto.{auto}
-use Prim.Native.Nat.{_%_}
-use mathlib.Core.Path.{ap, _∙_}
+use Prim.Native.Nat.{_-_, _%_}
+use mathlib.Core.Path.{refl, ap, _∙_}
 use lib.ListN.{set}
 use Rattle.tape.specs.Layout.{values}
 use Rattle.tape.specs.Fields.{rowWith}
@@ -15,6 +15,10 @@ close-spec =
     (tie.spec
     -- no-spelling-requires
     (λ c κs. search auto)
+    -- sub-put
+    (λ c. search auto)
+    -- sub-put-2
+    (λ c. search auto)
     -- put-requires
     (λ c κs. search auto)
     -- same-length
@@ -22,6 +26,11 @@ close-spec =
     -- returns
     (λ c.
     let a = c .before .before .before .before .args in
-    let no-spelling-is = c .before .before .before .no-spelling .ensures in
-    let a = a in
-    c .before .put .ensures ∙ ap (λ v. set (a .nodes .now) (a .row) (rowWith (scalarCell (a .kind) v (a .name)) (a .span % values))) no-spelling-is))
+    let spelled = c .before .before .before .no-spelling .ensures in
+    let span = a .end - a .row - 1 in
+    record {
+      stored =
+          c .before .put .ensures
+          ∙ ap (λ v. set (a .nodes .now) (a .row) (rowWith (scalarCell (a .kind) v (a .name)) (span % values))) spelled;
+      answer = refl;
+    }))

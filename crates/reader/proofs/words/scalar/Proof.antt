@@ -46,4 +46,5 @@ scalar-spec =
     -- returns-5
     (λ c.
     let a = c .before .before .before .before .before .before .before .before .args .kind in
-    let kind : a ≡ 2 = omega arith in rw kind (literal-read _ _ _ 2 Label.false-literal _ _ _ (omega arith) (c .before .false-literal .ensures) (c .unspelled3 .ensures) (λ T. refl))))
+    let kind : a ≡ 2 = omega arith in
+    rw kind (literal-read _ _ _ 2 Label.false-literal _ _ _ (omega arith) (c .before .false-literal .ensures) (c .unspelled3 .ensures) (λ T. refl))))

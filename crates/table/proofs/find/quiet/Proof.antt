@@ -11,10 +11,10 @@ use Rattle.table.proofs.find.quiet.Statement.{statement}
 use Rattle.table.proofs.find.quiet.Tie as tie
 
 abbrev Inv-loop : tie.InvT-loop
-Inv-loop nodes row stop hash spans₀ seen₀ i₀ spans seen i = (i ≤ block) × Scanned nodes hash row i spans seen
+Inv-loop nodes row stop hash spans₀ i₀ spans i = (i ≤ block) × Scanned nodes hash row i spans
 
 abbrev μ-loop : tie.MeasureT-loop
-μ-loop nodes row stop hash spans₀ seen₀ i₀ spans seen i = block - i
+μ-loop nodes row stop hash spans₀ i₀ spans i = block - i
 
 pub quiet-spec : {M : Type 1} → statement M
 quiet-spec =
@@ -23,31 +23,36 @@ quiet-spec =
     Inv-loop
     μ-loop
     -- returns
-    (λ c. λ e. absurd (true≢false (sym e)))
+    (λ c e. absurd (true≢false (sym e)))
     -- sub-if2
     (λ c. search needs)
     -- returns-2
-    (λ c. λ e. absurd (true≢false (sym e)))
+    (λ c e. absurd (true≢false (sym e)))
     -- loop-holds
     (λ c. (omega arith, scanned-none))
-    -- add-spans, mul-spans, index-1-spans, index-2-spans
+    -- add-if3
     (λ c. search needs)
+    -- mul-if3
     (λ c. search needs)
+    -- index-1-if3
     (λ c. search needs)
+    -- index-2-if3
     (λ c. search needs)
-    -- add-equal, mul-equal, index-1-equal, index-2-equal
+    -- returns-3
+    (λ c e. absurd (true≢false (sym e)))
+    -- add-spans
     (λ c. search needs)
+    -- mul-spans
     (λ c. search needs)
+    -- index-1-spans
     (λ c. search needs)
+    -- index-2-spans
     (λ c. search needs)
-    -- equal-requires
-    (λ c κs. search needs)
-    -- add-i, loop-less
+    -- add-i
     (λ c. search needs)
+    -- loop-less
     (λ c. search needs)
     -- loop-again
-    (λ c. (omega arith, scanned-next _ (c .equal .ensures) (c .before .before .before .before .loop .inv .1)))
-    -- returns-3
-    (λ c. λ e. absurd (true≢false (sym e)))
+    (λ c. (omega arith, scanned-next (c .before .if3 .left) (c .before .before .before .before .loop .inv .1)))
     -- returns-4
-    (λ c. λ e. (omega arith, scanned-quiet block (omega arith) (eqb-true _ _ e) (c .if3 .left) (c .before .before .loop .inv .1))))
+    (λ c e. (omega arith, scanned-quiet block (omega arith) (eqb-true _ _ e) (c .before .loop .inv .1))))

@@ -8,7 +8,7 @@ use borrow.Author.Needs.{needs}
 use borrow.Fn.Kinds.{In}
 use borrow.Fn.PlainCycle.{Measures, is, falls, and}
 use Rattle.writer.proofs.PlacedLaws.{placed-length, placed-inside, back-length, lent-fits, turn-fits}
-use Rattle.writer.proofs.ValueLaws.{write-out, write-scalar-laid, Laying, laying-next, write-nested, laying-all, laying-none}
+use Rattle.writer.proofs.ValueLaws.{write-out, write-scalar-laid, Laying, laying-next, scalar-end, write-nested, laying-all, laying-none}
 use Rattle.writer.proofs.values.write.Reads as write
 use Rattle.writer.proofs.values.write.Kinds as write-kinds
 use Rattle.writer.proofs.values.+write.Lts-write as write-lts
@@ -124,6 +124,57 @@ pub +write-spec : {M : Type 1} → statement M
     (λ c κs. search needs)
     -- add-put
     (λ c. search needs)
+    -- mul-item
+    (λ c. search needs)
+    -- shared-slice-copy-out-item
+    (λ c. search needs)
+    -- array-read-kind-in-2
+    (λ c. search needs)
+    -- kind-in-requires-2
+    (λ c κs. search needs)
+    -- value-of-requires-2
+    (λ c κs. search needs)
+    -- sub-write-scalar
+    (λ c. search needs)
+    -- part-write-scalar-start
+    (λ c. search needs)
+    -- part-write-scalar-end
+    (λ c. search needs)
+    -- write-scalar-requires-2
+    (λ c κs. search needs)
+    -- add-put-2
+    (λ c.
+    let begun = c .before .before .before .before .before .before .before .before .before .before .before .before .before .before in
+    let good = begun .before .before .before .before .before .before .before .before .before .before .before .before .before .before .good in
+    let put-byte = begun .before .before .before .before .put-byte in
+    let l = begun .before .loop in
+    let p = c .before .before .before .before .before .before .before .before .before .before .write-prefix in
+    let w = c .before .before .write-scalar2 in
+    let fits : l .put + p .result ≤ length (l .out) = lent-fits (l .out) (l .put) (p .result) (omega arith) (l .inv .0) in
+    let turn = turn-fits (l .out) (l .put) (p .result) (p .last .1 .1 .1 .1 .0) (w .last .1 .1 .1 .0) fits (p .kept .1 .1 .1 .1 .0)
+    (w .kept .1 .1 .1 .0) (placed-inside (w .ensures)) in
+    omega (arith, turn .0, placed-length (put-byte .ensures), good .1 .1 .1 .1 .0 .0))
+    -- add-row-2
+    (λ c. search needs)
+    -- loop-less
+    (λ c. search needs)
+    -- loop-again
+    (λ c.
+    let l = c .before .before .before .before .before .before .before .before .before .before .before .before .before .before .before .loop in
+    let more = c .before .before .before .before .before .before .before .before .before .before .before .before .before .before .loop-test .taken in
+    let kind-in = c .before .before .before .before .before .before .kind-in2 in
+    let scalar = c .before .before .before .before .before .if4 .taken in
+    let p = c .before .before .before .before .before .before .before .before .before .before .write-prefix in
+    let w = c .before .before .write-scalar2 in
+    let fits : l .put + p .result ≤ length (l .out) = lent-fits (l .out) (l .put) (p .result) (omega arith) (l .inv .0) in
+    let turn = turn-fits (l .out) (l .put) (p .result) (p .last .1 .1 .1 .1 .0) (w .last .1 .1 .1 .0) fits (p .kept .1 .1 .1 .1 .0)
+    (w .kept .1 .1 .1 .0) (placed-inside (w .ensures)) in
+    let told = write-scalar-laid _ _ (kind-in .ensures) (c .before .before .before .before .value-of2 .ensures) scalar (w .ensures) in (
+      omega (arith, turn),
+      turn .1 ∙ l .inv .1,
+      laying-next (l .inv .2) (omega (arith, more)) _ (λ d ks held. scalar-end held _ (kind-in .ensures) scalar) _
+          (c .before .before .before .before .before .before .before .before .before .before .before .before .name-of .ensures) (p .ensures) told,
+    ))
     -- sub-write
     (λ c. search needs)
     -- sub-write-2
@@ -134,13 +185,13 @@ pub +write-spec : {M : Type 1} → statement M
     (λ c. search needs)
     -- write-requires
     (λ c κs. search needs)
-    -- add-put-2
+    -- add-put-3
     (λ c.
     let begun = c .before .before .before .before .before .before .before .before .before .before .before .before .before .before in
-    let good = begun .before .before .before .before .before .before .before .before .before .before .good in
-    let put-byte = c .before .before .before .before .before .before .before .before .before .before .before .before .before .before .put-byte in
-    let l = c .before .before .before .before .before .before .before .before .before .before .before .loop in
-    let p = c .before .before .before .before .before .before .write-prefix in
+    let good = begun .before .before .before .before .before .before .before .before .before .before .before .before .before .good in
+    let put-byte = begun .before .before .before .put-byte in
+    let l = c .before .before .before .before .before .before .before .before .before .before .before .before .before .before .loop in
+    let p = c .before .before .before .before .before .before .before .before .before .write-prefix in
     let w = c .before .before .write in
     let fits : l .put + p .result ≤ length (l .out) = lent-fits (l .out) (l .put) (p .result) (omega arith) (l .inv .0) in
     let turn = turn-fits (l .out) (l .put) (p .result) (p .last .1 .1 .1 .1 .0) (w .last .1 .1 .1 .1 .0) fits (p .kept .1 .1 .1 .1 .0)
@@ -148,18 +199,23 @@ pub +write-spec : {M : Type 1} → statement M
     omega (arith, turn .0, placed-length (put-byte .ensures), good .1 .1 .1 .1 .0 .0))
     -- end-of-requires-2
     (λ c κs. search needs)
-    -- loop-less
+    -- loop-less-2
     (λ c. search needs)
-    -- loop-again
+    -- loop-again-2
     (λ c.
-    let l = c .before .before .before .before .before .before .before .before .before .before .before .before .loop in
-    let name-of = c .before .before .before .before .before .before .before .before .before .name-of in
-    let p = c .before .before .before .before .before .before .before .write-prefix in
+    let l = c .before .before .before .before .before .before .before .before .before .before .before .before .before .before .before .loop in
+    let more = c .before .before .before .before .before .before .before .before .before .before .before .before .before .before .loop-test .taken in
+    let name-of = c .before .before .before .before .before .before .before .before .before .before .before .before .name-of in
+    let p = c .before .before .before .before .before .before .before .before .before .before .write-prefix in
     let w = c .before .before .before .write in
     let fits : l .put + p .result ≤ length (l .out) = lent-fits (l .out) (l .put) (p .result) (omega arith) (l .inv .0) in
     let turn = turn-fits (l .out) (l .put) (p .result) (p .last .1 .1 .1 .1 .0) (w .last .1 .1 .1 .1 .0) fits (p .kept .1 .1 .1 .1 .0)
-    (w .kept .1 .1 .1 .1 .0) (placed-inside (w .ensures .some .placed)) in
-    (omega (arith, turn), turn .1 ∙ l .inv .1, laying-next (l .inv .2) (omega arith) _ (c .end-of2 .ensures) _ (name-of .ensures) (p .ensures) (w .ensures)))
+    (w .kept .1 .1 .1 .1 .0) (placed-inside (w .ensures .some .placed)) in (
+      omega (arith, turn),
+      turn .1 ∙ l .inv .1,
+      laying-next (l .inv .2) (omega (arith, more)) _ (λ d ks held. c .end-of2 .ensures) _
+          (name-of .ensures) (p .ensures) (w .ensures),
+    ))
     -- closing-bracket-requires
     (λ c κs. search needs)
     -- sub-put-byte
