@@ -7,7 +7,8 @@
 #   make clean            what make has made; proofs stay
 #
 # Needs rt (the Rattle toolchain), a C compiler, cargo (Rust 1.82 or later) and
-# GNU make; for 'make check' also a C++ compiler, pkg-config and python3.
+# GNU make; for 'make check' also a C++ compiler, pkg-config and python3, and gdb
+# if there is one.
 
 PREFIX ?= /usr/local
 DESTDIR ?=
@@ -33,7 +34,7 @@ VERSION := $(shell sed -n 's/.*JSON_PATCH_VERSION "\(.*\)"/\1/p' include/json_pa
 # function or a struct of the header changes after a release.
 ABI := 0
 
-# The folder of the static libraries, if it is not the one that rt makes here.
+# The folder of the proved archives, if it is not the one that rt makes here.
 ifdef JSON_PATCH_LIB
 prebuilt := yes
 endif
@@ -41,8 +42,12 @@ override JSON_PATCH_LIB := $(abspath $(or $(JSON_PATCH_LIB),target/staticlib))
 export JSON_PATCH_LIB
 
 out := target/make
-static := $(JSON_PATCH_LIB)/libjson_patch.a
+# As rt makes them: the call, the functions on one record, and the links.
+proved_call := $(JSON_PATCH_LIB)/libjson_patch.a
+proved_record := $(JSON_PATCH_LIB)/librecord.a
 links := $(JSON_PATCH_LIB)/libfragment.a
+# The library as it is installed: the call and the records.
+static := $(out)/libjson_patch.a
 shared := libjson_patch.so.$(VERSION)
 soname := libjson_patch.so.$(ABI)
 command := $(out)/json-patch
@@ -54,17 +59,29 @@ rust := $(shell find rust/src rust/cli/src -name '*.rs') rust/build.rs rust/Carg
 all: $(static) $(links) $(out)/$(soname) $(command) $(completions)
 
 ifndef prebuilt
-$(static): $(proved)
+$(proved_call): $(proved)
 	@command -v rt >/dev/null || { echo "no rt: the Rattle toolchain proves and makes $@" >&2; exit 1; }
 	rt staticlib json_patch
 	@touch $@
 
-$(links): $(proved)
+# One after another: they prove the crates that they share.
+$(proved_record): $(proved_call)
+	rt staticlib record
+	@touch $@
+
+$(links): $(proved_record)
 	rt staticlib fragment
 	@touch $@
 endif
 
-# The shared library is the proved archives, linked whole.
+# The proved objects, unchanged, in one archive.
+$(static): $(proved_call) $(proved_record)
+	@rm -rf $(out)/objects $@
+	@mkdir -p $(out)/objects
+	cd $(out)/objects && $(AR) x $(proved_call) && $(AR) x $(proved_record)
+	$(AR) rcs $@ $(out)/objects/*.o
+
+# The shared library is the archives, linked whole.
 $(out)/$(shared): $(static) $(links)
 	@mkdir -p $(out)
 	$(CC) -shared $(LDFLAGS) -Wl,-soname,$(soname) -Wl,-z,defs -Wl,-z,relro -Wl,-z,now \
@@ -73,7 +90,7 @@ $(out)/$(shared): $(static) $(links)
 $(out)/$(soname): $(out)/$(shared)
 	ln -sf $(shared) $@
 
-$(command): $(rust) $(static) $(links)
+$(command): $(rust) $(proved_call) $(links)
 	@mkdir -p $(out)
 	$(CARGO) build --release $(CARGO_FLAGS) --manifest-path rust/Cargo.toml --package json-patch-cli --target-dir rust/target
 	cp rust/target/release/json-patch $@
@@ -90,6 +107,8 @@ check: all
 	examples/run.sh
 	@echo "== the header: C and C++, both sanitizers"
 	tests/header.sh
+	@echo "== the work area in a debugger, and docs/WORK-AREA.md"
+	tests/dump.sh --check
 	@echo "== Rust: the library, its documented examples, the command line"
 	$(CARGO) test $(CARGO_FLAGS) --workspace --manifest-path rust/Cargo.toml --target-dir rust/target
 	@echo "== Python"

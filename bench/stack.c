@@ -16,7 +16,8 @@
 #define MOST (1 << 20)
 
 static uint64_t stack[STACK_WORDS];
-static uint64_t values[JSON_PATCH_WORK_WORDS], names[JSON_PATCH_WORK_WORDS];
+static json_patch_node nodes[JSON_PATCH_WORK_NODES];
+static uint16_t entries[JSON_PATCH_WORK_ENTRIES];
 static uint8_t document[MOST], patch[MOST], output[MOST];
 static size_t document_length, patch_length, room;
 static json_patch_answer answer;
@@ -25,8 +26,8 @@ static const uint64_t *frame;
 
 static void call(void) {
     frame = (const uint64_t *)__builtin_frame_address(0);
-    json_patch_apply(document, document_length, patch, patch_length, output, room, values, JSON_PATCH_WORK_WORDS, names,
-                     JSON_PATCH_WORK_WORDS, &answer);
+    json_patch_apply(document, document_length, patch, patch_length, output, room, nodes, JSON_PATCH_WORK_NODES, entries,
+                     JSON_PATCH_WORK_ENTRIES, &answer);
 }
 
 static size_t depth(void) {

@@ -5,16 +5,19 @@
  *     json_patch_apply_with(document, document_length, patch, patch_length,
  *                           output, sizeof output, &work, &answer);
  *
- * The library exports one function, json_patch_apply, proved to answer as the
- * definitions say on every input. It allocates nothing, keeps no state and may
- * be called from several threads at once, each with buffers of its own. The
- * inline functions at the end of this file stand on it: one work area in place
- * of buffers, and words for an answer. They are not part of the proof.
+ * The call is json_patch_apply, proved to answer as the definitions say on every
+ * input. It allocates nothing, keeps no state and may be called from several
+ * threads at once, each with buffers of its own. Three small functions look at
+ * one record of the work area and clear it; they are proved too. The inline
+ * functions are not part of the proof: one work area in place of buffers, words
+ * for an answer, the parts of a record's tags.
  *
- * Link with -ljson_patch (`pkg-config --cflags --libs json_patch`), or with
- * target/staticlib/libjson_patch.a, made by `rt staticlib json_patch`. The
- * library needs memcpy and memset and nothing else. examples/apply.c is a worked
- * example, json_patch(3) the manual.
+ * Link with -ljson_patch (`pkg-config --cflags --libs json_patch`), which has all
+ * four. As `rt staticlib` makes them, json_patch_apply is in
+ * target/staticlib/libjson_patch.a (`rt staticlib json_patch`), and
+ * json_patch_node_read, _store and _clear are in target/staticlib/librecord.a
+ * (`rt staticlib record`). The library needs memcpy and memset and nothing else.
+ * examples/apply.c is a worked example, json_patch(3) the manual.
  *
  * C99, and C++. */
 #ifndef JSON_PATCH_H
@@ -30,8 +33,9 @@ extern "C" {
 /* The version of this header and of its library. */
 #define JSON_PATCH_VERSION "0.1.0"
 
-/* Words of 64 bits in each of the two buffers of the work area: 49,152 bytes. */
-#define JSON_PATCH_WORK_WORDS 6144
+/* The work area: records of 16 bytes, and entries of 2. 114,688 bytes in all. */
+#define JSON_PATCH_WORK_NODES 6144
+#define JSON_PATCH_WORK_ENTRIES 8192
 
 /* The numbers that bound the work. */
 #define JSON_PATCH_MAX_BYTES 32768    /* bytes of a document, and of a patch */
@@ -78,15 +82,29 @@ typedef struct json_patch_answer {
     uint64_t length; /* the written length, 0 on refusal */
 } json_patch_answer;
 
+/* A node of the work area: one value of the document or of the patch, in one
+ * place. A tree lies in preorder, and a field without a meaning for a node is 0.
+ * docs/WORK-AREA.md shows a document, record by record. */
+typedef struct json_patch_node {
+    uint16_t name_start;  /* where its name begins, in bytes, behind the quotation mark */
+    uint16_t name_length; /* the name's bytes */
+    uint16_t start;       /* where the text of a number or a string begins */
+    uint16_t length;      /* the bytes of that text */
+    uint16_t span;        /* how many nodes are below it, at every depth */
+    uint16_t hash;        /* a hash of the name */
+    uint16_t tags;        /* kind, form and source: json_patch_node_kind() and its neighbours */
+    uint16_t origin;      /* 0 */
+} json_patch_node;
+
 /* Applies the patch to the document and writes the result to the output, or
  * refuses. Returns the answer's number, which is also answer->number.
  *
- * values and names are the work area, JSON_PATCH_WORK_WORDS words each or more.
- * They may hold anything before. After a 1, no buffer has changed. After any
- * other answer the work area is all zero; where a work buffer is longer than
- * stated, the part beyond is unchanged. After a refusal the output is unchanged;
- * after a 0 its first bytes are the written text and the rest is unchanged. The
- * two inputs are only read.
+ * nodes and index are the work area: JSON_PATCH_WORK_NODES records or more, and
+ * JSON_PATCH_WORK_ENTRIES entries or more. They may hold anything before. After
+ * a 1, no buffer has changed. After any other answer the work area is all zero;
+ * where a list is longer than stated, the part beyond is unchanged. After a
+ * refusal the output is unchanged; after a 0 its first bytes are the written
+ * text and the rest is unchanged. The two inputs are only read.
  *
  * Order: 1, 2, the whole document read, the whole patch read, the shape of every
  * operation, the operations one after another, then 16. The first that applies
@@ -94,29 +112,86 @@ typedef struct json_patch_answer {
  *
  * The caller owes what C owes any function of pointers and lengths: each pointer
  * is not null, even where its length is 0, is aligned for its type, and points
- * to as many bytes or words as its length says; the output, the two work buffers
- * and the answer overlap neither one another nor the inputs. */
+ * to as many bytes, records or entries as its length or count says; the output,
+ * the two lists and the answer overlap neither one another nor the inputs. */
 uint32_t json_patch_apply(const uint8_t *document, size_t document_length,
                           const uint8_t *patch, size_t patch_length,
                           uint8_t *output, size_t output_length,
-                          uint64_t *values, size_t values_length,
-                          uint64_t *names, size_t names_length,
+                          json_patch_node *nodes, size_t nodes_count,
+                          uint16_t *index, size_t index_count,
                           json_patch_answer *answer);
 
-/* The work area as one object, JSON_PATCH_WORK_WORDS words in each buffer. It
- * may hold anything before a call and is all zero after one, so it can be lent
- * again and again. It is too large for a small stack: make it static, or lend
- * memory that is not in use yet. */
+/* The work area as one object. It may hold anything before a call and is all
+ * zero after one, so it can be lent again and again. It is too large for a small
+ * stack: make it static, or lend memory that is not in use yet. */
 typedef struct json_patch_work {
-    uint64_t values[JSON_PATCH_WORK_WORDS];
-    uint64_t names[JSON_PATCH_WORK_WORDS];
+    json_patch_node nodes[JSON_PATCH_WORK_NODES];
+    uint16_t index[JSON_PATCH_WORK_ENTRIES];
 } json_patch_work;
+
+/* The rows of the work area where the document begins, the patch, and the value
+ * on its way in a move or a copy. */
+#define JSON_PATCH_ROW_DOCUMENT 0
+#define JSON_PATCH_ROW_PATCH 2048
+#define JSON_PATCH_ROW_SCRATCH 4096
+
+/* One record of a lent list: read, stored, cleared. Where the list has no such
+ * row, a record of zeros is read, and nothing is stored or cleared. No other
+ * record changes. For looking at a work area: a call needs none of the three. In
+ * librecord.a, see above. */
+json_patch_node json_patch_node_read(const json_patch_node *nodes, size_t nodes_count, size_t row);
+void json_patch_node_store(json_patch_node *nodes, size_t nodes_count, size_t row, json_patch_node node);
+void json_patch_node_clear(json_patch_node *nodes, size_t nodes_count, size_t row);
+
+/* What a node is. */
+enum json_patch_kind {
+    JSON_PATCH_KIND_NULL = 0,
+    JSON_PATCH_KIND_TRUE = 1,
+    JSON_PATCH_KIND_FALSE = 2,
+    JSON_PATCH_KIND_NUMBER = 3,
+    JSON_PATCH_KIND_STRING = 4,
+    JSON_PATCH_KIND_ARRAY = 5,
+    JSON_PATCH_KIND_OBJECT = 6
+};
+
+/* How its text is read, or its name. */
+enum json_patch_form {
+    JSON_PATCH_FORM_NONE = 0,    /* there is none, or it is empty */
+    JSON_PATCH_FORM_PLAIN = 1,   /* a string without escapes */
+    JSON_PATCH_FORM_ESCAPED = 2, /* a string with escapes */
+    JSON_PATCH_FORM_TOKEN = 3,   /* a pointer's token inside a string */
+    JSON_PATCH_FORM_NUMBER = 4   /* a number */
+};
+
+/* The text that it stands in. */
+enum json_patch_source {
+    JSON_PATCH_SOURCE_DOCUMENT = 0,
+    JSON_PATCH_SOURCE_PATCH = 1
+};
 
 #ifdef __cplusplus
 #define JSON_PATCH_AS_(type, value) static_cast<type>(value)
 #else
 #define JSON_PATCH_AS_(type, value) ((type)(value))
 #endif
+
+/* The parts of a node's tags:
+ *     kind + 8 * (form + 8 * (source + 2 * (name form + 8 * name source))) */
+static inline enum json_patch_kind json_patch_node_kind(json_patch_node node) {
+    return JSON_PATCH_AS_(enum json_patch_kind, node.tags % 8);
+}
+static inline enum json_patch_form json_patch_node_form(json_patch_node node) {
+    return JSON_PATCH_AS_(enum json_patch_form, node.tags / 8 % 8);
+}
+static inline enum json_patch_source json_patch_node_source(json_patch_node node) {
+    return JSON_PATCH_AS_(enum json_patch_source, node.tags / 64 % 2);
+}
+static inline enum json_patch_form json_patch_node_name_form(json_patch_node node) {
+    return JSON_PATCH_AS_(enum json_patch_form, node.tags / 128 % 8);
+}
+static inline enum json_patch_source json_patch_node_name_source(json_patch_node node) {
+    return JSON_PATCH_AS_(enum json_patch_source, node.tags / 1024 % 2);
+}
 
 /* json_patch_apply in a work area. A pointer may be null where its length is 0. */
 static inline uint32_t json_patch_apply_with(const void *document, size_t document_length,
@@ -127,7 +202,7 @@ static inline uint32_t json_patch_apply_with(const void *document, size_t docume
     return json_patch_apply(document_length ? JSON_PATCH_AS_(const uint8_t *, document) : &none, document_length,
                             patch_length ? JSON_PATCH_AS_(const uint8_t *, patch) : &none, patch_length,
                             output_length ? JSON_PATCH_AS_(uint8_t *, output) : &none, output_length,
-                            work->values, JSON_PATCH_WORK_WORDS, work->names, JSON_PATCH_WORK_WORDS, answer);
+                            work->nodes, JSON_PATCH_WORK_NODES, work->index, JSON_PATCH_WORK_ENTRIES, answer);
 }
 
 /* What a number means, in a few words. Never null. */

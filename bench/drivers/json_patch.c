@@ -3,8 +3,8 @@
 #include "driver.h"
 #include "json_patch.h"
 
-static uint64_t values[JSON_PATCH_WORK_WORDS];
-static uint64_t names[JSON_PATCH_WORK_WORDS];
+static json_patch_node nodes[JSON_PATCH_WORK_NODES];
+static uint16_t entries[JSON_PATCH_WORK_ENTRIES];
 static uint8_t output[1 << 20];
 
 int main(int argc, char **argv) {
@@ -17,9 +17,9 @@ int main(int argc, char **argv) {
     const uint8_t *patch = (const uint8_t *)driver_read(argv[2], &patch_length);
     const long calls = atol(argv[3]);
     json_patch_answer answer;
-#define CALL()                                                                                                          \
-    json_patch_apply(document, document_length, patch, patch_length, output, sizeof output, values, JSON_PATCH_WORK_WORDS, \
-                     names, JSON_PATCH_WORK_WORDS, &answer)
+#define CALL()                                                                                                         \
+    json_patch_apply(document, document_length, patch, patch_length, output, sizeof output, nodes, JSON_PATCH_WORK_NODES, \
+                     entries, JSON_PATCH_WORK_ENTRIES, &answer)
     if (CALL() != JSON_PATCH_DONE) {
         fprintf(stderr, "error: refused %d text %d op %d place %d\n", (int)answer.number, (int)answer.text, (int)answer.op,
                 (int)answer.place);

@@ -1,6 +1,7 @@
 //! Lent memory that notices a step past its end: each buffer ends where a page
 //! begins that may not be touched.
 
+use json_patch::Node;
 use std::ffi::c_void;
 use std::marker::PhantomData;
 use std::{ptr, slice};
@@ -23,11 +24,12 @@ pub struct Arena<T> {
     items: PhantomData<T>,
 }
 
-/// The plain numbers that an arena may hold.
+/// The plain numbers, and records of them, that an arena may hold.
 pub trait Plain: Copy {}
 
 impl Plain for u8 {}
-impl Plain for u64 {}
+impl Plain for u16 {}
+impl Plain for Node {}
 
 impl<T: Plain> Arena<T> {
     /// Room for so many items, all zero.

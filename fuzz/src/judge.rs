@@ -1,7 +1,7 @@
 //! One case put to both engines, and what the call promises of lent memory.
 
 use crate::arena::Arena;
-use json_patch::{apply_in, Refusal, WORK_WORDS};
+use json_patch::{apply_in, Node, Refusal, WORK_ENTRIES, WORK_NODES};
 use second::cases::Case;
 use second::generate::random::Random;
 use second::{apply, Answer};
@@ -9,22 +9,25 @@ use std::fmt;
 
 /// The longest input and output that is lent; longer cases are cut.
 pub const LONGEST: usize = 1 << 17;
-/// Words lent in front of a buffer and behind it, which must not change.
+/// Items lent in front of a buffer and behind it, which must not change.
 const MARGIN: usize = 64;
-/// Words that fill the work area before a call.
-const GARBAGE: usize = 2 * (WORK_WORDS + 3 * MARGIN);
+/// Records that fill the node table before a call.
+const GARBAGE_NODES: usize = 2 * (WORK_NODES + 3 * MARGIN);
+/// Entries that fill the index before a call.
+const GARBAGE_ENTRIES: usize = 2 * (WORK_ENTRIES + 3 * MARGIN);
 
 /// The lent memory of one thread.
 pub struct Judge {
     document: Arena<u8>,
     patch: Arena<u8>,
     output: Arena<u8>,
-    values: Arena<u64>,
-    names: Arena<u64>,
+    nodes: Arena<Node>,
+    index: Arena<u16>,
     /// What the output holds before a call.
     blank: Vec<u8>,
     /// What the work area may hold before a call.
-    garbage: Vec<u64>,
+    garbage_nodes: Vec<Node>,
+    garbage_entries: Vec<u16>,
 }
 
 /// What is wrong with an answer. Two faults are of one kind if what is wrong and
@@ -64,8 +67,8 @@ fn shown(answer: &Result<usize, Refusal>) -> String {
 /// How the buffers of a call are lent.
 struct Lent {
     room: usize,
-    values: usize,
-    names: usize,
+    nodes: usize,
+    entries: usize,
 }
 
 impl Judge {
@@ -76,10 +79,11 @@ impl Judge {
             document: Arena::new(LONGEST),
             patch: Arena::new(LONGEST),
             output: Arena::new(LONGEST + MARGIN),
-            values: Arena::new(WORK_WORDS + 3 * MARGIN),
-            names: Arena::new(WORK_WORDS + 3 * MARGIN),
+            nodes: Arena::new(WORK_NODES + 3 * MARGIN),
+            index: Arena::new(WORK_ENTRIES + 3 * MARGIN),
             blank: (0..LONGEST + MARGIN).map(|_| random.byte()).collect(),
-            garbage: (0..GARBAGE).map(|_| random.bits()).collect(),
+            garbage_nodes: (0..GARBAGE_NODES).map(|_| any_node(&mut random)).collect(),
+            garbage_entries: (0..GARBAGE_ENTRIES).map(|_| random.bits() as u16).collect(),
         }
     }
 
@@ -88,8 +92,9 @@ impl Judge {
     pub fn fault(&mut self, case: &Case, random: &mut Random) -> Option<Fault> {
         let room = case.room.min(LONGEST);
         let mut expected = apply(&case.document, &case.patch, room);
-        let longer = if random.chance(10) { random.below(MARGIN) } else { 0 };
-        let mut lent = Lent { room, values: WORK_WORDS + longer, names: WORK_WORDS };
+        let mut longer = || if random.chance(10) { random.below(MARGIN) } else { 0 };
+        let (nodes, entries) = (WORK_NODES + longer(), WORK_ENTRIES + longer());
+        let mut lent = Lent { room, nodes, entries };
         let fault = self.call(case, &lent, &expected, random);
         if fault.is_some() {
             return fault;
@@ -105,12 +110,17 @@ impl Judge {
                 lent.room -= 1;
                 expected = refusal(16);
             }
-            // A work buffer that is too short.
+            // A list that is too short, or both; often by one.
             2 => {
-                let short = if random.chance(50) { 1 } else { random.between(1, WORK_WORDS) };
+                let mut short = |most| if random.chance(50) { 1 } else { random.between(1, most) };
+                let (nodes, entries) = (short(WORK_NODES), short(WORK_ENTRIES));
                 let which = random.below(3);
-                lent.values = WORK_WORDS - if which == 1 { 0 } else { short };
-                lent.names = WORK_WORDS - if which == 0 { 0 } else { short };
+                if which != 1 {
+                    lent.nodes = WORK_NODES - nodes;
+                }
+                if which != 0 {
+                    lent.entries = WORK_ENTRIES - entries;
+                }
                 expected = refusal(1);
             }
             _ => return None,
@@ -133,7 +143,8 @@ impl Judge {
         expected: &Answer,
         random: &mut Random,
     ) -> Option<Fault> {
-        let Judge { document, patch, output, values, names, blank, garbage } = self;
+        let Judge { document, patch, output, nodes, index, blank, .. } = self;
+        let (garbage_nodes, garbage_entries) = (&self.garbage_nodes, &self.garbage_entries);
         let document = document.last(case.document.len());
         document.copy_from_slice(&case.document);
         let patch = patch.last(case.patch.len());
@@ -143,20 +154,19 @@ impl Judge {
         let output = output.last(MARGIN + lent.room);
         let blank = &blank[..output.len()];
         output.copy_from_slice(blank);
-        let values = values.last(MARGIN + lent.values);
-        let names = names.last(MARGIN + lent.names);
-        let at = random.below(GARBAGE - values.len() - names.len() + 1);
-        let (values_before, rest) = garbage[at..].split_at(values.len());
-        let names_before = &rest[..names.len()];
-        values.copy_from_slice(values_before);
-        names.copy_from_slice(names_before);
+        let nodes = nodes.last(MARGIN + lent.nodes);
+        let index = index.last(MARGIN + lent.entries);
+        let nodes_before = any_part(garbage_nodes, nodes.len(), random);
+        let index_before = any_part(garbage_entries, index.len(), random);
+        nodes.copy_from_slice(nodes_before);
+        index.copy_from_slice(index_before);
 
         let given = apply_in(
             document,
             patch,
             &mut output[MARGIN..],
-            &mut values[MARGIN..],
-            &mut names[MARGIN..],
+            &mut nodes[MARGIN..],
+            &mut index[MARGIN..],
         );
 
         let wanted = match expected {
@@ -179,17 +189,49 @@ impl Judge {
         if *document != case.document || *patch != case.patch {
             return fault("changes an input");
         }
-        let cleared = if expected.number == 1 { 0 } else { WORK_WORDS };
-        for (after, before) in [(&values, values_before), (&names, names_before)] {
-            let (work, beyond) = after[MARGIN..].split_at(cleared);
-            if work.iter().any(|&word| word != 0) {
-                return fault("leaves the work area not zero");
-            }
-            if after[..MARGIN] != before[..MARGIN] || *beyond != before[MARGIN + cleared..] {
-                return fault("changes words outside the work area");
-            }
-        }
-        None
+        let touched = expected.number != 1;
+        let (of_nodes, of_index) = if touched { (WORK_NODES, WORK_ENTRIES) } else { (0, 0) };
+        after(nodes, nodes_before, of_nodes, Node::ZERO)
+            .or(after(index, index_before, of_index, 0))
+            .and_then(fault)
+    }
+}
+
+/// What is wrong with a list after a call: as many items behind the margin must
+/// be zero, and all others as they were.
+fn after<T: Copy + PartialEq>(
+    list: &[T],
+    before: &[T],
+    cleared: usize,
+    zero: T,
+) -> Option<&'static str> {
+    let (work, beyond) = list[MARGIN..].split_at(cleared);
+    if work.iter().any(|&item| item != zero) {
+        return Some("leaves the work area not zero");
+    }
+    if list[..MARGIN] != before[..MARGIN] || *beyond != before[MARGIN + cleared..] {
+        return Some("changes memory outside the work area");
+    }
+    None
+}
+
+/// Any part of a list, of that length.
+fn any_part<'a, T>(list: &'a [T], length: usize, random: &mut Random) -> &'a [T] {
+    let at = random.below(list.len() - length + 1);
+    &list[at..at + length]
+}
+
+fn any_node(random: &mut Random) -> Node {
+    let mut field = || random.bits() as u16;
+    Node {
+        name_start: field(),
+        name_length: field(),
+        start: field(),
+        length: field(),
+        span: field(),
+        hash: field(),
+        tags: field(),
+        origin: field(),
     }
 }
 

@@ -58,20 +58,32 @@ OUTPUT = 65_536
 _SONAME = "libjson_patch.so.0"
 
 # All that this module knows of the work area.
-_WORD = ctypes.c_uint64
-_WORDS = 6_144
+_NODES = 6_144
+_ENTRIES = 8_192
+
+
+class _Node(ctypes.Structure):
+    """A record of the work area, as in json_patch.h."""
+
+    _fields_ = [
+        (name, ctypes.c_uint16)
+        for name in ("name_start", "name_length", "start", "length", "span", "hash", "tags", "origin")
+    ]
 
 
 class _Work(ctypes.Structure):
     """The work area: it is all zero between calls."""
 
-    _fields_ = [("values", _WORD * _WORDS), ("names", _WORD * _WORDS)]
+    _fields_ = [("nodes", _Node * _NODES), ("index", ctypes.c_uint16 * _ENTRIES)]
 
-    types = [ctypes.POINTER(_WORD), ctypes.c_size_t] * 2
+    types = [
+        ctypes.POINTER(_Node), ctypes.c_size_t,
+        ctypes.POINTER(ctypes.c_uint16), ctypes.c_size_t,
+    ]
 
     def lent(self) -> Tuple[Any, ...]:
         """What is passed to the library, in the order of `types`."""
-        return (self.values, _WORDS, self.names, _WORDS)
+        return (self.nodes, _NODES, self.index, _ENTRIES)
 
 
 class _Answer(ctypes.Structure):

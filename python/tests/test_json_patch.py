@@ -124,7 +124,8 @@ class Agreement(unittest.TestCase):
         return int(re.search(rf"#define JSON_PATCH_{name} (\d+)", self.header)[1])
 
     def test_the_header_has_the_same_numbers_and_words(self):
-        names = dict(re.findall(r"^    JSON_PATCH_(\w+) = (\d+)", self.header, re.M))
+        numbers = re.search(r"enum json_patch_number {(.*?)}", self.header, re.S)[1]
+        names = dict(re.findall(r"^    JSON_PATCH_(\w+) = (\d+)", numbers, re.M))
         self.assertEqual(names.pop("DONE"), "0")
         self.assertEqual({name: int(number) for name, number in names.items()},
                          {kind.name: int(kind) for kind in Kind})
@@ -135,12 +136,14 @@ class Agreement(unittest.TestCase):
     def test_the_header_has_the_same_limits(self):
         self.assertEqual(self.defined("MAX_BYTES"), json_patch.MAX_BYTES)
         self.assertEqual(self.defined("TOOL_OUTPUT"), json_patch.OUTPUT)
-        self.assertEqual(self.defined("WORK_WORDS"), json_patch._WORDS)
+        self.assertEqual(self.defined("WORK_NODES"), json_patch._NODES)
+        self.assertEqual(self.defined("WORK_ENTRIES"), json_patch._ENTRIES)
         self.assertIn(f'#define JSON_PATCH_VERSION "{json_patch.__version__}"', self.header)
 
     def test_the_header_has_the_same_structs(self):
-        types = {"uint64_t": ctypes.c_uint64, "uint32_t": ctypes.c_uint32, "uint16_t": ctypes.c_uint16}
-        for name, here in (("answer", json_patch._Answer), ("work", json_patch._Work)):
+        types = {"uint64_t": ctypes.c_uint64, "uint16_t": ctypes.c_uint16, "json_patch_node": json_patch._Node}
+        structs = {"answer": json_patch._Answer, "node": json_patch._Node, "work": json_patch._Work}
+        for name, here in structs.items():
             body = re.search(rf"typedef struct json_patch_{name} {{(.*?)}}", self.header, re.S)[1]
             fields = []
             for kind, field, length in re.findall(r"(\w+) (\w+)(?:\[JSON_PATCH_(\w+)\])?;", body):

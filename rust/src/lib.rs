@@ -50,7 +50,7 @@ mod refusal;
 pub use explain::{Explanation, Paint};
 pub use json::elements;
 pub use place::{Place, Shown};
-pub use raw::{apply, apply_in, Work, WORK_WORDS};
+pub use raw::{apply, apply_in, Node, Work, WORK_ENTRIES, WORK_NODES};
 pub use refusal::{Kind, Line, Refusal};
 
 /// The longest document, and the longest patch, in bytes.

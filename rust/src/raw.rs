@@ -1,13 +1,53 @@
 //! The call as the library exports it, and the work area that it takes:
 //! `include/json_patch.h`, in Rust.
 //!
-//! Everything that knows the buffers of the work area stands here. A test
-//! compares the declaration, the header and the library's source.
+//! Everything that knows the lists of the work area stands here. A test compares
+//! the declaration, the header and the library's source.
 
 use crate::Refusal;
 
-/// Words of 64 bits in each of the two buffers of the work area.
-pub const WORK_WORDS: usize = 6_144;
+/// Records of the work area.
+pub const WORK_NODES: usize = 6_144;
+
+/// Entries of the work area's index.
+pub const WORK_ENTRIES: usize = 8_192;
+
+/// A node of the work area: one value of the document or of the patch. Its
+/// fields are described in docs/WORK-AREA.md.
+#[repr(C)]
+#[derive(Clone, Copy, Debug, Default, PartialEq, Eq, Hash)]
+pub struct Node {
+    /// Where its name begins.
+    pub name_start: u16,
+    /// The name's bytes.
+    pub name_length: u16,
+    /// Where the text of a number or a string begins.
+    pub start: u16,
+    /// The bytes of that text.
+    pub length: u16,
+    /// How many nodes are below it, at every depth.
+    pub span: u16,
+    /// A hash of the name.
+    pub hash: u16,
+    /// Its kind, and how and where its text and its name are read.
+    pub tags: u16,
+    /// 0.
+    pub origin: u16,
+}
+
+impl Node {
+    /// The record of a row without a node.
+    pub const ZERO: Node = Node {
+        name_start: 0,
+        name_length: 0,
+        start: 0,
+        length: 0,
+        span: 0,
+        hash: 0,
+        tags: 0,
+        origin: 0,
+    };
+}
 
 /// The answer. A field that its number does not set is 0.
 #[repr(C)]
@@ -46,9 +86,9 @@ extern "C" {
     /// refuses; gives the answer's number.
     ///
     /// # Safety
-    /// Each pointer is not null, is aligned, and points to as many bytes or words
-    /// as its length says; the output, the work buffers and the answer overlap
-    /// neither one another nor the inputs.
+    /// Each pointer is not null, is aligned, and points to as many bytes, records
+    /// or entries as its length or count says; the output, the two lists and the
+    /// answer overlap neither one another nor the inputs.
     pub fn json_patch_apply(
         document: *const u8,
         document_length: usize,
@@ -56,15 +96,15 @@ extern "C" {
         patch_length: usize,
         output: *mut u8,
         output_length: usize,
-        values: *mut u64,
-        values_length: usize,
-        names: *mut u64,
-        names_length: usize,
+        nodes: *mut Node,
+        nodes_count: usize,
+        index: *mut u16,
+        index_count: usize,
         answer: *mut Answer,
     ) -> u32;
 }
 
-/// The work area: two buffers of 49,152 bytes.
+/// The work area: a list of nodes and an index, 114,688 bytes in all.
 ///
 /// It is all zero between calls. Make one and lend it again and again, from the
 /// stack, a static or the heap.
@@ -83,14 +123,14 @@ extern "C" {
 #[derive(Clone, Debug)]
 #[repr(C)]
 pub struct Work {
-    values: [u64; WORK_WORDS],
-    names: [u64; WORK_WORDS],
+    nodes: [Node; WORK_NODES],
+    index: [u16; WORK_ENTRIES],
 }
 
 impl Work {
     /// A work area.
     pub const fn new() -> Self {
-        Work { values: [0; WORK_WORDS], names: [0; WORK_WORDS] }
+        Work { nodes: [Node::ZERO; WORK_NODES], index: [0; WORK_ENTRIES] }
     }
 }
 
@@ -122,31 +162,32 @@ pub fn apply(
     output: &mut [u8],
     work: &mut Work,
 ) -> Result<usize, Refusal> {
-    apply_in(document, patch, output, &mut work.values, &mut work.names)
+    apply_in(document, patch, output, &mut work.nodes, &mut work.index)
 }
 
-/// The same in any two buffers of words, for those who lend memory of their own.
+/// The same in any two lists, for those who lend memory of their own.
 ///
-/// Buffers of fewer than [`WORK_WORDS`] words are refused with 1. They may hold
-/// anything before; afterwards their first [`WORK_WORDS`] words are zero and the
-/// rest is unchanged, or they are untouched after a 1.
+/// A list of fewer than [`WORK_NODES`] nodes, or an index of fewer than
+/// [`WORK_ENTRIES`] entries, is refused with 1. They may hold anything before;
+/// afterwards that many of each are zero and the rest is unchanged, or they are
+/// untouched after a 1.
 ///
 /// ```
-/// use json_patch::{apply_in, WORK_WORDS};
+/// use json_patch::{apply_in, Node, WORK_ENTRIES, WORK_NODES};
 ///
 /// let mut output = [0; 16];
-/// let mut words = vec![7; 2 * WORK_WORDS + 1];
-/// let (values, names) = words.split_at_mut(WORK_WORDS);
-/// assert_eq!(apply_in(b"[]", b"[]", &mut output, values, names), Ok(2));
-/// assert_eq!(words[2 * WORK_WORDS], 7);
-/// assert!(words[..2 * WORK_WORDS].iter().all(|&word| word == 0));
+/// let mut nodes = vec![Node::ZERO; WORK_NODES];
+/// let mut index = vec![7; WORK_ENTRIES + 1];
+/// assert_eq!(apply_in(b"[]", b"[]", &mut output, &mut nodes, &mut index), Ok(2));
+/// assert_eq!(index[WORK_ENTRIES], 7);
+/// assert!(index[..WORK_ENTRIES].iter().all(|&entry| entry == 0));
 /// ```
 pub fn apply_in(
     document: &[u8],
     patch: &[u8],
     output: &mut [u8],
-    values: &mut [u64],
-    names: &mut [u64],
+    nodes: &mut [Node],
+    index: &mut [u16],
 ) -> Result<usize, Refusal> {
     let mut answer = Answer::default();
     // Safety: every pointer and length is of a slice, and the borrows keep those
@@ -159,10 +200,10 @@ pub fn apply_in(
             patch.len(),
             output.as_mut_ptr(),
             output.len(),
-            values.as_mut_ptr(),
-            values.len(),
-            names.as_mut_ptr(),
-            names.len(),
+            nodes.as_mut_ptr(),
+            nodes.len(),
+            index.as_mut_ptr(),
+            index.len(),
             &mut answer,
         );
     }

@@ -1,7 +1,8 @@
 //! The call through the wrapper: the lines of document 01, and what is promised
 //! of lent memory.
 
-use json_patch::{apply, apply_in, Kind, Refusal, Work, MAX_BYTES, TOOL_OUTPUT, WORK_WORDS};
+use json_patch::{apply, apply_in, Kind, Node, Refusal, Work};
+use json_patch::{MAX_BYTES, TOOL_OUTPUT, WORK_ENTRIES, WORK_NODES};
 use std::thread;
 
 /// The patch tool's line.
@@ -56,36 +57,58 @@ fn refusals_print_in_words_and_as_their_line() {
     assert_eq!(none.to_string(), "refused 17: unknown answer");
 }
 
+/// A record with every field the same.
+fn filled(field: u16) -> Node {
+    Node {
+        name_start: field,
+        name_length: field,
+        start: field,
+        length: field,
+        span: field,
+        hash: field,
+        tags: field,
+        origin: field,
+    }
+}
+
 #[test]
 fn lent_memory_afterwards() {
+    const N: usize = WORK_NODES;
+    const E: usize = WORK_ENTRIES;
     let mut output = [b'#'; 8];
-    let mut values = vec![u64::MAX; WORK_WORDS + 3];
-    let mut names = vec![u64::MAX; WORK_WORDS];
-    let zeros = |words: &[u64]| words.iter().all(|&word| word == 0);
+    let mut nodes = vec![filled(u16::MAX); N + 3];
+    let mut index = vec![u16::MAX; E + 5];
+    let cleared = |nodes: &[Node], index: &[u16]| {
+        nodes[..N].iter().all(|&node| node == Node::ZERO) && index[..E].iter().all(|&it| it == 0)
+    };
 
     // Done: the text in front, the rest as it was, the work area zero.
-    assert_eq!(apply_in(b"[ 1 ]", b"[]", &mut output, &mut values, &mut names), Ok(3));
+    assert_eq!(apply_in(b"[ 1 ]", b"[]", &mut output, &mut nodes, &mut index), Ok(3));
     assert_eq!(&output, b"[1]#####");
-    assert!(zeros(&values[..WORK_WORDS]) && zeros(&names));
-    assert_eq!(values[WORK_WORDS..], [u64::MAX; 3]);
+    assert!(cleared(&nodes, &index));
+    assert_eq!(nodes[N..], [filled(u16::MAX); 3]);
+    assert_eq!(index[E..], [u16::MAX; 5]);
 
     // Refused: the output as it was.
-    values.fill(5);
-    let refusal = apply_in(b"[0,1,2,3]", b"[]", &mut output, &mut values, &mut names);
+    nodes.fill(filled(5));
+    index.fill(6);
+    let refusal = apply_in(b"[0,1,2,3]", b"[]", &mut output, &mut nodes, &mut index);
     assert_eq!(refusal.map_err(|refusal| refusal.kind()), Err(Some(Kind::OutputTooShort)));
     assert_eq!(&output, b"[1]#####");
-    assert!(zeros(&values[..WORK_WORDS]) && zeros(&names));
-    assert_eq!(values[WORK_WORDS..], [5; 3]);
+    assert!(cleared(&nodes, &index));
+    assert_eq!(nodes[N..], [filled(5); 3]);
+    assert_eq!(index[E..], [6; 5]);
 
     // A 1: nothing has changed.
-    names.fill(9);
-    values.fill(9);
-    for (v, n) in [(WORK_WORDS - 1, WORK_WORDS), (WORK_WORDS, WORK_WORDS - 1), (0, 0)] {
-        let refusal = apply_in(b"[]", b"[]", &mut output, &mut values[..v], &mut names[..n]);
+    nodes.fill(filled(9));
+    index.fill(9);
+    for (n, e) in [(N - 1, E), (N, E - 1), (N - 1, E - 1), (0, E), (N, 0), (0, 0)] {
+        let refusal = apply_in(b"[]", b"[]", &mut output, &mut nodes[..n], &mut index[..e]);
         assert_eq!(refusal.map_err(|refusal| refusal.kind()), Err(Some(Kind::WorkTooShort)));
     }
     assert_eq!(&output, b"[1]#####");
-    assert!(values.iter().chain(&names).all(|&word| word == 9));
+    assert!(nodes.iter().all(|&node| node == filled(9)));
+    assert!(index.iter().all(|&entry| entry == 9));
 }
 
 #[test]

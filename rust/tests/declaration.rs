@@ -1,7 +1,7 @@
 //! The declaration here, the C header and the library's source say the same, as
 //! far as their texts can be compared: the parameters' number, order, names and
-//! types, the answer's fields, the refusals' names, numbers and words, the
-//! limits, the version. So does the manual.
+//! types, the fields of the answer and of a node, the refusals' names, numbers
+//! and words, the limits, the version. So does the manual.
 
 use json_patch::Kind;
 use std::collections::BTreeMap;
@@ -44,7 +44,8 @@ fn typed(item: &str) -> (String, String) {
     (name.trim().to_string(), kind.trim().to_string())
 }
 
-/// As the library's source has it: a slice is a pointer and a length.
+/// As the library's source has it: a slice is a pointer and a length, or a count
+/// where it is no slice of bytes.
 fn of_source() -> Signature {
     let source = file("crates/json_patch/src/exports.rt");
     let text = between(&source, "pub extern \"C\" fn json_patch_apply", "{");
@@ -59,7 +60,8 @@ fn of_source() -> Signature {
         match target.strip_prefix('[').and_then(|target| target.strip_suffix(']')) {
             Some(element) if !element.contains(';') => {
                 parameters.push((name.clone(), format!("{pointer} {element}")));
-                parameters.push((name + "_length", "usize".to_string()));
+                let much = if element == "u8" { "_length" } else { "_count" };
+                parameters.push((name + much, "usize".to_string()));
             }
             _ => parameters.push((name, format!("{pointer} {target}"))),
         }
@@ -73,9 +75,10 @@ fn of_header() -> Signature {
     let header = header();
     let words = |name: &str| match name {
         "uint8_t" => "u8".to_string(),
-        "uint64_t" => "u64".to_string(),
+        "uint16_t" => "u16".to_string(),
         "size_t" => "usize".to_string(),
-        "json_patch_answer" => answer_in_words(fields_of_header().len()),
+        "json_patch_node" => "Node".to_string(),
+        "json_patch_answer" => answer_in_words(fields_of_header("answer", "uint64_t").len()),
         other => panic!("a type of C: {other}"),
     };
     let parameters = items(between(&header, "uint32_t json_patch_apply(", ")"))
@@ -98,7 +101,7 @@ fn of_header() -> Signature {
 fn of_rust() -> Signature {
     let source = file("rust/src/raw.rs");
     let text = between(&source, "pub fn json_patch_apply", ";");
-    let answer = answer_in_words(fields_of_rust().len());
+    let answer = answer_in_words(fields_of("rust/src/raw.rs", "Answer", "u64").len());
     let parameters = items(between(text, "(", ")"))
         .into_iter()
         .map(typed)
@@ -112,25 +115,28 @@ fn answer_in_words(fields: usize) -> String {
     format!("[u64; {fields}]")
 }
 
-/// The names of the answer's fields, all of 64 bits, in the header.
-fn fields_of_header() -> Vec<String> {
+/// The names of the fields of a struct in the header, all of one type.
+fn fields_of_header(name: &str, kind: &str) -> Vec<String> {
     let header = header();
     let mut names = Vec::new();
-    for line in between(&header, "typedef struct json_patch_answer {", "}").lines() {
-        if let Some(line) = line.trim().strip_prefix("uint64_t ") {
-            names.push(line.split(';').next().unwrap_or_default().to_string());
+    for line in between(&header, &format!("typedef struct json_patch_{name} {{"), "}").lines() {
+        if line.trim().is_empty() {
+            continue;
         }
+        let field = line.trim().strip_prefix(&format!("{kind} ")).expect("a field of that type");
+        names.push(field.split(';').next().unwrap_or_default().to_string());
     }
     names
 }
 
-/// The same in Rust.
-fn fields_of_rust() -> Vec<String> {
-    let source = file("rust/src/raw.rs");
+/// The same of a struct in a file of Rust or Rattle.
+fn fields_of(source: &str, name: &str, kind: &str) -> Vec<String> {
+    let source = file(source);
     let mut names = Vec::new();
-    for line in between(&source, "pub struct Answer {", "}").lines() {
+    for line in between(&source, &format!("pub struct {name} {{"), "}").lines() {
         if let Some(line) = line.trim().strip_prefix("pub ") {
-            names.push(line.strip_suffix(": u64,").expect("a field of 64 bits").to_string());
+            let field = line.strip_suffix(&format!(": {kind},"));
+            names.push(field.expect("a field of that type").to_string());
         }
     }
     names
@@ -146,8 +152,8 @@ fn the_function_is_declared_alike() {
 
 #[test]
 fn the_answers_fields_are_those_of_the_call() {
-    let fields = fields_of_header();
-    assert_eq!(fields_of_rust(), fields);
+    let fields = fields_of_header("answer", "uint64_t");
+    assert_eq!(fields_of("rust/src/raw.rs", "Answer", "u64"), fields);
     let source = file("crates/json_patch/src/answer.rt");
     let of_call: Vec<String> = between(&source, "pub struct Answer {", "}")
         .lines()
@@ -161,6 +167,84 @@ fn the_answers_fields_are_those_of_the_call() {
         .map(|item| between(item, "r.", " as u64"))
         .collect();
     assert_eq!(laid_down, fields);
+}
+
+#[test]
+fn a_nodes_fields_are_those_of_the_table() {
+    let fields = fields_of_header("node", "uint16_t");
+    assert_eq!(fields_of("rust/src/raw.rs", "Node", "u16"), fields);
+    assert_eq!(fields_of("crates/record/src/lib.rt", "Node", "u16"), fields);
+    // The engine's row: as many fields, by their positions.
+    let layout = constants("crates/tape/src/layout.rt");
+    for (position, field) in fields.iter().enumerate() {
+        assert_eq!(layout.get(&constant(field)), Some(&(position as u64)), "{field}");
+    }
+    let row = format!("pub type Node = [u16; {}];", fields.len());
+    assert!(file("crates/tape/src/layout.rt").contains(&row), "{row}");
+}
+
+#[test]
+fn a_nodes_tags_have_the_numbers_of_the_table() {
+    let layout = constants("crates/tape/src/layout.rt");
+    // The names in the header, and in the table's source.
+    let pairs = [
+        ("KIND_NULL", "NULL"),
+        ("KIND_TRUE", "TRUE"),
+        ("KIND_FALSE", "FALSE"),
+        ("KIND_NUMBER", "NUMBER"),
+        ("KIND_STRING", "STRING"),
+        ("KIND_ARRAY", "ARRAY"),
+        ("KIND_OBJECT", "OBJECT"),
+        ("FORM_NONE", "NO_TEXT"),
+        ("FORM_PLAIN", "PLAIN_STRING"),
+        ("FORM_ESCAPED", "ESCAPED_STRING"),
+        ("FORM_TOKEN", "TOKEN"),
+        ("FORM_NUMBER", "NUMERAL"),
+        ("SOURCE_DOCUMENT", "IN_DOCUMENT"),
+        ("SOURCE_PATCH", "IN_PATCH"),
+    ];
+    let wanted: BTreeMap<String, u64> =
+        pairs.into_iter().map(|(here, there)| (here.to_string(), layout[there])).collect();
+    let mut here = enumeration("kind");
+    here.extend(enumeration("form"));
+    here.extend(enumeration("source"));
+    assert_eq!(here, wanted);
+}
+
+#[test]
+fn the_work_area_has_the_rows_of_the_table_and_the_slots_of_the_index() {
+    let (header, layout) = (in_header(), constants("crates/tape/src/layout.rt"));
+    for part in ["DOCUMENT", "PATCH", "SCRATCH"] {
+        assert_eq!(header[&format!("ROW_{part}")], layout[part], "{part}");
+    }
+    assert_eq!(header["WORK_NODES"], layout["ROWS"]);
+    assert_eq!(header["WORK_ENTRIES"], constants("crates/index/src/slots.rt")["SLOTS"]);
+}
+
+/// The prototypes of the functions on one record, in the header and in crate
+/// record, both in C's words.
+#[test]
+fn the_functions_on_a_record_are_declared_alike() {
+    let (header, source) = (header(), file("crates/record/src/exports.rt"));
+    let c = |name: &str, kind: &str| match kind {
+        "&[Node]" => format!("const json_patch_node *{name}, size_t {name}_count"),
+        "&mut [Node]" => format!("json_patch_node *{name}, size_t {name}_count"),
+        "usize" => format!("size_t {name}"),
+        "Node" => format!("json_patch_node {name}"),
+        other => panic!("a type of Rattle: {other}"),
+    };
+    let functions: Vec<&str> = source.split("pub extern \"C\" fn ").skip(1).collect();
+    assert_eq!(functions.len(), 3);
+    for function in functions {
+        let (name, rest) = function.split_once('(').expect("parameters");
+        let (list, rest) = rest.split_once(')').expect("parameters");
+        let list: Vec<String> =
+            items(list).into_iter().map(typed).map(|(name, kind)| c(&name, &kind)).collect();
+        let result =
+            if rest.trim_start().starts_with("-> Node") { "json_patch_node" } else { "void" };
+        let wanted = format!("\n{result} {name}({});\n", list.join(", "));
+        assert!(header.contains(&wanted), "{wanted}");
+    }
 }
 
 /// A name with capitals or hyphens inside, as a constant.
@@ -186,30 +270,47 @@ fn defined(name: &str) -> BTreeMap<String, u64> {
     equations.filter_map(|(name, value)| Some((constant(name), number(value)?))).collect()
 }
 
-/// The numbers in the header, their names without the prefix: those of the
-/// enumeration, and the others.
-fn in_header() -> [BTreeMap<String, u64>; 2] {
-    let mut maps = [BTreeMap::new(), BTreeMap::new()];
-    for line in header().lines() {
-        let line = line.split("/*").next().unwrap_or_default();
-        let words: Vec<&str> = line.split([' ', ',', '=']).filter(|w| !w.is_empty()).collect();
-        let (map, name, value) = match words[..] {
-            ["#define", name, value] => (&mut maps[1], name, value),
-            [name, value] => (&mut maps[0], name, value),
-            _ => continue,
-        };
-        if let (Some(name), Some(value)) = (name.strip_prefix("JSON_PATCH_"), number(value)) {
-            map.insert(name.to_string(), value);
-        }
-    }
-    maps
+/// The constants with a plain number in a file of Rattle.
+fn constants(name: &str) -> BTreeMap<String, u64> {
+    file(name)
+        .lines()
+        .filter_map(|line| {
+            let line = line.strip_prefix("pub const ").or_else(|| line.strip_prefix("const "))?;
+            let (name, rest) = line.split_once(": ")?;
+            let (_, value) = rest.strip_suffix(';')?.split_once(" = ")?;
+            Some((name.to_string(), number(value)?))
+        })
+        .collect()
+}
+
+/// A name and its number without the prefix, if the line's words are that.
+fn prefixed(name: &str, value: &str) -> Option<(String, u64)> {
+    Some((name.strip_prefix("JSON_PATCH_")?.to_string(), number(value)?))
+}
+
+/// An enumeration of the header: its numbers, their names without the prefix.
+fn enumeration(name: &str) -> BTreeMap<String, u64> {
+    between(&header(), &format!("enum json_patch_{name} {{"), "}")
+        .lines()
+        .filter_map(|line| line.split("/*").next()?.trim().trim_end_matches(',').split_once(" = "))
+        .filter_map(|(name, value)| prefixed(name, value.trim()))
+        .collect()
+}
+
+/// The numbers that the header defines, their names without the prefix.
+fn in_header() -> BTreeMap<String, u64> {
+    header()
+        .lines()
+        .filter_map(|line| line.split("/*").next()?.strip_prefix("#define ")?.split_once(' '))
+        .filter_map(|(name, value)| prefixed(name, value.trim()))
+        .collect()
 }
 
 #[test]
 fn refusals_have_the_numbers_and_names_of_the_definitions() {
     let mut refusals = defined("crates/spec/specs/Refusal.antt");
     assert_eq!(refusals.len(), 17);
-    assert_eq!(in_header()[0], refusals);
+    assert_eq!(enumeration("number"), refusals);
     refusals.remove("DONE");
     let here: BTreeMap<String, u64> = Kind::ALL
         .into_iter()
@@ -221,13 +322,13 @@ fn refusals_have_the_numbers_and_names_of_the_definitions() {
 #[test]
 fn limits_are_those_of_the_definitions() {
     let limits = defined("crates/spec/specs/Limits.antt");
-    assert_eq!(limits.len(), 7);
+    assert_eq!(limits.len(), 8);
     let here: BTreeMap<String, u64> = (file("rust/src/lib.rs") + &file("rust/src/raw.rs"))
         .lines()
         .filter_map(|line| line.strip_prefix("pub const ")?.split_once(": usize = "))
         .filter_map(|(name, value)| Some((name.to_string(), number(value.strip_suffix(';')?)?)))
         .collect();
-    let [_, header] = in_header();
+    let header = in_header();
     for (name, value) in limits {
         assert_eq!(header.get(&name), Some(&value), "{name}");
         assert_eq!(here.get(&name), Some(&value), "{name}");
@@ -260,12 +361,15 @@ fn the_version_is_that_of_the_header() {
 }
 
 #[test]
-fn the_manual_has_the_headers_struct_prototypes_and_numbers() {
+fn the_manual_has_the_headers_structs_prototypes_and_numbers() {
     let (header, manual) = (header(), file("man/json_patch.3"));
-    let begin = "typedef struct json_patch_answer {";
-    let body = between(&header, begin, "} json_patch_answer;");
-    assert!(manual.contains(&format!("{begin}{body}}} json_patch_answer;")));
-    for (name, number) in &in_header()[0] {
+    for name in ["answer", "node"] {
+        let (begin, end) =
+            (format!("typedef struct json_patch_{name} {{"), format!("}} json_patch_{name};"));
+        let body = between(&header, &begin, &end);
+        assert!(manual.contains(&format!("{begin}{body}{end}")), "{name}");
+    }
+    for (name, number) in &enumeration("number") {
         assert!(manual.contains(&format!("\nJSON_PATCH_{name}|{number}\n")), "{name}");
     }
     // Without the marks of the manual, and with one blank for many.
@@ -275,7 +379,8 @@ fn the_manual_has_the_headers_struct_prototypes_and_numbers() {
         synopsis = synopsis.replace(mark, with);
     }
     let synopsis = plain(&synopsis).replace("* ", "*").replace(" ,", ",");
-    for function in ["apply", "apply_with", "message", "describe"] {
+    let on_a_record = ["node_read", "node_store", "node_clear"];
+    for function in ["apply", "apply_with", "message", "describe"].into_iter().chain(on_a_record) {
         let begin = format!("json_patch_{function}(");
         let code = &header[header.find("extern \"C\"").expect("declarations")..];
         let wanted = format!("{begin}{})", plain(between(code, &begin, ")")));

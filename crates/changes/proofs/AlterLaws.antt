@@ -2,29 +2,34 @@
 use Prim.Native.Nat.{ℕ, suc, _+_, _-_, _≤_, _<_}
 use native.Mathlib.Omega.{arith}
 use native.Mathlib.Decide.{decLt}
-use mathlib.Core.Path.{_≡_, ap, sym, _∙_, subst}
+use mathlib.Core.Path.{_≡_, refl, ap, sym, _∙_, subst}
 use mathlib.Core.List.{List, [], _∷_, _++_}
-use lib.ListN.{getD}
+use lib.ListN.{length, getD}
 use Rattle.spec.specs.Outcome.{Outcome, ok, refused, _>>=_}
 use Rattle.spec.specs.Refusal.{location-missing}
 use Rattle.spec.specs.Limits.{maxNodes}
-use Rattle.spec.specs.Bytes.{Bytes, Text}
+use Rattle.spec.specs.Bytes.{Text}
 use Rattle.spec.specs.Forest.{Forest, Tree, count, size, before, from, nth, replaceAt}
 use Rattle.spec.specs.Value as Value
 use Rattle.spec.specs.Value.{valueOf, depth, nodes}
 use Rattle.spec.specs.Pointer.{Tokens, childAt, child}
 use Rattle.spec.specs.Operation.{put, atParent, removeChild, replaceChild}
 use Rattle.spec.proofs.ChildLaws.{depth-child}
-use Rattle.tape.specs.Layout.{arrayKind, objectKind, spans}
-use Rattle.tape.specs.Packing.{spanOf}
+use Rattle.tape.specs.Layout.{arrayKind, objectKind, values}
+use Rattle.tape.specs.Fields.{Row, spanOf}
 use Rattle.tape.specs.Tape.{tape}
-use Rattle.tape.specs.Cell.{Cell, word, nameWord, Fit, formed-tree, deep}
+use Rattle.tape.specs.declared.fields.Spelling.{Spelling}
+use Rattle.tape.specs.declared.fields.Name.{Name}
+use Rattle.tape.specs.declared.fields.Cell.{Cell}
+use Rattle.tape.specs.Cell.{rowOf, Fit, formed-tree, deep}
 use Rattle.tape.specs.Rows.{childRow}
+use Rattle.tape.specs.Lent.{Texts, Table}
 use Rattle.tape.proofs.Forests.{size-replaceAt}
-use Rattle.tape.proofs.Cells.{span-word, formed-kids, formed-rest, formed-child, formed-replaceAt, container-fit, fit-container}
+use Rattle.tape.proofs.Cells.{blank, span-row, formed-kids, formed-rest, formed-child, formed-replaceAt, container-fit, fit-container}
 use Rattle.tape.proofs.Depth.{level-container}
-use Rattle.tape.proofs.Changes.{laid-length, laid-child, laid-put, child-front, laid-word, laid-span-child, laid-name-child}
+use Rattle.tape.proofs.Changes.{laid-length, laid-child, laid-put, child-front, laid-word, laid-span-child}
 use Rattle.table.specs.Meaning.{partOf, nameText, meant}
+use Rattle.table.specs.Sound.{CellFits}
 use Rattle.table.proofs.MeaningLaws.{depth-meant, nodes-meant}
 use Rattle.table.proofs.AllLaws.{all-first, all-kids, all-single, all-replaceAt}
 use Rattle.pointer.specs.declared.answers.Token.{Token}
@@ -33,48 +38,51 @@ use Rattle.pointer.proofs.WalkLaws.{next-order}
 use Rattle.walk.specs.Step.{StepIs}
 use Rattle.walk.specs.declared.steps.Child.{Child}
 use Rattle.walk.specs.declared.steps.Child.the-variants as Child
-use Rattle.walk.proofs.Children.{blank, child-meant, sound-child}
+use Rattle.walk.proofs.Children.{child-meant, sound-child}
 use Rattle.walk.proofs.StepLaws.{child-scalar}
 use Rattle.changes.specs.Limited.{limitedTo}
-use Rattle.changes.specs.Site.{Surroundings, Standing, Site, SameBehind}
-use Rattle.changes.specs.Change.{Answers, done, refusal, Few, resized, Makes, adds, removes, replaces, ChangeChildIs, AlterIs}
+use Rattle.changes.specs.Site.{Surroundings, Standing, Site}
+use Rattle.changes.specs.Rows.{SameBehind, Frame, framed, unchanged, resized}
+use Rattle.changes.specs.Change.{ByToken, Answers, done, refusal, SiteOf, Makes, adds, removes, replaces, ChangeChildIs, Alters, AlterIs}
+use Rattle.changes.specs.declared.trees.Parent.{Parent}
 use Rattle.changes.specs.declared.answers.Change.{Change}
 use Rattle.changes.specs.declared.answers.Altered.{Altered}
 use Rattle.changes.specs.declared.answers.Altered.the-variants.{Done, Refused}
 use Rattle.changes.proofs.LimitLaws.{limited-put}
-use Rattle.changes.proofs.KeptLaws.{formed-alone, behind-set, behind-long}
+use Rattle.changes.proofs.KeptLaws.{formed-alone, behind-set, behind-long, frame-done, frame-refused}
 use Rattle.changes.proofs.SiteLaws.{site-fit, site-inside}
 use Rattle.changes.proofs.MeantLaws.{put-meant, name-fits}
 use Rattle.changes.proofs.ChangeLaws.{same-answers, answers-refused, insert-scalar, no-child, the-child}
 use Rattle.changes.proofs.TokenLaws.{TokenRead, one-left, more-left}
 
 -- ---- a scalar has no children
-module _ (D P : Bytes) (c : Cell) (kids : Forest Cell) (fit : Fit c kids) (scalar : c .kind < arrayKind) where
+module _ (w : Table) (c : Cell) (kids : Forest Cell) (fit : Fit c kids) (scalar : c .kind < arrayKind) where
   no-array : c .kind ≡ arrayKind → ⊥
   no-array e = omega arith
 
   no-object : c .kind ≡ objectKind → ⊥
   no-object e = omega arith
 
-  scalar-child : (t : Text) → childAt t (meant D P c kids) ≡ refused location-missing 0
-  scalar-child t = child-scalar D P c kids (fit .kind) t no-array no-object
+  scalar-child : (t : Text) → childAt t (meant (w .texts) c kids) ≡ refused location-missing 0
+  scalar-child t = child-scalar (w .texts) c kids (fit .kind) t no-array no-object
 
-  scalar-change : {values names : List ℕ} {change : Change} {f : Text → Value.Value → Outcome Value.Value} → Makes D P values names change f → (t : Text)
-      → f t (meant D P c kids) ≡ refused location-missing 0
+  scalar-change : {change : Change} {f : ByToken} → Makes w change f → (t : Text) → f t (meant (w .texts) c kids) ≡ refused location-missing 0
   unfolding removeChild replaceChild _>>=_
-  scalar-change (adds source x below offered) t = insert-scalar D P c kids (fit .kind) (meant D P x below) t no-array no-object
+  scalar-change (adds source x below offered) t = insert-scalar (w .texts) c kids (fit .kind) (meant (w .texts) x below) t no-array no-object
   scalar-change removes t = rw (scalar-child t)
   scalar-change (replaces source x below offered) t = rw (scalar-child t)
 
-  scalar-alters : {values names : List ℕ} {change : Change} {f : Text → Value.Value → Outcome Value.Value} → Makes D P values names change f → (t : Text) (ts : Tokens)
-      → atParent f t ts (meant D P c kids) ≡ refused location-missing 0
+  scalar-alters : {change : Change} {f : ByToken} → Makes w change f → (t : Text) (ts : Tokens)
+      → atParent f t ts (meant (w .texts) c kids) ≡ refused location-missing 0
   unfolding atParent _>>=_
   scalar-alters makes t [] = scalar-change makes t
   scalar-alters makes t (u ∷ ts) = rw (scalar-child t)
 
-pub alter-scalar : {D P : Bytes} {values names : List ℕ} {used row levels path at : ℕ} {change : Change} → levels ≡ 0
-    → AlterIs D P values names values names used row levels path at change (Refused location-missing)
-alter-scalar {D} {P} none z f t ts makes short inside from = answers-refused (scalar-alters D P (z .c) (z .kids) (site-fit z) (go (decLt (z .c .kind) arrayKind)) makes t ts)
+-- a node that nests no container is one
+alter-scalar : {w : Table} {used row : ℕ} (z : Site w used row 0) {nodes' : List Row} {path : Spelling} {at : ℕ} {change : Change}
+    → Alters z nodes' path at change (Refused location-missing)
+alter-scalar {w} z f t ts makes short inside from =
+    answers-refused (scalar-alters w (z .c) (z .kids) (site-fit z) (go (decLt (z .c .kind) arrayKind)) makes t ts)
   where
     go : Dec (z .c .kind < arrayKind) → z .c .kind < arrayKind
     go (yes l) = l
@@ -82,54 +90,69 @@ alter-scalar {D} {P} none z f t ts makes short inside from = answers-refused (sc
         absurd (omega (
           arith,
           z .shallow,
-          depth-meant D P (z .c) (z .kids) (site-fit z .kind) (formed-kids (z .standing .formed)),
+          depth-meant (w .texts) (z .c) (z .kids) (site-fit z .kind) (formed-kids (z .standing .formed)),
           level-container (z .c) (deep (z .kids)) (omega arith),
         ))
 
+-- ---- a parent outside the rows in use is none
+pub alter-outside : {w : Table} {p : Parent} {path : Spelling} {at : ℕ} {change : Change} → p .used ≤ p .row
+    → AlterIs w (w .nodes) p path at change (Refused location-missing)
+alter-outside h = record { frame = unchanged refl; held = λ z f t ts makes short inside from. absurd (omega (arith, site-inside z)) }
+
 -- ---- the last token
-module _ {D P : Bytes} {values names : List ℕ} {used row path at name : ℕ} {t : Token} {change : Change} (read : TokenRead D P path at t name) where
-  pub alter-last : {values' names' : List ℕ} {r : Altered} (levels below end : ℕ) → levels ≡ suc below → t ≡ Token.Last end
-      → ChangeChildIs D P values names values' names' used row below name change r → AlterIs D P values names values' names' used row levels path at change r
+module _ {w : Table} {p : Parent} {path : Spelling} {at : ℕ} {name : Name} {t : Token} {change : Change} (read : TokenRead (w .texts) path at t name) where
+  pub alter-last : {nodes' : List Row} {r : Altered} (end : ℕ) → t ≡ Token.Last end → ChangeChildIs w nodes' p name change r
+      → AlterIs w nodes' p path at change r
   unfolding atParent
-  alter-last {values'} {names'} {r} levels below end one-less e changed z f u us makes short inside from =
-      let o = one-left read short inside from end e in
-      let only : atParent f u us (meant D P (z .c) (z .kids)) ≡ f (nameText D P name) (meant D P (z .c) (z .kids)) = rw (o .0, o .1) in
-      same-answers only (go levels one-less z)
-    where
-      go : (l : ℕ) → l ≡ suc below → (y : Site D P values names used row l) → Answers y values' names' (f (nameText D P name) (meant D P (y .c) (y .kids))) r
-      go l eq =
-          subst (λ m. (y : Site D P values names used row m) → Answers y values' names' (f (nameText D P name) (meant D P (y .c) (y .kids))) r) (sym eq)
-          λ y. changed f makes y (read .named short inside .token)
+  alter-last end e changed =
+      record {
+        frame = changed .frame;
+        held = λ z f u us makes short inside from.
+            let o = one-left read short inside from end e in
+            let v = meant (w .texts) (z .c) (z .kids) in
+            let only : atParent f u us v ≡ f (nameText (w .texts) name) v = rw (o .0, o .1) in
+            same-answers only (changed .held f makes z (read .named .names short inside .token));
+      }
 
   -- ---- a token that names no child
-  pub alter-refused : {levels end next : ℕ} (s : Child) → StepIs D P values names row name s → t ≡ Token.Next end next → (number : ℕ) → s ≡ Child.Refused number
-      → AlterIs D P values names values names used row levels path at change (Refused number)
+  pub alter-refused : {end next : ℕ} (s : Child) → StepIs w (p .row) name s → t ≡ Token.Next end next → (number : ℕ) → s ≡ Child.Refused number
+      → AlterIs w (w .nodes) p path at change (Refused number)
   unfolding atParent _>>=_
-  alter-refused {end = end} {next} s is e number g z f u us makes short inside from =
-      more-left read short inside from end next e λ v vs more first later.
-      answers-refused (rw (more, first, no-child s is z (read .named short inside .token) g))
+  alter-refused {end} {next} s is e number g =
+      record {
+        frame = unchanged refl;
+        held = λ z f u us makes short inside from.
+            more-left read short inside from end next e λ v vs more first later.
+            answers-refused (rw (more, first, no-child s is z (read .named .names short inside .token) g));
+      }
 
 -- ---- down to a child
-module _ {D P : Bytes} {values names : List ℕ} {used row levels : ℕ} (z : Site D P values names used row levels) (t : Text) (k below : ℕ) (one-less : levels ≡ suc below)
-    (named : childAt t (meant D P (z .c) (z .kids)) ≡ ok k) (kth : k < count (z .kids)) (inner : ℕ) (place : inner ≡ childRow row k (z .kids)) where
+module _ {w : Table} {used row levels : ℕ} (z : Site w used row levels) (t : Text) (k below : ℕ) (one-less : levels ≡ suc below)
+    (named : childAt t (meant (w .texts) (z .c) (z .kids)) ≡ ok k) (kth : k < count (z .kids)) (inner : ℕ) (place : inner ≡ childRow row k (z .kids)) where
   abbrev b : Tree Cell
   b = nth blank k (z .kids)
+
+  abbrev v : Value.Value
+  v = meant (w .texts) (z .c) (z .kids)
+
+  -- the changed child in its place
+  abbrev put-back : Outcome Value.Value → Outcome Value.Value
+  put-back o = o >>= λ u. ok (put k u v)
 
   abbrev around-child : Surroundings
   around-child =
       record {
         rest = from (suc k) (z .kids);
-        front = (z .around .front ++ (word (z .c) (z .kids) ∷ [])) ++ tape word (before k (z .kids));
-        back = tape word (z .around .rest) ++ z .around .back;
-        titlesFront = (z .around .titlesFront ++ (nameWord (z .c) (z .kids) ∷ [])) ++ tape nameWord (before k (z .kids));
-        titlesBack = tape nameWord (z .around .rest) ++ z .around .titlesBack;
+        front = (z .around .front ++ (rowOf (z .c) (z .kids) ∷ [])) ++ tape rowOf (before k (z .kids));
+        back = tape rowOf (z .around .rest) ++ z .around .back;
       }
 
-  value-child : valueOf (child k (meant D P (z .c) (z .kids))) ≡ meant D P (b .root) (b .kids)
-  value-child = ap valueOf (child-meant D P k (z .c) (z .kids))
+  value-child : valueOf (child k v) ≡ meant (w .texts) (b .root) (b .kids)
+  value-child = ap valueOf (child-meant (w .texts) k (z .c) (z .kids))
 
-  pub child-site : Site D P values names used inner below
+  pub child-site : Site w used inner below
   child-site =
+      let front = child-front rowOf (z .around .front) (rowOf (z .c) (z .kids)) k (z .kids) ∙ ap (λ n. childRow n k (z .kids)) (sym (z .standing .place)) in
       record {
         around = around-child;
         c = b .root;
@@ -137,41 +160,36 @@ module _ {D P : Bytes} {values names : List ℕ} {used row levels : ℕ} (z : Si
         room = maxNodes + suc (size (b .kids)) - used;
         standing =
             record {
-              words = laid-child blank k kth (z .standing .words);
-              titles = laid-child blank k kth (z .standing .titles);
-              place = place ∙ sym (child-front word (z .around .front) (word (z .c) (z .kids)) k (z .kids) ∙ ap (λ n. childRow n k (z .kids)) (sym (z .standing .place)));
-              titlePlace = place ∙ sym (child-front nameWord (z .around .titlesFront) (nameWord (z .c) (z .kids)) k (z .kids) ∙ ap (λ n. childRow n k (z .kids)) (sym (z .standing .titlePlace)));
+              laid = laid-child blank k kth (z .standing .laid);
+              place = place ∙ sym front;
               formed = formed-child blank k kth (formed-kids (z .standing .formed));
               label = all-first (sound-child k kth (z .standing .sound)) .label;
               sound = all-kids (sound-child k kth (z .standing .sound));
             };
         few = z .few;
         fits = omega (arith, z .few);
-        shallow = omega (arith, depth-child t (meant D P (z .c) (z .kids)) k named, ap depth value-child, z .shallow);
+        shallow = omega (arith, depth-child t v k named, ap depth value-child, z .shallow);
         long = z .long;
-        titlesLong = z .titlesLong;
       }
 
   -- ---- and up again
   -- what the definitions say of the child, put in its place
-  pub child-outcome : (f : Text → Value.Value → Outcome Value.Value) (u : Text) (us : Tokens)
-      → atParent f t (u ∷ us) (meant D P (z .c) (z .kids)) ≡ atParent f u us (meant D P (b .root) (b .kids)) >>= λ w. ok (put k w (meant D P (z .c) (z .kids)))
+  pub child-outcome : (f : ByToken) (u : Text) (us : Tokens) → atParent f t (u ∷ us) v ≡ put-back (atParent f u us (meant (w .texts) (b .root) (b .kids)))
   unfolding atParent _>>=_
-  child-outcome f u us = rw named (ap (λ v. atParent f u us v >>= λ w. ok (put k w (meant D P (z .c) (z .kids)))) value-child)
+  child-outcome f u us = rw named (ap (λ x. put-back (atParent f u us x)) value-child)
 
-  limits : (o : Outcome Value.Value) → limitedTo levels (z .room) (o >>= λ w. ok (put k w (meant D P (z .c) (z .kids))))
-      ≡ limitedTo below (child-site .room) o >>= λ w. ok (put k w (meant D P (z .c) (z .kids)))
+  limits : (o : Outcome Value.Value) → limitedTo levels (z .room) (put-back o) ≡ put-back (limitedTo below (child-site .room) o)
   unfolding child-site
   limits o =
-      limited-put t (meant D P (z .c) (z .kids)) k named levels below (z .room) (child-site .room) used (z .shallow) one-less
-      (z .fits ∙ ap (_+_ maxNodes) (sym (nodes-meant D P (z .c) (z .kids))))
-      (child-site .fits ∙ ap (_+_ maxNodes) (sym (ap nodes value-child ∙ nodes-meant D P (b .root) (b .kids)))) o
+      limited-put t v k named levels below (z .room) (child-site .room) used (z .shallow) one-less
+      (z .fits ∙ ap (_+_ maxNodes) (sym (nodes-meant (w .texts) (z .c) (z .kids))))
+      (child-site .fits ∙ ap (_+_ maxNodes) (sym (ap nodes value-child ∙ nodes-meant (w .texts) (b .root) (b .kids)))) o
 
   container : arrayKind ≤ z .c .kind
   container = container-fit (site-fit z) (omega arith)
 
-  module _ {values' names' : List ℕ} {now : ℕ} {changed : Forest Cell} (few : now ≤ maxNodes) (same : SameBehind values values')
-      (stands : Standing D P values' names' now inner around-child (b .root) changed) where
+  module _ {nodes' : List Row} {now : ℕ} {changed : Forest Cell} (few : now ≤ maxNodes) (same : SameBehind (w .nodes) nodes')
+      (stands : Standing (w .texts) nodes' now inner around-child (b .root) changed) where
     abbrev new : Tree Cell
     new = record { root = b .root; kids = changed }
 
@@ -179,80 +197,113 @@ module _ {D P : Bytes} {values names : List ℕ} {used row levels : ℕ} (z : Si
     now-rows : now + size (b .kids) ≡ used + size changed
     unfolding size
     now-rows =
-        let after = laid-length (stands .words) in
-        let first = laid-length (laid-child blank k kth (z .standing .words)) in
+        let after = laid-length (stands .laid) in
+        let first = laid-length (laid-child blank k kth (z .standing .laid)) in
         omega (arith, behind-long same (z .long), z .few, z .long)
 
-    here : getD values' row 0 ≡ word (z .c) (z .kids)
-    here = rw (z .standing .place) (laid-word (z .around .front) (word (z .c) (z .kids)) 0 (laid-put new k (z .kids) (stands .words)))
-
-    span-changed : spanOf (getD values' row 0) + now - used ≡ size (replaceAt k new (z .kids))
+    span-changed : spanOf (getD nodes' row []) + now - used ≡ size (replaceAt k new (z .kids))
     span-changed =
-        let old : spanOf (getD values' row 0) ≡ size (z .kids) = ap spanOf here ∙ span-word (site-fit z) in
+        let here : getD nodes' row [] ≡ rowOf (z .c) (z .kids) =
+        rw (z .standing .place) (laid-word (z .around .front) (rowOf (z .c) (z .kids)) [] (laid-put new k (z .kids) (stands .laid))) in
+        let old : spanOf (getD nodes' row []) ≡ size (z .kids) = ap spanOf here ∙ span-row (z .c) (z .kids) in
         omega (arith, now-rows, size-replaceAt blank k (z .kids) kth new, site-inside z)
 
-    small : size (replaceAt k new (z .kids)) < spans
+    small : size (replaceAt k new (z .kids)) < values
     small = omega (arith, now-rows, size-replaceAt blank k (z .kids) kth new, site-inside z)
 
-    up-standing : Standing D P (resized values' row used now) names' now row (z .around) (z .c) (replaceAt k new (z .kids))
+    up-standing : Standing (w .texts) (resized nodes' row used now) now row (z .around) (z .c) (replaceAt k new (z .kids))
     up-standing =
+        let cell : CellFits (w .texts) (b .root) = record { name = name-fits k kth (z .standing .sound); label = stands .label } in
         record {
-          words =
-              laid-span-child (z .kids) k new row (spanOf (getD values' row 0) + now - used) (site-fit z) (z .standing .place) span-changed (omega (arith, span-changed, small)) (stands .words);
-          titles = laid-name-child (z .kids) k new (stands .titles);
+          laid = laid-span-child (z .kids) k new row _ (z .standing .place) span-changed (omega (arith, span-changed, small)) (stands .laid);
           place = z .standing .place;
-          titlePlace = z .standing .titlePlace;
           formed =
               formed-tree (fit-container (replaceAt k new (z .kids)) (site-fit z) container small)
               (formed-replaceAt k (formed-kids (z .standing .formed)) new (formed-alone (stands .formed)))
               (formed-rest (z .standing .formed));
           label = z .standing .label;
-          sound = all-replaceAt k (z .standing .sound) new (all-single new (record { title = name-fits k kth (z .standing .sound); label = stands .label }) (stands .sound));
+          sound = all-replaceAt k (z .standing .sound) new (all-single new cell (stands .sound));
         }
 
   -- each way in which the change of the child ends
-  module _ {values' names' : List ℕ} {o : Outcome Value.Value} where
-    up-done : {now : ℕ} → now ≤ maxNodes → Answers child-site values' names' o (Done now)
-        → Answers z (resized values' row used now) names' (o >>= λ w. ok (put k w (meant D P (z .c) (z .kids)))) (Done now)
+  module _ {nodes' : List Row} {o : Outcome Value.Value} where
+    up-done : {now : ℕ} → now ≤ maxNodes → SameBehind (w .nodes) nodes' → Answers child-site nodes' o (Done now)
+        → Answers z (resized nodes' row used now) (put-back o) (Done now)
     unfolding child-site _>>=_
-    up-done few (done {kids = changed} e stands sv sn) =
-        let passed : limitedTo levels (z .room) (o >>= λ w. ok (put k w (meant D P (z .c) (z .kids)))) ≡ ok (meant D P (z .c) (replaceAt k (record { root = b .root; kids = changed }) (z .kids))) =
-        limits o ∙ ap (λ p. p >>= λ w. ok (put k w (meant D P (z .c) (z .kids)))) e ∙ ap ok (put-meant D P k (z .c) (z .kids) (b .root) changed) in
-        done passed (up-standing few sv stands) (behind-set row _ (omega (arith, site-inside z, z .few)) sv) sn
+    up-done few same (done {kids = changed} e stands) =
+        let then-value = meant (w .texts) (z .c) (replaceAt k (record { root = b .root; kids = changed }) (z .kids)) in
+        let passed : limitedTo levels (z .room) (put-back o) ≡ ok then-value =
+        limits o ∙ ap put-back e ∙ ap ok (put-meant (w .texts) k (z .c) (z .kids) (b .root) changed) in
+        done passed (up-standing few same stands)
 
-    up-refused : {number : ℕ} → Answers child-site values' names' o (Refused number) → Answers z values' names' (o >>= λ w. ok (put k w (meant D P (z .c) (z .kids)))) (Refused number)
+    up-refused : {number : ℕ} → Answers child-site nodes' o (Refused number) → Answers z nodes' (put-back o) (Refused number)
     unfolding child-site _>>=_
-    up-refused (refusal e sv sn) = refusal (limits o ∙ ap (λ p. p >>= λ w. ok (put k w (meant D P (z .c) (z .kids)))) e) sv sn
+    up-refused (refusal e) = refusal (limits o ∙ ap put-back e)
 
 -- ---- through a child
-module _ {D P : Bytes} {values names values' names' : List ℕ} {used row path at name levels below end next : ℕ} {t : Token} {change : Change} (read : TokenRead D P path at t name)
-    (e : t ≡ Token.Next end next) (one-less : levels ≡ suc below) (s : Child) (is : StepIs D P values names row name s) (inner : ℕ) (there : s ≡ Child.At inner) (r : Altered)
-    (alters : AlterIs D P values names values' names' used inner below path next change r) where
+-- a token names the k-th child, which stands in the row `inner`
+abbrev ChildOf : (w : Table) (p : Parent) → Name → ℕ → SiteOf w p → ℕ → Type 0
+ChildOf w p name inner z k =
+    (childAt (nameText (w .texts) name) (meant (w .texts) (z .c) (z .kids)) ≡ ok k) × (k < count (z .kids)) × (inner ≡ childRow (p .row) k (z .kids))
+
+abbrev down : (w : Table) (p : Parent) (name : Name) (inner below : ℕ) → p .below ≡ below → (z : SiteOf w p) (k : ℕ) → ChildOf w p name inner z k
+    → Site w (p .used) inner below
+down w p name inner below one-less z k n = child-site z (nameText (w .texts) name) k below (ap suc one-less) (n .0) (n .1) inner (n .2)
+
+module _ {w : Table} {p : Parent} {path : Spelling} {at : ℕ} {name : Name} {end next : ℕ} {t : Token} (change : Change)
+    (read : TokenRead (w .texts) path at t name) (e : t ≡ Token.Next end next) (below : ℕ) (one-less : p .below ≡ below) (s : Child)
+    (is : StepIs w (p .row) name s) (inner : ℕ) (there : s ≡ Child.At inner) where
   -- what is done with the child's answer
-  through : (q : Altered) → r ≡ q → {ended : List ℕ}
-      → ((z : Site D P values names used row levels) (k : ℕ) (named : childAt (nameText D P name) (meant D P (z .c) (z .kids)) ≡ ok k) (kth : k < count (z .kids)) (place : inner ≡ childRow row k (z .kids))
-      → (o : Outcome Value.Value) → Answers (child-site z (nameText D P name) k below one-less named kth inner place) values' names' o q
-      → Answers z ended names' (o >>= λ x. ok (put k x (meant D P (z .c) (z .kids)))) q)
-      → AlterIs D P values names ended names' used row levels path at change q
+  through : {nodes' ended : List Row} {r : Altered} (z : SiteOf w p) → ((y : Site w (p .used) inner below) → Alters y nodes' path next change r)
+      → ((k : ℕ) (n : ChildOf w p name inner z k) (o : Outcome Value.Value) → Answers (down w p name inner below one-less z k n) nodes' o r
+      → Answers z ended (o >>= λ x. ok (put k x (meant (w .texts) (z .c) (z .kids)))) r)
+      → Alters z ended path at change r
   unfolding child-site
-  through q g {ended} up z f u us makes short inside from =
+  through {nodes'} {ended} {r} z alters up f u us makes short inside from =
       more-left read short inside from end next e λ v vs more first later.
-      the-child s is z (read .named short inside .token) there λ k named kth place.
-      let y = child-site z (nameText D P name) k below one-less named kth inner place in
-      let o = atParent f v vs (meant D P (nth blank k (z .kids) .root) (nth blank k (z .kids) .kids)) in
-      let answer : Answers y values' names' o q =
-      subst (λ q. Answers y values' names' o q) g (alters y f v vs makes short (next-order (partOf D P path) at t (read .is) end next e .2) later) in
-      let same : atParent f u us (meant D P (z .c) (z .kids)) ≡ o >>= λ x. ok (put k x (meant D P (z .c) (z .kids))) =
-      rw (more, first) (child-outcome z (nameText D P name) k below one-less named kth inner place f v vs) in
-      same-answers same (up z k named kth place o answer)
+      the-child s is z (read .named .names short inside .token) there λ k named kth place.
+      let n : ChildOf w p name inner z k = (named, kth, place) in
+      let o = atParent f v vs (meant (w .texts) (nth blank k (z .kids) .root) (nth blank k (z .kids) .kids)) in
+      let within = next-order (partOf (w .texts) path) at t (read .is) end next e .2 in
+      let y = down w p name inner below one-less z k n in
+      let answer : Answers y nodes' o r = alters y f v vs makes short within later in
+      let same : atParent f u us (meant (w .texts) (z .c) (z .kids)) ≡ o >>= λ x. ok (put k x (meant (w .texts) (z .c) (z .kids))) =
+      rw (more, first) (child-outcome z (nameText (w .texts) name) k below (ap suc one-less) named kth inner place f v vs) in
+      same-answers same (up k n o answer)
 
-  pub alter-done : (now : ℕ) → r ≡ Done now → now ≤ maxNodes → {ended : List ℕ} → ended ≡ resized values' row used now → AlterIs D P values names ended names' used row levels path at change (Done now)
-  alter-done now g few w =
-      through (Done now) g λ z k named kth place o answer. rw w (up-done z (nameText D P name) k below one-less named kth inner place few answer)
+  back-refused : {nodes' : List Row} {number : ℕ} (z : SiteOf w p) (k : ℕ) (n : ChildOf w p name inner z k) (o : Outcome Value.Value)
+      → Answers (down w p name inner below one-less z k n) nodes' o (Refused number)
+      → Answers z nodes' (o >>= λ x. ok (put k x (meant (w .texts) (z .c) (z .kids)))) (Refused number)
+  back-refused z k n o answer = up-refused z (nameText (w .texts) name) k below (ap suc one-less) (n .0) (n .1) inner (n .2) answer
 
-  pub alter-not : (number : ℕ) → r ≡ Refused number → AlterIs D P values names values' names' used row levels path at change r
-  alter-not number g =
-      rw g (through (Refused number) g λ z k named kth place o answer. up-refused z (nameText D P name) k below one-less named kth inner place answer)
+  -- a child that nests no container has none of its own
+  pub alter-flat : below ≡ 0 → AlterIs w (w .nodes) p path at change (Refused location-missing)
+  alter-flat none =
+      record {
+        frame = unchanged refl;
+        held = λ z. through z (flat below none) (back-refused z);
+      }
+    where
+      flat : (n : ℕ) → n ≡ 0 → (y : Site w (p .used) inner n) → Alters y (w .nodes) path next change (Refused location-missing)
+      flat n none = subst (λ m. (y : Site w (p .used) inner m) → Alters y (w .nodes) path next change (Refused location-missing)) (sym none) λ y. alter-scalar y
 
-pub few-done : {r : Altered} {now : ℕ} → r ≡ Done now → Few r → now ≤ maxNodes
-few-done e f = subst Few e f
+  module _ (lower : ℕ) (lower-is : below ≡ suc lower) {nodes' : List Row} (r : Altered)
+      (alters : AlterIs w nodes' (record { used = p .used; row = inner; below = lower }) path next change r) where
+    at-child : {q : Altered} → r ≡ q → (y : Site w (p .used) inner below) → Alters y nodes' path next change q
+    at-child {q} g =
+        subst (λ m. (y : Site w (p .used) inner m) → Alters y nodes' path next change q) (sym lower-is)
+        λ y. subst (λ a. Alters y nodes' path next change a) g (alters .held y)
+
+    pub alter-done : p .used ≤ maxNodes → p .row < p .used → (now : ℕ) → r ≡ Done now → {ended : List Row} → ended ≡ resized nodes' (p .row) (p .used) now
+        → AlterIs w ended p path at change (Done now)
+    alter-done low inside now g is-ended =
+        let kept = frame-done g (alters .frame) in
+        record {
+          frame = rw is-ended (framed (kept .0) (behind-set (p .row) _ (omega arith) (kept .1)));
+          held = λ z.
+              through z (at-child g) λ k n o answer.
+              rw is-ended (up-done z (nameText (w .texts) name) k below (ap suc one-less) (n .0) (n .1) inner (n .2) (kept .0) (kept .1) answer);
+        }
+
+    pub alter-not : (number : ℕ) → r ≡ Refused number → AlterIs w nodes' p path at change r
+    alter-not number g = rw g (record { frame = unchanged (frame-refused g (alters .frame)); held = λ z. through z (at-child g) (back-refused z) })

@@ -2,24 +2,27 @@
 use Prim.Native.Nat.{ℕ, suc, _+_, _≤_, _<_}
 use native.Mathlib.Omega.{arith}
 use mathlib.Core.Path.{_≡_, refl, ap, sym, _∙_, subst}
-use mathlib.Core.List.{List}
-use lib.ListN.{length, getD}
+use mathlib.Core.List.{List, []}
+use lib.ListN.{getD}
 use borrow.Author.Tests.{lt-ltb, le-ltb, eq-eqb, ne-eqb}
 use Rattle.spec.specs.Outcome.{Outcome, ok, refused, _>>=_, if_then_else_}
 use Rattle.spec.specs.Refusal.{location-missing, no-index}
-use Rattle.spec.specs.Bytes.{Bytes, Text}
+use Rattle.spec.specs.Bytes.{Text}
 use Rattle.spec.specs.Forest.{Forest, count, before, from, nth, insertAt, replaceAt}
 use Rattle.spec.specs.Value as Value
 use Rattle.spec.specs.Value.{find, named}
 use Rattle.spec.specs.Pointer.{childAt, elementBelow, isDash}
 use Rattle.spec.specs.Operation.{put, withKids, insertElement, insertMember, insertChild, removeChild, replaceChild}
 use Rattle.tape.specs.Layout.{arrayKind, objectKind}
-use Rattle.tape.specs.Packing.{kindOf, spanOf}
-use Rattle.tape.specs.Cell.{Cell, Fit, Node}
+use Rattle.tape.specs.Fields.{Row, noNode, kindOf, spanOf, nameOf}
+use Rattle.tape.specs.declared.fields.Name.{Name}
+use Rattle.tape.specs.declared.fields.Cell.{Cell}
+use Rattle.tape.specs.Cell.{Fit, Node, Told}
 use Rattle.tape.specs.Rows.{endOf, childRow, ChildIs}
+use Rattle.tape.specs.Lent.{Texts, Table}
 use Rattle.tape.specs.declared.nodes.Located.{Located}
 use Rattle.tape.specs.declared.nodes.Located.the-variants as Located
-use Rattle.tape.proofs.Cells.{container-fit}
+use Rattle.tape.proofs.Cells.{blank, container-fit}
 use Rattle.tape.proofs.Rows.{kind-here, end-here, childRow-end, childOf-at, childOf-fewer}
 use Rattle.tape.proofs.Held.{held-node}
 use Rattle.tape.proofs.Map.{count-map}
@@ -32,271 +35,353 @@ use Rattle.pointer.specs.Index.{indexOf, elementAt, insertionAt}
 use Rattle.pointer.specs.declared.answers.Index.{Index}
 use Rattle.pointer.specs.declared.answers.Index.the-variants as Index
 use Rattle.pointer.proofs.IndexLaws.{insertion}
-use Rattle.walk.specs.Names.{IsToken}
+use Rattle.walk.specs.Names.{IsToken, noName}
 use Rattle.walk.specs.Step.{Stepped, stepped, missed, StepIs}
 use Rattle.walk.specs.declared.steps.Child.{Child}
 use Rattle.walk.specs.declared.steps.Child.the-variants as Child
-use Rattle.walk.proofs.Children.{blank}
 use Rattle.walk.proofs.StepLaws.{few-children, asked}
 use Rattle.changes.specs.Cut.{renamed}
-use Rattle.changes.specs.Site.{Site}
+use Rattle.changes.specs.Site.{Site, Offered, table}
+use Rattle.changes.specs.Rows.{Frame, unchanged}
 use Rattle.changes.specs.Limited.{limitedTo}
-use Rattle.changes.specs.Change.{Answers, refusal, PutIs, TakeOutIs, Placed, placed, unplaced, InsertionIs, ReplaceChildIs, AddElementIs, AddMemberIs, AddIs, RemoveIs, ReplaceIs, adds, removes, replaces, ChangeChildIs}
+use Rattle.changes.specs.Change.{ByToken, Answers, refusal, SiteOf, PutIs, TakeOutIs, Placed, placed, unplaced, InsertionIs, Replaced, ReplaceTreeIs}
+use Rattle.changes.specs.Change.{AddElementIs, AddMemberIs, AddIs, RemoveIs, ReplaceIs, Changed, Makes, adds, removes, replaces, ChangeChildIs}
+use Rattle.changes.specs.declared.trees.Parent.{Parent}
 use Rattle.changes.specs.declared.answers.Change.{Change}
 use Rattle.changes.specs.declared.answers.Change.the-variants.{Add, Remove, Replace}
 use Rattle.changes.specs.declared.answers.Altered.{Altered}
 use Rattle.changes.specs.declared.answers.Altered.the-variants.{Refused}
 use Rattle.changes.proofs.LimitLaws.{limited-refused}
 use Rattle.changes.proofs.CutLaws.{cut-before, cut-around}
-use Rattle.changes.proofs.SiteLaws.{site-held, site-fit, site-inside, child-rows, child-name}
-use Rattle.changes.proofs.MeantLaws.{no-name, no-name-fits, removed-meant, inserted-meant, put-meant, name-fits, token-fits}
+use Rattle.changes.proofs.SiteLaws.{site-held, site-fit, child-rows, child-name, child-told}
+use Rattle.changes.proofs.MeantLaws.{no-name, no-name-fits, no-name-told, removed-meant, inserted-meant, put-meant, name-fits, token-fits}
 
-module _ {D P : Bytes} {values names : List ℕ} {used row levels : ℕ} {z : Site D P values names used row levels} where
-  pub same-answers : {values' names' : List ℕ} {o p : Outcome Value.Value} {r : Altered} → o ≡ p → Answers z values' names' p r → Answers z values' names' o r
-  same-answers {values'} {names'} {r = r} e a = subst (λ o. Answers z values' names' o r) (sym e) a
+module _ {w : Table} {used row levels : ℕ} {z : Site w used row levels} {nodes' : List Row} where
+  pub same-answers : {o p : Outcome Value.Value} {r : Altered} → o ≡ p → Answers z nodes' p r → Answers z nodes' o r
+  same-answers {r = r} e a = subst (λ o. Answers z nodes' o r) (sym e) a
 
-  -- what the definitions refuse is refused, and nothing has changed
-  pub answers-refused : {o : Outcome Value.Value} {number : ℕ} → o ≡ refused number 0 → Answers z values names o (Refused number)
-  answers-refused {o} {number} e = refusal (ap (limitedTo levels (z .room)) e ∙ limited-refused levels (z .room) number 0) refl refl
+  -- what the definitions refuse is refused
+  pub answers-refused : {o : Outcome Value.Value} {number : ℕ} → o ≡ refused number 0 → Answers z nodes' o (Refused number)
+  answers-refused {o} {number} e = refusal (ap (limitedTo levels (z .room)) e ∙ limited-refused levels (z .room) number 0)
 
 -- ---- the child in a row replaced, its name kept
-pub child-replaced : {D P : Bytes} {values names values' names' : List ℕ} {used row below at source : ℕ} {r : Altered} (removed name : ℕ) → removed ≡ spanOf (getD values at 0) + 1
-    → name ≡ getD names at 0 → PutIs values names values' names' used row below at removed source name r → ReplaceChildIs D P values names values' names' used row below at source r
-unfolding replaceAt
-child-replaced {D} {P} {values} {names} {values'} {names'} {used} {row} {below} {at} {source} {r} removed name removed-is name-is is z x kids k offered kth place =
-    let same : name ≡ nth blank k (z .kids) .root .name = name-is ∙ child-name z k kth place in
-    same-answers (ap ok (put-meant D P k (z .c) (z .kids) x kids ∙ ap (λ n. meant D P (z .c) (replaceAt k (renamed n x kids) (z .kids))) (sym same)))
-    (is D P z x kids (before k (z .kids)) (from (suc k) (z .kids)) (container-fit (site-fit z) (omega arith)) offered (rw same (name-fits k kth (z .standing .sound)))
-    (cut-around k place kth removed (child-rows z k kth place removed-is)))
+module _ {nodes nodes' : List Row} {p : Parent} {at source : ℕ} {r : Altered} where
+  pub child-replaced : (removed : ℕ) (name : Name) → removed ≡ spanOf (getD nodes at []) + 1 → name ≡ nameOf (getD nodes at noNode)
+      → PutIs nodes nodes' p at removed source name r → ReplaceTreeIs nodes nodes' p at source r
+  unfolding replaceAt
+  child-replaced removed name removed-is name-is is =
+      record {
+        frame = is .frame;
+        held = λ T z x kids k offered kth place.
+            let same : name ≡ nth blank k (z .kids) .root .name = name-is ∙ child-name z k kth place in
+            let outcome = ap ok (put-meant T k (z .c) (z .kids) x kids ∙ ap (λ n. meant T (z .c) (replaceAt k (renamed n x kids) (z .kids))) (sym same)) in
+            let container = container-fit (site-fit z) (omega arith) in
+            let told : Told (name .text) = rw same (child-told z k kth place) in
+            let cut = cut-around k place kth removed (child-rows z k kth place removed-is) in
+            same-answers outcome
+            (is .held T z x kids (before k (z .kids)) (from (suc k) (z .kids)) container offered (rw same (name-fits k kth (z .standing .sound))) told cut);
+      }
 
 -- ---- where an element is added
-module _ {values : List ℕ} {row : ℕ} where
+module _ {nodes : List Row} {row : ℕ} where
   -- behind the last
-  at-end : {c : Cell} {kids : Forest Cell} (end k : ℕ) → end ≡ endOf values row → Node values row c kids → count kids ≤ k → end ≡ childRow row k kids
+  at-end : {c : Cell} {kids : Forest Cell} (end k : ℕ) → end ≡ endOf nodes row → Node nodes row c kids → count kids ≤ k → end ≡ childRow row k kids
   at-end {kids = kids} end k e node h = e ∙ end-here node ∙ sym (childRow-end row kids k h)
 
-  pub insertion-dash : (i : Index) (end : ℕ) → i ≡ Index.Dash → end ≡ endOf values row → InsertionIs values row i (Child.At end)
+  pub insertion-dash : (i : Index) (end : ℕ) → i ≡ Index.Dash → end ≡ endOf nodes row → InsertionIs nodes row i (Child.At end)
   unfolding insertionAt
-  insertion-dash i end e f c kids node = placed (count kids) end (ap (insertionAt (count kids)) e) (omega arith) (at-end end (count kids) f node (omega arith))
+  insertion-dash i end e f c kids node =
+      placed (count kids) end (ap (insertionAt (count kids)) e) (omega arith) (at-end end (count kids) f node (omega arith))
 
-  pub insertion-beyond : (i : Index) → i ≡ Index.Beyond → InsertionIs values row i (Child.Refused location-missing)
+  pub insertion-beyond : (i : Index) → i ≡ Index.Beyond → InsertionIs nodes row i (Child.Refused location-missing)
   unfolding insertionAt
   insertion-beyond i e c kids node = unplaced location-missing (ap (insertionAt (count kids)) e)
 
-  pub insertion-not : (i : Index) → i ≡ Index.Not → InsertionIs values row i (Child.Refused no-index)
+  pub insertion-not : (i : Index) → i ≡ Index.Not → InsertionIs nodes row i (Child.Refused no-index)
   unfolding insertionAt
   insertion-not i e c kids node = unplaced no-index (ap (insertionAt (count kids)) e)
 
-  pub insertion-at : (i : Index) (k : ℕ) {r : Child} → i ≡ Index.At k → InsertionIs values row (Index.At k) r → InsertionIs values row i r
+  pub insertion-at : (i : Index) (k : ℕ) {r : Child} → i ≡ Index.At k → InsertionIs nodes row (Index.At k) r → InsertionIs nodes row i r
   insertion-at i k {r} e is c kids node = subst (λ j. Placed row kids (insertionAt (count kids) j) r) (sym e) (is c kids node)
 
-  module _ (k : ℕ) (l : Located) (is : ChildIs values row k l) where
+  module _ (k : ℕ) (l : Located) (is : ChildIs nodes row k l) where
     up-to : (n : ℕ) → k ≤ n → insertionAt n (Index.At k) ≡ ok k
     unfolding insertionAt elementAt
     up-to n h = rw (lt-ltb k (suc n) (omega arith))
 
-    pub position-at : (at : ℕ) → l ≡ Located.At at → InsertionIs values row (Index.At k) (Child.At at)
+    pub position-at : (at : ℕ) → l ≡ Located.At at → InsertionIs nodes row (Index.At k) (Child.At at)
     position-at at e c kids node =
-        let p = childOf-at row k kids at (sym e ∙ is c kids node) in
+        let p = childOf-at row k kids at (sym e ∙ is .held c kids node) in
         placed k at (up-to (count kids) (omega (arith, p .0))) (omega (arith, p .0)) (p .1)
 
     module _ (n : ℕ) (e : l ≡ Located.Fewer n) where
-      pub position-greater : n < k → InsertionIs values row (Index.At k) (Child.Refused location-missing)
+      pub position-greater : n < k → InsertionIs nodes row (Index.At k) (Child.Refused location-missing)
       unfolding insertionAt elementAt
       position-greater h c kids node =
-          let p = childOf-fewer row k kids n (sym e ∙ is c kids node) in
+          let p = childOf-fewer row k kids n (sym e ∙ is .held c kids node) in
           unplaced location-missing (rw (le-ltb k (suc (count kids)) (omega (arith, p .1))))
 
-      pub position-end : k ≤ n → (end : ℕ) → end ≡ endOf values row → InsertionIs values row (Index.At k) (Child.At end)
+      pub position-end : k ≤ n → (end : ℕ) → end ≡ endOf nodes row → InsertionIs nodes row (Index.At k) (Child.At end)
       position-end h end f c kids node =
-          let p = childOf-fewer row k kids n (sym e ∙ is c kids node) in
+          let p = childOf-fewer row k kids n (sym e ∙ is .held c kids node) in
           placed k end (up-to (count kids) (omega (arith, p .1))) (omega (arith, p .1)) (at-end end k f node (omega (arith, p .0, p .1)))
 
 -- ---- an element added
-module _ {D P : Bytes} {token : ℕ} (i : Index) (index-of : IsToken D P token → indexOf (nameText D P token) ≡ i) (c x : Cell) (kids below : Forest Cell) (fit : Fit c kids) (t : IsToken D P token) where
-  element-position : (if isDash (nameText D P token) then ok (count (members D P kids)) else elementBelow (suc (count (members D P kids))) (nameText D P token)) ≡ insertionAt (count kids) i
+module _ {T : Texts} {token : Name} (i : Index) (index-of : IsToken T token → indexOf (nameText T token) ≡ i) (c x : Cell) (kids below : Forest Cell)
+    (fit : Fit c kids) (t : IsToken T token) where
+  element-position : (if isDash (nameText T token) then ok (count (members T kids)) else elementBelow (suc (count (members T kids))) (nameText T token))
+      ≡ insertionAt (count kids) i
   element-position =
-      rw (count-map (entryOf D P) kids) (insertion (count kids) (nameText D P token) (few-children fit) ∙ ap (insertionAt (count kids)) (index-of t))
+      rw (count-map (entryOf T) kids) (insertion (count kids) (nameText T token) (few-children fit) ∙ ap (insertionAt (count kids)) (index-of t))
 
   element-placed : (k : ℕ) → insertionAt (count kids) i ≡ ok k
-      → insertElement (meant D P x below) (nameText D P token) (meant D P c kids) ≡ ok (meant D P c (insertAt k (renamed 0 x below) kids))
+      → insertElement (meant T x below) (nameText T token) (meant T c kids) ≡ ok (meant T c (insertAt k (renamed noName x below) kids))
   unfolding insertElement _>>=_
   element-placed k e =
       rw (element-position ∙ e)
-      (ap (λ n. ok (withKids (meant D P c kids) (insertAt k (named n (meant D P x below)) (members D P kids)))) (sym (no-name D P)) ∙ ap ok (inserted-meant D P k c kids x below 0))
+      (ap (λ n. ok (withKids (meant T c kids) (insertAt k (named n (meant T x below)) (members T kids)))) (sym (no-name T))
+      ∙ ap ok (inserted-meant T k c kids x below noName))
 
-  element-unplaced : (number : ℕ) → insertionAt (count kids) i ≡ refused number 0 → insertElement (meant D P x below) (nameText D P token) (meant D P c kids) ≡ refused number 0
+  element-unplaced : (number : ℕ) → insertionAt (count kids) i ≡ refused number 0
+      → insertElement (meant T x below) (nameText T token) (meant T c kids) ≡ refused number 0
   unfolding insertElement _>>=_
   element-unplaced number e = rw (element-position ∙ e)
 
-module _ {D P : Bytes} {values names : List ℕ} {used row below token source : ℕ} (i : Index) (index-of : IsToken D P token → indexOf (nameText D P token) ≡ i)
-    (p : Child) (is : InsertionIs values row i p) where
-  pub element-added : {values' names' : List ℕ} {r : Altered} (at : ℕ) → p ≡ Child.At at → PutIs values names values' names' used row below at 0 source 0 r
-      → AddElementIs D P values names values' names' used row below token source r
-  unfolding insertAt
-  element-added {values'} {names'} {r} at e put-is z x kids kind offered t = go (is (z .c) (z .kids) (held-node (site-held z .held))) e
-    where
-      go : {q : Child} → Placed row (z .kids) (insertionAt (count (z .kids)) i) q → q ≡ Child.At at
-          → Answers z values' names' (insertElement (meant D P x kids) (nameText D P token) (meant D P (z .c) (z .kids))) r
-      go (placed k at' f l place) g =
-          let same : at' ≡ at = cc in
-          same-answers (element-placed i index-of (z .c) x (z .kids) kids (site-fit z) t k f)
-          (put-is D P z x kids (before k (z .kids)) (from k (z .kids)) (omega (arith, kind)) offered (no-name-fits D P) (cut-before k (sym same ∙ place)))
-      go (unplaced n f) g = absurd (let w : _≡_ {A = ℕ} 0 1 = cc in omega arith)
+-- what the definitions say of a new element, and of a new member
+module _ (w : Table) (p : Parent) (token : Name) (z : SiteOf w p) (x : Cell) (kids : Forest Cell) where
+  abbrev with-element : Outcome Value.Value
+  with-element = insertElement (meant (w .texts) x kids) (nameText (w .texts) token) (meant (w .texts) (z .c) (z .kids))
 
-  pub element-refused : (number : ℕ) → p ≡ Child.Refused number → AddElementIs D P values names values names used row below token source (Refused number)
-  element-refused number e z x kids kind offered t = go (is (z .c) (z .kids) (held-node (site-held z .held))) e
-    where
-      go : {q : Child} → Placed row (z .kids) (insertionAt (count (z .kids)) i) q → q ≡ Child.Refused number
-          → Answers z values names (insertElement (meant D P x kids) (nameText D P token) (meant D P (z .c) (z .kids))) (Refused number)
-      go (placed k at' f l place) g = absurd (let w : _≡_ {A = ℕ} 0 1 = cc in omega arith)
-      go (unplaced n f) g =
-          let same : n ≡ number = cc in
-          answers-refused (element-unplaced i index-of (z .c) x (z .kids) kids (site-fit z) t number (f ∙ ap (λ m. refused m 0) same))
+  abbrev with-member : Outcome Value.Value
+  with-member = ok (insertMember (meant (w .texts) x kids) (nameText (w .texts) token) (meant (w .texts) (z .c) (z .kids)))
+
+module _ {w : Table} {p : Parent} {token : Name} (i : Index) (index-of : IsToken (w .texts) token → indexOf (nameText (w .texts) token) ≡ i) (z : SiteOf w p)
+    (x : Cell) (kids : Forest Cell) (t : IsToken (w .texts) token) where
+  element-put : {nodes' : List Row} {source : ℕ} {r : Altered} (at : ℕ) → PutIs (w .nodes) nodes' p at 0 source noName r → z .c .kind ≡ arrayKind
+      → Offered w source x kids → {q : Child} → Placed (p .row) (z .kids) (insertionAt (count (z .kids)) i) q → q ≡ Child.At at
+      → Answers z nodes' (with-element w p token z x kids) r
+  unfolding insertAt
+  element-put at put-is kind offered (placed k at' f l place) g =
+      let same : at' ≡ at = cc in
+      same-answers (element-placed i index-of (z .c) x (z .kids) kids (site-fit z) t k f)
+      (put-is .held (w .texts) z x kids (before k (z .kids)) (from k (z .kids)) (omega (arith, kind)) offered (no-name-fits (w .texts)) no-name-told
+      (cut-before k (sym same ∙ place)))
+  element-put at put-is kind offered (unplaced n f) g = absurd (let w : _≡_ {A = ℕ} 0 1 = cc in omega arith)
+
+  element-not : {nodes' : List Row} {number : ℕ} {q : Child} → Placed (p .row) (z .kids) (insertionAt (count (z .kids)) i) q → q ≡ Child.Refused number
+      → Answers z nodes' (with-element w p token z x kids) (Refused number)
+  element-not (placed k at' f l place) g = absurd (let w : _≡_ {A = ℕ} 0 1 = cc in omega arith)
+  element-not {number = number} (unplaced n f) g =
+      let same : n ≡ number = cc in
+      answers-refused (element-unplaced i index-of (z .c) x (z .kids) kids (site-fit z) t number (f ∙ ap (λ m. refused m 0) same))
+
+module _ {w : Table} {p : Parent} {token : Name} {source : ℕ} (i : Index) (index-of : IsToken (w .texts) token → indexOf (nameText (w .texts) token) ≡ i)
+    (q : Child) (is : InsertionIs (w .nodes) (p .row) i q) where
+  pub element-added : {nodes' : List Row} {r : Altered} (at : ℕ) → q ≡ Child.At at → (name : Name) → name ≡ noName
+      → PutIs (w .nodes) nodes' p at 0 source name r → AddElementIs w nodes' p token source r
+  element-added {nodes'} {r} at e name none put-is =
+      record {
+        frame = put-is .frame;
+        held = λ z x kids kind offered t.
+            let without = subst (λ n. PutIs (w .nodes) nodes' p at 0 source n r) none put-is in
+            element-put i index-of z x kids t at without kind offered (is (z .c) (z .kids) (held-node (site-held z .held))) e;
+      }
+
+  pub element-refused : (number : ℕ) → q ≡ Child.Refused number → AddElementIs w (w .nodes) p token source (Refused number)
+  element-refused number e =
+      record {
+        frame = unchanged refl;
+        held = λ z x kids kind offered t. element-not i index-of z x kids t (is (z .c) (z .kids) (held-node (site-held z .held))) e;
+      }
 
 -- ---- a member added
-module _ (D P : Bytes) (c x : Cell) (kids below : Forest Cell) (name : Text) where
-  member-there : (k : ℕ) → find name (members D P kids) ≡ k → k < count kids → insertMember (meant D P x below) name (meant D P c kids) ≡ put k (meant D P x below) (meant D P c kids)
+module _ (T : Texts) (c x : Cell) (kids below : Forest Cell) (name : Text) where
+  member-there : (k : ℕ) → find name (members T kids) ≡ k → k < count kids
+      → insertMember (meant T x below) name (meant T c kids) ≡ put k (meant T x below) (meant T c kids)
   unfolding insertMember
-  member-there k e l = rw (count-map (entryOf D P) kids, e, lt-ltb k (count kids) l)
+  member-there k e l = rw (count-map (entryOf T) kids, e, lt-ltb k (count kids) l)
 
-  member-new : find name (members D P kids) ≡ count kids
-      → insertMember (meant D P x below) name (meant D P c kids) ≡ withKids (meant D P c kids) (insertAt (count kids) (named name (meant D P x below)) (members D P kids))
+  member-new : find name (members T kids) ≡ count kids
+      → insertMember (meant T x below) name (meant T c kids)
+      ≡ withKids (meant T c kids) (insertAt (count kids) (named name (meant T x below)) (members T kids))
   unfolding insertMember
-  member-new e = rw (count-map (entryOf D P) kids, e, le-ltb (count kids) (count kids) (omega arith))
+  member-new e = rw (count-map (entryOf T) kids, e, le-ltb (count kids) (count kids) (omega arith))
 
-module _ {D P : Bytes} {values names : List ℕ} {used row below token source : ℕ} (end : ℕ) (ends : end ≡ endOf values row) (m : Member) (is : FindIs D P values names (row + 1) end token m) where
-  pub member-replaced : {values' names' : List ℕ} {r : Altered} (at : ℕ) → m ≡ Member.At at → ReplaceChildIs D P values names values' names' used row below at source r
-      → AddMemberIs D P values names values' names' used row below token source r
+module _ {w : Table} {p : Parent} {token : Name} (z : SiteOf w p) (x : Cell) (kids : Forest Cell) (t : IsToken (w .texts) token) {nodes' : List Row}
+    {source : ℕ} {r : Altered} (offered : Offered w source x kids) where
+  replaced-there : (at : ℕ) → Replaced w nodes' p at source r → {n : Member} → Found (w .texts) (p .row + 1) (z .kids) (nameText (w .texts) token) n
+      → n ≡ Member.At at → Answers z nodes' (with-member w p token z x kids) r
   unfolding childRow
-  member-replaced {values'} {names'} {r} at e replace-is z x kids kind offered t = go (is (z .kids) (asked end ends m is (site-held z)) (t .hashed)) e
-    where
-      go : {n : Member} → Found D P (row + 1) (z .kids) (nameText D P token) n → n ≡ Member.At at
-          → Answers z values' names' (ok (insertMember (meant D P x kids) (nameText D P token) (meant D P (z .c) (z .kids)))) r
-      go (found k at' f l place) g =
-          let same : at' ≡ at = cc in
-          same-answers (ap ok (member-there D P (z .c) x (z .kids) kids (nameText D P token) k f l)) (replace-is z x kids k offered l (sym same ∙ place))
-      go (missing f) g = absurd (let w : _≡_ {A = ℕ} 0 1 = cc in omega arith)
+  replaced-there at replaced (found k at' f l place) g =
+      let same : at' ≡ at = cc in
+      same-answers (ap ok (member-there (w .texts) (z .c) x (z .kids) kids (nameText (w .texts) token) k f l))
+      (replaced z x kids k offered l (sym same ∙ place))
+  replaced-there at replaced (missing f) g = absurd (let w : _≡_ {A = ℕ} 0 1 = cc in omega arith)
 
-  pub member-added : {values' names' : List ℕ} {r : Altered} → m ≡ Member.Missing → PutIs values names values' names' used row below end 0 source token r
-      → AddMemberIs D P values names values' names' used row below token source r
+  added-there : (end : ℕ) → end ≡ endOf (w .nodes) (p .row) → z .c .kind ≡ objectKind → PutIs (w .nodes) nodes' p end 0 source token r → {n : Member}
+      → Found (w .texts) (p .row + 1) (z .kids) (nameText (w .texts) token) n → n ≡ Member.Missing → Answers z nodes' (with-member w p token z x kids) r
   unfolding insertAt
-  member-added {values'} {names'} {r} e put-is z x kids kind offered t = go (is (z .kids) (asked end ends m is (site-held z)) (t .hashed)) e
-    where
-      go : {n : Member} → Found D P (row + 1) (z .kids) (nameText D P token) n → n ≡ Member.Missing
-          → Answers z values' names' (ok (insertMember (meant D P x kids) (nameText D P token) (meant D P (z .c) (z .kids)))) r
-      go (found k at' f l place) g = absurd (let w : _≡_ {A = ℕ} 0 1 = cc in omega arith)
-      go (missing f) g =
-          let n : ℕ = count (z .kids) in
-          same-answers (ap ok (member-new D P (z .c) x (z .kids) kids (nameText D P token) f ∙ inserted-meant D P n (z .c) (z .kids) x kids token))
-          (put-is D P z x kids (before n (z .kids)) (from n (z .kids)) (omega (arith, kind)) offered (token-fits t)
-          (cut-before n (at-end end n ends (held-node (site-held z .held)) (omega arith))))
+  added-there end ends kind put-is (found k at' f l place) g = absurd (let w : _≡_ {A = ℕ} 0 1 = cc in omega arith)
+  added-there end ends kind put-is (missing f) g =
+      let n : ℕ = count (z .kids) in
+      let cut = cut-before n (at-end end n ends (held-node (site-held z .held)) (omega arith)) in
+      same-answers
+      (ap ok (member-new (w .texts) (z .c) x (z .kids) kids (nameText (w .texts) token) f ∙ inserted-meant (w .texts) n (z .c) (z .kids) x kids token))
+      (put-is .held (w .texts) z x kids (before n (z .kids)) (from n (z .kids)) (omega (arith, kind)) offered (token-fits t) (t .told) cut)
 
--- a row behind the column holds no node
-pub member-outside : {D P : Bytes} {values names values' names' : List ℕ} {used row below token source : ℕ} {r : Altered} → length values ≤ row
-    → AddMemberIs D P values names values' names' used row below token source r
-member-outside h z x kids kind offered t = absurd (omega (arith, site-inside z, z .few, z .long))
+module _ {w : Table} {p : Parent} {token : Name} {source : ℕ} (end : ℕ) (ends : end ≡ endOf (w .nodes) (p .row)) (m : Member)
+    (is : FindIs w (p .row + 1) end token m) {nodes' : List Row} {r : Altered} where
+  pub member-replaced : (at : ℕ) → m ≡ Member.At at → ReplaceTreeIs (w .nodes) nodes' p at source r → AddMemberIs w nodes' p token source r
+  member-replaced at e replace-is =
+      record {
+        frame = replace-is .frame;
+        held = λ z x kids kind offered t.
+            let there = is .held (z .kids) (asked end ends m is (site-held z)) (t .hashed) in
+            replaced-there z x kids t offered at (replace-is .held (w .texts)) there e;
+      }
+
+  pub member-added : m ≡ Member.Missing → PutIs (w .nodes) nodes' p end 0 source token r → AddMemberIs w nodes' p token source r
+  member-added e put-is =
+      record {
+        frame = put-is .frame;
+        held = λ z x kids kind offered t.
+            let there = is .held (z .kids) (asked end ends m is (site-held z)) (t .hashed) in
+            added-there z x kids t offered end ends kind put-is there e;
+      }
 
 -- ---- a child added, by the node's kind
-here : {D P : Bytes} {values names : List ℕ} {used row levels k : ℕ} → k ≡ kindOf (getD values row 0) → (z : Site D P values names used row levels) → k ≡ z .c .kind
+here : {w : Table} {used row levels k : ℕ} → k ≡ kindOf (getD (w .nodes) row []) → (z : Site w used row levels) → k ≡ z .c .kind
 here kind z = kind ∙ kind-here (held-node (site-held z .held))
 
-module _ (D P : Bytes) (c : Cell) (kids : Forest Cell) (fits : c .kind ≤ objectKind) (x : Value.Value) (t : Text) where
-  insert-array : c .kind ≡ arrayKind → insertChild x t (meant D P c kids) ≡ insertElement x t (meant D P c kids)
+module _ (T : Texts) (c : Cell) (kids : Forest Cell) (fits : c .kind ≤ objectKind) (x : Value.Value) (t : Text) where
+  insert-array : c .kind ≡ arrayKind → insertChild x t (meant T c kids) ≡ insertElement x t (meant T c kids)
   unfolding insertChild
-  insert-array e = rw (isArray-label D P (c .kind) (c .payload) fits, eq-eqb (c .kind) arrayKind e)
+  insert-array e = rw (isArray-label T (c .kind) (c .value) fits, eq-eqb (c .kind) arrayKind e)
 
-  insert-object : c .kind ≡ objectKind → insertChild x t (meant D P c kids) ≡ ok (insertMember x t (meant D P c kids))
+  insert-object : c .kind ≡ objectKind → insertChild x t (meant T c kids) ≡ ok (insertMember x t (meant T c kids))
   unfolding insertChild
   insert-object e =
       rw (
-        isArray-label D P (c .kind) (c .payload) fits,
-        isObject-label D P (c .kind) (c .payload) fits,
+        isArray-label T (c .kind) (c .value) fits,
+        isObject-label T (c .kind) (c .value) fits,
         ne-eqb (c .kind) arrayKind (λ f. omega arith),
         eq-eqb (c .kind) objectKind e,
       )
 
-  pub insert-scalar : (c .kind ≡ arrayKind → ⊥) → (c .kind ≡ objectKind → ⊥) → insertChild x t (meant D P c kids) ≡ refused location-missing 0
+  pub insert-scalar : (c .kind ≡ arrayKind → ⊥) → (c .kind ≡ objectKind → ⊥) → insertChild x t (meant T c kids) ≡ refused location-missing 0
   unfolding insertChild
   insert-scalar e f =
       rw (
-        isArray-label D P (c .kind) (c .payload) fits,
-        isObject-label D P (c .kind) (c .payload) fits,
+        isArray-label T (c .kind) (c .value) fits,
+        isObject-label T (c .kind) (c .value) fits,
         ne-eqb (c .kind) arrayKind e,
         ne-eqb (c .kind) objectKind f,
       )
 
-module _ {D P : Bytes} {values names : List ℕ} {used row below token source : ℕ} (k : ℕ) (kind : k ≡ kindOf (getD values row 0)) where
-  module _ {values' names' : List ℕ} {r : Altered} where
-    pub add-array : k ≡ arrayKind → AddElementIs D P values names values' names' used row below token source r → AddIs D P values names values' names' used row below token source r
-    add-array e is x kids offered z t =
-        let array = sym (here kind z) ∙ e in
-        same-answers (insert-array D P (z .c) (z .kids) (site-fit z .kind) (meant D P x kids) (nameText D P token) array) (is z x kids array offered t)
+module _ {w : Table} {p : Parent} {token : Name} {source : ℕ} (k : ℕ) (kind : k ≡ kindOf (getD (w .nodes) (p .row) [])) where
+  module _ {nodes' : List Row} {r : Altered} where
+    pub add-array : k ≡ arrayKind → AddElementIs w nodes' p token source r → AddIs w nodes' p token source r
+    add-array e is =
+        record {
+          frame = is .frame;
+          held = λ x kids offered z t.
+              let array = sym (here kind z) ∙ e in
+              same-answers (insert-array (w .texts) (z .c) (z .kids) (site-fit z .kind) (meant (w .texts) x kids) (nameText (w .texts) token) array)
+              (is .held z x kids array offered t);
+        }
 
-    pub add-object : k ≡ objectKind → AddMemberIs D P values names values' names' used row below token source r → AddIs D P values names values' names' used row below token source r
-    add-object e is x kids offered z t =
-        let object = sym (here kind z) ∙ e in
-        same-answers (insert-object D P (z .c) (z .kids) (site-fit z .kind) (meant D P x kids) (nameText D P token) object) (is z x kids object offered t)
+    pub add-object : k ≡ objectKind → AddMemberIs w nodes' p token source r → AddIs w nodes' p token source r
+    add-object e is =
+        record {
+          frame = is .frame;
+          held = λ x kids offered z t.
+              let object = sym (here kind z) ∙ e in
+              same-answers (insert-object (w .texts) (z .c) (z .kids) (site-fit z .kind) (meant (w .texts) x kids) (nameText (w .texts) token) object)
+              (is .held z x kids object offered t);
+        }
 
-  pub add-scalar : (k ≡ arrayKind → ⊥) → (k ≡ objectKind → ⊥) → AddIs D P values names values names used row below token source (Refused location-missing)
-  add-scalar e f x kids offered z t =
-      answers-refused
-      (insert-scalar D P (z .c) (z .kids) (site-fit z .kind) (meant D P x kids) (nameText D P token) (λ g. e (here kind z ∙ g)) (λ g. f (here kind z ∙ g)))
+  pub add-scalar : (k ≡ arrayKind → ⊥) → (k ≡ objectKind → ⊥) → AddIs w (w .nodes) p token source (Refused location-missing)
+  add-scalar e f =
+      record {
+        frame = unchanged refl;
+        held = λ x kids offered z t.
+            answers-refused
+            (insert-scalar (w .texts) (z .c) (z .kids) (site-fit z .kind) (meant (w .texts) x kids) (nameText (w .texts) token) (λ g. e (here kind z ∙ g))
+            (λ g. f (here kind z ∙ g)));
+      }
 
 -- ---- a child removed and replaced
-module _ {D P : Bytes} {values names : List ℕ} {used row token : ℕ} (s : Child) (is : StepIs D P values names row token s) where
+module _ {w : Table} {row : ℕ} {token : Name} (s : Child) (is : StepIs w row token s) {used levels : ℕ}
+    (z : Site w used row levels) (t : IsToken (w .texts) token) where
+  abbrev child-of : Outcome ℕ
+  child-of = childAt (nameText (w .texts) token) (meant (w .texts) (z .c) (z .kids))
+
   -- where the token names no child, neither has one
-  pub no-child : {levels number : ℕ} (z : Site D P values names used row levels) → IsToken D P token → s ≡ Child.Refused number
-      → childAt (nameText D P token) (meant D P (z .c) (z .kids)) ≡ refused number 0
-  no-child {number = number} z t e = go (is t (z .c) (z .kids) (site-held z)) e
+  pub no-child : {number : ℕ} → s ≡ Child.Refused number → child-of ≡ refused number 0
+  no-child {number} e = go (is .held t (z .c) (z .kids) (site-held z)) e
     where
-      go : {q : Child} → Stepped row (z .kids) (childAt (nameText D P token) (meant D P (z .c) (z .kids))) q → q ≡ Child.Refused number
-          → childAt (nameText D P token) (meant D P (z .c) (z .kids)) ≡ refused number 0
+      go : {q : Child} → Stepped row (z .kids) child-of q → q ≡ Child.Refused number → child-of ≡ refused number 0
       go (stepped k at f l p) g = absurd (let w : _≡_ {A = ℕ} 0 1 = cc in omega arith)
       go (missed n f) g = let same : n ≡ number = cc in f ∙ ap (λ m. refused m 0) same
 
-  pub the-child : {C : Type 0} {levels at : ℕ} (z : Site D P values names used row levels) → IsToken D P token → s ≡ Child.At at
-      → ((k : ℕ) → childAt (nameText D P token) (meant D P (z .c) (z .kids)) ≡ ok k → k < count (z .kids) → at ≡ childRow row k (z .kids) → C) → C
-  the-child {C} {at = at} z t e then-it = go (is t (z .c) (z .kids) (site-held z)) e
+  pub the-child : {C : Type 0} {at : ℕ} → s ≡ Child.At at → ((k : ℕ) → child-of ≡ ok k → k < count (z .kids) → at ≡ childRow row k (z .kids) → C) → C
+  the-child {C} {at} e then-it = go (is .held t (z .c) (z .kids) (site-held z)) e
     where
-      go : {q : Child} → Stepped row (z .kids) (childAt (nameText D P token) (meant D P (z .c) (z .kids))) q → q ≡ Child.At at → C
+      go : {q : Child} → Stepped row (z .kids) child-of q → q ≡ Child.At at → C
       go (stepped k at' f l p) g = let same : at' ≡ at = cc in then-it k f l (sym same ∙ p)
       go (missed n f) g = absurd (let w : _≡_ {A = ℕ} 0 1 = cc in omega arith)
 
-  pub remove-refused : (number : ℕ) → s ≡ Child.Refused number → RemoveIs D P values names values names used row token (Refused number)
+module _ {w : Table} {p : Parent} {token : Name} (s : Child) (is : StepIs w (p .row) token s) where
+  pub remove-refused : (number : ℕ) → s ≡ Child.Refused number → RemoveIs w (w .nodes) p token (Refused number)
   unfolding removeChild _>>=_
-  remove-refused number e levels z t = answers-refused (rw (no-child z t e))
+  remove-refused number e = record { frame = unchanged refl; held = λ z t. answers-refused (rw (no-child s is z t e)) }
 
-  pub replace-refused : {below source : ℕ} (number : ℕ) → s ≡ Child.Refused number → ReplaceIs D P values names values names used row below token source (Refused number)
+  pub replace-refused : {source : ℕ} (number : ℕ) → s ≡ Child.Refused number → ReplaceIs w (w .nodes) p token source (Refused number)
   unfolding replaceChild _>>=_
-  replace-refused number e x kids offered z t = answers-refused (rw (no-child z t e))
+  replace-refused number e = record { frame = unchanged refl; held = λ x kids offered z t. answers-refused (rw (no-child s is z t e)) }
 
-  module _ {values' names' : List ℕ} {r : Altered} (at : ℕ) (e : s ≡ Child.At at) where
-    pub remove-done : TakeOutIs values names values' names' used row at r → RemoveIs D P values names values' names' used row token r
+  module _ {nodes' : List Row} {r : Altered} (at : ℕ) (e : s ≡ Child.At at) where
+    pub remove-done : TakeOutIs (w .nodes) nodes' p at r → RemoveIs w nodes' p token r
     unfolding removeChild _>>=_
-    remove-done out levels z t =
-        the-child z t e λ k f l p. same-answers (rw f (ap ok (removed-meant D P k (z .c) (z .kids)))) (out D P levels z k l p)
+    remove-done out =
+        record {
+          frame = out .frame;
+          held = λ z t.
+              the-child s is z t e λ k f l place.
+              same-answers (rw f (ap ok (removed-meant (w .texts) k (z .c) (z .kids)))) (out .held (w .texts) z k l place);
+        }
 
-    pub replace-done : {below source : ℕ} → ReplaceChildIs D P values names values' names' used row below at source r → ReplaceIs D P values names values' names' used row below token source r
+    pub replace-done : {source : ℕ} → ReplaceTreeIs (w .nodes) nodes' p at source r → ReplaceIs w nodes' p token source r
     unfolding replaceChild _>>=_
-    replace-done replaced x kids offered z t = the-child z t e λ k f l p. same-answers (rw f) (replaced z x kids k offered l p)
+    replace-done replaced =
+        record {
+          frame = replaced .frame;
+          held = λ x kids offered z t.
+              the-child s is z t e λ k f l place. same-answers (rw f) (replaced .held (w .texts) z x kids k offered l place);
+        }
 
 -- ---- by the kind of change
-module _ {D P : Bytes} {values names values' names' : List ℕ} {used row below token : ℕ} {r : Altered} where
-  pub changed-add : (change : Change) (source : ℕ) → change ≡ Add source → AddIs D P values names values' names' used row below token source r
-      → ChangeChildIs D P values names values' names' used row below token change r
-  changed-add change source e is f (adds source' x kids offered) z t = let same : source' ≡ source = cc in is x kids (rw same at offered) z t
-  changed-add change source e is f removes z t = absurd (let w : _≡_ {A = ℕ} 0 1 = cc in omega arith)
-  changed-add change source e is f (replaces source' x kids offered) z t = absurd (let w : _≡_ {A = ℕ} 0 1 = cc in omega arith)
+module _ {w : Table} {nodes' : List Row} {p : Parent} {token : Name} {r : Altered} (change : Change) where
+  pub changed-add : (source : ℕ) → change ≡ Add source → AddIs w nodes' p token source r → ChangeChildIs w nodes' p token change r
+  changed-add source e is = record { frame = is .frame; held = λ f makes. go f makes e }
+    where
+      go : {d : Change} (f : ByToken) → Makes w d f → d ≡ Add source → Changed w nodes' p token f r
+      go f (adds source' x kids offered) g = let same : source' ≡ source = cc in is .held x kids (rw same at offered)
+      go f removes g = absurd (let w : _≡_ {A = ℕ} 0 1 = cc in omega arith)
+      go f (replaces source' x kids offered) g = absurd (let w : _≡_ {A = ℕ} 0 1 = cc in omega arith)
 
-  pub changed-remove : (change : Change) → change ≡ Remove → RemoveIs D P values names values' names' used row token r
-      → ChangeChildIs D P values names values' names' used row below token change r
-  changed-remove change e is f (adds source' x kids offered) z t = absurd (let w : _≡_ {A = ℕ} 0 1 = cc in omega arith)
-  changed-remove change e is f removes z t = is (suc below) z t
-  changed-remove change e is f (replaces source' x kids offered) z t = absurd (let w : _≡_ {A = ℕ} 0 1 = cc in omega arith)
+  pub changed-remove : change ≡ Remove → RemoveIs w nodes' p token r → ChangeChildIs w nodes' p token change r
+  changed-remove e is = record { frame = is .frame; held = λ f makes. go f makes e }
+    where
+      go : {d : Change} (f : ByToken) → Makes w d f → d ≡ Remove → Changed w nodes' p token f r
+      go f (adds source' x kids offered) g = absurd (let w : _≡_ {A = ℕ} 0 1 = cc in omega arith)
+      go f removes g = is .held
+      go f (replaces source' x kids offered) g = absurd (let w : _≡_ {A = ℕ} 0 1 = cc in omega arith)
 
-  pub changed-replace : (change : Change) (source : ℕ) → change ≡ Replace source → ReplaceIs D P values names values' names' used row below token source r
-      → ChangeChildIs D P values names values' names' used row below token change r
-  changed-replace change source e is f (adds source' x kids offered) z t = absurd (let w : _≡_ {A = ℕ} 0 1 = cc in omega arith)
-  changed-replace change source e is f removes z t = absurd (let w : _≡_ {A = ℕ} 0 1 = cc in omega arith)
-  changed-replace change source e is f (replaces source' x kids offered) z t = let same : source' ≡ source = cc in is x kids (rw same at offered) z t
+  pub changed-replace : (source : ℕ) → change ≡ Replace source → ReplaceIs w nodes' p token source r → ChangeChildIs w nodes' p token change r
+  changed-replace source e is = record { frame = is .frame; held = λ f makes. go f makes e }
+    where
+      go : {d : Change} (f : ByToken) → Makes w d f → d ≡ Replace source → Changed w nodes' p token f r
+      go f (adds source' x kids offered) g = absurd (let w : _≡_ {A = ℕ} 0 1 = cc in omega arith)
+      go f removes g = absurd (let w : _≡_ {A = ℕ} 0 1 = cc in omega arith)
+      go f (replaces source' x kids offered) g = let same : source' ≡ source = cc in is .held x kids (rw same at offered)

@@ -4,8 +4,8 @@ pub mod KeptLaws
 pub mod SiteLaws
 pub mod PutLaws
 pub mod MeantLaws
-pub mod ChangeLaws
 pub mod TokenLaws
+pub mod ChangeLaws
 pub mod AlterLaws
 pub mod DocumentLaws
 pub mod PathLaws

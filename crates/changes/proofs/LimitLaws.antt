@@ -39,7 +39,8 @@ module _ (levels room : ℕ) where
       limited-fits l = rw (le-leb (depth v) levels h, le-leb (nodes v) room l)
 
   -- what passes is the value that was given
-  pub limited-same : (o : Outcome Value.Value) (w : Value.Value) → limitedTo levels room o ≡ ok w → (o ≡ ok w) × (depth w ≤ levels) × (nodes w ≤ room)
+  pub limited-same : (o : Outcome Value.Value) (w : Value.Value) → limitedTo levels room o ≡ ok w
+      → (o ≡ ok w) × (depth w ≤ levels) × (nodes w ≤ room)
   unfolding limitedTo withinLevels withinRoom _>>=_
   limited-same (refused n p) w e = absurd (let z : _≡_ {A = ℕ} 0 1 = cc in omega arith)
   limited-same (ok v) w e = go (leb (depth v) levels) (leb (nodes v) room) refl refl e
@@ -86,9 +87,12 @@ leb-same a b m n f g = go (leb a b) (leb m n) refl refl
 module _ (t : Text) (v : Value.Value) (k : ℕ) (there : childAt t v ≡ ok k) where
   pub nodes-put : (w : Value.Value) → nodes (put k w v) + nodes (valueOf (child k v)) ≡ nodes v + nodes w
   unfolding nodes put child
-  nodes-put w = let s = size-replaceAt (named [] (leaf Label.null-literal)) k (v .kids) (child-there t v k there) (named (child k v .root .name) w) in omega (arith, s)
+  nodes-put w =
+      let s = size-replaceAt (named [] (leaf Label.null-literal)) k (v .kids) (child-there t v k there) (named (child k v .root .name) w) in
+      omega (arith, s)
 
-  module _ (levels below room inner used : ℕ) (shallow : depth v ≤ levels) (one-less : levels ≡ suc below) (outer-is : used + room ≡ maxNodes + nodes v)
+  module _ (levels below room inner used : ℕ) (shallow : depth v ≤ levels) (one-less : levels ≡ suc below)
+      (outer-is : used + room ≡ maxNodes + nodes v)
       (inner-is : used + inner ≡ maxNodes + nodes (valueOf (child k v))) where
     module _ (w : Value.Value) where
       same-deep : leb (depth (put k w v)) levels ≡ leb (depth w) below

@@ -1,13 +1,13 @@
 -- Laws of a change of the document at a location, which may be the root.
 use Prim.Native.Nat.{ℕ, suc, _+_, _≤_, _<_}
 use native.Mathlib.Omega.{arith}
-use mathlib.Core.Path.{_≡_, refl, ap, sym, _∙_}
+use mathlib.Core.Path.{_≡_, refl, ap, sym, _∙_, subst}
 use mathlib.Core.Bool.{Bool, true, false}
 use mathlib.Core.List.{List, [], _∷_}
 use lib.ListN.{take, drop, getD}
 use borrow.Author.Tests.{leb-true, leb-false}
 use Rattle.spec.specs.Outcome.{Outcome, ok, _>>=_}
-use Rattle.spec.specs.Refusal.{too-deep, too-many-nodes, remove-of-root}
+use Rattle.spec.specs.Refusal.{too-deep, too-many-nodes, malformed-pointer, remove-of-root}
 use Rattle.spec.specs.Limits.{maxDepth, maxNodes}
 use Rattle.spec.specs.Bytes.{Bytes, Text}
 use Rattle.spec.specs.Forest.{Forest, none, tree, size, _⧺_}
@@ -16,11 +16,14 @@ use Rattle.spec.specs.Value.{depth}
 use Rattle.spec.specs.Pointer.{Tokens}
 use Rattle.spec.specs.Operation.{atParent, insertChild, removeChild, replaceChild, addAt, removeAtPath, replaceAtPath}
 use Rattle.tape.specs.Layout.{documentRow}
-use Rattle.tape.specs.Packing.{spanOf}
+use Rattle.tape.specs.Fields.{Row, spanOf}
 use Rattle.tape.specs.Rows.{WithinIs}
 use Rattle.tape.specs.Columns.{usedAfter, spliced}
 use Rattle.tape.specs.Tape.{tape, Holds, Laid}
-use Rattle.tape.specs.Cell.{Cell, level, deep}
+use Rattle.tape.specs.declared.fields.Spelling.{Spelling}
+use Rattle.tape.specs.declared.fields.Cell.{Cell}
+use Rattle.tape.specs.Cell.{rowOf, level, deep}
+use Rattle.tape.specs.Lent.{Texts, Table}
 use Rattle.tape.proofs.Columns.{Room}
 use Rattle.tape.proofs.Cells.{formed-fit, formed-kids}
 use Rattle.tape.proofs.Tape.{tape-single, holds-words}
@@ -33,9 +36,11 @@ use Rattle.pointer.specs.declared.answers.First.{First}
 use Rattle.pointer.specs.declared.answers.First.the-variants as First
 use Rattle.pointer.proofs.WalkLaws.{first-root, first-at, first-inside, first-malformed}
 use Rattle.walk.proofs.PathLaws.{first-of}
-use Rattle.changes.specs.Site.{Standing, Offered}
-use Rattle.changes.specs.Change.{Few, Makes, adds, removes, replaces, AlterIs}
-use Rattle.changes.specs.Document.{Document, judged, Results, results, refusal, ReplaceDocumentIs, MakesAt, adds-at, removes-at, replaces-at, ChangeDocumentIs, ChangeAtIs}
+use Rattle.changes.specs.Site.{Standing, Offered, table}
+use Rattle.changes.specs.Rows.{Frame, framed, unchanged}
+use Rattle.changes.specs.Change.{ByToken, Makes, adds, removes, replaces, AlterIs}
+use Rattle.changes.specs.Document.{Document, judged, Results, results, refusal, AtLocation, MakesAt, adds-at, removes-at, replaces-at}
+use Rattle.changes.specs.Document.{ReplaceDocumentIs, ChangeDocumentIs, ChangeAtIs}
 use Rattle.changes.specs.declared.answers.Change.{Change}
 use Rattle.changes.specs.declared.answers.Change.the-variants.{Add, Remove, Replace}
 use Rattle.changes.specs.declared.answers.Altered.{Altered}
@@ -47,118 +52,149 @@ use Rattle.changes.proofs.TokenLaws.{some-token}
 use Rattle.changes.proofs.DocumentLaws.{nothing-around, document-site, standing-document, document-answers}
 
 -- ---- another tree in the place of the whole document
--- a column's words in use exchanged for those of a tree behind them
-whole-exchanged : {w : Cell → Forest Cell → ℕ} {xs after : List ℕ} {used source n : ℕ} {c x : Cell} {kids below rest : Forest Cell} → used ≡ suc (size kids) → n ≡ suc (size below)
-    → Laid w xs used [] (tree c kids none) [] → Room xs used used source n → Holds w xs source (tree x below rest) after
-    → Laid w (spliced xs used 0 used source n) n [] (tree x below none) []
+-- whatever the table holds, the rows behind stay
+pub replace-frame : {nodes nodes' : List Row} (used source count : ℕ) → used ≤ maxNodes → count ≤ maxNodes → nodes' ≡ spliced nodes used 0 used source count
+    → Frame nodes nodes' (Done count)
+replace-frame used source count low few e = rw e (framed few (behind-spliced used 0 used source count (omega arith) (omega arith)))
+
+-- the rows in use exchanged for those of a tree behind them
+whole-exchanged : {xs after : List Row} {used source n : ℕ} {c x : Cell} {kids below rest : Forest Cell} → used ≡ suc (size kids) → n ≡ suc (size below)
+    → Laid rowOf xs used [] (tree c kids none) [] → Room xs used used source n → Holds rowOf xs source (tree x below rest) after
+    → Laid rowOf (spliced xs used 0 used source n) n [] (tree x below none) []
 unfolding size _⧺_
-whole-exchanged {w} {xs} {used = used} {source} {n} {c} {x} {kids} {below} ends many l room h =
+whole-exchanged {xs} {used = used} {source} {n} {c} {x} {kids} {below} ends many l room h =
     let now : usedAfter used used n ≡ n = omega arith in
     let old : size (tree c kids none) ≡ used = omega arith in
-    let given : take n (drop source xs) ≡ tape w (tree x below none) = holds-words n many h ∙ sym (tape-single w (record { root = x; kids = below })) in
+    let given : take n (drop source xs) ≡ tape rowOf (tree x below none) = holds-words n many h ∙ sym (tape-single rowOf (record { root = x; kids = below })) in
     rw now at
     (laid-splice (tree x below none) 0 0 used source n l refl (omega arith) room
-    (tape-exchange w none (tree c kids none) (tree x below none) none (tree c kids none) refl ∙ rw (old, given)))
+    (tape-exchange rowOf none (tree c kids none) (tree x below none) none (tree c kids none) refl ∙ rw (old, given)))
 
-module _ {D P : Bytes} {values names : List ℕ} {used source : ℕ} {v : Value.Value} (d : Document D P values names used v) {x : Cell} {kids : Forest Cell}
-    (offered : Offered D P values names source x kids) where
-  depth-offered : depth (meant D P x kids) ≡ level x (deep kids)
-  depth-offered = depth-meant D P x kids (formed-fit (offered .held .held .formed) .kind) (formed-kids (offered .held .held .formed))
+module _ {w : Table} {source : ℕ} {x : Cell} {kids : Forest Cell} (offered : Offered w source x kids) where
+  abbrev new-value : Value.Value
+  new-value = meant (w .texts) x kids
 
-  pub replace-deep : {r : Bool} → WithinIs values source maxDepth r → r ≡ false → Results D P values names values names (judged (ok (meant D P x kids))) (Refused too-deep)
+  depth-offered : depth new-value ≡ level x (deep kids)
+  depth-offered = depth-meant (w .texts) x kids (formed-fit (offered .held .held .formed) .kind) (formed-kids (offered .held .held .formed))
+
+  pub replace-deep : {nodes' : List Row} {r : Bool} → WithinIs (w .nodes) source maxDepth r → r ≡ false
+      → Results (w .texts) nodes' (judged (ok new-value)) (Refused too-deep)
   replace-deep is e =
       let l = leb-false (level x (deep kids)) maxDepth (sym (is x kids (held-node (offered .held .held))) ∙ e) in
-      refusal (judged-deep (meant D P x kids) (omega (arith, depth-offered)))
+      refusal (judged-deep new-value (omega (arith, depth-offered)))
 
-  module _ {r : Bool} (is : WithinIs values source maxDepth r) (e : r ≡ true) (count : ℕ) (count-is : count ≡ spanOf (getD values source 0) + 1) where
-    shallow : depth (meant D P x kids) ≤ maxDepth
-    shallow = let l = leb-true (level x (deep kids)) maxDepth (sym (is x kids (held-node (offered .held .held))) ∙ e) in omega (arith, depth-offered)
+  module _ {r : Bool} (is : WithinIs (w .nodes) source maxDepth r) (e : r ≡ true) (count : ℕ) (count-is : count ≡ spanOf (getD (w .nodes) source []) + 1) where
+    shallow : depth new-value ≤ maxDepth
+    shallow =
+        let l = leb-true (level x (deep kids)) maxDepth (sym (is x kids (held-node (offered .held .held))) ∙ e) in
+        omega (arith, depth-offered)
 
     count-size : count ≡ suc (size kids)
     count-size = omega (arith, offered-size offered)
 
-    pub replace-large : maxNodes < count → Results D P values names values names (judged (ok (meant D P x kids))) (Refused too-many-nodes)
-    replace-large h =
-        refusal (judged-large (meant D P x kids) shallow (omega (arith, nodes-meant D P x kids, count-size)))
+    pub replace-large : {nodes' : List Row} → maxNodes < count → Results (w .texts) nodes' (judged (ok new-value)) (Refused too-many-nodes)
+    replace-large h = refusal (judged-large new-value shallow (omega (arith, nodes-meant (w .texts) x kids, count-size)))
 
-    module _ (few : count ≤ maxNodes) where
-      all-replaced : Results D P values names (spliced values used 0 used source count) (spliced names used 0 used source count) (judged (ok (meant D P x kids))) (Done count)
-      unfolding document-site
-      all-replaced =
-          let whole = document-site d .standing in
-          let h = offered .held .held in
-          let values-room : Room values used used source count = offered-room offered count count-size (d .few) (omega arith) (h .words) in
-          let names-room : Room names used used source count = offered-room offered count count-size (d .few) (omega arith) (h .titles) in
-          let same-values = behind-spliced used 0 used source count (omega arith) values-room (omega arith) in
-          let same-names = behind-spliced used 0 used source count (omega arith) names-room (omega arith) in
-          let stands : Standing D P (spliced values used 0 used source count) (spliced names used 0 used source count) count documentRow nothing-around x kids =
-          record {
-            words = whole-exchanged (d .ends) count-size (whole .words) values-room (h .words);
-            titles = whole-exchanged (d .ends) count-size (whole .titles) names-room (h .titles);
-            place = refl;
-            titlePlace = refl;
-            formed = formed-alone (h .formed);
-            label = offered .held .label;
-            sound = offered .held .sound;
-          } in
-          results (judged-fits (meant D P x kids) shallow (omega (arith, nodes-meant D P x kids, count-size)))
-          (standing-document stands few shallow (behind-long same-values (d .long)) (behind-long same-names (d .titlesLong))) same-values same-names
-
-      -- as the code goes: the words of each column spliced
-      pub replace-done : {values' names' : List ℕ} → values' ≡ spliced values used 0 used source count → names' ≡ spliced names used 0 used source count
-          → Results D P values names values' names' (judged (ok (meant D P x kids))) (Done count)
-      replace-done a b = rw (a, b) all-replaced
+    pub replace-done : {nodes' : List Row} {used : ℕ} {v : Value.Value} → Document w used v → count ≤ maxNodes
+        → nodes' ≡ spliced (w .nodes) used 0 used source count → Results (w .texts) nodes' (judged (ok new-value)) (Done count)
+    unfolding document-site
+    replace-done {used = used} d few is-spliced =
+        let whole = document-site d .standing in
+        let h = offered .held .held in
+        let room : Room (w .nodes) used used source count = offered-room offered count count-size (d .few) (omega arith) in
+        let same = behind-spliced {xs = w .nodes} used 0 used source count (omega (arith, d .few)) (omega arith) in
+        let stands : Standing (w .texts) (spliced (w .nodes) used 0 used source count) count documentRow nothing-around x kids =
+        record {
+          laid = whole-exchanged (d .ends) count-size (whole .laid) room (h .rows);
+          place = refl;
+          formed = formed-alone (h .formed);
+          label = offered .held .label;
+          sound = offered .held .sound;
+        } in
+        rw is-spliced
+        (results (judged-fits new-value shallow (omega (arith, nodes-meant (w .texts) x kids, count-size)))
+        (standing-document stands few shallow (behind-long same (d .long))))
 
 -- ---- the whole document changed
-module _ {values names values' names' : List ℕ} {used : ℕ} where
-  pub document-added : {r : Altered} (change : Change) (source : ℕ) → change ≡ Add source → ReplaceDocumentIs values names values' names' used source r
-      → ChangeDocumentIs values names values' names' used change r
+module _ {nodes nodes' : List Row} {used : ℕ} {r : Altered} (change : Change) where
+  pub document-added : (source : ℕ) → change ≡ Add source → ReplaceDocumentIs nodes nodes' used source r → ChangeDocumentIs nodes nodes' used change r
   unfolding addAt
-  document-added change source e is D P v d f (adds-at source' x kids offered) = let same : source' ≡ source = cc in is D P v d x kids (rw same at offered)
-  document-added change source e is D P v d f removes-at = absurd (let w : _≡_ {A = ℕ} 0 1 = cc in omega arith)
-  document-added change source e is D P v d f (replaces-at source' x kids offered) = absurd (let w : _≡_ {A = ℕ} 0 1 = cc in omega arith)
+  document-added source e is = record { frame = is .frame; held = λ T v d f makes. go T v d f makes e }
+    where
+      go : {c : Change} (T : Texts) (v : Value.Value) → Document (table T nodes) used v → (f : AtLocation) → MakesAt (table T nodes) c f → c ≡ Add source
+          → Results T nodes' (judged (f [] v)) r
+      go T v d f (adds-at source' x kids offered) g = let same : source' ≡ source = cc in is .held T v d x kids (rw same at offered)
+      go T v d f removes-at g = absurd (let w : _≡_ {A = ℕ} 0 1 = cc in omega arith)
+      go T v d f (replaces-at source' x kids offered) g = absurd (let w : _≡_ {A = ℕ} 0 1 = cc in omega arith)
 
-  pub document-replaced : {r : Altered} (change : Change) (source : ℕ) → change ≡ Replace source → ReplaceDocumentIs values names values' names' used source r
-      → ChangeDocumentIs values names values' names' used change r
+  pub document-replaced : (source : ℕ) → change ≡ Replace source → ReplaceDocumentIs nodes nodes' used source r → ChangeDocumentIs nodes nodes' used change r
   unfolding replaceAtPath
-  document-replaced change source e is D P v d f (adds-at source' x kids offered) = absurd (let w : _≡_ {A = ℕ} 0 1 = cc in omega arith)
-  document-replaced change source e is D P v d f removes-at = absurd (let w : _≡_ {A = ℕ} 0 1 = cc in omega arith)
-  document-replaced change source e is D P v d f (replaces-at source' x kids offered) = let same : source' ≡ source = cc in is D P v d x kids (rw same at offered)
+  document-replaced source e is = record { frame = is .frame; held = λ T v d f makes. go T v d f makes e }
+    where
+      go : {c : Change} (T : Texts) (v : Value.Value) → Document (table T nodes) used v → (f : AtLocation) → MakesAt (table T nodes) c f → c ≡ Replace source
+          → Results T nodes' (judged (f [] v)) r
+      go T v d f (adds-at source' x kids offered) g = absurd (let w : _≡_ {A = ℕ} 0 1 = cc in omega arith)
+      go T v d f removes-at g = absurd (let w : _≡_ {A = ℕ} 0 1 = cc in omega arith)
+      go T v d f (replaces-at source' x kids offered) g = let same : source' ≡ source = cc in is .held T v d x kids (rw same at offered)
 
-  -- the root is not removed
-  pub document-kept : (change : Change) → change ≡ Remove → ChangeDocumentIs values names values' names' used change (Refused remove-of-root)
-  unfolding removeAtPath _>>=_
-  document-kept change e D P v d f (adds-at source' x kids offered) = absurd (let w : _≡_ {A = ℕ} 0 1 = cc in omega arith)
-  document-kept change e D P v d f removes-at = refusal refl
-  document-kept change e D P v d f (replaces-at source' x kids offered) = absurd (let w : _≡_ {A = ℕ} 0 1 = cc in omega arith)
+-- the root is not removed
+root-kept : {T : Texts} {nodes nodes' : List Row} {change : Change} (v : Value.Value) (f : AtLocation) → MakesAt (table T nodes) change f → change ≡ Remove
+    → Results T nodes' (judged (f [] v)) (Refused remove-of-root)
+unfolding removeAtPath _>>=_
+root-kept v f (adds-at source' x kids offered) e = absurd (let w : _≡_ {A = ℕ} 0 1 = cc in omega arith)
+root-kept v f removes-at e = refusal refl
+root-kept v f (replaces-at source' x kids offered) e = absurd (let w : _≡_ {A = ℕ} 0 1 = cc in omega arith)
+
+pub document-kept : {nodes : List Row} {used : ℕ} (change : Change) → change ≡ Remove → ChangeDocumentIs nodes nodes used change (Refused remove-of-root)
+document-kept change e = record { frame = unchanged refl; held = λ T v d f makes. root-kept v f makes e }
 
 -- ---- a change below the root is one at a parent
-pub below-root : {C : Type 0} {D P : Bytes} {values names : List ℕ} {change : Change} {f : Tokens → Value.Value → Outcome Value.Value} → MakesAt D P values names change f
-    → (t : Text) (ts : Tokens) (v : Value.Value)
-    → ((g : Text → Value.Value → Outcome Value.Value) → Makes D P values names change g → f (t ∷ ts) v ≡ atParent g t ts v → C) → C
+pub below-root : {C : Type 0} {w : Table} {change : Change} {f : AtLocation} → MakesAt w change f → (t : Text) (ts : Tokens) (v : Value.Value)
+    → ((g : ByToken) → Makes w change g → f (t ∷ ts) v ≡ atParent g t ts v → C) → C
 unfolding addAt removeAtPath replaceAtPath
-below-root {D = D} {P} (adds-at source x kids offered) t ts v then-it = then-it (insertChild (meant D P x kids)) (adds source x kids offered) refl
+below-root {w = w} (adds-at source x kids offered) t ts v then-it = then-it (insertChild (meant (w .texts) x kids)) (adds source x kids offered) refl
 below-root removes-at t ts v then-it = then-it removeChild removes refl
-below-root {D = D} {P} (replaces-at source x kids offered) t ts v then-it = then-it (replaceChild (meant D P x kids)) (replaces source x kids offered) refl
+below-root {w = w} (replaces-at source x kids offered) t ts v then-it = then-it (replaceChild (meant (w .texts) x kids)) (replaces source x kids offered) refl
 
--- ---- a change at a location, by where the pointer's tokens begin
-module _ {D P : Bytes} {values names values' names' : List ℕ} {used path : ℕ} {change : Change} {r : Altered} (pointer : Bytes) (pointer-is : pointer ≡ partOf D P path) (first : First)
+-- ---- a change at a location
+-- a table with more rows in use than a document may have holds none
+pub change-too-many : {w : Table} {used : ℕ} {path : Spelling} {change : Change} → maxNodes < used
+    → ChangeAtIs w (w .nodes) used path change (Refused too-many-nodes)
+change-too-many h = record { frame = unchanged refl; held = λ v d short ts p f makes. absurd (omega (arith, d .few)) }
+
+-- by where the pointer's tokens begin
+module _ {w : Table} {used : ℕ} {path : Spelling} {change : Change} (pointer : Bytes) (pointer-is : pointer ≡ partOf (w .texts) path) (first : First)
     (is : FirstOf pointer first) where
-  pub change-root : first ≡ First.Root → ChangeDocumentIs values names values' names' used change r → ChangeAtIs D P values names values' names' used path change r
-  change-root e changes v d short ts p f makes =
-      let none : ts ≡ [] = first-root (partOf D P path) first (first-of pointer pointer-is is) ts e (p .is) in
-      rw none (changes D P v d f makes)
+  pub change-root : {nodes' : List Row} {r : Altered} → first ≡ First.Root → ChangeDocumentIs (w .nodes) nodes' used change r
+      → ChangeAtIs w nodes' used path change r
+  change-root e changes =
+      record {
+        frame = changes .frame;
+        held = λ v d short ts p f makes.
+            let none : ts ≡ [] = first-root (partOf (w .texts) path) first (first-of pointer pointer-is is) ts e (p .is) in
+            rw none (changes .held (w .texts) v d f makes);
+      }
 
-  pub change-below : (at : ℕ) → first ≡ First.At at → AlterIs D P values names values' names' used documentRow maxDepth path at change r → Few r
-      → ChangeAtIs D P values names values' names' used path change r
+  pub change-below : {nodes' : List Row} {r : Altered} (at : ℕ) → first ≡ First.At at
+      → AlterIs w nodes' (record { used = used; row = documentRow; below = 31 }) path at change r → ChangeAtIs w nodes' used path change r
   unfolding document-site
-  change-below at e alters few v d short ts p f makes =
-      let from : tokensFrom (partOf D P path) at ≡ ok ts = first-at (partOf D P path) first (first-of pointer pointer-is is) at ts e (p .is) in
-      some-token (partOf D P path) at ts from λ t us some.
-      below-root makes t us v λ g made same.
-      let answers = alters (document-site d) g t us made short (first-inside (partOf D P path) first (first-of pointer pointer-is is) at e) (record { is = from ∙ ap ok some }) in
-      let outcome : f ts v ≡ atParent g t us (meant D P (d .c) (d .kids)) = ap (λ l. f l v) some ∙ same ∙ ap (atParent g t us) (sym (d .means)) in
-      rw outcome (document-answers d few answers)
+  change-below at e alters =
+      record {
+        frame = alters .frame;
+        held = λ v d short ts p f makes.
+            let first-is = first-of pointer pointer-is is in
+            let from : tokensFrom (partOf (w .texts) path) at ≡ ok ts = first-at (partOf (w .texts) path) first first-is at ts e (p .is) in
+            some-token (partOf (w .texts) path) at ts from λ t us some.
+            below-root makes t us v λ g made same.
+            let inside = first-inside (partOf (w .texts) path) first first-is at e in
+            let answers = alters .held (document-site d) g t us made short inside (record { is = from ∙ ap ok some }) in
+            let outcome : f ts v ≡ atParent g t us (meant (w .texts) (d .c) (d .kids)) = ap (λ l. f l v) some ∙ same ∙ ap (atParent g t us) (sym (d .means)) in
+            rw outcome (document-answers d (alters .frame) answers);
+      }
 
-  pub change-malformed : first ≡ First.Malformed → ChangeAtIs D P values names values' names' used path change r
-  change-malformed e v d short ts p f makes = absurd (first-malformed (partOf D P path) first (first-of pointer pointer-is is) ts e (p .is))
+  pub change-malformed : first ≡ First.Malformed → ChangeAtIs w (w .nodes) used path change (Refused malformed-pointer)
+  change-malformed e =
+      record {
+        frame = unchanged refl;
+        held = λ v d short ts p f makes. absurd (first-malformed (partOf (w .texts) path) first (first-of pointer pointer-is is) ts e (p .is));
+      }

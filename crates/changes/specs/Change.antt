@@ -1,19 +1,22 @@
 -- What a change of a node's children answers.
-use Prim.Native.Nat.{ℕ, suc, _+_, _-_, _%_, _≤_, _<_}
+use Prim.Native.Nat.{ℕ, suc, _≤_, _<_}
 use mathlib.Core.Path.{_≡_}
 use mathlib.Core.List.{List, _∷_}
-use lib.ListN.{length, getD, set}
+use lib.ListN.{length}
 use Rattle.spec.specs.Outcome.{Outcome, ok, refused}
-use Rattle.spec.specs.Limits.{maxNodes}
-use Rattle.spec.specs.Bytes.{Bytes, Text}
+use Rattle.spec.specs.Bytes.{Text}
 use Rattle.spec.specs.Forest.{Forest, single, count, removeAt, _⧺_}
 use Rattle.spec.specs.Value as Value
 use Rattle.spec.specs.Pointer.{Tokens}
 use Rattle.spec.specs.Operation.{put, atParent, insertElement, insertMember, insertChild, removeChild, replaceChild}
-use Rattle.tape.specs.Layout.{arrayKind, objectKind, spans}
-use Rattle.tape.specs.Cell.{Cell}
-use Rattle.tape.specs.Packing.{spanOf, withSpan}
+use Rattle.tape.specs.Layout.{arrayKind, objectKind}
+use Rattle.tape.specs.Fields.{Row}
+use Rattle.tape.specs.declared.fields.Spelling.{Spelling}
+use Rattle.tape.specs.declared.fields.Name.{Name}
+use Rattle.tape.specs.declared.fields.Cell.{Cell}
+use Rattle.tape.specs.Cell.{Told}
 use Rattle.tape.specs.Rows.{childRow, ForNode}
+use Rattle.tape.specs.Lent.{Texts, Table}
 use Rattle.table.specs.Meaning.{nameText, partOf, meant}
 use Rattle.table.specs.Sound.{NameFits}
 use Rattle.pointer.specs.Index.{insertionAt}
@@ -23,41 +26,46 @@ use Rattle.walk.specs.declared.steps.Child.the-variants as Child
 use Rattle.walk.specs.Names.{IsToken, Short}
 use Rattle.walk.specs.Path.{TokensFrom}
 use Rattle.changes.specs.Limited.{limitedTo}
-use Rattle.changes.specs.Site.{Standing, Site, Offered, SameBehind}
+use Rattle.changes.specs.Site.{Standing, Site, Offered, table}
+use Rattle.changes.specs.Rows.{Frame, PutRows, TakenRows}
 use Rattle.changes.specs.Cut.{Cut, renamed}
+use Rattle.changes.specs.declared.trees.Parent.{Parent}
 use Rattle.changes.specs.declared.answers.Change.{Change}
 use Rattle.changes.specs.declared.answers.Change.the-variants.{Add, Remove, Replace}
 use Rattle.changes.specs.declared.answers.Altered.{Altered}
 use Rattle.changes.specs.declared.answers.Altered.the-variants.{Done, Refused}
 
+-- a value changed by a token, as the definitions have it
+abbrev pub ByToken : Type 0
+ByToken = Text → Value.Value → Outcome Value.Value
+
 -- The outcome of a change of the children of the node at a site, given what it is by the definitions before the limits are judged. Where it is done
--- the node has other children in their place, and nothing around it has changed; where it is refused, nothing has changed.
-pub data Answers {D P : Bytes} {values names : List ℕ} {used row levels : ℕ} (z : Site D P values names used row levels) (values' names' : List ℕ) (o : Outcome Value.Value) : Altered → Type 0 where
-  done : {now : ℕ} {kids : Forest Cell} → limitedTo levels (z .room) o ≡ ok (meant D P (z .c) kids)
-      → Standing D P values' names' now row (z .around) (z .c) kids → SameBehind values values' → SameBehind names names' → Answers z values' names' o (Done now)
-  refusal : {number : ℕ} → limitedTo levels (z .room) o ≡ refused number 0 → values' ≡ values → names' ≡ names → Answers z values' names' o (Refused number)
+-- the node has other children in their place, and nothing around it has changed.
+pub data Answers {w : Table} {used row levels : ℕ} (z : Site w used row levels) (nodes' : List Row) (o : Outcome Value.Value) : Altered → Type 0 where
+  done : {now : ℕ} {kids : Forest Cell} → limitedTo levels (z .room) o ≡ ok (meant (w .texts) (z .c) kids)
+      → Standing (w .texts) nodes' now row (z .around) (z .c) kids → Answers z nodes' o (Done now)
+  refusal : {number : ℕ} → limitedTo levels (z .room) o ≡ refused number 0 → Answers z nodes' o (Refused number)
 
--- whatever the columns hold, a document never gets more rows than it may have
-abbrev pub Few : Altered → Type 0
-Few (Done now) = now ≤ maxNodes
-Few (Refused number) = Unit {0}
+-- the parent of children that change
+abbrev pub SiteOf : Table → Parent → Type 0
+SiteOf w p = Site w (p .used) (p .row) (suc (p .below))
 
--- a tree put among the children of a container, which may nest as many containers as `below`
-abbrev pub PutIs : List ℕ → List ℕ → List ℕ → List ℕ → ℕ → ℕ → ℕ → ℕ → ℕ → ℕ → ℕ → Altered → Type 0
-PutIs values names values' names' used row below at removed source name r =
-    (D P : Bytes) (z : Site D P values names used row (suc below)) (x : Cell) (kids left right : Forest Cell) → arrayKind ≤ z .c .kind
-    → Offered D P values names source x kids → NameFits D P name → Cut row (z .kids) at removed left right
-    → Answers z values' names' (ok (meant D P (z .c) (left ⧺ single (renamed name x kids) ⧺ right))) r
+-- ---- Each contract says what holds whatever the table holds, and what holds where the parent stands in it. Where it does not, the answer and the
+-- document's rows are free within that frame.
+-- a tree put among the children of a container
+pub record PutIs (nodes nodes' : List Row) (p : Parent) (at removed source : ℕ) (name : Name) (r : Altered) : Type 0 where
+  pub rows : PutRows nodes nodes' p at removed source name r
+  pub frame : Frame nodes nodes' r
+  pub held : (T : Texts) (z : SiteOf (table T nodes) p) (x : Cell) (kids left right : Forest Cell) → arrayKind ≤ z .c .kind
+      → Offered (table T nodes) source x kids → NameFits T name → Told (name .text) → Cut (p .row) (z .kids) at removed left right
+      → Answers z nodes' (ok (meant T (z .c) (left ⧺ single (renamed name x kids) ⧺ right))) r
 
 -- a child taken out
-abbrev pub TakeOutIs : List ℕ → List ℕ → List ℕ → List ℕ → ℕ → ℕ → ℕ → Altered → Type 0
-TakeOutIs values names values' names' used row at r =
-    (D P : Bytes) (levels : ℕ) (z : Site D P values names used row levels) (k : ℕ) → k < count (z .kids) → at ≡ childRow row k (z .kids)
-    → Answers z values' names' (ok (meant D P (z .c) (removeAt k (z .kids)))) r
-
--- the column of values with the span of a node changed as the number of rows in use was
-abbrev pub resized : List ℕ → ℕ → ℕ → ℕ → List ℕ
-resized values row used now = set values row (withSpan (getD values row 0) ((spanOf (getD values row 0) + now - used) % spans))
+pub record TakeOutIs (nodes nodes' : List Row) (p : Parent) (at : ℕ) (r : Altered) : Type 0 where
+  pub rows : TakenRows nodes nodes' p at r
+  pub frame : Frame nodes nodes' r
+  pub held : (T : Texts) (z : SiteOf (table T nodes) p) (k : ℕ) → k < count (z .kids) → at ≡ childRow (p .row) k (z .kids)
+      → Answers z nodes' (ok (meant T (z .c) (removeAt k (z .kids)))) r
 
 -- ---- a child changed by its token
 -- the row where a child is to stand among the children of the node in a row, at a position up to their number, or the refusal's number
@@ -66,55 +74,63 @@ pub data Placed (row : ℕ) (kids : Forest Cell) (o : Outcome ℕ) : Child → T
   unplaced : (number : ℕ) → o ≡ refused number 0 → Placed row kids o (Child.Refused number)
 
 -- an element's, by what its token is to an array
-abbrev pub InsertionIs : List ℕ → ℕ → Index → Child → Type 0
-InsertionIs values row i r = ForNode values row (λ c kids. Placed row kids (insertionAt (count kids) i) r)
+abbrev pub InsertionIs : List Row → ℕ → Index → Child → Type 0
+InsertionIs nodes row i r = ForNode nodes row (λ c kids. Placed row kids (insertionAt (count kids) i) r)
 
-module _ (D P : Bytes) (values names values' names' : List ℕ) (used row : ℕ) where
-  -- the child in a row replaced, its name kept
-  abbrev pub ReplaceChildIs : ℕ → ℕ → ℕ → Altered → Type 0
-  ReplaceChildIs below at source r =
-      (z : Site D P values names used row (suc below)) (x : Cell) (kids : Forest Cell) (k : ℕ) → Offered D P values names source x kids → k < count (z .kids)
-      → at ≡ childRow row k (z .kids) → Answers z values' names' (ok (put k (meant D P x kids) (meant D P (z .c) (z .kids)))) r
+-- the child in a row replaced, its name kept
+abbrev pub Replaced : Table → List Row → Parent → ℕ → ℕ → Altered → Type 0
+Replaced w nodes' p at source r =
+    (z : SiteOf w p) (x : Cell) (kids : Forest Cell) (k : ℕ) → Offered w source x kids → k < count (z .kids) → at ≡ childRow (p .row) k (z .kids)
+    → Answers z nodes' (ok (put k (meant (w .texts) x kids) (meant (w .texts) (z .c) (z .kids)))) r
 
-  -- what the definitions say of a change by a token, on the value of the node
-  abbrev pub Changed : ℕ → ℕ → (Text → Value.Value → Outcome Value.Value) → Altered → Type 0
-  Changed levels token f r =
-      (z : Site D P values names used row levels) → IsToken D P token → Answers z values' names' (f (nameText D P token) (meant D P (z .c) (z .kids))) r
+pub record ReplaceTreeIs (nodes nodes' : List Row) (p : Parent) (at source : ℕ) (r : Altered) : Type 0 where
+  pub frame : Frame nodes nodes' r
+  pub held : (T : Texts) → Replaced (table T nodes) nodes' p at source r
 
-  abbrev pub AddElementIs : ℕ → ℕ → ℕ → Altered → Type 0
-  AddElementIs below token source r =
-      (z : Site D P values names used row (suc below)) (x : Cell) (kids : Forest Cell) → z .c .kind ≡ arrayKind → Offered D P values names source x kids → IsToken D P token
-      → Answers z values' names' (insertElement (meant D P x kids) (nameText D P token) (meant D P (z .c) (z .kids))) r
+-- what the definitions say of a change by a token, on the value of the node
+abbrev pub Changed : Table → List Row → Parent → Name → ByToken → Altered → Type 0
+Changed w nodes' p token f r =
+    (z : SiteOf w p) → IsToken (w .texts) token → Answers z nodes' (f (nameText (w .texts) token) (meant (w .texts) (z .c) (z .kids))) r
 
-  abbrev pub AddMemberIs : ℕ → ℕ → ℕ → Altered → Type 0
-  AddMemberIs below token source r =
-      (z : Site D P values names used row (suc below)) (x : Cell) (kids : Forest Cell) → z .c .kind ≡ objectKind → Offered D P values names source x kids → IsToken D P token
-      → Answers z values' names' (ok (insertMember (meant D P x kids) (nameText D P token) (meant D P (z .c) (z .kids)))) r
+module _ (w : Table) (nodes' : List Row) (p : Parent) (token : Name) (source : ℕ) (r : Altered) where
+  pub record AddElementIs : Type 0 where
+    pub frame : Frame (w .nodes) nodes' r
+    pub held : (z : SiteOf w p) (x : Cell) (kids : Forest Cell) → z .c .kind ≡ arrayKind → Offered w source x kids → IsToken (w .texts) token
+        → Answers z nodes' (insertElement (meant (w .texts) x kids) (nameText (w .texts) token) (meant (w .texts) (z .c) (z .kids))) r
 
-  abbrev pub AddIs : ℕ → ℕ → ℕ → Altered → Type 0
-  AddIs below token source r = (x : Cell) (kids : Forest Cell) → Offered D P values names source x kids → Changed (suc below) token (insertChild (meant D P x kids)) r
+  pub record AddMemberIs : Type 0 where
+    pub frame : Frame (w .nodes) nodes' r
+    pub held : (z : SiteOf w p) (x : Cell) (kids : Forest Cell) → z .c .kind ≡ objectKind → Offered w source x kids → IsToken (w .texts) token
+        → Answers z nodes' (ok (insertMember (meant (w .texts) x kids) (nameText (w .texts) token) (meant (w .texts) (z .c) (z .kids)))) r
 
-  abbrev pub RemoveIs : ℕ → Altered → Type 0
-  RemoveIs token r = (levels : ℕ) → Changed levels token removeChild r
+  pub record AddIs : Type 0 where
+    pub frame : Frame (w .nodes) nodes' r
+    pub held : (x : Cell) (kids : Forest Cell) → Offered w source x kids → Changed w nodes' p token (insertChild (meant (w .texts) x kids)) r
 
-  abbrev pub ReplaceIs : ℕ → ℕ → ℕ → Altered → Type 0
-  ReplaceIs below token source r = (x : Cell) (kids : Forest Cell) → Offered D P values names source x kids → Changed (suc below) token (replaceChild (meant D P x kids)) r
+  pub record ReplaceIs : Type 0 where
+    pub frame : Frame (w .nodes) nodes' r
+    pub held : (x : Cell) (kids : Forest Cell) → Offered w source x kids → Changed w nodes' p token (replaceChild (meant (w .texts) x kids)) r
 
-abbrev pub ReplaceTreeIs : List ℕ → List ℕ → List ℕ → List ℕ → ℕ → ℕ → ℕ → ℕ → ℕ → Altered → Type 0
-ReplaceTreeIs values names values' names' used row below at source r = (D P : Bytes) → ReplaceChildIs D P values names values' names' used row below at source r
+pub record RemoveIs (w : Table) (nodes' : List Row) (p : Parent) (token : Name) (r : Altered) : Type 0 where
+  pub frame : Frame (w .nodes) nodes' r
+  pub held : Changed w nodes' p token removeChild r
 
 -- what a change is by the definitions
-pub data Makes (D P : Bytes) (values names : List ℕ) : Change → (Text → Value.Value → Outcome Value.Value) → Type 0 where
-  adds : (source : ℕ) (x : Cell) (kids : Forest Cell) → Offered D P values names source x kids → Makes D P values names (Add source) (insertChild (meant D P x kids))
-  removes : Makes D P values names Remove removeChild
-  replaces : (source : ℕ) (x : Cell) (kids : Forest Cell) → Offered D P values names source x kids → Makes D P values names (Replace source) (replaceChild (meant D P x kids))
+pub data Makes (w : Table) : Change → ByToken → Type 0 where
+  adds : (source : ℕ) (x : Cell) (kids : Forest Cell) → Offered w source x kids → Makes w (Add source) (insertChild (meant (w .texts) x kids))
+  removes : Makes w Remove removeChild
+  replaces : (source : ℕ) (x : Cell) (kids : Forest Cell) → Offered w source x kids → Makes w (Replace source) (replaceChild (meant (w .texts) x kids))
 
-abbrev pub ChangeChildIs : Bytes → Bytes → List ℕ → List ℕ → List ℕ → List ℕ → ℕ → ℕ → ℕ → ℕ → Change → Altered → Type 0
-ChangeChildIs D P values names values' names' used row below token change r =
-    (f : Text → Value.Value → Outcome Value.Value) → Makes D P values names change f → Changed D P values names values' names' used row (suc below) token f r
+pub record ChangeChildIs (w : Table) (nodes' : List Row) (p : Parent) (token : Name) (change : Change) (r : Altered) : Type 0 where
+  pub frame : Frame (w .nodes) nodes' r
+  pub held : (f : ByToken) → Makes w change f → Changed w nodes' p token f r
 
 -- ---- a change at the parent of a location, along the tokens from a place of the pointer on
-abbrev pub AlterIs : Bytes → Bytes → List ℕ → List ℕ → List ℕ → List ℕ → ℕ → ℕ → ℕ → ℕ → ℕ → Change → Altered → Type 0
-AlterIs D P values names values' names' used row levels path at change r =
-    (z : Site D P values names used row levels) (f : Text → Value.Value → Outcome Value.Value) (t : Text) (ts : Tokens) → Makes D P values names change f
-    → Short D P → at ≤ length (partOf D P path) → TokensFrom D P path at (t ∷ ts) → Answers z values' names' (atParent f t ts (meant D P (z .c) (z .kids))) r
+abbrev pub Alters : {w : Table} {used row levels : ℕ} → Site w used row levels → List Row → Spelling → ℕ → Change → Altered → Type 0
+Alters {w} z nodes' path at change r =
+    (f : ByToken) (t : Text) (ts : Tokens) → Makes w change f → Short (w .texts) → at ≤ length (partOf (w .texts) path)
+    → TokensFrom (w .texts) path at (t ∷ ts) → Answers z nodes' (atParent f t ts (meant (w .texts) (z .c) (z .kids))) r
+
+pub record AlterIs (w : Table) (nodes' : List Row) (p : Parent) (path : Spelling) (at : ℕ) (change : Change) (r : Altered) : Type 0 where
+  pub frame : Frame (w .nodes) nodes' r
+  pub held : (z : SiteOf w p) → Alters z nodes' path at change r

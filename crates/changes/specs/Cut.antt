@@ -2,7 +2,8 @@
 use Prim.Native.Nat.{ℕ, _+_}
 use mathlib.Core.Path.{_≡_}
 use Rattle.spec.specs.Forest.{Forest, Tree, size, _⧺_}
-use Rattle.tape.specs.Cell.{Cell}
+use Rattle.tape.specs.declared.fields.Name.{Name}
+use Rattle.tape.specs.declared.fields.Cell.{Cell}
 
 -- of the node in a row: some children, those in `removed` rows from the row `at` on, and others
 pub record Cut (row : ℕ) (kids : Forest Cell) (at removed : ℕ) (left right : Forest Cell) : Type 0 where
@@ -12,5 +13,5 @@ pub record Cut (row : ℕ) (kids : Forest Cell) (at removed : ℕ) (left right :
   pub many : removed ≡ size middle
 
 -- a tree under another name
-abbrev pub renamed : ℕ → Cell → Forest Cell → Tree Cell
-renamed name c kids = record { root = record { kind = c .kind; payload = c .payload; name = name }; kids = kids }
+abbrev pub renamed : Name → Cell → Forest Cell → Tree Cell
+renamed name c kids = record { root = record { kind = c .kind; value = c .value; name = name; origin = c .origin }; kids = kids }

@@ -2,69 +2,60 @@
 use crate::answers::Altered;
 use crate::answers::Change;
 use crate::children::change_child;
+use crate::trees::Parent;
 use crate::trees::resize;
 use pointer::Token;
 use pointer::token;
+use spec::refusal;
 use table::spellings::part;
+use tape::fields::Spelling;
+use tape::layout::Node;
+use tape::layout::Texts;
 use walk::Child;
 use walk::step;
 use walk::token_name;
-ghost use Rattle.changes.specs.Change.{AlterIs, Few};
+ghost use Prim.Native.Nat.{_≤_};
+ghost use Rattle.tape.specs.Lent.{before};
+ghost use Rattle.changes.specs.Change.{AlterIs};
 
-// Along the tokens from a place of the pointer on, from the node in `row`, which nests at most `levels` containers: down to the child that each token but
-// the last names, and up again with each node's span brought up to date.
+// Along the tokens from a place of the pointer on: from the parent down to the child that each token but the last
+// names, and up again with each node's span brought up to date.
 pub fn alter<'a>(
-    document: &'a [u8],
-    patch: &'a [u8],
-    values: &mut [u64],
-    names: &mut [u64],
-    used: usize,
-    row: usize,
-    levels: u32,
-    path: u64,
+    texts: Texts<'a>,
+    nodes: &mut [Node],
+    parent: Parent,
+    path: Spelling,
     at: usize,
     change: Change,
 ) -> Altered
-    ensures { λ r. ⌜ AlterIs (now (document .entry)) (now (patch .entry)) (now (values .entry)) (now (names .entry)) (now (values .exit)) (now (names .exit)) used row levels path at change r ⌝ }
-    ensures { λ r. ⌜ Few r ⌝ }
+    requires { ⌜ parent .used ≤ 2048 ⌝ }
+    ensures { λ r. ⌜ AlterIs (before texts nodes) (now (nodes .exit)) parent path at change r ⌝ }
 {
-    // a value that nests no container is a scalar, and has no child
-    if levels == 0 {
-        return Altered::Refused(11);
+    // where the table holds no document, a step may lead elsewhere
+    if parent.used <= parent.row {
+        return Altered::Refused(refusal::LOCATION_MISSING);
     }
-    let t = token(part(document, patch, path), at);
-    let name = token_name(document, patch, path, at, t);
+    let t = token(part(texts, path), at);
+    let name = token_name(texts, path, at, t);
     let Token::Next { end: _, next } = t else {
-        return change_child(
-            document,
-            patch,
-            values,
-            names,
-            used,
-            row,
-            levels - 1,
-            name,
-            change,
-        );
+        return change_child(texts, nodes, parent, name, change);
     };
-    match step(values, names, document, patch, row, name) {
+    match step(texts, nodes, parent.row, name) {
         Child::At(child) => {
-            let r = alter(
-                document,
-                patch,
-                values,
-                names,
-                used,
-                child,
-                levels - 1,
-                path,
-                next,
-                change,
-            );
+            // a child that may nest no container is a scalar, and has no children
+            if parent.below == 0 {
+                return Altered::Refused(refusal::LOCATION_MISSING);
+            }
+            let inner = Parent {
+                used: parent.used,
+                row: child,
+                below: parent.below - 1,
+            };
+            let r = alter(texts, nodes, inner, path, next, change);
             let Altered::Done(rows) = r else {
                 return r;
             };
-            resize(values, row, used, rows);
+            resize(nodes, parent.row, parent.used, rows);
             return r;
         }
         Child::Refused(n) => return Altered::Refused(n),

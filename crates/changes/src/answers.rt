@@ -1,6 +1,6 @@
 // What the functions of this crate take and answer.
 
-// A change of a node's children. The new tree of an addition or a replacement begins in a row behind the document's.
+// A change at a location. The new value of an addition or a replacement is the tree in a row behind the document's.
 pub enum Change {
     Add(usize),
     Remove,
@@ -8,7 +8,7 @@ pub enum Change {
 }
 
 pub enum Altered {
-    // how many rows the document has then
+    // the document's rows from now on
     Done(usize),
     // the number of the refusal; nothing has changed
     Refused(u8),

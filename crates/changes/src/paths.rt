@@ -2,73 +2,74 @@
 use crate::alter::alter;
 use crate::answers::Altered;
 use crate::answers::Change;
-use crate::trees::MAX_NODES;
+use crate::trees::Parent;
 use crate::trees::size;
 use pointer::First;
 use pointer::first;
+use spec::limits;
+use spec::refusal;
 use table::spellings::part;
-use tape::moves::splice;
-use tape::nodes::within;
+use tape::fields::Spelling;
+use tape::layout;
+use tape::layout::Node;
+use tape::layout::Texts;
+use tape::moves;
+use tape::nodes;
+ghost use Prim.Native.Nat.{_≤_};
+ghost use Rattle.tape.specs.Lent.{before};
 ghost use Rattle.changes.specs.Document.{ReplaceDocumentIs, ChangeDocumentIs, ChangeAtIs};
 
-// Nested containers of a document.
-pub const MAX_DEPTH: u32 = 32;
-
 // The tree in the row `source` becomes the document. The limits are judged before anything moves.
-fn replace_document(values: &mut [u64], names: &mut [u64], used: usize, source: usize) -> Altered
-    ensures { λ r. ⌜ ReplaceDocumentIs (now (values .entry)) (now (names .entry)) (now (values .exit)) (now (names .exit)) used source r ⌝ }
+fn replace_document(nodes: &mut [Node], used: usize, source: usize) -> Altered
+    requires { ⌜ used ≤ 2048 ⌝ }
+    ensures { λ r. ⌜ ReplaceDocumentIs (now (nodes .entry)) (now (nodes .exit)) used source r ⌝ }
 {
-    if !within(values, source, MAX_DEPTH) {
-        return Altered::Refused(5);
+    if !nodes::within(nodes, source, limits::MAX_DEPTH) {
+        return Altered::Refused(refusal::TOO_DEEP);
     }
-    let count = size(values, source);
-    if MAX_NODES < count {
-        return Altered::Refused(6);
+    let count = size(nodes, source);
+    if limits::MAX_NODES < count {
+        return Altered::Refused(refusal::TOO_MANY_NODES);
     }
-    splice(values, used, 0, used, source, count);
-    splice(names, used, 0, used, source, count);
+    moves::splice(nodes, used, layout::DOCUMENT, used, source, count);
     Altered::Done(count)
 }
 
 // The whole document changed.
-fn change_document(values: &mut [u64], names: &mut [u64], used: usize, change: Change) -> Altered
-    ensures { λ r. ⌜ ChangeDocumentIs (now (values .entry)) (now (names .entry)) (now (values .exit)) (now (names .exit)) used change r ⌝ }
+fn change_document(nodes: &mut [Node], used: usize, change: Change) -> Altered
+    requires { ⌜ used ≤ 2048 ⌝ }
+    ensures { λ r. ⌜ ChangeDocumentIs (now (nodes .entry)) (now (nodes .exit)) used change r ⌝ }
 {
     match change {
-        Change::Add(source) => return replace_document(values, names, used, source),
-        Change::Remove => return Altered::Refused(13),
-        Change::Replace(source) => return replace_document(values, names, used, source),
+        Change::Add(source) => return replace_document(nodes, used, source),
+        Change::Remove => return Altered::Refused(refusal::REMOVE_OF_ROOT),
+        Change::Replace(source) => return replace_document(nodes, used, source),
     }
 }
 
-// The document changed at the location that the pointer names which `path` spells.
+// The document, which is the first `used` rows, changed at the location that the pointer names which `path` spells.
 pub fn change_at<'a>(
-    document: &'a [u8],
-    patch: &'a [u8],
-    values: &mut [u64],
-    names: &mut [u64],
+    texts: Texts<'a>,
+    nodes: &mut [Node],
     used: usize,
-    path: u64,
+    path: Spelling,
     change: Change,
 ) -> Altered
-    ensures { λ r. ⌜ ChangeAtIs (now (document .entry)) (now (patch .entry)) (now (values .entry)) (now (names .entry)) (now (values .exit)) (now (names .exit)) used path change r ⌝ }
+    ensures { λ r. ⌜ ChangeAtIs (before texts nodes) (now (nodes .exit)) used path change r ⌝ }
 {
-    match first(part(document, patch, path)) {
-        First::Root => return change_document(values, names, used, change),
+    if limits::MAX_NODES < used {
+        return Altered::Refused(refusal::TOO_MANY_NODES);
+    }
+    match first(part(texts, path)) {
+        First::Root => return change_document(nodes, used, change),
         First::At(at) => {
-            return alter(
-                document,
-                patch,
-                values,
-                names,
+            let root = Parent {
                 used,
-                0,
-                MAX_DEPTH,
-                path,
-                at,
-                change,
-            );
+                row: layout::DOCUMENT,
+                below: limits::MAX_DEPTH - 1,
+            };
+            return alter(texts, nodes, root, path, at, change);
         }
-        First::Malformed => return Altered::Refused(10),
+        First::Malformed => return Altered::Refused(refusal::MALFORMED_POINTER),
     }
 }

@@ -1,19 +1,31 @@
 // A tree put among the children of a node, and taken out.
 use crate::answers::Altered;
-use tape::moves::load;
-use tape::moves::splice;
-use tape::moves::store;
-use tape::nodes::set_span;
-use tape::nodes::within;
-use tape::words::span;
+use spec::limits;
+use spec::refusal;
+use tape::fields::Cell;
+use tape::fields::Name;
+use tape::fields::cell_of;
+use tape::fields::node_of;
+use tape::fields::wide;
+use tape::layout;
+use tape::layout::Node;
+use tape::moves;
+use tape::nodes;
 ghost use mathlib.Core.Path.{_≡_};
-ghost use Prim.Native.Nat.{_+_, _-_, _≤_};
+ghost use mathlib.Core.List.{[]};
+ghost use Prim.Native.Nat.{_+_, _-_, _≤_, _<_};
 ghost use lib.ListN.{getD};
-ghost use Rattle.tape.specs.Packing.{spanOf};
-ghost use Rattle.changes.specs.Change.{PutIs, TakeOutIs, Few, resized};
+ghost use Rattle.tape.specs.Layout.{values};
+ghost use Rattle.tape.specs.Fields.{spanOf};
+ghost use Rattle.changes.specs.Rows.{renamedAt, resized, Low};
+ghost use Rattle.changes.specs.Change.{PutIs, TakeOutIs};
 
-// The most rows that a document may have.
-pub const MAX_NODES: usize = 2048;
+// A node whose children change: the document's rows, the node's own row, and how many containers a child may nest.
+pub struct Parent {
+    pub used: usize,
+    pub row: usize,
+    pub below: u32,
+}
 
 // The difference of two numbers, and 0 where the second is greater.
 fn minus(a: usize, b: usize) -> usize
@@ -25,71 +37,87 @@ fn minus(a: usize, b: usize) -> usize
     a - b
 }
 
+// How many nodes are below the one in a row, and 0 behind the table.
+fn span(nodes: &[Node], row: usize) -> usize
+    ensures { λ r. ⌜ (r ≡ spanOf (getD (now (nodes .entry)) row [])) × (r < values) ⌝ }
+{
+    if nodes.len() <= row {
+        return 0;
+    }
+    wide(nodes[row][layout::SPAN])
+}
+
 // How many rows the tree in a row has.
-pub fn size(values: &[u64], row: usize) -> usize
-    ensures { λ r. ⌜ r ≡ spanOf (getD (now (values .entry)) row 0) + 1 ⌝ }
+pub fn size(nodes: &[Node], row: usize) -> usize
+    ensures { λ r. ⌜ r ≡ spanOf (getD (now (nodes .entry)) row []) + 1 ⌝ }
 {
-    span(load(values, row)) + 1
+    span(nodes, row) + 1
 }
 
-// The span of the node in `row` is changed as the number of rows in use was. No document has more than MAX_NODES rows.
-pub fn resize(values: &mut [u64], row: usize, used: usize, then: usize)
+// The node in a row gets another name.
+fn rename(nodes: &mut [Node], row: usize, name: Name)
+    ensures { λ _. ⌜ now (nodes .exit) ≡ renamedAt (now (nodes .entry)) row name ⌝ }
+{
+    let node = moves::load(nodes, row);
+    let old = cell_of(node);
+    let value = old.value;
+    let new = Cell {
+        kind: old.kind,
+        value,
+        name,
+        origin: old.origin,
+    };
+    moves::store(nodes, row, node_of(new, wide(node[layout::SPAN])));
+}
+
+// The span of the node in `row` is changed as the number of the document's rows was. No document has more than 2,048.
+pub fn resize(nodes: &mut [Node], row: usize, used: usize, then: usize)
     requires { ⌜ then ≤ 2048 ⌝ }
-    ensures { λ _. ⌜ now (values .exit) ≡ resized (now (values .entry)) row used then ⌝ }
+    ensures { λ _. ⌜ now (nodes .exit) ≡ resized (now (nodes .entry)) row used then ⌝ }
 {
-    let span = minus(span(load(values, row)) + then, used);
-    set_span(values, row, span);
+    let new = minus(span(nodes, row) + then, used);
+    nodes::set_span(nodes, row, new);
 }
 
-// Among the children of the node in `row`, those in `removed` rows at `at` are replaced by the tree in the row `source`, under a name. A child may nest
-// `below` containers. The limits are judged before anything moves.
+// Among the parent's children, those in `removed` rows at `at` are replaced by the tree in the row `source`, under a
+// name. The limits are judged before anything moves.
 pub fn put(
-    values: &mut [u64],
-    names: &mut [u64],
-    used: usize,
-    row: usize,
-    below: u32,
+    nodes: &mut [Node],
+    parent: Parent,
     at: usize,
     removed: usize,
     source: usize,
-    name: u64,
+    name: Name,
 ) -> Altered
-    ensures { λ r. ⌜ PutIs (now (values .entry)) (now (names .entry)) (now (values .exit)) (now (names .exit)) used row below at removed source name r ⌝ }
-    ensures { λ r. ⌜ Few r ⌝ }
+    requires { ⌜ Low parent ⌝ }
+    ensures { λ r. ⌜ PutIs (now (nodes .entry)) (now (nodes .exit)) parent at removed source name r ⌝ }
 {
-    if !within(values, source, below) {
-        return Altered::Refused(5);
+    if !nodes::within(nodes, source, parent.below) {
+        return Altered::Refused(refusal::TOO_DEEP);
     }
-    let count = size(values, source);
-    let kept = minus(used, removed);
-    if minus(MAX_NODES, kept) < count {
-        return Altered::Refused(6);
+    let count = size(nodes, source);
+    let kept = minus(parent.used, removed);
+    if limits::MAX_NODES - kept < count {
+        return Altered::Refused(refusal::TOO_MANY_NODES);
     }
-    splice(values, used, at, removed, source, count);
-    splice(names, used, at, removed, source, count);
-    store(names, at, name);
-    resize(values, row, used, kept + count);
+    // where the table holds no document, the children may lie elsewhere
+    if kept < at {
+        return Altered::Refused(refusal::LOCATION_MISSING);
+    }
+    moves::splice(nodes, parent.used, at, removed, source, count);
+    rename(nodes, at, name);
+    resize(nodes, parent.row, parent.used, kept + count);
     Altered::Done(kept + count)
 }
 
-// The tree in the row `at`, a child of the node in `row`, is taken out.
-pub fn take_out(
-    values: &mut [u64],
-    names: &mut [u64],
-    used: usize,
-    row: usize,
-    at: usize,
-) -> Altered
-    ensures { λ r. ⌜ TakeOutIs (now (values .entry)) (now (names .entry)) (now (values .exit)) (now (names .exit)) used row at r ⌝ }
-    ensures { λ r. ⌜ Few r ⌝ }
+// The tree in the row `at`, a child of the parent, is taken out.
+pub fn take_out(nodes: &mut [Node], parent: Parent, at: usize) -> Altered
+    requires { ⌜ Low parent ⌝ }
+    ensures { λ r. ⌜ TakeOutIs (now (nodes .entry)) (now (nodes .exit)) parent at r ⌝ }
 {
-    let removed = size(values, at);
-    let left = minus(used, removed);
-    if MAX_NODES < left {
-        return Altered::Refused(6);
-    }
-    splice(values, used, at, removed, used, 0);
-    splice(names, used, at, removed, used, 0);
-    resize(values, row, used, left);
+    let removed = size(nodes, at);
+    let left = minus(parent.used, removed);
+    moves::splice(nodes, parent.used, at, removed, parent.used, 0);
+    resize(nodes, parent.row, parent.used, left);
     Altered::Done(left)
 }

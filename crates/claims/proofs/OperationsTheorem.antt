@@ -1,12 +1,12 @@
 -- RFC 6902's own claims on its operations.
 use mathlib.Core.Path.{_≡_, refl, ap, sym, _∙_}
-use mathlib.Core.Bool.{Bool, true, false}
+use mathlib.Core.Bool.{Bool, true, false, not}
 use mathlib.Core.List.{List, [], _∷_, _++_}
 use Prim.Native.Nat.{ℕ, zero, suc, _+_, _<_}
 use native.Mathlib.Omega.{arith}
-use lib.Dec.{leb}
+use lib.Dec.{leb, ltb}
 use lib.ListN.{length}
-use borrow.Author.Tests.{le-leb}
+use borrow.Author.Tests.{le-ltb}
 use Rattle.spec.specs.Outcome.{Outcome, ok, refused, _>>=_, if_then_else_}
 use Rattle.spec.specs.Bytes.{Bytes, Text}
 use Rattle.spec.specs.Limits.{maxBytes}
@@ -19,7 +19,7 @@ use Rattle.spec.specs.Write.{write}
 use Rattle.spec.specs.Pointer.{Tokens, childAt, child, walk}
 use Rattle.spec.specs.Operation.{Operation, put, perform, limited, atParent, addAt, removeAtPath, replaceAtPath, moveTo, copyTo, testAt}
 use Rattle.spec.specs.Patch.{Run, finished, stopped, run, atOp, onFinish}
-use Rattle.spec.specs.Answer.{Answer, Lent, answer, success, refusal, workSuffices, fitting, answerOf, patched, onPatch, onDocument}
+use Rattle.spec.specs.Answer.{Answer, Lent, answer, success, refusal, workSuffices, fitting, answerOf, patched, onPatch, onDocument, answerIn}
 use Rattle.spec.proofs.OutcomeLaws.{refused≢ok, both-ok}
 use Rattle.spec.proofs.ChildLaws.{child-there}
 use Rattle.spec.proofs.PlaceLaws.{walk-on}
@@ -153,16 +153,14 @@ document-silent room (ok document) patch = patch-silent room document (read patc
 document-silent room (refused number place) patch = refusal-silent _ _ _ _
 
 answer-silent : (document patch : Bytes) (lent : Lent) → Silent (answer document patch lent)
-unfolding answer
+unfolding answer answerIn
 answer-silent document patch lent =
-    either-silent (workSuffices lent)
-    (either-silent (leb (length document) maxBytes)
-    (either-silent (leb (length patch) maxBytes) (document-silent (lent .output) (read document) patch) (refusal-silent _ _ _ _))
-    (refusal-silent _ _ _ _))
-    (refusal-silent _ _ _ _)
+    either-silent (not (workSuffices lent)) (refusal-silent _ _ _ _)
+    (either-silent (ltb maxBytes (length document)) (refusal-silent _ _ _ _)
+    (either-silent (ltb maxBytes (length patch)) (refusal-silent _ _ _ _) (document-silent (lent .output) (read document) patch)))
 
 pub operations : OperationsStatement
-unfolding perform replaceAtPath addAt removeAtPath moveTo copyTo answer onDocument onPatch patched answerOf onFinish
+unfolding perform replaceAtPath addAt removeAtPath moveTo copyTo answer answerIn onDocument onPatch patched answerOf onFinish
 operations =
     record {
       replace = replace-reordered;
@@ -174,8 +172,8 @@ operations =
       failure = λ document patch lent d w earlier later o number place accepted formed work h i.
           rw (
             work,
-            le-leb _ _ (accepted .fits),
-            le-leb _ _ (formed .fits),
+            le-ltb maxBytes _ (accepted .fits),
+            le-ltb maxBytes _ (formed .fits),
             accepted .reads,
             formed .reads,
             formed .shaped,

@@ -1,13 +1,13 @@
 -- A whole text that is written is read back, and what the call writes is such a text.
 use mathlib.Core.Path.{_≡_, refl, ap, sym, _∙_}
 use mathlib.Core.List.{List, [], _++_, append-nil}
-use mathlib.Core.Bool.{Bool, true, false}
+use mathlib.Core.Bool.{Bool, true, false, not}
 use Prim.Native.Nat.{ℕ, _+_, _<_, _≤_}
 use native.Mathlib.Nat.{zero-add}
 use native.Mathlib.Omega.{arith}
-use lib.Dec.{leb}
+use lib.Dec.{leb, ltb}
 use lib.ListN.{length}
-use borrow.Author.Tests.{eq-eqb, leb-true}
+use borrow.Author.Tests.{eq-eqb, ltb-false}
 use Rattle.spec.specs.Outcome.{Outcome, ok, refused, _>>=_, if_then_else_}
 use Rattle.spec.specs.Limits.{maxBytes}
 use Rattle.spec.specs.Bytes.{Bytes, Text, byte}
@@ -18,7 +18,7 @@ use Rattle.spec.specs.Read.{isBlank, read}
 use Rattle.spec.specs.Write.{write}
 use Rattle.spec.specs.Operation.{Operation, limited}
 use Rattle.spec.specs.Patch.{Run, finished, stopped, onFinish, shape, run}
-use Rattle.spec.specs.Answer.{Answer, Lent, answer, success, refusal, workSuffices, fitting, answerOf, patched, onPatch, onDocument}
+use Rattle.spec.specs.Answer.{Answer, Lent, answer, success, refusal, workSuffices, fitting, answerOf, patched, onPatch, onDocument, answerIn}
 use Rattle.spec.specs.Region.{WellFormed}
 use Rattle.spec.proofs.Tracking.{nothing-ends, past-end}
 use Rattle.spec.proofs.ReadLaws.{read-depth}
@@ -63,9 +63,9 @@ formed-run patch operations v w f r h = run-readable 1 operations v w (shape-pro
 
 -- The answer: a text is written only where every step went well.
 
-if-success : {C : Type 0} (test : Bool) {a b : Answer} {text : Bytes} → (if test then a else b) ≡ success text → (test ≡ true → a ≡ success text → C) → (b ≡ success text → C) → C
+if-success : {C : Type 0} (test : Bool) {a b : Answer} {text : Bytes} → (if test then a else b) ≡ success text → (test ≡ true → a ≡ success text → C) → (test ≡ false → b ≡ success text → C) → C
 if-success true h f g = f refl h
-if-success false h f g = g h
+if-success false h f g = g refl h
 
 no-success : {C : Type 0} (number in-text op place : ℕ) {text : Bytes} → 0 < number + (in-text + op) → refusal number in-text op place ≡ success text → C
 no-success number in-text op place l h =
@@ -96,7 +96,7 @@ module _ (document patch text : Bytes) (room : ℕ) (document-fits : length docu
         writes = sym same;
         reads = ap read (sym same) ∙ read-back v r;
       })
-      (λ i. no-success 16 0 0 0 (omega arith) i)
+      (λ _ i. no-success 16 0 0 0 (omega arith) i)
 
   patch-written : (d : Value.Value) (o : Outcome Value.Value) → read document ≡ ok d → read patch ≡ o → onPatch room d o ≡ success text → Patched document patch text
   unfolding onPatch patched
@@ -109,17 +109,15 @@ module _ (document patch text : Bytes) (room : ℕ) (document-fits : length docu
   document-written (refused number place) rd h = no-success number 1 0 place (omega arith) h
 
 written : (document patch text : Bytes) (lent : Lent) → answer document patch lent ≡ success text → Patched document patch text
-unfolding answer
+unfolding answer answerIn
 written document patch text lent h =
-    if-success (workSuffices lent) h
-    (λ _ i.
-    if-success (leb (length document) maxBytes) i
-    (λ d j.
-    if-success (leb (length patch) maxBytes) j
-    (λ p k. document-written document patch text (lent .output) (leb-true _ _ d) (leb-true _ _ p) (read document) refl k)
-    (λ k. no-success 2 2 0 0 (omega arith) k))
-    (λ j. no-success 2 1 0 0 (omega arith) j))
-    (λ i. no-success 1 0 0 0 (omega arith) i)
+    if-success (not (workSuffices lent)) h
+    (λ _ i. no-success 1 0 0 0 (omega arith) i)
+    λ _ i. if-success (ltb maxBytes (length document)) i
+    (λ _ j. no-success 2 1 0 0 (omega arith) j)
+    λ d j. if-success (ltb maxBytes (length patch)) j
+    (λ _ k. no-success 2 2 0 0 (omega arith) k)
+    λ p k. document-written document patch text (lent .output) (ltb-false _ _ d) (ltb-false _ _ p) (read document) refl k
 
 pub round-trip : RoundTripStatement
 round-trip =

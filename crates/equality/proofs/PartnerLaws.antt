@@ -3,121 +3,142 @@ use Prim.Native.Nat.{ℕ, _+_, _-_, _≤_, _<_}
 use native.Mathlib.Omega.{arith}
 use mathlib.Core.Path.{_≡_, sym, ap, _∙_, subst}
 use mathlib.Core.Bool.{Bool, true, false, _&&_, not}
-use mathlib.Core.List.{List}
-use lib.ListN.{getD}
+use mathlib.Core.List.{List, []}
+use lib.ListN.{getD, List·getD-map}
 use borrow.Author.Tests.{not-true, not-false}
-use Rattle.spec.specs.Bytes.{Bytes}
 use Rattle.spec.specs.Forest.{Forest, tree, from}
 use Rattle.spec.specs.Value.{depth, find}
 use Rattle.spec.specs.Equality.{partner}
 use Rattle.spec.proofs.TextLaws.{sameText-true}
 use Rattle.claims.specs.Equality.{NoRepeats}
-use Rattle.tape.specs.Cell.{Cell}
+use Rattle.tape.specs.Fields.{Row, noNode, nameOf}
+use Rattle.tape.specs.declared.fields.Name.{Name}
+use Rattle.tape.specs.declared.fields.Cell.{Cell}
 use Rattle.tape.specs.Map.{mapForest}
 use Rattle.tape.proofs.Map.{map-from}
 use Rattle.table.specs.Meaning.{nameText, entryOf, members, meant}
 use Rattle.table.specs.Sound.{NodeHeld}
-use Rattle.table.specs.Find.{SameNameIs, FindIs, Found}
+use Rattle.table.specs.Find.{sameName, FindIs, Found}
 use Rattle.table.specs.declared.find.Member.{Member}
 use Rattle.table.specs.declared.find.Member.the-variants.{At, Missing}
-use Rattle.index.specs.Members.{Child, LookupIs, noted, not-found}
+use Rattle.table.proofs.Search.{named-hashed}
+use Rattle.index.specs.Members.{Child, NotedIs, LookupIs, noted, not-found}
 use Rattle.equality.specs.Compare.{Hints, SoughtIs, searched, hinted, PartnerIs, element, in-step, sought, EqualIs}
 use Rattle.equality.proofs.MatchLaws.{agree, partner-find, inside, partner-there, agree-element, agree-member, agree-alone}
-use Rattle.equality.proofs.SiblingLaws.{Siblings, siblings-value, siblings-name, siblings-hashed, siblings-asked, Children, children-child, member-found, member-missing}
+use Rattle.equality.proofs.SiblingLaws.{Siblings, siblings-value, siblings-name, siblings-hashed, siblings-asked}
+use Rattle.equality.proofs.SiblingLaws.{Children, children-child, member-found, member-missing}
+use Rattle.tape.specs.Lent.{Texts, Table}
+
+-- the name in a row, whatever is said to stand behind the table
+pub name-loaded : (nodes : List Row) (row : ℕ) → nameOf (getD nodes row noNode) ≡ nameOf (getD nodes row [])
+name-loaded nodes row = sym (List·getD-map nameOf nodes row noNode) ∙ List·getD-map nameOf nodes row []
 
 -- ---- each way out of `sought`
-module _ {D P : Bytes} {vs ns : List ℕ} {top other end name : ℕ} where
-  pub sought-hinted : Hints top vs → 0 < top → {r : Member} (pair : ℕ) → LookupIs D P vs ns top other name r → r ≡ At pair
-      → SoughtIs D P vs ns other end name (At pair)
-  sought-hinted hints h pair (noted x row place few low is same) e =
+module _ {w : Table} {index : List ℕ} {top other end : ℕ} {name : Name} where
+  pub sought-hinted : Hints (w .nodes) index top → 0 < top → {r : Member} (pair : ℕ) → LookupIs w index top other name r → r ≡ At pair
+      → SoughtIs w other end name (At pair)
+  sought-hinted hints h pair (noted x row place few low told) e =
       let to : row ≡ pair = cc in
       let parent : top + (other - top) ≡ other = omega arith in
-      let child : Child vs other row = subst (Child vs other) (sym place) (subst (λ o. Child vs o (top + x)) parent (hints .right h .child x (other - top) few is)) in
-      subst (λ p. SoughtIs D P vs ns other end name (At p)) to (hinted child same)
+      let child : Child (w .nodes) other row = subst (Child (w .nodes) other) (sym place)
+      (subst (λ o. Child (w .nodes) o (top + x)) parent (hints .right h .child x (other - top) few (told .parent))) in
+      subst (λ p. SoughtIs w other end name (At p)) to (hinted child (ap (λ n. sameName (w .texts) n name)
+      (ap (λ r. nameOf (getD (w .nodes) r [])) place ∙ sym (name-loaded (w .nodes) (top + x))) ∙ told .named))
   sought-hinted hints h pair not-found e = absurd (let z : _≡_ {A = ℕ} 0 1 = cc in omega arith)
 
 -- ---- each way out of `partner`
-module _ {D P : Bytes} {vs ns : List ℕ} {other end row next : ℕ} {object : Bool} where
-  pub partner-element : not object ≡ true → PartnerIs D P vs ns other end row next object (At next)
-  partner-element e = subst (λ o. PartnerIs D P vs ns other end row next o (At next)) (sym (not-true object e)) element
+module _ {w : Table} {other end row next : ℕ} {object : Bool} where
+  pub partner-element : not object ≡ true → PartnerIs w other end row next object (At next)
+  partner-element e = subst (λ o. PartnerIs w other end row next o (At next)) (sym (not-true object e)) element
 
-  module _ (e : not object ≡ false) {name : ℕ} (is : name ≡ getD ns row 0) where
-    pub partner-in-step : {word : ℕ} {same : Bool} → word ≡ getD ns next 0 → SameNameIs D P name word same → same ≡ true
-        → PartnerIs D P vs ns other end row next object (At next)
+  module _ (e : not object ≡ false) {name : Name} (is : name ≡ nameOf (getD (w .nodes) row [])) where
+    pub partner-in-step : {beside : Name} {same : Bool} → beside ≡ nameOf (getD (w .nodes) next []) → same ≡ sameName (w .texts) name beside → same ≡ true
+        → PartnerIs w other end row next object (At next)
     partner-in-step are compared alike =
-        subst (λ o. PartnerIs D P vs ns other end row next o (At next)) (sym (not-false object e)) (in-step (rw (is, are, alike) at compared))
+        subst (λ o. PartnerIs w other end row next o (At next)) (sym (not-false object e)) (in-step (rw (is, are, alike) at (sym compared)))
 
-    pub partner-sought : {r : Member} → SoughtIs D P vs ns other end name r → PartnerIs D P vs ns other end row next object r
+    pub partner-sought : {r : Member} → SoughtIs w other end name r → PartnerIs w other end row next object r
     partner-sought {r} s =
-        subst (λ o. PartnerIs D P vs ns other end row next o r) (sym (not-false object e))
-        (sought (subst (λ n. SoughtIs D P vs ns other end n r) is s))
+        subst (λ o. PartnerIs w other end row next o r) (sym (not-false object e))
+        (sought (subst (λ n. SoughtIs w other end n r) is s))
 
 -- whether what is left of two containers agrees, as their cells mean it
-abbrev pub agreeing : Bytes → Bytes → Bool → Forest Cell → Forest Cell → Forest Cell → Bool
-agreeing D P object all f g = agree object (members D P all) (members D P f) (members D P g)
+abbrev pub agreeing : Texts → Bool → Forest Cell → Forest Cell → Forest Cell → Bool
+agreeing T object all f g = agree object (members T all) (members T f) (members T g)
 
 -- two trees whose names are the same
-same-names : {D P : Bytes} {vs ns : List ℕ} {row end next stop : ℕ} {c : Cell} {ks rest : Forest Cell} {d : Cell} {ds after : Forest Cell}
-    → Siblings D P vs ns row end (tree c ks rest) → Siblings D P vs ns next stop (tree d ds after) → SameNameIs D P (getD ns row 0) (getD ns next 0) true
-    → nameText D P (c .name) ≡ nameText D P (d .name)
-same-names x y same = sameText-true _ _ (rw (siblings-name x, siblings-name y) at (sym (same (siblings-hashed x) (siblings-hashed y))))
+same-names : {w : Table} {row end next stop : ℕ} {c : Cell} {ks rest : Forest Cell} {d : Cell} {ds after : Forest Cell}
+    → Siblings w row end (tree c ks rest) → Siblings w next stop (tree d ds after) → sameName (w .texts) (nameOf (getD (w .nodes) row []))
+    (nameOf (getD (w .nodes) next [])) ≡ true
+    → nameText (w .texts) (c .name) ≡ nameText (w .texts) (d .name)
+same-names {w} x y same =
+    sym (ap (nameText (w .texts)) (siblings-name x))
+    ∙ sameText-true _ _ (sym (named-hashed (w .texts) _ _ _ (siblings-hashed x) (siblings-hashed y .is)) ∙ same)
+    ∙ ap (nameText (w .texts)) (siblings-name y)
 
 -- ---- a turn: the first tree that is left of one, and what `partner` answers for it. Of the other, whose trees are `all`, so many are passed, and a
 -- tree is left too.
-module _ {D P : Bytes} {vs ns : List ℕ} {other row end next stop : ℕ} {all : Forest Cell} (second : Children D P vs ns other stop all)
-    {c : Cell} {ks rest : Forest Cell} (x : Siblings D P vs ns row end (tree c ks rest))
-    {d : Cell} {ds after : Forest Cell} (y : Siblings D P vs ns next stop (tree d ds after)) where
-  sought-name : {q : Member} → FindIs D P vs ns (other + 1) stop (getD ns row 0) q → Found D P (other + 1) all (nameText D P (c .name)) q
+module _ {w : Table} {other row end next stop : ℕ} {all : Forest Cell} (second : Children w other stop all)
+    {c : Cell} {ks rest : Forest Cell} (x : Siblings w row end (tree c ks rest))
+    {d : Cell} {ds after : Forest Cell} (y : Siblings w next stop (tree d ds after)) where
+  sought-name : {q : Member} → FindIs w (other + 1) stop (nameOf (getD (w .nodes) row [])) q → Found (w .texts) (other + 1) all
+      (nameText (w .texts) (c .name)) q
   sought-name {q} f =
-      subst (λ n. Found D P (other + 1) all (nameText D P n) q) (siblings-name x) (f all (siblings-asked (second .siblings)) (siblings-hashed x))
+      subst (λ n. Found (w .texts) (other + 1) all (nameText (w .texts) n) q) (siblings-name x)
+      (f .held all (siblings-asked (second .siblings)) (siblings-hashed x))
 
-  pub alone : (o : Bool) (q : Member) → PartnerIs D P vs ns other stop row next o q → q ≡ Missing
-      → agreeing D P o all (tree c ks rest) (tree d ds after) ≡ false
+  pub alone : (o : Bool) (q : Member) → PartnerIs w other stop row next o q → q ≡ Missing
+      → agreeing (w .texts) o all (tree c ks rest) (tree d ds after) ≡ false
   unfolding mapForest
   alone true q (sought (searched f)) e =
-      let no-partner = member-missing (second .siblings) (subst (Found D P (other + 1) all (nameText D P (c .name))) e (sought-name f)) in
-      agree-alone (members D P all) (entryOf D P c) (members D P ks) (members D P rest) (entryOf D P d) (members D P ds) (members D P after) no-partner
+      let no-partner = member-missing (second .siblings) (subst (Found (w .texts) (other + 1) all (nameText (w .texts) (c .name))) e (sought-name f)) in
+      agree-alone (members (w .texts) all) (entryOf (w .texts) c) (members (w .texts) ks) (members (w .texts) rest) (entryOf (w .texts) d)
+      (members (w .texts) ds) (members (w .texts) after) no-partner
   alone true q (sought (hinted k same)) e = absurd (let z : _≡_ {A = ℕ} 0 1 = cc in omega arith)
   alone true q (in-step same) e = absurd (let z : _≡_ {A = ℕ} 0 1 = cc in omega arith)
   alone false q element e = absurd (let z : _≡_ {A = ℕ} 0 1 = cc in omega arith)
 
-  module _ (levels : ℕ) (low : depth (meant D P c ks) ≤ levels) (pair : ℕ) (r : Bool) (compared : EqualIs D P vs ns row pair levels r)
+  module _ (levels : ℕ) (low : depth (meant (w .texts) c ks) ≤ levels) (pair : ℕ) (r : Bool) (compared : EqualIs w row pair levels r)
       (passed : ℕ) (here : from passed all ≡ tree d ds after) where
-    still : (k : ℕ) {p : Cell} {ps behind : Forest Cell} → from k all ≡ tree p ps behind → from k (members D P all) ≡ members D P (tree p ps behind)
-    still k is = sym (map-from (entryOf D P) k all) ∙ ap (members D P) is
+    still : (k : ℕ) {p : Cell} {ps behind : Forest Cell} → from k all ≡ tree p ps behind → from k (members (w .texts) all) ≡ members (w .texts)
+        (tree p ps behind)
+    still k is = sym (map-from (entryOf (w .texts)) k all) ∙ ap (members (w .texts)) is
 
     -- a member against the one of its name
-    by-name : NoRepeats true (members D P all) → (p : Cell) (ps behind : Forest Cell)
-        → partner true (nameText D P (c .name)) (members D P all) ≡ members D P (tree p ps behind) → NodeHeld D P vs ns pair p ps
-        → agreeing D P true all (tree c ks rest) (tree d ds after) ≡ r && agreeing D P true all rest after
+    by-name : NoRepeats true (members (w .texts) all) → (p : Cell) (ps behind : Forest Cell)
+        → partner true (nameText (w .texts) (c .name)) (members (w .texts) all) ≡ members (w .texts) (tree p ps behind) → NodeHeld w pair p ps
+        → agreeing (w .texts) true all (tree c ks rest) (tree d ds after) ≡ r && agreeing (w .texts) true all rest after
     unfolding mapForest
     by-name distinct p ps behind is there =
-        let apart = inside (find (nameText D P (c .name)) (members D P all)) distinct (sym (partner-find (nameText D P (c .name)) (members D P all)) ∙ is) in
-        agree-member (members D P all) (entryOf D P c) (members D P ks) (members D P rest) (entryOf D P d) (members D P ds) (members D P after)
-        (entryOf D P p) (members D P ps) (members D P behind) is
-        ∙ ap (λ b. b && agreeing D P true all rest after) (sym (compared c ks p ps (siblings-value x) there low apart))
+        let apart = inside (find (nameText (w .texts) (c .name)) (members (w .texts) all)) distinct
+        (sym (partner-find (nameText (w .texts) (c .name)) (members (w .texts) all)) ∙ is) in
+        agree-member (members (w .texts) all) (entryOf (w .texts) c) (members (w .texts) ks) (members (w .texts) rest) (entryOf (w .texts) d)
+        (members (w .texts) ds) (members (w .texts) after)
+        (entryOf (w .texts) p) (members (w .texts) ps) (members (w .texts) behind) is
+        ∙ ap (λ b. b && agreeing (w .texts) true all rest after) (sym (compared c ks p ps (siblings-value x) there low apart))
 
     -- wherever that one stands: there is no other
-    at-place : NoRepeats true (members D P all) → (k : ℕ) (p : Cell) (ps behind : Forest Cell) → from k all ≡ tree p ps behind
-        → nameText D P (c .name) ≡ nameText D P (p .name) → NodeHeld D P vs ns pair p ps
-        → agreeing D P true all (tree c ks rest) (tree d ds after) ≡ r && agreeing D P true all rest after
+    at-place : NoRepeats true (members (w .texts) all) → (k : ℕ) (p : Cell) (ps behind : Forest Cell) → from k all ≡ tree p ps behind
+        → nameText (w .texts) (c .name) ≡ nameText (w .texts) (p .name) → NodeHeld w pair p ps
+        → agreeing (w .texts) true all (tree c ks rest) (tree d ds after) ≡ r && agreeing (w .texts) true all rest after
     unfolding mapForest
     at-place distinct k p ps behind is same there =
-        by-name distinct p ps behind (ap (λ n. partner true n (members D P all)) same ∙ partner-there k distinct (still k is)) there
+        by-name distinct p ps behind (ap (λ n. partner true n (members (w .texts) all)) same ∙ partner-there k distinct (still k is)) there
 
-    at-pair : {place : ℕ} {p : Cell} {ps : Forest Cell} → At place ≡ At pair → NodeHeld D P vs ns place p ps → NodeHeld D P vs ns pair p ps
-    at-pair {place} {p} {ps} e there = let same : place ≡ pair = cc in subst (λ n. NodeHeld D P vs ns n p ps) same there
+    at-pair : {place : ℕ} {p : Cell} {ps : Forest Cell} → At place ≡ At pair → NodeHeld w place p ps → NodeHeld w pair p ps
+    at-pair {place} {p} {ps} e there = let same : place ≡ pair = cc in subst (λ n. NodeHeld w n p ps) same there
 
-    pub paired : (o : Bool) → NoRepeats o (members D P all) → (q : Member) → PartnerIs D P vs ns other stop row next o q → q ≡ At pair
-        → agreeing D P o all (tree c ks rest) (tree d ds after) ≡ r && agreeing D P o all rest after
+    pub paired : (o : Bool) → NoRepeats o (members (w .texts) all) → (q : Member) → PartnerIs w other stop row next o q → q ≡ At pair
+        → agreeing (w .texts) o all (tree c ks rest) (tree d ds after) ≡ r && agreeing (w .texts) o all rest after
     unfolding mapForest
     paired true distinct q (sought (searched f)) e =
-        member-found (second .siblings) (subst (Found D P (other + 1) all (nameText D P (c .name))) e (sought-name f)) (by-name distinct)
+        member-found (second .siblings) (subst (Found (w .texts) (other + 1) all (nameText (w .texts) (c .name))) e (sought-name f)) (by-name distinct)
     paired true distinct q (sought (hinted k same)) e =
         children-child second k λ n p ps behind is z.
         at-place distinct n p ps behind is (sym (same-names z x same)) (at-pair e (siblings-value z))
     paired true distinct q (in-step same) e = at-place distinct passed d ds after here (same-names x y same) (at-pair e (siblings-value y))
     paired false distinct q element e =
-        agree-element (members D P all) (entryOf D P c) (members D P ks) (members D P rest) (entryOf D P d) (members D P ds) (members D P after)
-        ∙ ap (λ b. b && agreeing D P false all rest after)
+        agree-element (members (w .texts) all) (entryOf (w .texts) c) (members (w .texts) ks) (members (w .texts) rest) (entryOf (w .texts) d)
+        (members (w .texts) ds) (members (w .texts) after)
+        ∙ ap (λ b. b && agreeing (w .texts) false all rest after)
         (sym (compared c ks d ds (siblings-value x) (at-pair e (siblings-value y)) low (inside passed distinct (still passed here))))

@@ -1,185 +1,179 @@
-// Equality of two values of the node table: document 01, "Walking and the six operations". Types are told apart first; strings are compared by
-// their unescaped text, numbers by exact value, arrays in order, and objects by name in any order.
+// Equality of two values of the node table: document 01, "Walking and the six operations". Types are told apart
+// first; strings are compared by their unescaped text, numbers by exact value, arrays in order, and objects by name
+// in any order.
 use decimal::same_number;
+use index::SLOTS;
 use index::index_tree;
 use index::lookup;
 use table::find::Member;
 use table::find::find;
 use table::find::same_name;
-use table::spellings::part;
-use table::spellings::same_spelling;
-use tape::layout::ARRAY;
-use tape::layout::NUMBER;
-use tape::layout::OBJECT;
-use tape::layout::ROWS;
-use tape::layout::STRING;
+use table::spellings;
+use tape::fields;
+use tape::fields::Name;
+use tape::layout;
+use tape::layout::Node;
+use tape::layout::Texts;
 use tape::moves::load;
 use tape::nodes::end_of;
-use tape::words::kind;
-use tape::words::payload;
-use tape::words::span;
+use tape::nodes::span;
 ghost use Prim.Native.Nat.{_<_};
 ghost use lib.ListN.{length};
-ghost use Rattle.equality.specs.Compare.{SameLabelIs, Hints, SoughtIs, PartnerIs, EqualIs, CompareIs};
+ghost use Rattle.tape.specs.Lent.{lent, before};
+ghost use Rattle.equality.specs.Compare.{SameLabelIs, Hints, SoughtIs, PartnerOf, EqualIs};
 
-// Whether two nodes have the same label, by their words in the column of values.
-pub fn same_label<'a>(document: &'a [u8], patch: &'a [u8], a: u64, b: u64) -> bool
-    ensures { λ r. ⌜ SameLabelIs (now (document .entry)) (now (patch .entry)) a b r ⌝ }
+// Whether two nodes have the same label.
+fn same_label<'a>(texts: Texts<'a>, a: Node, b: Node) -> bool
+    ensures { λ r. ⌜ SameLabelIs (lent texts) a b r ⌝ }
 {
-    let k = kind(a);
-    if k != kind(b) {
+    let kind = fields::kind_in(a[layout::TAGS]);
+    if kind != fields::kind_in(b[layout::TAGS]) {
         return false;
     }
-    if k == STRING {
-        return same_spelling(document, patch, payload(a), payload(b));
+    if kind == layout::STRING {
+        return spellings::same_spelling(texts, fields::value_of(a), fields::value_of(b));
     }
-    if k == NUMBER {
-        let s = part(document, patch, payload(a));
-        let t = part(document, patch, payload(b));
+    if kind == layout::NUMBER {
+        let s = spellings::part(texts, fields::value_of(a));
+        let t = spellings::part(texts, fields::value_of(b));
         return same_number(s, t);
     }
     true
 }
 
-// The member of a name among the children of the node in the row `other`, which end before the row `end`: where the index of the tree in the row `top`
-// has it, without a search. 0 stands for no index.
+// The member of a name among the children of the node in the row `other`, which end before the row `end`. Where the
+// index of the tree in the row `top` has it, nothing is searched; 0 stands for no index.
 fn sought<'a>(
-    values: &[u64],
-    names: &[u64],
-    document: &'a [u8],
-    patch: &'a [u8],
+    texts: Texts<'a>,
+    nodes: &[Node],
+    index: &[u16],
     top: usize,
     other: usize,
     end: usize,
-    name: u64,
+    name: Name,
 ) -> Member
-    requires { ⌜ other < length (now values) ⌝ }
-    ensures { λ r. ⌜ (Hints top (now (values .entry)) → SoughtIs (now (document .entry)) (now (patch .entry)) (now (values .entry)) (now (names .entry)) other end name r) ⌝ }
+    requires { ⌜ other < length (now nodes) ⌝ }
+    ensures { λ r. ⌜ (Hints (now (nodes .entry)) (now (index .entry)) top → SoughtIs (before texts nodes) other end name r) ⌝ }
 {
     if top == 0 {
-        return find(values, names, document, patch, other + 1, end, name);
+        return find(texts, nodes, other + 1, end, name);
     }
-    let Member::At(pair) = lookup(document, patch, values, names, top, other, name) else {
-        return find(values, names, document, patch, other + 1, end, name);
+    let Member::At(pair) = lookup(texts, nodes, index, top, other, name) else {
+        return find(texts, nodes, other + 1, end, name);
     };
     Member::At(pair)
 }
 
-// The row of what the child in `row` is compared with: in an array what stands in the row `next`, in an object the member of its name among the
-// children of the node in the row `other`. That one stands in the row `next` too where both objects have the same order, so it is looked for there
-// first.
-fn partner<'a>(
-    values: &[u64],
-    names: &[u64],
-    document: &'a [u8],
-    patch: &'a [u8],
+// Two containers: the first one's children stand in step with the second's, which is in the row `other` and ends
+// before the row `end`.
+struct Pair {
     top: usize,
     object: bool,
     other: usize,
     end: usize,
+}
+
+// The row of what the child in `row` is compared with. In an array that is what stands in the row `next`; in an
+// object, the member of its name among the children of the node in the row `other`. Where both objects have the same
+// order it stands in the row `next` too, so that row is tried first.
+fn partner<'a>(
+    texts: Texts<'a>,
+    nodes: &[Node],
+    index: &[u16],
+    pair: Pair,
     row: usize,
     next: usize,
 ) -> Member
-    requires { ⌜ other < length (now values) ⌝ }
-    ensures { λ r. ⌜ (Hints top (now (values .entry)) → PartnerIs (now (document .entry)) (now (patch .entry)) (now (values .entry)) (now (names .entry)) other end row next object r) ⌝ }
+    requires { ⌜ pair .other < length (now nodes) ⌝ }
+    ensures { λ r. ⌜ (Hints (now (nodes .entry)) (now (index .entry)) (pair .top) → PartnerOf (before texts nodes) pair row next r) ⌝ }
 {
-    if !object {
+    if !pair.object {
         return Member::At(next);
     }
-    let name = load(names, row);
-    if same_name(document, patch, name, load(names, next)) {
+    let name = fields::name_of(load(nodes, row));
+    if same_name(texts, name, fields::name_of(load(nodes, next))) {
         return Member::At(next);
     }
-    sought(values, names, document, patch, top, other, end, name)
+    sought(texts, nodes, index, pair.top, pair.other, pair.end, name)
 }
 
-// Whether the values in the rows `at` and `other` are equal, of which the first nests at most `levels` containers, and no object of the second has
-// two members of one name. The children of both are passed in step, those of an object too: two containers have as many children if both end
-// together. `top` is the row of an indexed tree that the second is part of, or 0.
+// Whether the values in the rows `at` and `other` are equal, of which the first nests at most `levels` containers,
+// and no object of the second has two members of one name. The children of both are passed in step, those of an
+// object too: two containers have as many children if both end together. `top` is the row of an indexed tree that the
+// second is part of, or 0.
 fn equal<'a>(
-    values: &[u64],
-    names: &[u64],
-    document: &'a [u8],
-    patch: &'a [u8],
+    texts: Texts<'a>,
+    nodes: &[Node],
+    index: &[u16],
     top: usize,
     at: usize,
     other: usize,
     levels: u32,
 ) -> bool
-    ensures { λ r. ⌜ (Hints top (now (values .entry)) → EqualIs (now (document .entry)) (now (patch .entry)) (now (values .entry)) (now (names .entry)) at other levels r) ⌝ }
+    ensures { λ r. ⌜ (Hints (now (nodes .entry)) (now (index .entry)) top → EqualIs (before texts nodes) at other levels r) ⌝ }
 {
-    if values.len() <= at {
+    if nodes.len() <= at {
         return false;
     }
-    if values.len() <= other {
+    if nodes.len() <= other {
         return false;
     }
-    let word = values[at];
-    if !same_label(document, patch, word, values[other]) {
+    if !same_label(texts, nodes[at], nodes[other]) {
         return false;
     }
-    let k = kind(word);
-    if k < ARRAY {
+    let kind = fields::kind_in(nodes[at][layout::TAGS]);
+    if kind < layout::ARRAY {
         return true;
     }
     if levels == 0 {
         return false;
     }
-    let object = k == OBJECT;
-    let end = end_of(values, at);
-    let stop = end_of(values, other);
-    let start = other + 1;
+    let end = end_of(nodes, at);
+    let pair = Pair {
+        top,
+        object: kind == layout::OBJECT,
+        other,
+        end: end_of(nodes, other),
+    };
     let mut row = at + 1;
-    let mut next = start;
+    let mut next = other + 1;
     while row < end {
-        if stop <= next {
+        if pair.end <= next {
             return false;
         }
-        let Member::At(pair) = partner(
-            values,
-            names,
-            document,
-            patch,
-            top,
-            object,
-            other,
-            stop,
-            row,
-            next,
-        ) else {
+        let Member::At(found) = partner(texts, nodes, index, pair, row, next) else {
             return false;
         };
-        if !equal(values, names, document, patch, top, row, pair, levels - 1) {
+        if !equal(texts, nodes, index, top, row, found, levels - 1) {
             return false;
         }
-        row = end_of(values, row);
-        next = end_of(values, next);
+        row = end_of(nodes, row);
+        next = end_of(nodes, next);
     }
-    stop <= next
+    pair.end <= next
 }
 
-// From so many nodes below it on, a value is indexed before it is compared.
-const MANY: usize = 64;
+// A value with so many nodes below it is indexed before it is compared.
+const INDEXED: usize = 64;
 
-// Whether the values in the rows `at` and `other` are equal. Where the second is large it is indexed first, in the scratch rows, so that members are
-// found without a search in whatever order they stand.
+// Whether the values in the rows `at` and `other` are equal. Where the second is large it is indexed first, so that
+// members are found without a search in whatever order they stand. What the index holds afterwards is free.
 pub fn compare<'a>(
-    values: &mut [u64],
-    names: &[u64],
-    document: &'a [u8],
-    patch: &'a [u8],
+    texts: Texts<'a>,
+    nodes: &[Node],
+    index: &mut [u16],
     at: usize,
     other: usize,
     levels: u32,
 ) -> bool
-    ensures { λ r. ⌜ CompareIs (now (document .entry)) (now (patch .entry)) (now (values .entry)) (now (names .entry)) (now (values .exit)) at other levels r ⌝ }
+    ensures { λ r. ⌜ EqualIs (before texts nodes) at other levels r ⌝ }
 {
-    if span(load(values, other)) < MANY {
-        return equal(values, names, document, patch, 0, at, other, levels);
+    if span(nodes, other) < INDEXED {
+        return equal(texts, nodes, index, 0, at, other, levels);
     }
-    if values.len() < ROWS {
-        return equal(values, names, document, patch, 0, at, other, levels);
+    if index.len() < SLOTS {
+        return equal(texts, nodes, index, 0, at, other, levels);
     }
-    index_tree(document, patch, values, names, other);
-    equal(values, names, document, patch, other, at, other, levels)
+    index_tree(texts, nodes, index, other);
+    equal(texts, nodes, index, other, at, other, levels)
 }

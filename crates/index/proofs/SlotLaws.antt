@@ -1,90 +1,61 @@
--- A number that is put into a slot stands there, and nothing else changes: first of a word's four fields of 16 bits, and then of the column.
-use Prim.Native.Nat.{ℕ, zero, suc, _+_, _-_, _*_, _^_, _%_, _≤_, _<_}
-use mathlib.Core.Path.{_≡_, refl}
+-- A number that is put into a slot stands there, and nothing else changes; and an index that was made empty.
+use Prim.Native.Nat.{ℕ, _+_, _%_, _<_, _≤_}
+use mathlib.Core.Path.{_≡_, _∙_, refl, sym, ap, subst}
 use mathlib.Core.List.{List}
 use native.Mathlib.Omega.{arith}
-use native.Mathlib.Decide.{ℕ-discrete, decLt}
-use lib.ListN.{length, getD, set, length-set}
-use lib.Seq.{getD-set-same, getD-set-other, set-out, take-set-le, drop-set-lt}
-use Rattle.tape.specs.Layout.{scratchRow, rows}
-use Rattle.tape.specs.Columns.{Scratched}
-use Rattle.index.specs.Slots.{numbers, fieldOf, withField, rowOf, slotAt, slotSet}
+use native.Mathlib.Decide.{decLt}
+use lib.ListN.{length, drop, getD, replicate, length-replicate, getD-replicate, List·getD-append}
+use lib.Seq.{getD-set-same, getD-set-other, getD-drop, drop-set-lt}
+use Rattle.tape.specs.Layout.{values}
+use Rattle.tape.specs.Columns.{filled}
+use Rattle.tape.proofs.Columns.{filled-first, filled-out, filled-behind, filled-length}
+use Rattle.index.specs.Slots.{slots, slotAt, slotSet, emptied}
 
--- ---- a word's fields
+pub slot-put : (xs : List ℕ) (s v : ℕ) → s < length xs → v < values → slotAt (slotSet xs s v) s ≡ v
+unfolding slotAt slotSet
+slot-put xs s v h b = let same : v % values ≡ v = omega arith in getD-set-same xs s (v % values) 0 h ∙ same
 
--- what holds of each of the four; the powers are then numerals
-by-field : (P : ℕ → Type 0) → P 0 → P 1 → P 2 → P 3 → (k : ℕ) → k < 4 → P k
-by-field P a b c d zero h = a
-by-field P a b c d (suc zero) h = b
-by-field P a b c d (suc (suc zero)) h = c
-by-field P a b c d (suc (suc (suc zero))) h = d
-by-field P a b c d (suc (suc (suc (suc k)))) h = absurd (omega arith)
-
-module _ (w v : ℕ) (fits : v < numbers) where
-  field-put : (k : ℕ) → k < 4 → fieldOf (withField w k v) k ≡ v
-  field-put = by-field (λ k. fieldOf (withField w k v) k ≡ v) (omega arith) (omega arith) (omega arith) (omega arith)
-
-  abbrev Kept : ℕ → ℕ → Type 0
-  Kept k j = (k ≡ j → ⊥) → fieldOf (withField w k v) j ≡ fieldOf w j
-
-  field-kept : (k : ℕ) → k < 4 → (j : ℕ) → j < 4 → Kept k j
-  field-kept =
-      by-field
-      (λ k. (j : ℕ) → j < 4 → Kept k j)
-      (by-field (Kept 0) (λ n. absurd (n refl)) (λ n. omega arith) (λ n. omega arith) (λ n. omega arith))
-      (by-field (Kept 1) (λ n. omega arith) (λ n. absurd (n refl)) (λ n. omega arith) (λ n. omega arith))
-      (by-field (Kept 2) (λ n. omega arith) (λ n. omega arith) (λ n. absurd (n refl)) (λ n. omega arith))
-      (by-field (Kept 3) (λ n. omega arith) (λ n. omega arith) (λ n. omega arith) (λ n. absurd (n refl)))
-
--- the code's sum in words of 64 bits, given the number that the field had: it does not go below 0, it fits, and it is the word with the new number
-abbrev shifted : ℕ → ℕ → ℕ
-shifted n k = n * 2 ^ (16 * k) % 18446744073709551616
-
-module _ (w k : ℕ) (low : k < 4) (old : ℕ) (is : old ≡ fieldOf w k) where
-  pub field-inside : shifted old k ≤ w
-  field-inside = rw is (by-field (λ k. shifted (fieldOf w k) k ≤ w) (omega arith) (omega arith) (omega arith) (omega arith) k low)
-
-  module _ (v : ℕ) (fits : v < numbers) where
-    pub field-result : w - shifted old k + shifted v k ≡ withField w k v
-    field-result = rw is (by-field (λ k. w - shifted (fieldOf w k) k + shifted v k ≡ withField w k v) (omega arith) (omega arith) (omega arith) (omega arith) k low)
-
-    pub field-fits : w < 18446744073709551616 → w - shifted old k + shifted v k < 18446744073709551616
-    field-fits h = rw is (by-field (λ k. w - shifted (fieldOf w k) k + shifted v k < 18446744073709551616) (omega arith) (omega arith) (omega arith) (omega arith) k low)
-
--- ---- the column
-
--- the word of a slot, and with another number in it
-abbrev wordAt : List ℕ → ℕ → ℕ
-wordAt xs s = getD xs (rowOf s) 0
-
-abbrev wordWith : List ℕ → ℕ → ℕ → ℕ
-wordWith xs s v = withField (wordAt xs s) (s % 4) (v % numbers)
-
-module _ (xs : List ℕ) (s v : ℕ) where
-  pub slot-put : rows ≤ length xs → s < 8192 → v < numbers → slotAt (slotSet xs s v) s ≡ v
-  unfolding slotAt slotSet
-  slot-put h l b =
-      let inside : rowOf s < length xs = omega arith in
-      let same : v % numbers ≡ v = omega arith in
-      rw (getD-set-same xs (rowOf s) (wordWith xs s v) 0 inside, same) (field-put (wordAt xs s) v b (s % 4) (omega arith))
-
-  pub slot-scratched : s < 8192 → Scratched xs (slotSet xs s v)
-  unfolding slotSet
-  slot-scratched l =
-      record {
-        before = take-set-le scratchRow xs (rowOf s) (wordWith xs s v) (omega arith);
-        behind = drop-set-lt rows xs (rowOf s) (wordWith xs s v) (omega arith);
-        same-length = length-set xs (rowOf s) (wordWith xs s v);
-      }
-
--- the other slot may share the word, and behind the column nothing changes
 pub slot-other : (xs : List ℕ) (s t v : ℕ) → (s ≡ t → ⊥) → slotAt (slotSet xs s v) t ≡ slotAt xs t
 unfolding slotAt slotSet
-slot-other xs s t v n = go (ℕ-discrete (rowOf t) (rowOf s)) (decLt (rowOf s) (length xs))
+slot-other xs s t v n = getD-set-other xs s t (v % values) 0 (λ e. n (sym e))
+
+-- what stands behind the slot is as it was
+pub slot-behind : (xs : List ℕ) (s v n : ℕ) → s < n → drop n (slotSet xs s v) ≡ drop n xs
+unfolding slotSet
+slot-behind xs s v n h = drop-set-lt n xs s (v % values) h
+
+-- a slot of what stands behind a place
+pub slot-dropped : (xs ys : List ℕ) (n i : ℕ) → drop n ys ≡ drop n xs → slotAt ys (n + i) ≡ slotAt xs (n + i)
+unfolding slotAt
+slot-dropped xs ys n i e = sym (getD-drop n ys i 0) ∙ ap (λ zs. getD zs i 0) e ∙ getD-drop n xs i 0
+
+-- ---- an empty index
+first-zeros : (xs : List ℕ) (n i : ℕ) → n ≤ length xs → i < n → getD (filled 0 xs 0 n) i 0 ≡ 0
+first-zeros xs n i h l =
+    let zeros : List ℕ = replicate n 0 in
+    let long : length zeros ≡ n = length-replicate n 0 in
+    let there : i < length zeros = omega arith in
+    ap (λ zs. getD zs i 0) (filled-first 0 xs n h) ∙ List·getD-append zeros (drop n xs) 0 i there ∙ getD-replicate n i 0 0 l
+
+pub empty-slot : (xs : List ℕ) (i : ℕ) → slots ≤ length xs → i < slots → slotAt (emptied xs) i ≡ 0
+unfolding slotAt
+empty-slot xs i h l = first-zeros xs slots i h l
+
+pub empty-short : (xs : List ℕ) → length xs < slots → emptied xs ≡ xs
+empty-short xs h = filled-out xs 0 0 slots h
+
+-- what is lent beyond the index, and how much is lent, stays
+pub record SameBeyond (xs ys : List ℕ) : Type 0 where
+  pub beyond : drop slots ys ≡ drop slots xs
+  pub same-length : length ys ≡ length xs
+
+pub empty-beyond : (xs : List ℕ) → SameBeyond xs (emptied xs)
+empty-beyond xs = go (decLt (length xs) slots)
   where
-    go : Dec (rowOf t ≡ rowOf s) → Dec (rowOf s < length xs) → fieldOf (getD (set xs (rowOf s) (wordWith xs s v)) (rowOf t) 0) (t % 4) ≡ fieldOf (getD xs (rowOf t) 0) (t % 4)
-    go (yes e) (yes inside) =
-        rw (e, getD-set-same xs (rowOf s) (wordWith xs s v) 0 inside)
-        (field-kept (wordAt xs s) (v % numbers) (omega arith) (s % 4) (omega arith) (t % 4) (omega arith) (λ same. n (omega arith)))
-    go (yes e) (no outside) = rw (set-out xs (rowOf s) (wordWith xs s v) (omega arith))
-    go (no apart) inside = rw (getD-set-other xs (rowOf s) (rowOf t) (wordWith xs s v) 0 apart)
+    go : Dec (length xs < slots) → SameBeyond xs (emptied xs)
+    go (yes h) = subst (SameBeyond xs) (sym (empty-short xs h)) (record { beyond = refl; same-length = refl })
+    go (no h) =
+        record {
+          beyond = filled-behind 0 xs 0 slots (omega arith) slots (omega arith);
+          same-length = filled-length 0 xs 0 slots (omega arith);
+        }

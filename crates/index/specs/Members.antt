@@ -1,40 +1,51 @@
--- Members that are noted with their parents, and found again.
+-- Members that are noted with their parents, and found again. The index of a tree is a hint: what it tells is right, and it need not tell anything.
 use Prim.Native.Nat.{ℕ, suc, _+_, _-_, _<_, _≤_}
 use mathlib.Core.Path.{_≡_}
 use mathlib.Core.Bool.{true}
-use mathlib.Core.List.{List}
-use lib.ListN.{getD}
-use Rattle.spec.specs.Bytes.{Bytes}
+use mathlib.Core.List.{List, []}
+use lib.ListN.{length, getD, drop}
 use Rattle.tape.specs.Layout.{scratchRow}
-use Rattle.tape.specs.Columns.{Scratched}
-use Rattle.tape.specs.Packing.{spanOf}
-use Rattle.table.specs.Find.{SameNameIs}
+use Rattle.tape.specs.Fields.{Row, noNode, nameOf, spanOf}
+use Rattle.tape.specs.declared.fields.Name.{Name}
+use Rattle.tape.specs.Lent.{Table}
+use Rattle.table.specs.Find.{sameName}
 use Rattle.table.specs.declared.find.Member.{Member}
 use Rattle.table.specs.declared.find.Member.the-variants.{At, Missing}
-use Rattle.index.specs.Slots.{slotAt}
-use Rattle.index.specs.Ways.{room, parentSlot}
+use Rattle.index.specs.Slots.{room, slots, parentSlot, slotAt}
 
 -- a row is among those of the trees that follow one another from a row up to the row `end`
-pub data Among (values : List ℕ) (end row : ℕ) : ℕ → Type 0 where
-  first : row < end → Among values end row row
-  later : {start : ℕ} → start < end → Among values end row (start + 1 + spanOf (getD values start 0)) → Among values end row start
+pub data Among (nodes : List Row) (end row : ℕ) : ℕ → Type 0 where
+  first : row < end → Among nodes end row row
+  later : {start : ℕ} → start < end → Among nodes end row (start + 1 + spanOf (getD nodes start [])) → Among nodes end row start
 
 -- a row holds a child of the node in another
-pub record Child (values : List ℕ) (parent row : ℕ) : Type 0 where
+pub record Child (nodes : List Row) (parent row : ℕ) : Type 0 where
   pub low : row < scratchRow
-  pub among : Among values (parent + 1 + spanOf (getD values parent 0)) row (parent + 1)
+  pub among : Among nodes (parent + 1 + spanOf (getD nodes parent [])) row (parent + 1)
 
 -- Each parent that is noted is one: of the row `top + r` it is noted, if at all, how many rows its parent is behind `top`, and one more.
-pub record Parents (top : ℕ) (values : List ℕ) : Type 0 where
-  pub child : (r o : ℕ) → r < room → slotAt values (parentSlot r) ≡ suc o → Child values (top + o) (top + r)
+pub record Parents (top : ℕ) (nodes : List Row) (xs : List ℕ) : Type 0 where
+  pub child : (r o : ℕ) → r < room → slotAt xs (parentSlot r) ≡ suc o → Child nodes (top + o) (top + r)
 
--- only scratch rows change, and parents that are noted are right if those before were
-pub record Indexed (top : ℕ) (xs ys : List ℕ) : Type 0 where
-  pub parents : Parents top xs → Parents top ys
-  pub scratched : Scratched xs ys
+-- parents that are noted are right if those before were; what is lent beyond the index does not change
+pub record Indexed (top : ℕ) (nodes : List Row) (xs ys : List ℕ) : Type 0 where
+  pub parents : Parents top nodes xs → Parents top nodes ys
+  pub beyond : drop slots ys ≡ drop slots xs
 
--- what is found has the name, and this parent is noted of it
-pub data LookupIs (document patch : Bytes) (values names : List ℕ) (top object name : ℕ) : Member → Type 0 where
-  noted : (x row : ℕ) → row ≡ top + x → x < room → top ≤ object → slotAt values (parentSlot x) ≡ suc (object - top) → SameNameIs document patch (getD names row 0) name true
-      → LookupIs document patch values names top object name (At row)
-  not-found : LookupIs document patch values names top object name Missing
+-- What indexing a tree comes to, whatever the memory held. Each parent that is noted is one; which parents are noted is left free, and an empty
+-- index would do. What is lent beyond the index does not change, and nothing changes where the memory is too short for an index.
+pub record TreeIndexed (top : ℕ) (nodes : List Row) (xs ys : List ℕ) : Type 0 where
+  pub parents : slots ≤ length xs → Parents top nodes ys
+  pub beyond : drop slots ys ≡ drop slots xs
+  pub short : length xs < slots → ys ≡ xs
+
+-- whether a row is noted as a child of the object in another, and has the name
+pub record NotedIs (w : Table) (xs : List ℕ) (top object : ℕ) (name : Name) (row : ℕ) : Type 0 where
+  pub parent : slotAt xs (parentSlot row) ≡ suc (object - top)
+  pub named : sameName (w .texts) (nameOf (getD (w .nodes) (top + row) noNode)) name ≡ true
+
+-- What is found has the name, and this parent is noted of it. Where nothing is found there may be such a member all the same: `Missing` says
+-- nothing, and one that always answered so would do.
+pub data LookupIs (w : Table) (xs : List ℕ) (top object : ℕ) (name : Name) : Member → Type 0 where
+  noted : (x row : ℕ) → row ≡ top + x → x < room → top ≤ object → NotedIs w xs top object name x → LookupIs w xs top object name (At row)
+  not-found : LookupIs w xs top object name Missing

@@ -1,12 +1,16 @@
-// The bits of a name, one after another: those of its hash; those of another hash of its characters, of those from the second on, and so on; and
-// ones behind the last. So names that were made to share a hash part soon, and all names part at last.
+// The bits of a name, one after another: those of its hash; those of another hash of its characters, of those from the
+// second on, and so on; and ones behind the last.
 ghost use mathlib.Core.Path.{_≡_};
+ghost use Rattle.tape.specs.Lent.{lent};
 ghost use Rattle.index.specs.Bits.{otherMix, otherHash, hashBits, refill, streamOf};
 ghost use Rattle.text.specs.Decode.{textFrom};
+use crate::slots::ROOM;
 use lexer::Character;
 use table::spellings::part;
-use tape::words::form;
-use tape::words::spelling;
+use tape::fields::Name;
+use tape::fields::long;
+use tape::fields::wide;
+use tape::layout::Texts;
 use text::letter;
 
 // The bits that are left of a hash, below a one that ends them, and the place of the next character.
@@ -15,16 +19,24 @@ pub struct Bits {
     pub next: usize,
 }
 
-// Another hash of a text and one more character. Its high bits reach the low ones, so that names whose characters were chosen to leave the first hash
-// as it is are not known to leave this one.
+// How many values the other hash has: 28 bits.
+const OTHER_HASHES: u32 = 0x1000_0000;
+
+// The factor of the other hash, and the distance by which its upper bits reach the lower ones.
+const FACTOR: u64 = 165_904_091;
+
+const DISTANCE: u64 = 0x4000;
+
+// The other hash of a text and one more character. It is meant to separate names whose first hashes collide.
 fn other_mix(hash: u32, c: u32) -> u32
     ensures { λ r. ⌜ r ≡ otherMix hash c ⌝ }
 {
-    let m = (hash as u64 + c as u64) * 165_904_091 % 0x1000_0000;
-    ((m + m / 0x4000) % 0x1000_0000) as u32
+    let values = OTHER_HASHES as u64;
+    let m = (hash as u64 + c as u64) * FACTOR % values;
+    ((m + m / DISTANCE) % values) as u32
 }
 
-// That hash of what a part says from a place on.
+// The other hash of what a part says from a place on.
 fn other_hash(form: u64, s: &[u8], start: usize) -> u32
     ensures { λ r. ⌜ r ≡ otherHash (textFrom form (now (s .entry)) start) ⌝ }
 {
@@ -39,23 +51,25 @@ fn other_hash(form: u64, s: &[u8], start: usize) -> u32
     }
 }
 
-// The bits of a hash that do not choose a slot, below a one that ends them.
-pub fn hash_bits(hash: u64) -> u32
+// How many values the upper bits of a name's hash have.
+const UPPER_HASHES: usize = 0x20;
+
+// The bits of a hash that do not choose the first slot, below a one that ends them.
+pub fn hash_bits(hash: u16) -> u32
     ensures { λ r. ⌜ r ≡ hashBits hash ⌝ }
 {
-    (0x2_0000 + hash / 2048 % 0x2_0000) as u32
+    (UPPER_HASHES + wide(hash) / ROOM % UPPER_HASHES) as u32
 }
 
-// One bit is left at least: where there was none, there are those of another hash, of the characters from the next on.
-pub fn refilled<'a>(document: &'a [u8], patch: &'a [u8], word: u64, bits: Bits) -> Bits
-    ensures { λ r. ⌜ streamOf (now (document .entry)) (now (patch .entry)) word r ≡ refill (streamOf (now (document .entry)) (now (patch .entry)) word bits) ⌝ }
+// At least one bit is left: where there was none, the other hash of the characters from the next on gives more.
+pub fn refilled<'a>(texts: Texts<'a>, name: Name, bits: Bits) -> Bits
+    ensures { λ r. ⌜ streamOf (lent texts) name r ≡ refill (streamOf (lent texts) name bits) ⌝ }
 {
     if 1 < bits.left {
         return bits;
     }
-    let name = spelling(word);
-    let s = part(document, patch, name);
-    let f = form(name);
+    let s = part(texts, name.text);
+    let f = long(name.text.form);
     let Character::Scalar(_, next) = letter(f, s, bits.next) else {
         return Bits {
             left: 1,
@@ -63,7 +77,7 @@ pub fn refilled<'a>(document: &'a [u8], patch: &'a [u8], word: u64, bits: Bits) 
         };
     };
     Bits {
-        left: 0x1000_0000 + other_hash(f, s, bits.next) % 0x1000_0000,
+        left: OTHER_HASHES + other_hash(f, s, bits.next) % OTHER_HASHES,
         next: next.at,
     }
 }

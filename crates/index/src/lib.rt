@@ -1,15 +1,23 @@
-// The members of objects by their names: the object's row and the hash of the name lead to a slot, and from there the bits of the name, one by one,
-// lead on to the row of the member. So a name is sought in as many steps as rows share its way.
+// The members of objects by their names: a digital search tree. The object's row and the hash of the name choose the
+// first slot of a search path. From there on each row on the path has two branches, and the next bit of the name
+// chooses one. A lookup takes one step for each row on the path.
 //
-// All of it stands in the scratch rows of the column of values, as numbers of 16 bits, four to a word: of each row the first member whose way begins
-// there, the two branches of the member in this row, and its parent. Rows are counted from a base.
+// The index stands in a lent list of its own, `index: &mut [u16]`: the slots where paths begin, two branches of each
+// row, and each row's parent. Rows are counted from a base. The list need not be empty at first: a path leads through
+// growing rows only, so that it ends whatever the slots hold.
 
-mod slots; // numbers of 16 bits in the scratch rows
-mod bits; // the bits of a name
-mod ways; // a member entered, and found again
-mod members; // all members of a tree entered, and one found again
+// the slots
+mod slots;
+// the bits of a name
+mod bits;
+// a member entered
+mod ways;
+// all members of a tree entered, and one found again
+mod members;
 
 pub use members::index_tree;
 pub use members::lookup;
+pub use slots::SLOTS;
+pub use slots::empty;
 pub use ways::enter;
 pub use ways::enter_by_hash;

@@ -1,36 +1,22 @@
-// The way of a name: from the slot of its object and its hash on, the row there, and then by the name's next bit one of this row's two branches.
+// A member entered at the end of its name's search path.
 ghost use mathlib.Core.Path.{_≡_};
 ghost use mathlib.Core.Bool.{_||_};
-ghost use Prim.Native.Nat.{_%_, _<_, _≤_};
+ghost use Prim.Native.Nat.{_<_, _≤_};
 ghost use Rattle.tape.specs.Layout.{scratchRow};
-ghost use Rattle.index.specs.Ways.{bucketSlot, branchSlot, room, Descended, DescendedByHash, Entered, EnteredByHash};
+ghost use Rattle.tape.specs.Lent.{before};
+ghost use Rattle.index.specs.Slots.{room};
+ghost use Rattle.index.specs.Ways.{Descended, DescendedByHash, Entered, EnteredByHash};
 use crate::bits::Bits;
 use crate::bits::hash_bits;
 use crate::bits::refilled;
-use crate::slots::set_slot;
-use crate::slots::slot;
+use crate::slots;
 use table::find::same_name;
-use tape::layout::SCRATCH;
+use tape::fields::Name;
+use tape::fields::name_of;
+use tape::layout;
+use tape::layout::Node;
+use tape::layout::Texts;
 use tape::moves::load;
-use tape::words::hash;
-
-// Rows that a way can lead to.
-pub const ROOM: usize = 2048;
-
-// Where the way of a name begins, by its object's row and its hash. Two objects have no such slot in common for one name.
-pub fn bucket(object: usize, hash: u64) -> usize
-    ensures { λ r. ⌜ r ≡ bucketSlot object hash ⌝ }
-{
-    4 * ((object % 2048 * 31 + (hash % 2048) as usize) % 2048)
-}
-
-// A row's branch by a bit.
-pub fn branch(row: usize, bit: u32) -> usize
-    requires { ⌜ (row < room) × (bit < 2) ⌝ }
-    ensures { λ r. ⌜ r ≡ branchSlot row bit ⌝ }
-{
-    4 * row + 1 + bit as usize
-}
 
 fn either(a: bool, b: bool) -> bool
     ensures { λ r. ⌜ r ≡ a || b ⌝ }
@@ -41,47 +27,44 @@ fn either(a: bool, b: bool) -> bool
     b
 }
 
-// Where a way ends, and whether a row on it has the name.
+// Where a search path ends, and whether a row on it has the name.
 pub struct Ending {
     slot: usize,
     same: bool,
 }
 
-// The way of a name from a slot on, as far as it leads through rows below `limit`.
+// The path of a name from a slot on, as far as it leads through rows below `limit`.
 fn descend<'a>(
-    document: &'a [u8],
-    patch: &'a [u8],
-    values: &[u64],
-    names: &[u64],
+    texts: Texts<'a>,
+    nodes: &[Node],
+    index: &[u16],
     base: usize,
     limit: usize,
     start: usize,
-    word: u64,
+    name: Name,
 ) -> Ending
-    requires { ⌜ (base ≤ scratchRow) × (0 < limit) × (limit ≤ room) × (start < 8192) × (start % 4 ≡ 0) ⌝ }
-    ensures { λ r. ⌜ Descended (now (document .entry)) (now (patch .entry)) (now (values .entry)) (now (names .entry)) base limit start word r ⌝ }
+    requires { ⌜ (base ≤ scratchRow) × (0 < limit) × (limit ≤ room) × (start < room) ⌝ }
+    ensures { λ r. ⌜ Descended (before texts nodes) (now (index .entry)) base limit start name r ⌝ }
 {
     let mut at = start;
     let mut last = 0;
     let mut same = false;
     let mut bits = Bits {
-        left: hash_bits(hash(word)),
+        left: hash_bits(name.hash),
         next: 0,
     };
     loop {
-        let row = slot(values, at);
+        let row = slots::slot(index, at);
         if row <= last {
             return Ending { slot: at, same };
         }
         if limit <= row {
             return Ending { slot: at, same };
         }
-        same = either(
-            same,
-            same_name(document, patch, load(names, base + row), word),
-        );
-        let filled = refilled(document, patch, word, bits);
-        at = branch(row, filled.left % 2);
+        let other = name_of(load(nodes, base + row));
+        same = either(same, same_name(texts, other, name));
+        let filled = refilled(texts, name, bits);
+        at = slots::branch(row, filled.left % 2);
         bits = Bits {
             left: filled.left / 2,
             next: filled.next,
@@ -90,102 +73,99 @@ fn descend<'a>(
     }
 }
 
-// A member of the object in the row `object` is entered: its row, and the word of its name. The answer is whether a row on its way has the name; if
-// not, no member that was entered for this object has it.
+// A member of the object in the row `object` is entered: its row, and its name. The answer is whether a row on its path
+// has the name. After false, no row that the path led to has it.
 pub fn enter<'a>(
-    document: &'a [u8],
-    patch: &'a [u8],
-    values: &mut [u64],
-    names: &[u64],
+    texts: Texts<'a>,
+    nodes: &[Node],
+    index: &mut [u16],
     base: usize,
     object: usize,
     row: usize,
-    word: u64,
+    name: Name,
 ) -> bool
-    ensures { λ r. ⌜ Entered (now (document .entry)) (now (patch .entry)) (now (values .entry)) (now (names .entry)) base object row word (now (values .exit)) r ⌝ }
+    ensures { λ r. ⌜ Entered (before texts nodes) (now (index .entry)) base object row name (now (index .exit)) r ⌝ }
 {
-    if SCRATCH < base {
+    if layout::SCRATCH < base {
         return true;
     }
     if row <= base {
         return true;
     }
     let new = row - base;
-    if ROOM < new {
+    if slots::ROOM < new {
         return true;
     }
-    let start = bucket(object, hash(word));
-    let ending = descend(document, patch, values, names, base, new, start, word);
-    set_slot(values, ending.slot, new);
+    let start = slots::bucket(object, name.hash);
+    let ending = descend(texts, nodes, index, base, new, start, name);
+    slots::set_slot(index, ending.slot, new);
     ending.same
 }
 
-// No slot has this number.
-const NO_SLOT: usize = 8192;
-
-// Where the way of a name ends, by its hash alone; NO_SLOT where a row on it has this hash too, or the hash has no bits left.
+// Where the path of a name ends, by its hash alone; SLOTS where a row on it has this hash too, or the hash has no bits
+// left.
 fn descend_by_hash(
-    values: &[u64],
-    names: &[u64],
+    nodes: &[Node],
+    index: &[u16],
     base: usize,
     limit: usize,
     start: usize,
-    word: u64,
+    name: Name,
 ) -> usize
-    requires { ⌜ (base ≤ scratchRow) × (0 < limit) × (limit ≤ room) × (start < 8192) × (start % 4 ≡ 0) ⌝ }
-    ensures { λ r. ⌜ DescendedByHash (now (values .entry)) (now (names .entry)) base limit start word r ⌝ }
+    requires { ⌜ (base ≤ scratchRow) × (0 < limit) × (limit ≤ room) × (start < room) ⌝ }
+    ensures { λ r. ⌜ DescendedByHash (now (nodes .entry)) (now (index .entry)) base limit start name r ⌝ }
 {
-    let h = hash(word);
     let mut at = start;
     let mut last = 0;
-    let mut left = hash_bits(h);
+    let mut left = hash_bits(name.hash);
     loop {
-        let row = slot(values, at);
+        let row = slots::slot(index, at);
         if row <= last {
             return at;
         }
         if limit <= row {
             return at;
         }
-        if hash(load(names, base + row)) == h {
-            return NO_SLOT;
+        let other = name_of(load(nodes, base + row));
+        if other.hash == name.hash {
+            return slots::SLOTS;
         }
         if left <= 1 {
-            return NO_SLOT;
+            return slots::SLOTS;
         }
-        at = branch(row, left % 2);
+        at = slots::branch(row, left % 2);
         left = left / 2;
         last = row;
     }
 }
 
-// The same as `enter` where the hash of the name alone tells that nothing has it: then the member is entered, and the answer is true. So it is with
-// nearly all, and this is quicker; else nothing is done.
+// The same as `enter` where the hash of the name alone tells that no row on its path has the name: then the member is
+// entered, and the answer is true. After false nothing has changed.
 pub fn enter_by_hash(
-    values: &mut [u64],
-    names: &[u64],
+    nodes: &[Node],
+    index: &mut [u16],
     base: usize,
     object: usize,
     row: usize,
-    word: u64,
+    name: Name,
 ) -> bool
-    ensures { λ r. ⌜ EnteredByHash (now (values .entry)) (now (names .entry)) base object row word (now (values .exit)) r ⌝ }
+    ensures { λ r. ⌜ EnteredByHash (now (nodes .entry)) (now (index .entry)) base object row name (now (index .exit)) r ⌝ }
 {
-    if SCRATCH < base {
+    if layout::SCRATCH < base {
         return false;
     }
     if row <= base {
         return false;
     }
     let new = row - base;
-    if ROOM < new {
+    if slots::ROOM < new {
         return false;
     }
-    let start = bucket(object, hash(word));
-    let slot = descend_by_hash(values, names, base, new, start, word);
-    if NO_SLOT <= slot {
+    let start = slots::bucket(object, name.hash);
+    let slot = descend_by_hash(nodes, index, base, new, start, name);
+    if slots::SLOTS <= slot {
         return false;
     }
-    set_slot(values, slot, new);
+    slots::set_slot(index, slot, new);
     true
 }

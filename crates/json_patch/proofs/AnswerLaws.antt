@@ -4,12 +4,12 @@ use mathlib.Core.Path.{_≡_, refl, subst, sym}
 use mathlib.Core.Bool.{true, false}
 use mathlib.Core.List.{_++_}
 use lib.ListN.{length, drop}
-use borrow.Author.Tests.{le-leb, lt-leb}
+use borrow.Author.Tests.{le-leb, lt-leb, le-ltb, lt-ltb}
 use Rattle.spec.specs.Refusal.{work-too-short, input-too-long, output-too-short}
-use Rattle.spec.specs.Limits.{maxBytes, workWords}
+use Rattle.spec.specs.Limits.{maxBytes, workNodes, workEntries}
 use Rattle.spec.specs.Bytes.{Bytes}
 use Rattle.spec.specs.Answer as Spec
-use Rattle.spec.specs.Answer.{Lent, workSuffices, fitting, onDocument, answer}
+use Rattle.spec.specs.Answer.{Lent, workSuffices, fitting, onDocument, answerIn, answer}
 use Rattle.spec.specs.Read.{read}
 use Rattle.json_patch.specs.Call.{Answered, SuccessIs, RefusalIs}
 use Rattle.json_patch.specs.declared.answer.Answer.{Answer}
@@ -37,35 +37,35 @@ module _ (room : ℕ) (t : Bytes) where
 
 -- ---- the checks before a byte is read
 module _ (lent : Lent) where
-  pub work-suffices : workWords ≤ lent .values → workWords ≤ lent .names → workSuffices lent ≡ true
+  pub work-suffices : workNodes ≤ lent .nodes → workEntries ≤ lent .index → workSuffices lent ≡ true
   unfolding workSuffices
-  work-suffices h i = rw (le-leb workWords (lent .values) h, le-leb workWords (lent .names) i)
+  work-suffices h i = rw (le-leb workNodes (lent .nodes) h, le-leb workEntries (lent .index) i)
 
-  pub values-short : lent .values < workWords → workSuffices lent ≡ false
+  pub nodes-short : lent .nodes < workNodes → workSuffices lent ≡ false
   unfolding workSuffices
-  values-short h = rw (lt-leb workWords (lent .values) h)
+  nodes-short h = rw (lt-leb workNodes (lent .nodes) h)
 
-  pub names-short : workWords ≤ lent .values → lent .names < workWords → workSuffices lent ≡ false
+  pub index-short : workNodes ≤ lent .nodes → lent .index < workEntries → workSuffices lent ≡ false
   unfolding workSuffices
-  names-short h i = rw (le-leb workWords (lent .values) h, lt-leb workWords (lent .names) i)
+  index-short h i = rw (le-leb workNodes (lent .nodes) h, lt-leb workEntries (lent .index) i)
 
 module _ (D P : Bytes) (lent : Lent) where
   pub answer-work-short : workSuffices lent ≡ false → answer D P lent ≡ Spec.refusal work-too-short 0 0 0
-  unfolding answer
+  unfolding answer answerIn
   answer-work-short e = rw e
 
   module _ (enough : workSuffices lent ≡ true) where
     pub answer-document-long : maxBytes < length D → answer D P lent ≡ Spec.refusal input-too-long 1 0 0
-    unfolding answer
-    answer-document-long h = rw (enough, lt-leb (length D) maxBytes h)
+    unfolding answer answerIn
+    answer-document-long h = rw (enough, lt-ltb maxBytes (length D) h)
 
     pub answer-patch-long : length D ≤ maxBytes → maxBytes < length P → answer D P lent ≡ Spec.refusal input-too-long 2 0 0
-    unfolding answer
-    answer-patch-long h i = rw (enough, le-leb (length D) maxBytes h, lt-leb (length P) maxBytes i)
+    unfolding answer answerIn
+    answer-patch-long h i = rw (enough, le-ltb maxBytes (length D) h, lt-ltb maxBytes (length P) i)
 
     pub answer-read : length D ≤ maxBytes → length P ≤ maxBytes → answer D P lent ≡ onDocument (lent .output) (read D) P
-    unfolding answer
-    answer-read h i = rw (enough, le-leb (length D) maxBytes h, le-leb (length P) maxBytes i)
+    unfolding answer answerIn
+    answer-read h i = rw (enough, le-ltb maxBytes (length D) h, le-ltb maxBytes (length P) i)
 
 -- only that the work area suffices, and the room for the text, make a difference
 pub answer-same : (D P : Bytes) (lent lent' : Lent) → workSuffices lent ≡ workSuffices lent' → lent .output ≡ lent' .output → answer D P lent ≡ answer D P lent'

@@ -7,46 +7,49 @@ use mathlib.Core.List.{List, _++_}
 use lib.ListN.{length, take, drop, replicate}
 use lib.Seq.{length-take-le, length-front, drop-at}
 use Rattle.spec.specs.Refusal.{work-too-short}
-use Rattle.spec.specs.Limits.{workWords}
+use Rattle.spec.specs.Limits.{workNodes, workEntries}
 use Rattle.spec.specs.Bytes.{Bytes}
 use Rattle.spec.specs.Answer.{workSuffices}
-use Rattle.tape.specs.Columns.{cleared}
+use Rattle.tape.specs.Columns.{filled}
+use Rattle.tape.specs.Fields.{Row, noNode}
+use Rattle.tape.specs.Lent.{Texts}
 use Rattle.tape.proofs.Columns.{filled-first}
-use Rattle.json_patch.specs.Call.{RefusalIs, wiped, lentOf, ApplyIs}
+use Rattle.json_patch.specs.Call.{Memory, RefusalIs, wiped, lentOf, ApplyIs}
 use Rattle.json_patch.specs.Stages.{CheckedIs}
 use Rattle.json_patch.specs.declared.answer.Answer.{Answer}
 use Rattle.json_patch.proofs.AnswerLaws.{answered-refusal, answered-as, work-suffices, answer-work-short, answer-same}
 
--- a column whose first n words were lent, came back as a part of the same length, and were cleared
-module _ (n : ℕ) (xs part : List ℕ) (long : n ≤ length xs) (same : length part ≡ length (take n xs)) where
-  column-cleared : cleared (part ++ drop n xs) 0 n ≡ replicate n 0 ++ drop n xs
-  column-cleared =
-      let whole : n ≤ length (part ++ drop n xs) = omega (arith, length-front xs part n same) in
-      filled-first 0 (part ++ drop n xs) n whole ∙ ap (λ r. replicate n 0 ++ r) (drop-at part (drop n xs) n (same ∙ length-take-le n xs long))
-
-column-wiped : (xs part : List ℕ) → workWords ≤ length xs → length part ≡ length (take workWords xs) → cleared (part ++ drop workWords xs) 0 workWords ≡ wiped true xs
+-- a list whose first n entries were lent, came back as a part of the same length, and were cleared
+part-wiped : {A : Type 0} (n : ℕ) (zero : A) (xs part : List A) → n ≤ length xs → length part ≡ length (take n xs)
+    → filled zero (part ++ drop n xs) 0 n ≡ wiped true n zero xs
 unfolding wiped
-column-wiped xs part = column-cleared workWords xs part
+part-wiped n zero xs part long same =
+    let whole : n ≤ length (part ++ drop n xs) = omega (arith, length-front xs part n same) in
+    filled-first zero (part ++ drop n xs) n whole ∙ ap (λ r. replicate n zero ++ r) (drop-at part (drop n xs) n (same ∙ length-take-le n xs long))
 
 -- ---- the two ways out
-module _ {D P out : Bytes} {vs ns : List ℕ} {r : Answer} where
+module _ {T : Texts} {r : Answer} where
   -- "After a 1, no buffer has changed."
-  pub work-short : workSuffices (lentOf out vs ns) ≡ false → RefusalIs work-too-short 0 0 0 r → ApplyIs D P out out vs vs ns ns r
+  pub work-short : {m : Memory} → workSuffices (lentOf m) ≡ false → RefusalIs work-too-short 0 0 0 r → ApplyIs T m m r
   unfolding wiped
-  work-short e is = record { answered = answered-as (answer-work-short D P _ e) (answered-refusal is); values-after = rw e; names-after = rw e }
+  work-short e is =
+      record { answered = answered-as (answer-work-short (T .document) (T .patch) _ e) (answered-refusal is); nodes-after = rw e; index-after = rw e }
 
   -- "After any other answer the work area is all zero; where a work buffer is longer than stated, the part beyond is unchanged."
-  pub work-done : {out' : Bytes} {vs' ns' : List ℕ} → workWords ≤ length vs → workWords ≤ length ns → CheckedIs D P out out' (take workWords vs) (take workWords ns) r
-      → (part : List ℕ) → length part ≡ length (take workWords vs) → vs' ≡ cleared (part ++ drop workWords vs) 0 workWords
-      → (titles : List ℕ) → length titles ≡ length (take workWords ns) → ns' ≡ cleared (titles ++ drop workWords ns) 0 workWords
-      → ApplyIs D P out out' vs vs' ns ns' r
-  work-done long titlesLong is part same values-are titles sameTitles names-are =
-      let enough = work-suffices (lentOf out vs ns) long titlesLong in
-      let h : workWords ≤ length (take workWords vs) = omega (arith, length-take-le workWords vs long) in
-      let i : workWords ≤ length (take workWords ns) = omega (arith, length-take-le workWords ns titlesLong) in
-      let part-enough = work-suffices (lentOf out (take workWords vs) (take workWords ns)) h i in
+  pub work-done : {out out' : Bytes} {ns ns' : List Row} {xs xs' : List ℕ} → workNodes ≤ length ns → workEntries ≤ length xs
+      → CheckedIs T (record { output = out; nodes = take workNodes ns; index = take workEntries xs }) out' r
+      → (rows : List Row) → length rows ≡ length (take workNodes ns) → ns' ≡ filled noNode (rows ++ drop workNodes ns) 0 workNodes
+      → (entries : List ℕ) → length entries ≡ length (take workEntries xs) → xs' ≡ filled 0 (entries ++ drop workEntries xs) 0 workEntries
+      → ApplyIs T (record { output = out; nodes = ns; index = xs }) (record { output = out'; nodes = ns'; index = xs' }) r
+  work-done {out = out} {ns = ns} {xs = xs} long longer is rows same nodes-are entries same-entries index-is =
+      let all : Memory = record { output = out; nodes = ns; index = xs } in
+      let part : Memory = record { output = out; nodes = take workNodes ns; index = take workEntries xs } in
+      let h : workNodes ≤ length (take workNodes ns) = omega (arith, length-take-le workNodes ns long) in
+      let i : workEntries ≤ length (take workEntries xs) = omega (arith, length-take-le workEntries xs longer) in
+      let enough : workSuffices (lentOf all) ≡ true = work-suffices (lentOf all) long longer in
+      let part-enough : workSuffices (lentOf part) ≡ true = work-suffices (lentOf part) h i in
       record {
-        answered = answered-as (answer-same D P _ _ (enough ∙ sym part-enough) refl) (is h i);
-        values-after = values-are ∙ column-wiped vs part long same ∙ ap (λ b. wiped b vs) (sym enough);
-        names-after = names-are ∙ column-wiped ns titles titlesLong sameTitles ∙ ap (λ b. wiped b ns) (sym enough);
+        answered = answered-as (answer-same (T .document) (T .patch) _ _ (enough ∙ sym part-enough) refl) (is h i);
+        nodes-after = nodes-are ∙ part-wiped workNodes noNode ns rows long same ∙ ap (λ b. wiped b workNodes noNode ns) (sym enough);
+        index-after = index-is ∙ part-wiped workEntries 0 xs entries longer same-entries ∙ ap (λ b. wiped b workEntries 0 xs) (sym enough);
       }

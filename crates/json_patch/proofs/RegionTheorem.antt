@@ -17,7 +17,7 @@ module _ {a : Spec.Answer} {before after : Bytes} {r : Answer} (is : Answered a 
   writes e = let n = subst (λ b. Answered b before after r) e is in record { answers = (n .number, n .text, n .op, n .place, n .written); laid = n .output }
 
 pub call-in-regions : CallInRegions
-call-in-regions D P Q Z output output' values values' names names' R S document xs ys zs c r is =
+call-in-regions D P Q Z m m' R S document xs ys zs c r is =
     let theorem = region-theorem c in
     let told = is .answered in
     record {

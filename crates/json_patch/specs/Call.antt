@@ -4,12 +4,46 @@ use mathlib.Core.Path.{_≡_}
 use mathlib.Core.Bool.{Bool, true, false}
 use mathlib.Core.List.{List, [], _∷_, _++_}
 use lib.ListN.{length, drop, replicate}
-use Rattle.spec.specs.Limits.{workWords}
+use denote.Ref.{RefT, now}
+use denote.Triple.Both.{Both}
+use Rattle.spec.specs.Limits.{workNodes, workEntries}
 use Rattle.spec.specs.Bytes.{Bytes}
 use Rattle.spec.specs.Answer as Spec
 use Rattle.spec.specs.Answer.{answer, Lent, workSuffices}
+use Rattle.tape.specs.Fields.{Row, noNode}
+use Rattle.tape.specs.Lent.{Texts}
 use Rattle.json_patch.specs.declared.answer.Answer.{Answer}
 
+-- ---- what a call is lent beside its two texts
+pub record Memory : Type 0 where
+  pub output : Bytes
+  pub nodes : List Row
+  pub index : List ℕ
+
+abbrev LentBytes : Type 0
+LentBytes = Both (RefT Bytes) (RefT Bytes)
+
+abbrev LentNodes : Type 0
+LentNodes = Both (RefT (List Row)) (RefT (List Row))
+
+abbrev LentIndex : Type 0
+LentIndex = Both (RefT (List ℕ)) (RefT (List ℕ))
+
+-- the two texts; the memory as it was lent, and as it is given back
+abbrev pub given : LentBytes → LentBytes → Texts
+given document patch = record { document = now (document .entry); patch = now (patch .entry) }
+
+abbrev pub memoryBefore : LentBytes → LentNodes → LentIndex → Memory
+memoryBefore output nodes index = record { output = now (output .entry); nodes = now (nodes .entry); index = now (index .entry) }
+
+abbrev pub memoryAfter : LentBytes → LentNodes → LentIndex → Memory
+memoryAfter output nodes index = record { output = now (output .exit); nodes = now (nodes .exit); index = now (index .exit) }
+
+-- its lengths
+abbrev pub lentOf : Memory → Lent
+lentOf m = record { output = length (m .output); nodes = length (m .nodes); index = length (m .index) }
+
+-- ---- the answer, and the output
 -- the call's answer is this one, and the output, as it was before and as it is after, has the written text in front
 pub record Answered (a : Spec.Answer) (before after : Bytes) (r : Answer) : Type 0 where
   pub number : r .number ≡ a .number
@@ -19,24 +53,22 @@ pub record Answered (a : Spec.Answer) (before after : Bytes) (r : Answer) : Type
   pub written : r .length ≡ length (a .written)
   pub output : after ≡ a .written ++ drop (length (a .written)) before
 
--- a buffer of the work area afterwards: "After a 1, no buffer has changed. After any other answer the work area is all zero; where a work buffer
--- is longer than stated, the part beyond is unchanged."
-unfoldable pub wiped : Bool → List ℕ → List ℕ
-wiped true xs = replicate workWords 0 ++ drop workWords xs
-wiped false xs = xs
+-- ---- the work area afterwards: "After a 1, no buffer has changed. After any other answer the work area is all zero; where a work buffer is longer
+-- than stated, the part beyond is unchanged." Document 02, T-08: "the zeroing rule then speaks of records with all fields zero".
+unfoldable pub wiped : {A : Type 0} → Bool → ℕ → A → List A → List A
+wiped true n zero xs = replicate n zero ++ drop n xs
+wiped false n zero xs = xs
 
-abbrev pub lentOf : Bytes → List ℕ → List ℕ → Lent
-lentOf output values names = record { output = length output; values = length values; names = length names }
-
-pub record ApplyIs (document patch output output' : Bytes) (values values' names names' : List ℕ) (r : Answer) : Type 0 where
-  pub answered : Answered (answer document patch (lentOf output values names)) output output' r
-  pub values-after : values' ≡ wiped (workSuffices (lentOf output values names)) values
-  pub names-after : names' ≡ wiped (workSuffices (lentOf output values names)) names
+-- ---- the contract
+pub record ApplyIs (T : Texts) (m m' : Memory) (r : Answer) : Type 0 where
+  pub answered : Answered (answer (T .document) (T .patch) (lentOf m)) (m .output) (m' .output) r
+  pub nodes-after : m' .nodes ≡ wiped (workSuffices (lentOf m)) workNodes noNode (m .nodes)
+  pub index-after : m' .index ≡ wiped (workSuffices (lentOf m)) workEntries 0 (m .index)
 
 -- the same for C: the answer's fields in their order, and its number
-pub record ExportIs (document patch output output' : Bytes) (values values' names names' fields : List ℕ) (number : ℕ) : Type 0 where
+pub record ExportIs (T : Texts) (m m' : Memory) (fields : List ℕ) (number : ℕ) : Type 0 where
   pub answer : Answer
-  pub applies : ApplyIs document patch output output' values values' names names' answer
+  pub applies : ApplyIs T m m' answer
   pub fields-are : fields ≡ answer .number ∷ answer .text ∷ answer .op ∷ answer .place ∷ answer .length ∷ []
   pub number-is : number ≡ answer .number
 

@@ -1,3 +1,4 @@
 pub mod Call
 pub mod Stages
 pub mod Region
+pub mod Columns

@@ -13,7 +13,7 @@ use Rattle.spec.specs.Operation.{Operation}
 use Rattle.spec.specs.Patch.{stopped}
 use Rattle.spec.specs.Answer.{Lent}
 use Rattle.spec.specs.Region.{Situation, RegionStatement, SucceedsWith, bareRun, firstTooLarge}
-use Rattle.json_patch.specs.Call.{SuccessIs, RefusalIs, lentOf, ApplyIs}
+use Rattle.json_patch.specs.Call.{Memory, SuccessIs, RefusalIs, lentOf, ApplyIs}
 use Rattle.json_patch.specs.declared.answer.Answer.{Answer}
 
 -- the call answers this number with this op, and nothing else; the output is as it was
@@ -21,7 +21,7 @@ pub record Refuses (number op : ℕ) (before after : Bytes) (r : Answer) : Type 
   pub answers : RefusalIs number 0 op 0 r
   pub unchanged : after ≡ before
 
--- the call answers 0 and writes this text: the output begins with it, and is else as it was
+-- the call answers 0 and writes this text: the output begins with it, and is otherwise unchanged
 pub record Writes (text before after : Bytes) (r : Answer) : Type 0 where
   pub answers : SuccessIs (length text) r
   pub laid : after ≡ text ++ drop (length text) before
@@ -43,6 +43,6 @@ pub record CallStatement {D P Q Z : Bytes} {lent : Lent} {R S : Tokens} {documen
 -- this call is lent are enough
 abbrev pub CallInRegions : Type 0
 CallInRegions =
-    (D P Q Z output output' : Bytes) (values values' names names' : List ℕ) (R S : Tokens) (document : Value.Value) (xs ys zs : List Operation)
-    → (c : Situation D P Q Z (lentOf output values names) R S document xs ys zs)
-    → (r : Answer) → ApplyIs D Z output output' values values' names names' r → CallStatement c output output' r
+    (D P Q Z : Bytes) (m m' : Memory) (R S : Tokens) (document : Value.Value) (xs ys zs : List Operation)
+    → (c : Situation D P Q Z (lentOf m) R S document xs ys zs)
+    → (r : Answer) → ApplyIs (record { document = D; patch = Z }) m m' r → CallStatement c (m .output) (m' .output) r

@@ -1,8 +1,14 @@
 // What the call answers: document 01, "The answer".
+use operations::Ran;
+use reader::Read;
+use shape::Shape;
+use spec::refusal;
 ghost use Rattle.json_patch.specs.Call.{SuccessIs, RefusalIs};
+ghost use Rattle.json_patch.specs.Stages.{UnreadIs, MisshapenIs, StoppedIs};
 
-// The number is 0 where the patch was applied, and else that of the refusal; `text` is 1 for the document and 2 for the patch, `op` counts the
-// operations from 1, and `place` is a byte offset. What a refusal does not set is 0, and so is `length` after a refusal.
+// The number is 0 where the patch was applied, and that of the refusal otherwise. `text` is 1 for the document and 2 for
+// the patch, `op` counts the operations from 1, and `place` is a byte offset. What a refusal does not set is 0, and so is
+// `length` after a refusal.
 pub struct Answer {
     pub number: u8,
     pub text: u8,
@@ -15,7 +21,7 @@ pub fn success(length: usize) -> Answer
     ensures { λ r. ⌜ SuccessIs length r ⌝ }
 {
     Answer {
-        number: 0,
+        number: refusal::DONE,
         text: 0,
         op: 0,
         place: 0,
@@ -23,7 +29,7 @@ pub fn success(length: usize) -> Answer
     }
 }
 
-pub fn refusal(number: u8, text: u8, op: usize, place: usize) -> Answer
+pub fn refused(number: u8, text: u8, op: usize, place: usize) -> Answer
     ensures { λ r. ⌜ RefusalIs number text op place r ⌝ }
 {
     Answer {
@@ -32,5 +38,35 @@ pub fn refusal(number: u8, text: u8, op: usize, place: usize) -> Answer
         op,
         place,
         length: 0,
+    }
+}
+
+// The answer where the reading of a text was refused.
+pub fn unread(text: u8, read: Read) -> Answer
+    ensures { λ r. ⌜ UnreadIs text read r ⌝ }
+{
+    match read {
+        Read::Value(_, _) => return success(0),
+        Read::Refused(number, place) => return refused(number, text, 0, place),
+    }
+}
+
+// The answer where the shape of an operation was refused.
+pub fn misshapen(shape: Shape) -> Answer
+    ensures { λ r. ⌜ MisshapenIs shape r ⌝ }
+{
+    match shape {
+        Shape::Right => return success(0),
+        Shape::Refused(number, op) => return refused(number, 0, op, 0),
+    }
+}
+
+// The answer where an operation was refused.
+pub fn stopped(ran: Ran) -> Answer
+    ensures { λ r. ⌜ StoppedIs ran r ⌝ }
+{
+    match ran {
+        Ran::Done(_) => return success(0),
+        Ran::Refused(number, op) => return refused(number, 0, op, 0),
     }
 }

@@ -1,36 +1,39 @@
 // The call.
 use crate::answer::Answer;
-use crate::answer::refusal;
+use crate::answer::refused;
 use crate::stages::checked;
-use tape::layout::ROWS;
+use index;
+use spec::refusal;
+use tape::layout;
+use tape::layout::Node;
 use tape::moves::wipe;
-ghost use Rattle.json_patch.specs.Call.{ApplyIs};
+ghost use Rattle.json_patch.specs.Call.{given, memoryBefore, memoryAfter, ApplyIs};
 
-// The patch is applied to the document and the result written to `output`, or the call is refused. `values` and `names` are the work area, of at
-// least ROWS words each; they may hold anything, and are all zero for ROWS words afterwards.
+// The patch is applied to the document and the result written to `output`, or the call is refused. `nodes` and `index`
+// are the work area: at least ROWS records and SLOTS entries, which may hold anything. As many of each are all zero
+// afterwards.
 pub fn apply<'a>(
     document: &'a [u8],
     patch: &'a [u8],
     output: &mut [u8],
-    values: &mut [u64],
-    names: &mut [u64],
+    nodes: &mut [Node],
+    index: &mut [u16],
 ) -> Answer
-    ensures { λ r. ⌜ ApplyIs (now (document .entry)) (now (patch .entry)) (now (output .entry)) (now (output .exit)) (now (values .entry)) (now (values .exit)) (now (names .entry)) (now (names .exit)) r ⌝ }
+    ensures { λ r. ⌜ ApplyIs (given document patch) (memoryBefore output nodes index) (memoryAfter output nodes index) r ⌝ }
 {
-    if values.len() < ROWS {
-        return refusal(1, 0, 0, 0);
+    if nodes.len() < layout::ROWS {
+        return refused(refusal::WORK_TOO_SHORT, 0, 0, 0);
     }
-    if names.len() < ROWS {
-        return refusal(1, 0, 0, 0);
+    if index.len() < index::SLOTS {
+        return refused(refusal::WORK_TOO_SHORT, 0, 0, 0);
     }
     let answer = checked(
-        document,
-        patch,
+        [document, patch],
         output,
-        &mut values[..ROWS],
-        &mut names[..ROWS],
+        &mut nodes[..layout::ROWS],
+        &mut index[..index::SLOTS],
     );
-    wipe(values);
-    wipe(names);
+    wipe(nodes);
+    index::empty(index);
     answer
 }

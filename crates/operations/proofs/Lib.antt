@@ -1,6 +1,4 @@
 pub mod PatchLaws
-pub mod ScratchLaws
-pub mod PerformedLaws
 pub mod RemovalLaws
 pub mod AsideLaws
 pub mod TransferLaws

@@ -6,7 +6,7 @@ use mathlib.Core.Bool.{Bool, true, false}
 use mathlib.Core.List.{List, [], _∷_}
 use Rattle.spec.specs.Outcome.{Outcome, ok, refused, if_then_else_}
 use Rattle.spec.specs.Limits.{maxDepth, maxNodes}
-use Rattle.spec.specs.Bytes.{Bytes, Text}
+use Rattle.spec.specs.Bytes.{Text}
 use Rattle.spec.specs.Forest.{none, tree, before, from, removeAt, _⧺_}
 use Rattle.spec.specs.Value as Value
 use Rattle.spec.specs.Value.{Label, Members, leaf, named, valueOf, isContainer, levels, depths, depth, nodes}
@@ -14,6 +14,7 @@ use Rattle.spec.specs.Pointer.{Tokens, childAt, child}
 use Rattle.spec.specs.Operation.{put, withKids, atParent, removeChild, removeAtPath}
 use Rattle.spec.proofs.OutcomeLaws.{refused≢ok, both-ok}
 use Rattle.spec.proofs.ChildLaws.{child-there, depth-child, depth-put}
+use Rattle.tape.specs.Lent.{Table}
 use Rattle.tape.proofs.Forests.{size-removeAt}
 use Rattle.changes.specs.Document.{Document, judged}
 use Rattle.changes.proofs.LimitLaws.{nodes-put, judged-fits, judged-refused}
@@ -78,5 +79,5 @@ judged-removed ts v d n = go (removeAtPath ts v) refl
     go (ok w) h = let s = removed-no-larger ts v w h in judged-fits w (omega arith) (omega arith)
     go (refused number place) h = judged-refused number place
 
-pub document-removed : {D P : Bytes} {values names : List ℕ} {used : ℕ} {v : Value.Value} → Document D P values names used v → (ts : Tokens) → judged (removeAtPath ts v) ≡ removeAtPath ts v
+pub document-removed : {w : Table} {used : ℕ} {v : Value.Value} → Document w used v → (ts : Tokens) → judged (removeAtPath ts v) ≡ removeAtPath ts v
 document-removed {v = v} d ts = judged-removed ts v (d .shallow) (few-nodes d)

@@ -7,7 +7,8 @@ use Rattle.spec.specs.Bytes.{Text, ascii}
 use Rattle.spec.specs.Value as Value
 use Rattle.spec.specs.Pointer.{tokens}
 use Rattle.spec.specs.Operation as Operation
-use Rattle.spec.specs.Patch.{member, stringMember, usesValue, usesFrom, isMove, OperationMembers, valueFor, fromFor, membersFor, properPrefix, withPointers, operation}
+use Rattle.spec.specs.Patch.{member, stringMember, usesValue, usesFrom, isMove, OperationMembers, valueFor, fromFor, membersFor}
+use Rattle.spec.specs.Patch.{properPrefix, withPointers, operation}
 use Rattle.spec.proofs.OutcomeLaws.{both-ok}
 use Rattle.shape.specs.Operation.{kindOf}
 use Rattle.shape.proofs.AnswerLaws.{operation-kind}

@@ -1,12 +1,16 @@
 -- Laws of a value that is set aside and added at another location.
 use Prim.Native.Nat.{ℕ}
 use native.Mathlib.Omega.{arith}
-use mathlib.Core.Path.{_≡_, sym, _∙_}
+use mathlib.Core.Path.{_≡_, sym, ap, _∙_, subst}
 use mathlib.Core.List.{List, [], _∷_}
-use Rattle.spec.specs.Outcome.{_>>=_}
+use Rattle.spec.specs.Outcome.{Outcome, _>>=_}
 use Rattle.spec.specs.Bytes.{Bytes}
+use Rattle.spec.specs.Value as Value
 use Rattle.spec.specs.Operation.{addAt, removeAtPath, moveTo, copyTo}
 use Rattle.tape.specs.Layout.{documentRow, scratchRow}
+use Rattle.tape.specs.Fields.{Row}
+use Rattle.tape.specs.declared.fields.Spelling.{Spelling}
+use Rattle.tape.specs.Lent.{Texts, Table}
 use Rattle.table.specs.Meaning.{partOf, meant}
 use Rattle.pointer.specs.Tokens.{FirstOf}
 use Rattle.pointer.specs.declared.answers.First.{First}
@@ -16,87 +20,126 @@ use Rattle.walk.specs.Path.{WalkIs}
 use Rattle.walk.specs.declared.steps.Child.{Child}
 use Rattle.walk.specs.declared.steps.Child.the-variants as Child
 use Rattle.walk.proofs.PathLaws.{first-of}
+use Rattle.changes.specs.Site.{table}
 use Rattle.changes.specs.Document.{Document, judged, Results, results, refusal, adds-at, removes-at, ChangeAtIs}
 use Rattle.changes.specs.declared.answers.Change.the-variants.{Add, Remove}
 use Rattle.changes.specs.declared.answers.Altered.{Altered}
 use Rattle.changes.specs.declared.answers.Altered.the-variants.{Done, Refused}
-use Rattle.changes.proofs.KeptLaws.{offered-behind}
+use Rattle.changes.proofs.KeptLaws.{offered-behind, frame-behind}
 use Rattle.changes.proofs.TokenLaws.{some-token}
 use Rattle.changes.proofs.DocumentLaws.{document-fits, the-value, no-value}
-use Rattle.operations.specs.Perform.{Performed, performed, failed, SetAsideIs, CopyIs, MoveAsideIs, MoveValueIs, MoveIs}
-use Rattle.operations.proofs.PatchLaws.{patch-same, patch-behind}
-use Rattle.operations.proofs.PerformedLaws.{performed-change, performed-after}
+use Rattle.operations.specs.Perform.{SetAsideIs, CopyIs, MoveAsideIs, MoveBelowIs, MoveIs}
+use Rattle.operations.proofs.PatchLaws.{patch-same, patch-then, patch-framed, patch-aside}
 use Rattle.operations.proofs.RemovalLaws.{document-removed}
-use Rattle.operations.proofs.AsideLaws.{values-kept, names-kept, aside-offered, aside-document}
+use Rattle.operations.proofs.AsideLaws.{aside-offered, aside-document}
+
+-- an outcome that is the same gives the same results
+pub same-results : {T : Texts} {nodes' : List Row} {o p : Outcome Value.Value} {r : Altered} → o ≡ p → Results T nodes' p r → Results T nodes' o r
+same-results e (results f d) = results (e ∙ f) d
+same-results e (refusal f) = refusal (e ∙ f)
 
 -- ---- a value copied
-module _ {D P : Bytes} {values names : List ℕ} {used from path : ℕ} (s : Child) (is : WalkIs D P values names documentRow from s) where
-  pub copy-done : {vs ns values' names' : List ℕ} {r : Altered} (row : ℕ) → s ≡ Child.At row → SetAsideIs values names vs ns row → ChangeAtIs D P vs ns values' names' used path (Add scratchRow) r
-      → CopyIs D P values names values' names' used from path r
+module _ {w : Table} {used : ℕ} {from path : Spelling} (s : Child) (is : WalkIs w documentRow from s) where
+  pub copy-done : {aside nodes' : List Row} {r : Altered} (row : ℕ) → s ≡ Child.At row → SetAsideIs (w .nodes) aside row
+      → ChangeAtIs (table (w .texts) aside) nodes' used path (Add scratchRow) r → CopyIs w nodes' used from path r
   unfolding copyTo _>>=_
-  copy-done row e aside changed v d short gs from-is ts path-is =
-      the-value s is d short from-is e λ c kids found node inside.
-      let d' = aside-document d node inside aside in
-      performed-after (values-kept d node inside aside) (names-kept d node inside aside) (rw found)
-      (performed-change (changed v d' short ts path-is _ (adds-at scratchRow c kids (aside-offered d node inside aside))))
+  copy-done row e aside changed =
+      record {
+        patch = patch-then (patch-aside row aside) (patch-framed (changed .frame));
+        held = λ v d short gs from-is ts path-is.
+            the-value s is d short from-is e λ c kids found node inside.
+            let there = adds-at scratchRow c kids (aside-offered d node inside aside) in
+            same-results (rw found) (changed .held v (aside-document d node inside aside) short ts path-is _ there);
+      }
 
-  pub copy-refused : {number : ℕ} → s ≡ Child.Refused number → CopyIs D P values names values names used from path (Refused number)
+  pub copy-refused : {number : ℕ} → s ≡ Child.Refused number → CopyIs w (w .nodes) used from path (Refused number)
   unfolding copyTo _>>=_
-  copy-refused {number} e v d short gs from-is ts path-is = failed {number = number} (rw (no-value s is d short from-is e))
+  copy-refused {number} e =
+      record { patch = patch-same; held = λ v d short gs from-is ts path-is. refusal {number = number} (rw (no-value s is d short from-is e)) }
 
 -- ---- a value moved
 -- where the value is set aside: removed, and added in what is left
-module _ {D P : Bytes} {values names vs ns : List ℕ} {used from path : ℕ} (q : Altered) (is : ChangeAtIs D P values names vs ns used from Remove q) where
-  pub aside-refused : {number : ℕ} → q ≡ Refused number → MoveAsideIs D P values names vs ns used from path q
+module _ {w : Table} {left-nodes : List Row} {used : ℕ} {from path : Spelling} (q : Altered) (is : ChangeAtIs w left-nodes used from Remove q) where
+  pub aside-refused : {number : ℕ} → q ≡ Refused number → MoveAsideIs w left-nodes used from path q
   unfolding _>>=_
-  aside-refused e v d short g gs from-is ts path-is x kids offered = go (is v d short (g ∷ gs) from-is removeAtPath removes-at) e
+  aside-refused e =
+      record {
+        patch = patch-framed (is .frame);
+        held = λ v d short g gs from-is ts path-is x kids offered.
+            go v d g gs (addAt ts (meant (w .texts) x kids)) (is .held v d short (g ∷ gs) from-is removeAtPath removes-at) e;
+      }
     where
-      go : {r : Altered} {number : ℕ} → Results D P values names vs ns (judged (removeAtPath (g ∷ gs) v)) r → r ≡ Refused number
-          → Performed D P values names vs ns (judged (removeAtPath (g ∷ gs) v >>= addAt ts (meant D P x kids))) r
-      go (results f d' sv sn) h = absurd (let z : _≡_ {A = ℕ} 0 1 = cc in omega arith)
-      go (refusal {number = n} f) h = failed {number = n} (rw (sym (document-removed d (g ∷ gs)) ∙ f))
+      go : {r : Altered} {number : ℕ} (v : Value.Value) (d : Document w used v) (g : _) (gs : _) (then-it : Value.Value → Outcome Value.Value)
+          → Results (w .texts) left-nodes (judged (removeAtPath (g ∷ gs) v)) r → r ≡ Refused number
+          → Results (w .texts) left-nodes (judged (removeAtPath (g ∷ gs) v >>= then-it)) r
+      go v d g gs then-it (results f d') h = absurd (let z : _≡_ {A = ℕ} 0 1 = cc in omega arith)
+      go v d g gs then-it (refusal {number = n} f) h = refusal {number = n} (rw (sym (document-removed d (g ∷ gs)) ∙ f))
 
-  pub aside-done : {values' names' : List ℕ} {r : Altered} (left : ℕ) → q ≡ Done left → ChangeAtIs D P vs ns values' names' left path (Add scratchRow) r
-      → MoveAsideIs D P values names values' names' used from path r
+  pub aside-done : {nodes' : List Row} {r : Altered} (left : ℕ) → q ≡ Done left → ChangeAtIs (table (w .texts) left-nodes) nodes' left path (Add scratchRow) r
+      → MoveAsideIs w nodes' used from path r
   unfolding _>>=_
-  aside-done {values'} {names'} {r} left e changed v d short g gs from-is ts path-is x kids offered = go (is v d short (g ∷ gs) from-is removeAtPath removes-at) e
+  aside-done {nodes'} {r} left e changed =
+      record {
+        patch = patch-then (patch-framed (is .frame)) (patch-framed (changed .frame));
+        held = λ v d short g gs from-is ts path-is x kids offered.
+            go v d g gs (addAt ts (meant (w .texts) x kids))
+            (λ u then-it. changed .held u then-it short ts path-is _ (adds-at scratchRow x kids (offered-behind (frame-behind (is .frame)) offered)))
+            (is .held v d short (g ∷ gs) from-is removeAtPath removes-at) e;
+      }
     where
-      go : {p : Altered} → Results D P values names vs ns (judged (removeAtPath (g ∷ gs) v)) p → p ≡ Done left
-          → Performed D P values names values' names' (judged (removeAtPath (g ∷ gs) v >>= addAt ts (meant D P x kids))) r
-      go (results {used = now} {w} f d' sv sn) h =
+      go : {p : Altered} (v : Value.Value) (d : Document w used v) (g : _) (gs : _) (add : Value.Value → Outcome Value.Value)
+          → ((u : Value.Value) → Document (table (w .texts) left-nodes) left u → Results (w .texts) nodes' (judged (add u)) r)
+          → Results (w .texts) left-nodes (judged (removeAtPath (g ∷ gs) v)) p → p ≡ Done left
+          → Results (w .texts) nodes' (judged (removeAtPath (g ∷ gs) v >>= add)) r
+      go v d g gs add added (results {used = now} {v = u} f d') h =
           let same : now ≡ left = cc in
-          let then-it : Document D P vs ns left w = rw same at d' in
-          performed-after (patch-behind sv) (patch-behind sn)
-          (rw (sym (document-removed d (g ∷ gs)) ∙ f))
-          (performed-change (changed w then-it short ts path-is _ (adds-at scratchRow x kids (offered-behind sv sn offered))))
-      go (refusal f) h = absurd (let z : _≡_ {A = ℕ} 0 1 = cc in omega arith)
+          same-results (rw (sym (document-removed d (g ∷ gs)) ∙ f)) (added u (subst (λ n. Document (table (w .texts) left-nodes) n u) same d'))
+      go v d g gs add added (refusal f) h = absurd (let z : _≡_ {A = ℕ} 0 1 = cc in omega arith)
 
 -- from another location than the root
-module _ {D P : Bytes} {values names : List ℕ} {used from path : ℕ} (s : Child) (is : WalkIs D P values names documentRow from s) where
-  pub value-moved : {vs ns values' names' : List ℕ} {r : Altered} (row : ℕ) → s ≡ Child.At row → SetAsideIs values names vs ns row → MoveAsideIs D P vs ns values' names' used from path r
-      → MoveValueIs D P values names values' names' used from path r
+module _ {w : Table} {used : ℕ} {from path : Spelling} (s : Child) (is : WalkIs w documentRow from s) where
+  pub value-moved : {aside nodes' : List Row} {r : Altered} (row : ℕ) → s ≡ Child.At row → SetAsideIs (w .nodes) aside row
+      → MoveAsideIs (table (w .texts) aside) nodes' used from path r → MoveBelowIs w nodes' used from path r
   unfolding moveTo _>>=_
-  value-moved row e aside moves v d short g gs from-is ts path-is =
-      the-value s is d short from-is e λ c kids found node inside.
-      performed-after (values-kept d node inside aside) (names-kept d node inside aside) (rw found)
-      (moves v (aside-document d node inside aside) short g gs from-is ts path-is c kids (aside-offered d node inside aside))
+  value-moved row e aside moves =
+      record {
+        patch = patch-then (patch-aside row aside) (moves .patch);
+        held = λ v d short g gs from-is ts path-is.
+            the-value s is d short from-is e λ c kids found node inside.
+            same-results (rw found)
+            (moves .held v (aside-document d node inside aside) short g gs from-is ts path-is c kids (aside-offered d node inside aside));
+      }
 
-  pub value-missing : {number : ℕ} → s ≡ Child.Refused number → MoveValueIs D P values names values names used from path (Refused number)
+  pub value-lost : {number : ℕ} → s ≡ Child.Refused number → MoveBelowIs w (w .nodes) used from path (Refused number)
   unfolding moveTo _>>=_
-  value-missing {number} e v d short g gs from-is ts path-is = failed {number = number} (rw (no-value s is d short from-is e))
+  value-lost {number} e =
+      record { patch = patch-same; held = λ v d short g gs from-is ts path-is. refusal {number = number} (rw (no-value s is d short from-is e)) }
 
 -- from any location
-module _ {D P : Bytes} {values names : List ℕ} {used from path : ℕ} (pointer : Bytes) (pointer-is : pointer ≡ partOf D P from) (f : First) (is : FirstOf pointer f) where
-  pub move-root : f ≡ First.Root → MoveIs D P values names values names used from path (Done used)
-  unfolding moveTo
-  move-root e v d short gs from-is ts path-is =
-      let none-is : gs ≡ [] = first-root (partOf D P from) f (first-of pointer pointer-is is) gs e (from-is .is) in
-      performed {w = v} (rw none-is (document-fits d)) d patch-same patch-same
+module _ {w : Table} {used : ℕ} {from path : Spelling} (pointer : Bytes) (pointer-is : pointer ≡ partOf (w .texts) from) (f : First) (is : FirstOf pointer f)
+  where
+    pub move-root : f ≡ First.Root → MoveIs w (w .nodes) used from path (Done used)
+    unfolding moveTo
+    move-root e =
+        record {
+          patch = patch-same;
+          held = λ v d short gs from-is ts path-is.
+              let none-is : gs ≡ [] = first-root (partOf (w .texts) from) f (first-of pointer pointer-is is) gs e (from-is .is) in
+              results {v = v} (rw none-is (document-fits d)) d;
+        }
 
-  pub move-malformed : {values' names' : List ℕ} {r : Altered} → f ≡ First.Malformed → MoveIs D P values names values' names' used from path r
-  move-malformed e v d short gs from-is ts path-is = absurd (first-malformed (partOf D P from) f (first-of pointer pointer-is is) gs e (from-is .is))
+    pub move-malformed : {r : Altered} → f ≡ First.Malformed → MoveIs w (w .nodes) used from path r
+    move-malformed e =
+        record {
+          patch = patch-same;
+          held = λ v d short gs from-is ts path-is. absurd (first-malformed (partOf (w .texts) from) f (first-of pointer pointer-is is) gs e (from-is .is));
+        }
 
-  pub move-at : {values' names' : List ℕ} {r : Altered} (at : ℕ) → f ≡ First.At at → MoveValueIs D P values names values' names' used from path r → MoveIs D P values names values' names' used from path r
-  move-at at e moves v d short gs from-is ts path-is =
-      some-token (partOf D P from) at gs (first-at (partOf D P from) f (first-of pointer pointer-is is) at gs e (from-is .is)) λ h hs some.
-      rw some (moves v d short h hs (rw some at from-is) ts path-is)
+    pub move-at : {nodes' : List Row} {r : Altered} (at : ℕ) → f ≡ First.At at → MoveBelowIs w nodes' used from path r → MoveIs w nodes' used from path r
+    move-at at e moves =
+        record {
+          patch = moves .patch;
+          held = λ v d short gs from-is ts path-is.
+              some-token (partOf (w .texts) from) at gs (first-at (partOf (w .texts) from) f (first-of pointer pointer-is is) at gs e (from-is .is)) λ h hs some.
+              rw some (moves .held v d short h hs (rw some at from-is) ts path-is);
+        }

@@ -1,9 +1,8 @@
--- What a run of the operations makes of the document.
+-- What a run of the operations makes of the document. As with one operation, the patch's rows are as they were, whatever the table holds.
 use Prim.Native.Nat.{ℕ, _+_, _≤_, _<_}
 use mathlib.Core.Path.{_≡_}
 use mathlib.Core.Bool.{Bool}
 use mathlib.Core.List.{List}
-use Rattle.spec.specs.Bytes.{Bytes}
 use Rattle.spec.specs.Forest.{Forest, size}
 use Rattle.spec.specs.Value as Value
 use Rattle.spec.specs.Operation as Operation
@@ -11,29 +10,37 @@ use Rattle.spec.specs.Operation.{limited}
 use Rattle.spec.specs.Patch.{Run, finished, stopped, operations, shape, run}
 use Rattle.claims.specs.Proper.{Proper, ProperItems}
 use Rattle.tape.specs.Layout.{patchRow, scratchRow}
-use Rattle.tape.specs.Cell.{Cell}
+use Rattle.tape.specs.Fields.{Row}
+use Rattle.tape.specs.declared.fields.Cell.{Cell}
+use Rattle.tape.specs.Lent.{Texts, Table}
 use Rattle.table.specs.Meaning.{members, meant}
 use Rattle.table.specs.Sound.{NodeHeld, RowsHeld}
 use Rattle.walk.specs.Names.{Short}
+use Rattle.changes.specs.Site.{table}
 use Rattle.changes.specs.Document.{Document}
-use Rattle.operations.specs.declared.run.Ran.{Ran}
-use Rattle.operations.specs.declared.run.Ran.the-variants.{Done, Refused}
+use Rattle.operations.specs.Perform.{SamePatch}
+use Rattle.operations.specs.declared.runs.Ran.{Ran}
+use Rattle.operations.specs.declared.runs.Ran.the-variants.{Done, Refused}
 
 -- the document is then the result, or the refusal's number with the operation
-pub data RanTo (D P : Bytes) (values' names' : List ℕ) (o : Run Value.Value) : Ran → Type 0 where
-  ran : {used : ℕ} {w : Value.Value} → o ≡ finished w → Document D P values' names' used w → RanTo D P values' names' o (Done used)
-  halted : {number op : ℕ} → o ≡ stopped number op → RanTo D P values' names' o (Refused number op)
+pub data RanTo (T : Texts) (nodes' : List Row) (o : Run Value.Value) : Ran → Type 0 where
+  ran : {used : ℕ} {v : Value.Value} → o ≡ finished v → Document (table T nodes') used v → RanTo T nodes' o (Done used)
+  halted : {number op : ℕ} → o ≡ stopped number op → RanTo T nodes' o (Refused number op)
 
-module _ (D P : Bytes) (values names values' names' : List ℕ) (used : ℕ) where
-  -- the operations that are elements in the rows from one to another, values as texts are read
-  abbrev pub ElementsRunIs : ℕ → ℕ → Ran → Type 0
-  ElementsRunIs start end r =
-      (v : Value.Value) → Document D P values names used v → Short D P → (f : Forest Cell) → RowsHeld D P values names start end f → patchRow ≤ start → end ≤ scratchRow
-      → (object : Bool) → ProperItems object (members D P f) → (os : List Operation.Operation) → operations 1 (members D P f) ≡ finished os → RanTo D P values' names' (run limited 1 os v) r
+-- what holds of the run of the operations that are elements in the rows from one to another, values as texts are read
+abbrev pub ForRun : Table → ℕ → ℕ → ℕ → (Run Value.Value → Type 0) → Type 0
+ForRun w used start end Q =
+    (v : Value.Value) → Document w used v → Short (w .texts) → (f : Forest Cell) → RowsHeld w start end f → patchRow ≤ start → end ≤ scratchRow
+    → (object : Bool) → ProperItems object (members (w .texts) f) → (os : List Operation.Operation) → operations 1 (members (w .texts) f) ≡ finished os
+    → Q (run limited 1 os v)
 
-  -- the operations of the patch, a value as texts are read
-  abbrev pub RunIs : Ran → Type 0
-  RunIs r =
-      (v : Value.Value) → Document D P values names used v → Short D P → (c : Cell) (kids : Forest Cell) → NodeHeld D P values names patchRow c kids
-      → patchRow + size kids < scratchRow → Proper (meant D P c kids) → (os : List Operation.Operation) → shape (meant D P c kids) ≡ finished os
-      → RanTo D P values' names' (run limited 1 os v) r
+pub record ElementsRunIs (w : Table) (nodes' : List Row) (used start end : ℕ) (r : Ran) : Type 0 where
+  pub patch : SamePatch (w .nodes) nodes'
+  pub held : ForRun w used start end (λ o. RanTo (w .texts) nodes' o r)
+
+-- the operations of the patch, a value as texts are read
+pub record RunIs (w : Table) (nodes' : List Row) (used : ℕ) (r : Ran) : Type 0 where
+  pub patch : SamePatch (w .nodes) nodes'
+  pub held : (v : Value.Value) → Document w used v → Short (w .texts) → (c : Cell) (kids : Forest Cell) → NodeHeld w patchRow c kids
+      → patchRow + size kids < scratchRow → Proper (meant (w .texts) c kids) → (os : List Operation.Operation) → shape (meant (w .texts) c kids) ≡ finished os
+      → RanTo (w .texts) nodes' (run limited 1 os v) r

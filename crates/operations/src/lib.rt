@@ -1,10 +1,15 @@
 // The six operations in the node table, and the run of a patch: document 01, "Walking and the six operations".
 //
-// What is proved: of a document (`Document` of changes) and of a patch that was read and whose shape is right, `run` answers as the definitions'
-// run of its operations does, each with the limits judged: then the document is the result, or the answer is the first refusal with its operation.
+// What is proved: of a document (`Document` of changes) and of a patch that was read and whose shape is right, `run`
+// answers as the definitions' run of its operations does, each with the limits judged. Either the document is then
+// the result and the patch's rows are as they were, or the answer is the first refusal with its operation.
 //
-// What a caller should know: both functions are total. The rows of the patch never change, the scratch rows may. After a refusal nothing is undone.
+// What a caller should know: `run` is total. After a refusal, and where the table holds no document and no patch, the
+// nodes are free. So is the index after every answer.
 
 mod transfers; // a value moved and copied
-pub mod perform; // one operation of the patch
-pub mod run; // the operations one after another
+mod perform; // one operation of the patch
+mod runs; // the operations one after another
+
+pub use runs::Ran;
+pub use runs::run;

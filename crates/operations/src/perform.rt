@@ -1,156 +1,147 @@
-// One operation of the patch. Its members are found again in the rows of the patch.
-use crate::transfers::copy;
-use crate::transfers::move_to;
+// One operation of the patch, in a row of it. Its members are found again there.
+use crate::transfers::copy_value;
+use crate::transfers::move_value;
 use changes::Altered;
 use changes::Change;
-use changes::MAX_DEPTH;
 use changes::change_at;
 use equality::compare;
-use shape::kinds::Kind;
-use shape::kinds::uses_from;
-use shape::kinds::uses_value;
-use shape::members::Spelled;
-use shape::members::member;
-use shape::members::string_member;
-use shape::operation::kind_of;
+use shape::Kind;
+use shape::Spelled;
+use shape::kind_of;
+use shape::member;
+use shape::string_member;
+use spec::limits;
+use spec::refusal;
 use table::find::Member;
+use tape::fields::Spelling;
+use tape::layout;
+use tape::layout::Node;
+use tape::layout::Texts;
 use walk::Child;
 use walk::walk;
-ghost use Rattle.operations.specs.Perform.{TestIs, WithValueIs, WithFromIs, OfKindIs, PerformIs};
+ghost use mathlib.Core.Path.{_≡_};
+ghost use Rattle.spec.specs.Operation as Operation;
+ghost use Rattle.tape.specs.Lent.{before};
+ghost use Rattle.operations.specs.Perform.{OperationIs, EqualToIs, PerformIs};
 
-// RFC 6902, section 4.6: the value at `path` must be equal to that in the row `value`.
-fn test<'a>(
-    document: &'a [u8],
-    patch: &'a [u8],
-    values: &mut [u64],
-    names: &[u64],
+// RFC 6902, section 4.1: the value is added at `path`.
+fn add<'a>(texts: Texts<'a>, nodes: &mut [Node], used: usize, row: usize, path: Spelling) -> Altered
+    ensures { λ r. ⌜ OperationIs (before texts nodes) (now (nodes .exit)) used row path Operation.add r ⌝ }
+{
+    let Member::At(value) = member(texts, nodes, row, b"value") else {
+        return Altered::Refused(refusal::WRONG_SHAPE);
+    };
+    change_at(texts, nodes, used, path, Change::Add(value))
+}
+
+// Section 4.3: the value at `path` is replaced.
+fn replace<'a>(
+    texts: Texts<'a>,
+    nodes: &mut [Node],
     used: usize,
-    path: u64,
+    row: usize,
+    path: Spelling,
+) -> Altered
+    ensures { λ r. ⌜ OperationIs (before texts nodes) (now (nodes .exit)) used row path Operation.replace r ⌝ }
+{
+    let Member::At(value) = member(texts, nodes, row, b"value") else {
+        return Altered::Refused(refusal::WRONG_SHAPE);
+    };
+    change_at(texts, nodes, used, path, Change::Replace(value))
+}
+
+// Section 4.4: the value at `from` is removed, then added at `path`.
+fn move_to<'a>(
+    texts: Texts<'a>,
+    nodes: &mut [Node],
+    used: usize,
+    row: usize,
+    path: Spelling,
+) -> Altered
+    ensures { λ r. ⌜ OperationIs (before texts nodes) (now (nodes .exit)) used row path Operation.move r ⌝ }
+{
+    let Spelled::As(from) = string_member(texts, nodes, row, b"from") else {
+        return Altered::Refused(refusal::WRONG_SHAPE);
+    };
+    move_value(texts, nodes, used, from, path)
+}
+
+// Section 4.5: the value at `from` is added at `path`.
+fn copy<'a>(
+    texts: Texts<'a>,
+    nodes: &mut [Node],
+    used: usize,
+    row: usize,
+    path: Spelling,
+) -> Altered
+    ensures { λ r. ⌜ OperationIs (before texts nodes) (now (nodes .exit)) used row path Operation.copy r ⌝ }
+{
+    let Spelled::As(from) = string_member(texts, nodes, row, b"from") else {
+        return Altered::Refused(refusal::WRONG_SHAPE);
+    };
+    copy_value(texts, nodes, used, from, path)
+}
+
+// The value at `path` must be equal to that in the row `value`.
+fn equal_to<'a>(
+    texts: Texts<'a>,
+    nodes: &[Node],
+    index: &mut [u16],
+    used: usize,
+    path: Spelling,
     value: usize,
 ) -> Altered
-    ensures { λ r. ⌜ TestIs (now (document .entry)) (now (patch .entry)) (now (values .entry)) (now (names .entry)) (now (values .exit)) used path value r ⌝ }
+    ensures { λ r. ⌜ EqualToIs (before texts nodes) used path value r ⌝ }
 {
-    match walk(values, names, document, patch, 0, path) {
+    match walk(texts, nodes, layout::DOCUMENT, path) {
         Child::At(row) => {
-            if compare(values, names, document, patch, row, value, MAX_DEPTH) {
+            if compare(texts, nodes, index, row, value, limits::MAX_DEPTH) {
                 return Altered::Done(used);
             }
-            return Altered::Refused(15);
+            return Altered::Refused(refusal::TEST_DIFFERS);
         }
         Child::Refused(number) => return Altered::Refused(number),
     }
 }
 
-// An operation that uses the value in the row `value`.
-fn with_value<'a>(
-    document: &'a [u8],
-    patch: &'a [u8],
-    values: &mut [u64],
-    names: &mut [u64],
-    used: usize,
-    kind: Kind,
-    path: u64,
-    value: usize,
-) -> Altered
-    ensures { λ r. ⌜ WithValueIs (now (document .entry)) (now (patch .entry)) (now (values .entry)) (now (names .entry)) (now (values .exit)) (now (names .exit)) used kind path value r ⌝ }
-{
-    match kind {
-        Kind::Add => {
-            return change_at(
-                document,
-                patch,
-                values,
-                names,
-                used,
-                path,
-                Change::Add(value),
-            );
-        }
-        Kind::Remove => return Altered::Refused(8),
-        Kind::Replace => {
-            return change_at(
-                document,
-                patch,
-                values,
-                names,
-                used,
-                path,
-                Change::Replace(value),
-            );
-        }
-        Kind::Move => return Altered::Refused(8),
-        Kind::Copy => return Altered::Refused(8),
-        Kind::Test => return test(document, patch, values, names, used, path, value),
-        Kind::Unknown => return Altered::Refused(8),
-    }
-}
-
-// An operation that uses `from`.
-fn with_from<'a>(
-    document: &'a [u8],
-    patch: &'a [u8],
-    values: &mut [u64],
-    names: &mut [u64],
-    used: usize,
-    kind: Kind,
-    from: u64,
-    path: u64,
-) -> Altered
-    ensures { λ r. ⌜ WithFromIs (now (document .entry)) (now (patch .entry)) (now (values .entry)) (now (names .entry)) (now (values .exit)) (now (names .exit)) used kind from path r ⌝ }
-{
-    match kind {
-        Kind::Add => return Altered::Refused(8),
-        Kind::Remove => return Altered::Refused(8),
-        Kind::Replace => return Altered::Refused(8),
-        Kind::Move => return move_to(document, patch, values, names, used, from, path),
-        Kind::Copy => return copy(document, patch, values, names, used, from, path),
-        Kind::Test => return Altered::Refused(8),
-        Kind::Unknown => return Altered::Refused(8),
-    }
-}
-
-// The operation in a row of the patch, of a kind and with a path.
-fn of_kind<'a>(
-    document: &'a [u8],
-    patch: &'a [u8],
-    values: &mut [u64],
-    names: &mut [u64],
+// Section 4.6: the value at `path` is compared with the operation's.
+fn test<'a>(
+    texts: Texts<'a>,
+    nodes: &[Node],
+    index: &mut [u16],
     used: usize,
     row: usize,
-    kind: Kind,
-    path: u64,
+    path: Spelling,
 ) -> Altered
-    ensures { λ r. ⌜ OfKindIs (now (document .entry)) (now (patch .entry)) (now (values .entry)) (now (names .entry)) (now (values .exit)) (now (names .exit)) used row kind path r ⌝ }
+    ensures { λ r. ⌜ OperationIs (before texts nodes) (now (nodes .entry)) used row path Operation.test r ⌝ }
 {
-    if uses_value(kind) {
-        let Member::At(value) = member(values, names, document, patch, row, b"value") else {
-            return Altered::Refused(8);
-        };
-        return with_value(document, patch, values, names, used, kind, path, value);
-    }
-    if uses_from(kind) {
-        let Spelled::As(from) = string_member(values, names, document, patch, row, b"from") else {
-            return Altered::Refused(8);
-        };
-        return with_from(document, patch, values, names, used, kind, from, path);
-    }
-    change_at(document, patch, values, names, used, path, Change::Remove)
+    let Member::At(value) = member(texts, nodes, row, b"value") else {
+        return Altered::Refused(refusal::WRONG_SHAPE);
+    };
+    equal_to(texts, nodes, index, used, path, value)
 }
 
 // The operation in a row of the patch.
 pub fn perform<'a>(
-    document: &'a [u8],
-    patch: &'a [u8],
-    values: &mut [u64],
-    names: &mut [u64],
+    texts: Texts<'a>,
+    nodes: &mut [Node],
+    index: &mut [u16],
     used: usize,
     row: usize,
 ) -> Altered
-    ensures { λ r. ⌜ PerformIs (now (document .entry)) (now (patch .entry)) (now (values .entry)) (now (names .entry)) (now (values .exit)) (now (names .exit)) used row r ⌝ }
+    ensures { λ r. ⌜ PerformIs (before texts nodes) (now (nodes .exit)) used row r ⌝ }
 {
-    let kind = kind_of(values, names, document, patch, row);
-    let Spelled::As(path) = string_member(values, names, document, patch, row, b"path") else {
-        return Altered::Refused(8);
+    let Spelled::As(path) = string_member(texts, nodes, row, b"path") else {
+        return Altered::Refused(refusal::WRONG_SHAPE);
     };
-    of_kind(document, patch, values, names, used, row, kind, path)
+    let kind = kind_of(texts, nodes, row);
+    match kind {
+        Kind::Add => return add(texts, nodes, used, row, path),
+        Kind::Remove => return change_at(texts, nodes, used, path, Change::Remove),
+        Kind::Replace => return replace(texts, nodes, used, row, path),
+        Kind::Move => return move_to(texts, nodes, used, row, path),
+        Kind::Copy => return copy(texts, nodes, used, row, path),
+        Kind::Test => return test(texts, nodes, index, used, row, path),
+        Kind::Unknown => return Altered::Refused(refusal::WRONG_SHAPE),
+    }
 }

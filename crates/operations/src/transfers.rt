@@ -5,46 +5,40 @@ use changes::change_at;
 use changes::size;
 use pointer::First;
 use pointer::first;
+use spec::refusal;
 use table::spellings::part;
-use tape::layout::SCRATCH;
+use tape::fields::Spelling;
+use tape::layout;
+use tape::layout::Node;
+use tape::layout::Texts;
 use tape::moves::slide;
 use walk::Child;
 use walk::walk;
-ghost use Rattle.operations.specs.Perform.{SetAsideIs, CopyIs, MoveAsideIs, MoveValueIs, MoveIs};
+ghost use Rattle.tape.specs.Lent.{before};
+ghost use Rattle.operations.specs.Perform.{SetAsideIs, CopyIs, MoveAsideIs, MoveBelowIs, MoveIs};
 
 // The tree in a row is copied to the scratch rows.
-fn set_aside(values: &mut [u64], names: &mut [u64], row: usize)
-    ensures { λ _. ⌜ SetAsideIs (now (values .entry)) (now (names .entry)) (now (values .exit)) (now (names .exit)) row ⌝ }
+fn set_aside(nodes: &mut [Node], row: usize)
+    ensures { λ _. ⌜ SetAsideIs (now (nodes .entry)) (now (nodes .exit)) row ⌝ }
 {
-    let count = size(values, row);
-    slide(values, SCRATCH, row, count);
-    slide(names, SCRATCH, row, count);
+    let count = size(nodes, row);
+    slide(nodes, layout::SCRATCH, row, count);
 }
 
 // RFC 6902, section 4.5: the value at `from` is added at `path`.
-pub fn copy<'a>(
-    document: &'a [u8],
-    patch: &'a [u8],
-    values: &mut [u64],
-    names: &mut [u64],
+pub fn copy_value<'a>(
+    texts: Texts<'a>,
+    nodes: &mut [Node],
     used: usize,
-    from: u64,
-    path: u64,
+    from: Spelling,
+    path: Spelling,
 ) -> Altered
-    ensures { λ r. ⌜ CopyIs (now (document .entry)) (now (patch .entry)) (now (values .entry)) (now (names .entry)) (now (values .exit)) (now (names .exit)) used from path r ⌝ }
+    ensures { λ r. ⌜ CopyIs (before texts nodes) (now (nodes .exit)) used from path r ⌝ }
 {
-    match walk(values, names, document, patch, 0, from) {
+    match walk(texts, nodes, layout::DOCUMENT, from) {
         Child::At(row) => {
-            set_aside(values, names, row);
-            return change_at(
-                document,
-                patch,
-                values,
-                names,
-                used,
-                path,
-                Change::Add(SCRATCH),
-            );
+            set_aside(nodes, row);
+            return change_at(texts, nodes, used, path, Change::Add(layout::SCRATCH));
         }
         Child::Refused(number) => return Altered::Refused(number),
     }
@@ -52,67 +46,53 @@ pub fn copy<'a>(
 
 // The value at `from`, which is set aside, is removed, and added at `path` in what is left.
 fn move_aside<'a>(
-    document: &'a [u8],
-    patch: &'a [u8],
-    values: &mut [u64],
-    names: &mut [u64],
+    texts: Texts<'a>,
+    nodes: &mut [Node],
     used: usize,
-    from: u64,
-    path: u64,
+    from: Spelling,
+    path: Spelling,
 ) -> Altered
-    ensures { λ r. ⌜ MoveAsideIs (now (document .entry)) (now (patch .entry)) (now (values .entry)) (now (names .entry)) (now (values .exit)) (now (names .exit)) used from path r ⌝ }
+    ensures { λ r. ⌜ MoveAsideIs (before texts nodes) (now (nodes .exit)) used from path r ⌝ }
 {
-    let r = change_at(document, patch, values, names, used, from, Change::Remove);
+    let r = change_at(texts, nodes, used, from, Change::Remove);
     let Altered::Done(left) = r else {
         return r;
     };
-    change_at(
-        document,
-        patch,
-        values,
-        names,
-        left,
-        path,
-        Change::Add(SCRATCH),
-    )
+    change_at(texts, nodes, left, path, Change::Add(layout::SCRATCH))
 }
 
-// The value at `from`, which is not the root.
-fn move_value<'a>(
-    document: &'a [u8],
-    patch: &'a [u8],
-    values: &mut [u64],
-    names: &mut [u64],
+// The value at `from`, which is not the root, is set aside first.
+fn move_below<'a>(
+    texts: Texts<'a>,
+    nodes: &mut [Node],
     used: usize,
-    from: u64,
-    path: u64,
+    from: Spelling,
+    path: Spelling,
 ) -> Altered
-    ensures { λ r. ⌜ MoveValueIs (now (document .entry)) (now (patch .entry)) (now (values .entry)) (now (names .entry)) (now (values .exit)) (now (names .exit)) used from path r ⌝ }
+    ensures { λ r. ⌜ MoveBelowIs (before texts nodes) (now (nodes .exit)) used from path r ⌝ }
 {
-    match walk(values, names, document, patch, 0, from) {
+    match walk(texts, nodes, layout::DOCUMENT, from) {
         Child::At(row) => {
-            set_aside(values, names, row);
-            return move_aside(document, patch, values, names, used, from, path);
+            set_aside(nodes, row);
+            return move_aside(texts, nodes, used, from, path);
         }
         Child::Refused(number) => return Altered::Refused(number),
     }
 }
 
 // RFC 6902, section 4.4: the value at `from` is removed, then added at `path`. The root is moved only to itself.
-pub fn move_to<'a>(
-    document: &'a [u8],
-    patch: &'a [u8],
-    values: &mut [u64],
-    names: &mut [u64],
+pub fn move_value<'a>(
+    texts: Texts<'a>,
+    nodes: &mut [Node],
     used: usize,
-    from: u64,
-    path: u64,
+    from: Spelling,
+    path: Spelling,
 ) -> Altered
-    ensures { λ r. ⌜ MoveIs (now (document .entry)) (now (patch .entry)) (now (values .entry)) (now (names .entry)) (now (values .exit)) (now (names .exit)) used from path r ⌝ }
+    ensures { λ r. ⌜ MoveIs (before texts nodes) (now (nodes .exit)) used from path r ⌝ }
 {
-    match first(part(document, patch, from)) {
+    match first(part(texts, from)) {
         First::Root => return Altered::Done(used),
-        First::At(_) => return move_value(document, patch, values, names, used, from, path),
-        First::Malformed => return Altered::Refused(10),
+        First::At(_) => return move_below(texts, nodes, used, from, path),
+        First::Malformed => return Altered::Refused(refusal::MALFORMED_POINTER),
     }
 }

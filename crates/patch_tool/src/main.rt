@@ -1,5 +1,7 @@
 // The patch tool: two file names, a document and a patch. It prints the patched document, or the refusal on one line, or `unreadable`.
+use index;
 use libc::STDOUT_FILENO;
+use tape::layout;
 ghost use lib.ListN.{length};
 ghost use Rattle.patch_tool.specs.Contents.{Within};
 ghost use Rattle.patch_tool.specs.Line.{LineIs};
@@ -10,15 +12,13 @@ const INPUT: usize = 32_769;
 // 65,536 bytes of output, and the newline.
 const LINE: usize = 65_537;
 
-const WORK_WORDS: usize = 6_144;
-
 // The line for the two texts, laid down in `line`; the answer is its length.
 fn answer_line<'a>(document: &'a [u8], patch: &'a [u8], line: &mut [u8; LINE]) -> usize
     ensures { λ r. ⌜ LineIs (now (document .entry)) (now (patch .entry)) (now (line .exit)) r ⌝ }
 {
-    let mut values = [0u64; WORK_WORDS];
-    let mut names = [0u64; WORK_WORDS];
-    report::run(document, patch, line, &mut values, &mut names)
+    let mut nodes = [layout::NO_NODE; layout::ROWS];
+    let mut index = [0u16; index::SLOTS];
+    report::run(document, patch, line, &mut nodes, &mut index)
 }
 
 fn run<'a>(document: &'a [u8], patch: &'a [u8]) {

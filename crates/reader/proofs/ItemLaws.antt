@@ -83,7 +83,8 @@ module _ (value : ℕ → ℕ → Outcome (Value.Value × ℕ)) (object : Bool) 
       if eqb (byte s end) (closingBracket object) then ok (all, end + 1) else
       (byteIn s end (code ",") (code ",") >>= λ _. items fuel value object s nodes all (blanks s (end + 1)))
 
-  behind-rest : (fuel : ℕ) (so-far : Members) (name : Text) (v : Value.Value) (next : ℕ) → behind fuel so-far name (v, next) ≡ rest fuel (so-far ⧺ single (named name v)) next
+  behind-rest : (fuel : ℕ) (so-far : Members) (name : Text) (v : Value.Value) (next : ℕ)
+      → behind fuel so-far name (v, next) ≡ rest fuel (so-far ⧺ single (named name v)) next
   unfolding rest afterComma _>>=_
   behind-rest fuel so-far name v next =
       let all = so-far ⧺ single (named name v) in
@@ -96,11 +97,13 @@ module _ (value : ℕ → ℕ → Outcome (Value.Value × ℕ)) (object : Bool) 
   unfolding rest after nextItem nextName items begun _>>=_
   rest-step fuel so-far at = go (eqb (byte s (blanks s at)) (closingBracket object)) (afterComma s (eqb (count so-far) 0) (blanks s at))
     where
-      valued : (name : Text) (o : Outcome (Value.Value × ℕ)) → (o >>= behind fuel so-far name) ≡ (o >>= λ (v, next). rest fuel (so-far ⧺ single (named name v)) next)
+      valued : (name : Text) (o : Outcome (Value.Value × ℕ))
+          → (o >>= behind fuel so-far name) ≡ (o >>= λ (v, next). rest fuel (so-far ⧺ single (named name v)) next)
       valued name (ok (v, next)) = behind-rest fuel so-far name v next
       valued name (refused number place) = refl
 
-      titled : (o : Outcome (Text × ℕ)) → (o >>= λ (name, place). value place (nodes + size so-far) >>= behind fuel so-far name) ≡ ((o >>= begun) >>= after fuel so-far)
+      titled : (o : Outcome (Text × ℕ))
+          → (o >>= λ (name, place). value place (nodes + size so-far) >>= behind fuel so-far name) ≡ ((o >>= begun) >>= after fuel so-far)
       titled (ok (name, place)) = valued name (value place (nodes + size so-far))
       titled (refused number place) = refl
 

@@ -3,7 +3,7 @@ pub mod ValueLaws
 pub mod ItemLaws
 pub mod PastLaws
 pub mod WordLaws
-pub mod ColumnLaws
+pub mod RowLaws
 pub mod FilledLaws
 pub mod MemberLaws
 pub mod ReadingLaws

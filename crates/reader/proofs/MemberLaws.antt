@@ -17,131 +17,165 @@ use Rattle.spec.specs.Value.{Members, Entry, sameText, find, has}
 use Rattle.spec.specs.Read.{blanks, fresh, nameFor, closingBracket}
 use Rattle.spec.proofs.OutcomeLaws.{>>=-assoc}
 use Rattle.spec.proofs.TextLaws.{sameText-true}
+use Rattle.lexer.specs.Hash.{hash}
 use Rattle.lexer.specs.declared.cursor.Cursor.{Cursor}
-use Rattle.tape.specs.Layout.{scratchRow, rows}
-use Rattle.tape.specs.Packing.{hashOf}
-use Rattle.tape.specs.Cell.{Cell, Held}
+use Rattle.tape.specs.Layout.{scratchRow}
+use Rattle.tape.specs.Fields.{Row, noNode, nameOf}
+use Rattle.tape.specs.declared.fields.Name.{Name}
+use Rattle.tape.specs.declared.fields.Cell.{Cell}
+use Rattle.tape.specs.Cell.{Held}
 use Rattle.tape.specs.Map.{mapForest}
+use Rattle.tape.specs.Lent.{Table}
 use Rattle.tape.proofs.Map.{count-map, size-map}
-use Rattle.tape.proofs.Held.{name-here, held-next}
-use Rattle.table.specs.Meaning.{sourceText, nameText, entryOf, members, Hashed}
+use Rattle.tape.proofs.Held.{held-node, held-next}
+use Rattle.tape.proofs.Rows.{cell-here}
+use Rattle.table.specs.Meaning.{sourceText, nameText, entryOf, members, shortHash, Hashed}
 use Rattle.table.specs.All.{all-tree}
 use Rattle.table.specs.Find as Find
-use Rattle.table.specs.Find.{Found, FindIs, SameNameIs}
+use Rattle.table.specs.Find.{sameName, Found, FindIs}
 use Rattle.table.specs.Sound.{RowsHeld, Sound, CellFits}
 use Rattle.table.specs.declared.find.Member.{Member}
 use Rattle.table.specs.declared.find.Member.the-variants.{At, Missing}
-use Rattle.index.specs.Ways.{bucketSlot, MeetsName, NoneNamed, Entered}
-use Rattle.reader.specs.Words.{Titles}
-use Rattle.reader.specs.Filled.{Stays, Filled, Reached, Marked, marked-none, marked-tree}
-use Rattle.reader.specs.Names.{afterColon, RepeatedIs, ReachedBy, NameIs, name-read, name-refused, Having}
-use Rattle.reader.specs.Items.{afterComma, nextName, begun, itemOf, nextItem, ItemIs, item-begins, item-closed, item-refused}
-use Rattle.reader.specs.declared.words.Word.{Word}
-use Rattle.reader.specs.declared.words.Word.the-variants.{Read, Refused}
+use Rattle.table.proofs.Search.{named-hashed}
+use Rattle.index.specs.Slots.{slots, bucketSlot}
+use Rattle.index.specs.Ways.{MeetsName, NoneNamed, Entered}
+use Rattle.reader.specs.Work.{Work}
+use Rattle.reader.specs.Words.{nameless, Titles}
+use Rattle.reader.specs.Filled.{Noted, Filled, Reached, Marked, marked-none, marked-tree}
+use Rattle.reader.specs.Names.{Lent, Inside, afterColon, Holding, Leading, LeadsNext, RepeatedIs, NameIs, name-read, name-refused, Having, NamedIs}
+use Rattle.reader.specs.Items.{afterComma, nextName, begun, itemOf, nextItem, ItemIs, item-begins, item-closed, item-refused, NextItemIs}
+use Rattle.reader.specs.declared.names.Container.{Container}
+use Rattle.reader.specs.declared.words.Named.{Named}
+use Rattle.reader.specs.declared.words.Named.the-variants.{Read, Refused}
 use Rattle.reader.specs.declared.items.Item.{Item}
 use Rattle.reader.specs.declared.items.Item.the-variants.{Closed}
-use Rattle.reader.proofs.WordLaws.{NameRead, Handed, no-titles}
-use Rattle.reader.proofs.FilledLaws.{noted-entered, changed-scratched, one-text, filled-kept, filled-held, filled-size}
+use Rattle.reader.proofs.WordLaws.{NameRead, HandedNamed, no-titles}
+use Rattle.reader.proofs.FilledLaws.{noted-none, noted-entered, twice, one-text, filled-held, filled-size}
 
 -- ---- by the index
-pub marked-stays : {vs vs' : List ℕ} {base low row at : ℕ} {all : Members} → Marked vs base row at all → Stays base low vs vs' → base ≤ at → at + size all ≤ low → Marked vs' base row at all
+pub marked-stays : {xs ys : List ℕ} {base low row at : ℕ} {all : Members} → Marked xs base row at all → Noted base low xs ys → base ≤ at
+    → at + size all ≤ low → Marked ys base row at all
 unfolding size
 marked-stays marked-none w b l = marked-none
 marked-stays (marked-tree r m) w b l = marked-tree (w .kept _ _ _ (omega arith) r) (marked-stays m w (omega arith) (omega arith))
 
-pub marked-more : {vs : List ℕ} {base row at end : ℕ} {all : Members} → Marked vs base row at all → at + size all ≡ end → (t : Tree Entry) → Reached vs base row end (t .root .name) → Marked vs base row at (all ⧺ single t)
+pub marked-more : {xs : List ℕ} {base row at end : ℕ} {all : Members} → Marked xs base row at all → at + size all ≡ end → (t : Tree Entry)
+    → Reached xs base row end (t .root .name) → Marked xs base row at (all ⧺ single t)
 unfolding _⧺_ size
-marked-more {vs} {base} {row} {at} {end} marked-none e t r = let same : end ≡ at = omega arith in marked-tree (subst (λ n. Reached vs base row n (t .root .name)) same r) marked-none
+marked-more {xs} {base} {row} {at} {end} marked-none e t r =
+    let same : end ≡ at = omega arith in marked-tree (subst (λ n. Reached xs base row n (t .root .name)) same r) marked-none
 marked-more (marked-tree g m) e t r = marked-tree g (marked-more m (omega arith) t r)
 
--- where no row on a name's way has the name, no member has it
-module _ {s : Bytes} {vs ns : List ℕ} {base limit word : ℕ} {text : Text} (row : ℕ) (is : nameText s s word ≡ text) (hashed : Hashed s s word)
-    (others : NoneNamed vs ns s s base limit (bucketSlot row (hashOf word)) word) where
-  other : {at : ℕ} {c : Cell} {kids rest : Forest Cell} → Held vs ns at (tree c kids rest) → CellFits s s c → base ≤ at → at < base + limit → Reached vs base row at text → sameText (nameText s s (c .name)) text ≡ false
+-- the text alone, with these nodes
+abbrev pub tableWith : Bytes → List Row → Table
+tableWith s nodes = record { texts = twice s; nodes = nodes }
+
+-- where no row on a name's search path has the name, no member has it
+module _ {s : Bytes} (nodes : List Row) {xs : List ℕ} (base limit : ℕ) {name : Name} {text : Text} (row : ℕ) (is : nameText (twice s) name ≡ text)
+    (hashed : Hashed (twice s) name) (others : NoneNamed xs (tableWith s nodes) base limit (bucketSlot row (name .hash)) name) where
+  hash-is : name .hash ≡ shortHash (hash text)
+  hash-is = hashed .is ∙ ap (λ t. shortHash (hash t)) is
+
+  other : {at : ℕ} {c : Cell} {kids rest : Forest Cell} → Held nodes at (tree c kids rest) → CellFits (twice s) c → base ≤ at → at < base + limit
+      → Reached xs base row at text → sameText (nameText (twice s) (c .name)) text ≡ false
   other {at} {c} h fits b l r =
       let place : base + (at - base) ≡ at = omega arith in
-      let same : getD ns (base + (at - base)) 0 ≡ c .name = ap (λ n. getD ns n 0) place ∙ name-here h in
-      let met : MeetsName vs s s (bucketSlot row (hashOf word)) word (at - base) = rw (hashed .is, is) r in
-      rw is at (sym (subst (λ w. SameNameIs s s w word false) same (others (at - base) (omega arith) met) (fits .title .hashed) hashed))
+      let same : nameOf (getD nodes (base + (at - base)) noNode) ≡ c .name =
+      ap (λ n. nameOf (getD nodes n noNode)) place ∙ ap (λ c. c .name) (cell-here (held-node h) noNode) in
+      let met : MeetsName xs (twice s) (bucketSlot row (name .hash)) name (at - base) = rw (hash-is, is) r in
+      let differs : false ≡ sameName (twice s) (c .name) name = subst (λ n. false ≡ sameName (twice s) n name) same (others (at - base) (omega arith) met) in
+      let by-text : sameName (twice s) (c .name) name ≡ sameText (nameText (twice s) (c .name)) (nameText (twice s) name) =
+      named-hashed (twice s) (c .name) (name .hash) (nameText (twice s) name) (fits .name .hashed) (hashed .is) in
+      ap (sameText (nameText (twice s) (c .name))) (sym is) ∙ sym (differs ∙ by-text)
 
-  absent : {at : ℕ} {all : Members} → Marked vs base row at all → (cells : Forest Cell) → Held vs ns at cells → Sound s s cells → members s s cells ≡ all → base ≤ at → at + size cells ≤ base + limit → count all ≤ find text all
+  absent : {at : ℕ} {all : Members} → Marked xs base row at all → (cells : Forest Cell) → Held nodes at cells → Sound (twice s) cells
+      → members (twice s) cells ≡ all → base ≤ at → at + size cells ≤ base + limit → count all ≤ find text all
   unfolding find count mapForest size
   absent marked-none cells h sound e b l = omega arith
   absent (marked-tree r m) none h sound e b l = absurd (let z : _≡_ {A = ℕ} 0 1 = cc in omega arith)
   absent {at} (marked-tree {e = e} {kids = kids} {rest = rest} r m) (tree c below more) h (all-tree fits deeper sound) same b l =
-      let entry : entryOf s s c ≡ e = cc in
-      let under : members s s below ≡ kids = cc in
-      let behind : members s s more ≡ rest = cc in
-      let many : size below ≡ size kids = sym (size-map (entryOf s s) below) ∙ ap size under in
-      let next : Held vs ns (at + 1 + size kids) more = subst (λ n. Held vs ns (at + 1 + n) more) many (held-next h) in
+      let entry : entryOf (twice s) c ≡ e = cc in
+      let under : members (twice s) below ≡ kids = cc in
+      let behind : members (twice s) more ≡ rest = cc in
+      let many : size below ≡ size kids = sym (size-map (entryOf (twice s)) below) ∙ ap size under in
+      let next : Held nodes (at + 1 + size kids) more = subst (λ n. Held nodes (at + 1 + n) more) many (held-next h) in
       go (sameText (e .name) text) refl (ap (λ e. e .name) entry) (absent m more next sound behind (omega arith) (omega arith))
     where
-      go : (b : Bool) → sameText (e .name) text ≡ b → nameText s s (c .name) ≡ e .name → count rest ≤ find text rest → suc (count rest) ≤ (if b then 0 else suc (find text rest))
-      go true q n i = absurd (true≢false (sym q ∙ ap (λ t. sameText t text) (sym n) ∙ other h fits b (omega arith) (subst (Reached vs base row at) (sameText-true (e .name) text q) r)))
+      go : (b : Bool) → sameText (e .name) text ≡ b → nameText (twice s) (c .name) ≡ e .name → count rest ≤ find text rest
+          → suc (count rest) ≤ (if b then 0 else suc (find text rest))
+      go true q n i =
+          let reached : Reached xs base row at text = subst (Reached xs base row at) (sameText-true (e .name) text q) r in
+          absurd (true≢false (sym q ∙ ap (λ t. sameText t text) (sym n) ∙ other h fits b (omega arith) reached))
       go false q n i = omega arith
 
 -- ---- by a search among the rows
-module _ {source : ℕ} {s : Bytes} {start end : ℕ} {all : Members} {vs ns : List ℕ} {text : Text} {name : ℕ} (room : end ≤ scratchRow) (long-vs : scratchRow ≤ length vs) (long-ns : end ≤ length ns)
-    (f : Filled source s start end all vs ns) (titles : Titles source s text name) where
-  one : sourceText s s source ≡ s
+module _ {source : ℕ} {s : Bytes} {start end : ℕ} {all : Members} {nodes : List Row} {text : Text} {name : Name} (long : end ≤ length nodes)
+    (f : Filled source s start end all nodes) (titles : Titles source s text name) where
+  one : sourceText (twice s) source ≡ s
   one = one-text s source
 
-  asked : RowsHeld s s vs ns start end (f .cells)
-  asked = record { held = filled-held room long-vs long-ns f; ends = f .ends; sound = f .sound s s one }
+  asked : RowsHeld (tableWith s nodes) start end (f .cells)
+  asked = record { held = filled-held long f; ends = f .ends; sound = f .sound (twice s) one }
 
-  hashed : Hashed s s name
-  hashed = titles .fits s s one .hashed
+  hashed : Hashed (twice s) name
+  hashed = titles .fits (twice s) one .hashed
 
   many : count all ≡ count (f .cells)
-  many = ap count (sym (f .meant s s one)) ∙ count-map (entryOf s s) (f .cells)
+  many = ap count (sym (f .meant (twice s) one)) ∙ count-map (entryOf (twice s)) (f .cells)
 
-  place : find (nameText s s name) (members s s (f .cells)) ≡ find text all
-  place = ap₂ find (titles .says s s one) (f .meant s s one)
+  place : find (nameText (twice s) name) (members (twice s) (f .cells)) ≡ find text all
+  place = ap₂ find (titles .says (twice s) one) (f .meant (twice s) one)
 
   -- what the search found, said of the members
-  pub search-found : (row : ℕ) → FindIs s s vs ns start end name (At row) → has text all ≡ true
-  search-found row r = go (At row) (r (f .cells) asked hashed) refl
+  pub search-found : (row : ℕ) → FindIs (tableWith s nodes) start end name (At row) → has text all ≡ true
+  search-found row r = go (At row) (r .held (f .cells) asked hashed) refl
     where
-      go : (m : Member) → Found s s start (f .cells) (nameText s s name) m → m ≡ At row → has text all ≡ true
+      go : (m : Member) → Found (twice s) start (f .cells) (nameText (twice s) name) m → m ≡ At row → has text all ≡ true
       go m (Find.found k row' e l h) q = lt-ltb (find text all) (count all) (omega (arith, e, l, place, many))
       go m (Find.missing e) q = absurd (let z : _≡_ {A = ℕ} 0 1 = cc in omega arith)
 
-  pub search-missing : FindIs s s vs ns start end name Missing → has text all ≡ false
-  search-missing r = go Missing (r (f .cells) asked hashed) refl
+  pub search-missing : FindIs (tableWith s nodes) start end name Missing → has text all ≡ false
+  search-missing r = go Missing (r .held (f .cells) asked hashed) refl
     where
-      go : (m : Member) → Found s s start (f .cells) (nameText s s name) m → m ≡ Missing → has text all ≡ false
+      go : (m : Member) → Found (twice s) start (f .cells) (nameText (twice s) name) m → m ≡ Missing → has text all ≡ false
       go m (Find.found k row e l h) q = absurd (let z : _≡_ {A = ℕ} 0 1 = cc in omega arith)
       go m (Find.missing e) q = le-ltb (find text all) (count all) (omega (arith, e, place, many))
 
 -- ---- each way out of `repeated`
-module _ {s : Bytes} {vs ns vs' : List ℕ} {base row end word : ℕ} {r : Bool} (entered : Entered s s vs ns base row end word vs' r) (from-base : base ≤ row) (grows : row < end) (room : end ≤ scratchRow)
-    (long-vs : rows ≤ length vs) (long-ns : scratchRow ≤ length ns) where
-  pub repeated-reached : ReachedBy s vs' base row end word
-  repeated-reached source text titles l =
-      let one = one-text s source in
-      let is : nameText s s word ≡ text = titles .says s s one in
-      let met : MeetsName vs' s s (bucketSlot row (hashOf word)) word (end - base) = entered .found (omega arith) (omega arith) (omega arith) long-vs in
-      rw (titles .fits s s one .hashed .is, is) at met
+module _ {s : Bytes} {k : Container} {w : Work} {ys : List ℕ} {name : Name} {r : Bool} (lent : Lent (k .source) s w) (inside : Inside k)
+    (entered : Entered (tableWith s (w .nodes)) (w .index) (k .base) (k .row) (k .end) name ys r) where
+  reached : (text : Text) → Titles (k .source) s text name → LeadsNext k ys text
+  reached text titles l =
+      let one = one-text s (k .source) in
+      let is : nameText (twice s) name ≡ text = titles .says (twice s) one in
+      let hash-here : name .hash ≡ shortHash (hash text) = titles .fits (twice s) one .hashed .is ∙ ap (λ t. shortHash (hash t)) is in
+      let met : MeetsName ys (twice s) (bucketSlot (k .row) (name .hash)) name (k .end - k .base) =
+      entered .found (omega (arith, inside .low)) (omega (arith, inside .from-base, inside .grows)) (omega arith) (lent .index-long) in
+      rw (hash-here, is) at met
 
-  pub repeated-new : r ≡ false → RepeatedIs s vs ns base row end word false
-  repeated-new e source all text f m t =
-      let one = one-text s source in
-      let held = filled-held room (omega arith) (omega arith) f in
-      let few = absent row (t .says s s one) (t .fits s s one .hashed) (entered .others e) m (f .cells) held (f .sound s s one) (f .meant s s one) (omega arith) (omega (arith, f .ends)) in
+  made : {b : Bool}
+      → ((all : Members) (text : Text) → Holding s k (w .nodes) all → Leading k (w .index) all → Titles (k .source) s text name → b ≡ has text all)
+      → RepeatedIs s k w ys name b
+  made is = record { is = is; reached = reached; noted = noted-entered entered }
+
+  pub repeated-new : r ≡ false → RepeatedIs s k w ys name false
+  repeated-new e =
+      made λ all text f m t.
+      let one = one-text s (k .source) in
+      let held = filled-held (omega (arith, lent .nodes-long, inside .room, inside .low)) f in
+      let few =
+      absent (w .nodes) (k .base) (k .end - k .base) (k .row) (t .says (twice s) one) (t .fits (twice s) one .hashed) (entered .others e) m
+      (f .cells) held (f .sound (twice s) one) (f .meant (twice s) one) (omega (arith, inside .from-base)) (omega (arith, f .ends, inside .from-base)) in
       sym (le-ltb (find text all) (count all) few)
 
-  -- the members stand where they stood
-  still : {source : ℕ} {all : Members} → Filled source s (row + 1) end all vs ns → Filled source s (row + 1) end all vs' ns
-  still f = filled-kept {end' = end} (changed-scratched (noted-entered entered .scratched)) f
+  long-rows : k .end ≤ length (w .nodes)
+  long-rows = omega (arith, lent .nodes-long, inside .room, inside .low)
 
-  long-vs' : scratchRow ≤ length vs'
-  long-vs' = omega (arith, entered .scratched .same-length)
+  pub repeated-found : (at : ℕ) → FindIs (tableWith s (w .nodes)) (k .row + 1) (k .end) name (At at) → RepeatedIs s k w ys name true
+  repeated-found at found = made λ all text f m t. sym (search-found long-rows f t at found)
 
-  pub repeated-found : (at : ℕ) → FindIs s s vs' ns (row + 1) end word (At at) → RepeatedIs s vs ns base row end word true
-  repeated-found at found source all text f m t = sym (search-found room long-vs' (omega arith) (still f) t at found)
-
-  pub repeated-missing : FindIs s s vs' ns (row + 1) end word Missing → RepeatedIs s vs ns base row end word false
-  repeated-missing missing source all text f m t = sym (search-missing room long-vs' (omega arith) (still f) t missing)
+  pub repeated-missing : FindIs (tableWith s (w .nodes)) (k .row + 1) (k .end) name Missing → RepeatedIs s k w ys name false
+  repeated-missing missing = made λ all text f m t. sym (search-missing long-rows f t missing)
 
 -- ---- a member's name by its steps
 module _ (s : Bytes) (all : Members) (at : ℕ) where
@@ -156,82 +190,104 @@ module _ (s : Bytes) (all : Members) (at : ℕ) where
 
     name-new : has text all ≡ false → nameFor true s all at ≡ (afterColon s next >>= λ p. ok (text, p))
     unfolding nameFor fresh afterColon _>>=_
-    name-new h = rw (reads, h) (sym (>>=-assoc (byteIn s (blanks s next) (code ":") (code ":")) (λ _. ok (blanks s (blanks s next + 1))) (λ p. ok (text, p))))
+    name-new h =
+        rw (reads, h)
+        (sym (>>=-assoc (byteIn s (blanks s next) (code ":") (code ":")) (λ _. ok (blanks s (blanks s next + 1))) (λ p. ok (text, p))))
 
 -- ---- a refusal that is handed on
-name-handed-on : {source : ℕ} {s : Bytes} {object : Bool} {base row end : ℕ} {vs' : List ℕ} {A : Type 0} {d : Outcome A} {o : Outcome (Text × ℕ)} {w : Word} (h : Handed d w) → o ≡ refused (h .number) (h .place)
-    → NameIs source s object base row end vs' o w
+name-handed-on : {s : Bytes} {k : Container} {ys : List ℕ} {A : Type 0} {d : Outcome A} {o : Outcome (Text × ℕ)} {w : Named} (h : HandedNamed d w)
+    → o ≡ refused (h .number) (h .place) → NameIs s k ys o w
 name-handed-on h e = rw (h .word) (name-refused (h .number) (h .place) e)
 
 -- ---- each way out of `member_name`
-module _ (source : ℕ) (s : Bytes) (base row end : ℕ) (vs ns : List ℕ) (at : ℕ) where
-  pub member-no-string : (vs' : List ℕ) {w : Word} → Handed (string s at) w → Having source s true base row end vs ns (λ all. NameIs source s true base row end vs' (nameFor true s all at) w)
-  member-no-string vs' h all f m = name-handed-on h (name-no-string s all at (h .number) (h .place) (h .gives))
+module _ (s : Bytes) (k : Container) (w : Work) (object : k .object ≡ true) (at : ℕ) where
+  pub member-no-string : {r : Named} → HandedNamed (string s at) r → NamedIs s k w (w .index) (λ all. nameFor true s all at) r
+  member-no-string h =
+      record { answer = λ all f m. name-handed-on h (name-no-string s all at (h .number) (h .place) (h .gives)); noted = noted-none }
 
-  module _ {next h : ℕ} {plain : Bool} (read : NameRead s at next h plain) (name : ℕ) (titles : Titles source s (read .text) name) where
-    pub member-repeated : (vs' : List ℕ) → RepeatedIs s vs ns base row end name true → Having source s true base row end vs ns (λ all. NameIs source s true base row end vs' (nameFor true s all at) (Refused repeated-name (next - 1)))
-    member-repeated vs' r all f m = name-refused repeated-name (next - 1) (name-repeated s all at (read .text) next (read .reads) (sym (r source all (read .text) f (m refl) titles)))
+  module _ {next h : ℕ} {plain : Bool} (read : NameRead s at next h plain) (name : Name) (titles : Titles (k .source) s (read .text) name) {ys : List ℕ} where
+    pub member-repeated : {b : Bool} → RepeatedIs s k w ys name b → b ≡ true
+        → NamedIs s k w ys (λ all. nameFor true s all at) (Refused repeated-name (next - 1))
+    member-repeated r e =
+        record {
+          answer = λ all f m.
+              name-refused repeated-name (next - 1)
+              (name-repeated s all at (read .text) next (read .reads) (sym (r .is all (read .text) f (m object) titles) ∙ e));
+          noted = r .noted;
+        }
 
-    module _ (vs' : List ℕ) (r : RepeatedIs s vs ns base row end name false) where
-      new : (all : Members) → Filled source s (row + 1) end all vs ns → (true ≡ true → Marked vs base row (row + 1) all) → nameFor true s all at ≡ (afterColon s next >>= λ p. ok (read .text, p))
-      new all f m = name-new s all at (read .text) next (read .reads) (sym (r source all (read .text) f (m refl) titles))
+    module _ {b : Bool} (r : RepeatedIs s k w ys name b) (e : b ≡ false) where
+      new : (all : Members) → Holding s k (w .nodes) all → (k .object ≡ true → Leading k (w .index) all)
+          → nameFor true s all at ≡ (afterColon s next >>= λ p. ok (read .text, p))
+      new all f m = name-new s all at (read .text) next (read .reads) (sym (r .is all (read .text) f (m object) titles) ∙ e)
 
-      pub member-no-colon : {w : Word} → Handed (afterColon s next) w → Having source s true base row end vs ns (λ all. NameIs source s true base row end vs' (nameFor true s all at) w)
+      pub member-no-colon : {n : Named} → HandedNamed (afterColon s next) n → NamedIs s k w ys (λ all. nameFor true s all at) n
       unfolding _>>=_
-      member-no-colon h all f m = name-handed-on h (new all f m ∙ rw (h .gives))
+      member-no-colon h = record { answer = λ all f m. name-handed-on h (new all f m ∙ rw (h .gives)); noted = r .noted }
 
-      pub member-read : (first : Cursor) → afterColon s next ≡ ok (first .at) → ReachedBy s vs' base row end name → Having source s true base row end vs ns (λ all. NameIs source s true base row end vs' (nameFor true s all at) (Read first name))
+      pub member-read : (first : Cursor) → afterColon s next ≡ ok (first .at) → NamedIs s k w ys (λ all. nameFor true s all at) (Read first name)
       unfolding _>>=_
-      member-read first e k all f m = name-read (read .text) first name (new all f m ∙ rw e) titles (λ _. k source (read .text) titles)
+      member-read first colon =
+          record {
+            answer = λ all f m. name-read (read .text) first name (new all f m ∙ rw colon) titles (λ _. r .reached (read .text) titles);
+            noted = r .noted;
+          }
 
 -- ---- each way out of `item_name`
-pub item-named : {source : ℕ} {s : Bytes} {object : Bool} {base row end : ℕ} {vs ns vs' : List ℕ} (at : ℕ) {r : Word} → object ≡ true → Having source s true base row end vs ns (λ all. NameIs source s true base row end vs' (nameFor true s all at) r)
-    → Having source s object base row end vs ns (λ all. NameIs source s object base row end vs' (nameFor object s all at) r)
-item-named {object = true} at e h = h
-item-named {object = false} at e h = absurd (true≢false (sym e))
+pub item-named : {s : Bytes} {k : Container} {w : Work} {ys : List ℕ} (at : ℕ) {r : Named} → k .object ≡ true
+    → NamedIs s k w ys (λ all. nameFor true s all at) r → NamedIs s k w ys (λ all. nameFor (k .object) s all at) r
+item-named {s} {k} {w} {ys} at {r} e h = subst (λ b. NamedIs s k w ys (λ all. nameFor b s all at) r) (sym e) h
 
-pub item-nameless : {source : ℕ} {s : Bytes} {object : Bool} {base row end : ℕ} {vs ns : List ℕ} (vs' : List ℕ) (at : Cursor) → object ≡ false
-    → Having source s object base row end vs ns (λ all. NameIs source s object base row end vs' (nameFor object s all (at .at)) (Read at 0))
+pub item-nameless : {s : Bytes} {k : Container} {w : Work} (at : Cursor) {name : Name} → k .object ≡ false → name ≡ nameless
+    → NamedIs s k w (w .index) (λ all. nameFor (k .object) s all (at .at)) (Read at name)
 unfolding nameFor
-item-nameless {source} {s} {object = false} vs' at e all f m = name-read [] at 0 refl (no-titles source s) (λ t. absurd (true≢false (sym t)))
-item-nameless {object = true} vs' at e all f m = absurd (true≢false e)
+item-nameless {s} {k} {w} at e is =
+    record {
+      answer = λ all f m. rw is (name-read [] at nameless (rw e) (no-titles (k .source) s) (λ t. absurd (true≢false (sym t ∙ e))));
+      noted = noted-none;
+    }
 
 -- ---- each way out of `next_name`
-module _ (source : ℕ) (s : Bytes) (object : Bool) (base row end : ℕ) (vs ns : List ℕ) (at : ℕ) (first : Bool) (first-is : first ≡ eqb end (row + 1)) where
+module _ (s : Bytes) (k : Container) (w : Work) (at : ℕ) (first : Bool) (first-is : first ≡ eqb (k .end) (k .row + 1)) where
   -- the code knows the first item by the rows
-  counted : (all : Members) → Filled source s (row + 1) end all vs ns → eqb (count all) 0 ≡ first
+  counted : (all : Members) → Holding s k (w .nodes) all → eqb (count all) 0 ≡ first
   unfolding count size
-  counted none f = sym (first-is ∙ eq-eqb end (row + 1) (omega (arith, filled-size f)))
-  counted (tree e kids rest) f = ne-eqb (suc (count rest)) 0 (λ z. omega arith) ∙ sym (first-is ∙ ne-eqb end (row + 1) (λ q. omega (arith, filled-size f)))
+  counted none f = sym (first-is ∙ eq-eqb (k .end) (k .row + 1) (omega (arith, filled-size f)))
+  counted (tree e kids rest) f =
+      ne-eqb (suc (count rest)) 0 (λ z. omega arith) ∙ sym (first-is ∙ ne-eqb (k .end) (k .row + 1) (λ q. omega (arith, filled-size f)))
 
-  by-comma : (all : Members) → Filled source s (row + 1) end all vs ns → nextName object s all at ≡ (afterComma s first at >>= nameFor object s all)
+  by-comma : (all : Members) → Holding s k (w .nodes) all → nextName (k .object) s all at ≡ (afterComma s first at >>= nameFor (k .object) s all)
   unfolding nextName
   by-comma all f = rw (counted all f)
 
-  pub next-no-comma : (vs' : List ℕ) {w : Word} → Handed (afterComma s first at) w → Having source s object base row end vs ns (λ all. NameIs source s object base row end vs' (nextName object s all at) w)
+  pub next-no-comma : {r : Named} → HandedNamed (afterComma s first at) r → NamedIs s k w (w .index) (λ all. nextName (k .object) s all at) r
   unfolding _>>=_
-  next-no-comma vs' h all f m = name-handed-on h (by-comma all f ∙ rw (h .gives))
+  next-no-comma h = record { answer = λ all f m. name-handed-on h (by-comma all f ∙ rw (h .gives)); noted = noted-none }
 
-  pub next-named : {vs' : List ℕ} {p : ℕ} {w : Word} → afterComma s first at ≡ ok p → Having source s object base row end vs ns (λ all. NameIs source s object base row end vs' (nameFor object s all p) w)
-      → Having source s object base row end vs ns (λ all. NameIs source s object base row end vs' (nextName object s all at) w)
+  pub next-named : {ys : List ℕ} {p : ℕ} {r : Named} → afterComma s first at ≡ ok p → NamedIs s k w ys (λ all. nameFor (k .object) s all p) r
+      → NamedIs s k w ys (λ all. nextName (k .object) s all at) r
   unfolding _>>=_
-  next-named comma h all f m = rw (by-comma all f, comma) (h all f m)
+  next-named comma h = record { answer = λ all f m. rw (by-comma all f, comma) (h .answer all f m); noted = h .noted }
 
 -- ---- each way out of `next_item`
-module _ (source : ℕ) (s : Bytes) (object : Bool) (base row end : ℕ) (vs ns : List ℕ) (at place : ℕ) (place-is : place ≡ blanks s at) where
-  pub item-close : (vs' : List ℕ) → byte s place ≡ closingBracket object
-      → Having source s object base row end vs ns (λ all. ItemIs source s object base row end vs' (nextItem object s all at) (Closed (record { at = place + 1 })))
+module _ (s : Bytes) (k : Container) (w : Work) (at place : ℕ) (place-is : place ≡ blanks s at) where
+  pub item-close : byte s place ≡ closingBracket (k .object) → NextItemIs s k w (w .index) at (Closed (record { at = place + 1 }))
   unfolding nextItem
-  item-close vs' e all f m = item-closed (record { at = place + 1 }) (rw (← place-is, eq-eqb (byte s place) (closingBracket object) e))
+  item-close e =
+      record {
+        answer = λ all f m.
+            item-closed (record { at = place + 1 }) (rw (← place-is, eq-eqb (byte s place) (closingBracket (k .object)) e));
+        noted = noted-none;
+      }
 
-  pub item-next : {vs' : List ℕ} {w : Word} {i : Item} → (byte s place ≡ closingBracket object → ⊥) → Having source s object base row end vs ns (λ all. NameIs source s object base row end vs' (nextName object s all place) w) → i ≡ itemOf w
-      → Having source s object base row end vs ns (λ all. ItemIs source s object base row end vs' (nextItem object s all at) i)
+  pub item-next : {ys : List ℕ} {n : Named} {i : Item} → (byte s place ≡ closingBracket (k .object) → ⊥)
+      → NamedIs s k w ys (λ all. nextName (k .object) s all place) n → i ≡ itemOf n → NextItemIs s k w ys at i
   unfolding nextItem itemOf begun _>>=_
-  item-next {vs'} {w} another h is all f m = rw is (go w (h all f m))
+  item-next {ys} {n} another h is = record { answer = λ all f m. rw is (go all n (h .answer all f m)); noted = h .noted }
     where
-      by-name : nextItem object s all at ≡ (nextName object s all place >>= begun)
-      by-name = rw (← place-is, ne-eqb (byte s place) (closingBracket object) another)
+      by-name : (all : Members) → nextItem (k .object) s all at ≡ (nextName (k .object) s all place >>= begun)
+      by-name all = rw (← place-is, ne-eqb (byte s place) (closingBracket (k .object)) another)
 
-      go : (w : Word) → NameIs source s object base row end vs' (nextName object s all place) w → ItemIs source s object base row end vs' (nextItem object s all at) (itemOf w)
-      go w (name-read text next name r t k) = item-begins text next name (by-name ∙ rw r) t k
-      go w (name-refused n q r) = item-refused n q (by-name ∙ rw r)
+      go : (all : Members) (n : Named) → NameIs s k ys (nextName (k .object) s all place) n → ItemIs s k ys (nextItem (k .object) s all at) (itemOf n)
+      go all n (name-read text next name r t l) = item-begins text next name (by-name all ∙ rw r) t l
+      go all n (name-refused number q r) = item-refused number q (by-name all ∙ rw r)

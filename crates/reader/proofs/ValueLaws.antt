@@ -26,7 +26,8 @@ data Begins (s : Bytes) (at : ℕ) : ℕ → Type 0 where
   an-object : eqb (byte s at) (code "[") ≡ false → eqb (byte s at) (code "{") ≡ true → Begins s at objectKind
   a-scalar : {kind : ℕ} → eqb (byte s at) (code "[") ≡ false → eqb (byte s at) (code "{") ≡ false → kind < arrayKind
       → ((nodes : ℕ) → scalar s at nodes ≡ (roomFor nodes at >>= λ _. scalarOf kind s at)) → Begins s at kind
-  no-value : eqb (byte s at) (code "[") ≡ false → eqb (byte s at) (code "{") ≡ false → ((nodes : ℕ) → scalar s at nodes ≡ refused not-json at) → Begins s at noKind
+  no-value : eqb (byte s at) (code "[") ≡ false → eqb (byte s at) (code "{") ≡ false
+      → ((nodes : ℕ) → scalar s at nodes ≡ refused not-json at) → Begins s at noKind
 
 begins : (s : Bytes) (at : ℕ) → Begins s at (beginning (byte s at))
 unfolding beginning scalar scalarOf
@@ -35,7 +36,8 @@ begins s at = array (eqb b (code "[")) refl
     b : ℕ
     b = byte s at
 
-    word : (t : Bool) → eqb b (code "[") ≡ false → eqb b (code "{") ≡ false → eqb b (code "\"") ≡ false → (isDigit b || eqb b (code "-")) ≡ false → eqb b (code "n") ≡ false → eqb b (code "t") ≡ t
+    word : (t : Bool) → eqb b (code "[") ≡ false → eqb b (code "{") ≡ false → eqb b (code "\"") ≡ false
+        → (isDigit b || eqb b (code "-")) ≡ false → eqb b (code "n") ≡ false → eqb b (code "t") ≡ t
         → Begins s at (beginning b)
     word true e f g h i j = rw (e, f, g, h, i, j) (a-scalar {kind = 1} e f (omega arith) (λ nodes. rw (g, h, i, j)))
     word false e f g h i j = last (eqb b (code "f")) refl
@@ -82,7 +84,7 @@ no-room nodes at n e h = go (ltb nodes maxNodes) e
     go false e = rw e
 
 -- ---- the refusal at the first byte of a value of a kind
-refusal-scalar : (kind levels nodes : ℕ) → kind < arrayKind → refusalFor kind levels nodes ≡ roomRefusal nodes
+pub refusal-scalar : (kind levels nodes : ℕ) → kind < arrayKind → refusalFor kind levels nodes ≡ roomRefusal nodes
 unfolding refusalFor
 refusal-scalar kind levels nodes h = rw (ne-eqb kind noKind (λ e. omega arith), lt-ltb kind arrayKind h)
 
@@ -103,7 +105,8 @@ unfolding refusalFor roomRefusal
 refusal-none kind levels nodes e = go (eqb kind noKind) refl (ltb kind arrayKind) (eqb levels 0) (ltb nodes maxNodes) refl e
   where
     go : (a : Bool) → eqb kind noKind ≡ a → (b c d : Bool) → ltb nodes maxNodes ≡ d
-        → (if a then not-json else if b then (if d then 0 else too-many-nodes) else if c then too-deep else if d then 0 else too-many-nodes) ≡ 0 → (kind ≡ noKind → ⊥) × (nodes < maxNodes)
+        → (if a then not-json else if b then (if d then 0 else too-many-nodes) else if c then too-deep else if d then 0 else too-many-nodes) ≡ 0
+        → (kind ≡ noKind → ⊥) × (nodes < maxNodes)
     go true p b c d q e = absurd (omega arith)
     go false p true c true q e = (eqb-false kind noKind p, ltb-true nodes maxNodes q)
     go false p true c false q e = absurd (omega arith)
@@ -170,11 +173,14 @@ module _ (s : Bytes) (at nodes : ℕ) where
       pub value-level : levels ≡ 0 → ⊥
       value-level = refusal-deep (beginning (byte s at)) levels nodes container-here passes
 
-      pub value-container : (left : ℕ) → levels ≡ suc left → value levels s at nodes ≡ (contents (value left s) (eqb (beginning (byte s at)) objectKind) s (nodes + 1) (at + 1) >>= whole (eqb (beginning (byte s at)) objectKind))
+      pub value-container : (left : ℕ) → levels ≡ suc left
+          → value levels s at nodes
+          ≡ (contents (value left s) (eqb (beginning (byte s at)) objectKind) s (nodes + 1) (at + 1) >>= whole (eqb (beginning (byte s at)) objectKind))
       unfolding value container whole refusalFor _>>=_
       value-container left some = go (beginning (byte s at)) (begins s at) (rw some at passes) container-here
         where
-          go : (kind : ℕ) → Begins s at kind → refusalFor kind (suc left) nodes ≡ 0 → arrayKind ≤ kind → value levels s at nodes ≡ (contents (value left s) (eqb kind objectKind) s (nodes + 1) (at + 1) >>= whole (eqb kind objectKind))
+          go : (kind : ℕ) → Begins s at kind → refusalFor kind (suc left) nodes ≡ 0 → arrayKind ≤ kind
+              → value levels s at nodes ≡ (contents (value left s) (eqb kind objectKind) s (nodes + 1) (at + 1) >>= whole (eqb kind objectKind))
           go kind (an-array t) e h = rw (some, t, room nodes at (sym (refusal-container arrayKind left nodes (omega arith) (omega arith)) ∙ e))
           go kind (an-object t u) e h = rw (some, t, u, room nodes at (sym (refusal-container objectKind left nodes (omega arith) (omega arith)) ∙ e))
           go kind (a-scalar t u k q) e h = absurd (omega arith)

@@ -1,21 +1,24 @@
 -- What comes next in a container.
-use Prim.Native.Nat.{ℕ, _+_, _<_}
+use Prim.Native.Nat.{ℕ, _+_}
 use Prim.Native.Char.{code}
 use mathlib.Core.Path.{_≡_}
 use mathlib.Core.Bool.{Bool, true}
 use mathlib.Core.List.{List}
 use lib.Dec.{eqb}
 use Rattle.spec.specs.Outcome.{Outcome, ok, refused, _>>=_, if_then_else_}
-use Rattle.spec.specs.Limits.{maxNodes}
 use Rattle.spec.specs.Bytes.{Bytes, Text, byte, byteIn}
 use Rattle.spec.specs.Forest.{count}
 use Rattle.spec.specs.Value.{Members}
 use Rattle.spec.specs.Read.{blanks, nameFor, closingBracket}
 use Rattle.lexer.specs.declared.cursor.Cursor.{Cursor}
+use Rattle.tape.specs.declared.fields.Name.{Name}
+use Rattle.reader.specs.Work.{Work}
 use Rattle.reader.specs.Words.{Titles}
-use Rattle.reader.specs.Filled.{Reached}
-use Rattle.reader.specs.declared.words.Word.{Word}
-use Rattle.reader.specs.declared.words.Word.the-variants as Word
+use Rattle.reader.specs.Filled.{Noted}
+use Rattle.reader.specs.Names.{LeadsNext, Having, NamedIs}
+use Rattle.reader.specs.declared.names.Container.{Container}
+use Rattle.reader.specs.declared.words.Named.{Named}
+use Rattle.reader.specs.declared.words.Named.the-variants as Named
 use Rattle.reader.specs.declared.items.Item.{Item}
 use Rattle.reader.specs.declared.items.Item.the-variants.{Begins, Closed, Refused}
 
@@ -42,13 +45,21 @@ nextItem object s so-far at =
     if eqb (byte s place) (closingBracket object) then ok (closed (place + 1)) else (nextName object s so-far place >>= begun)
 
 -- the code's answer of a name, as one of an item
-unfoldable pub itemOf : Word → Item
-itemOf (Word.Read first name) = Begins first name
-itemOf (Word.Refused number place) = Refused number place
+unfoldable pub itemOf : Named → Item
+itemOf (Named.Read first name) = Begins first name
+itemOf (Named.Refused number place) = Refused number place
 
 -- what the code answers
-pub data ItemIs (source : ℕ) (s : Bytes) (object : Bool) (base row end : ℕ) (values' : List ℕ) (o : Outcome Next) : Item → Type 0 where
-  item-begins : (text : Text) (first : Cursor) (name : ℕ) → o ≡ ok (begins text (first .at)) → Titles source s text name
-      → (object ≡ true → end < base + maxNodes → Reached values' base row end text) → ItemIs source s object base row end values' o (Begins first name)
-  item-closed : (next : Cursor) → o ≡ ok (closed (next .at)) → ItemIs source s object base row end values' o (Closed next)
-  item-refused : (number place : ℕ) → o ≡ refused number place → ItemIs source s object base row end values' o (Refused number place)
+pub data ItemIs (s : Bytes) (k : Container) (ys : List ℕ) (o : Outcome Next) : Item → Type 0 where
+  item-begins : (text : Text) (first : Cursor) (name : Name) → o ≡ ok (begins text (first .at)) → Titles (k .source) s text name
+      → (k .object ≡ true → LeadsNext k ys text) → ItemIs s k ys o (Begins first name)
+  item-closed : (next : Cursor) → o ≡ ok (closed (next .at)) → ItemIs s k ys o (Closed next)
+  item-refused : (number place : ℕ) → o ≡ refused number place → ItemIs s k ys o (Refused number place)
+
+-- its answer of the next name, and of the next item, given the items so far; and the index afterwards
+abbrev pub NextNameIs : Bytes → Container → Work → List ℕ → ℕ → Named → Type 0
+NextNameIs s k w ys at r = NamedIs s k w ys (λ all. nextName (k .object) s all at) r
+
+pub record NextItemIs (s : Bytes) (k : Container) (w : Work) (ys : List ℕ) (at : ℕ) (r : Item) : Type 0 where
+  pub answer : Having s k w (λ all. ItemIs s k ys (nextItem (k .object) s all at) r)
+  pub noted : Noted (k .base) (k .end) (w .index) ys

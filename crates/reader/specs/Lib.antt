@@ -1,4 +1,5 @@
 pub mod Begins
+pub mod Work
 pub mod Words
 pub mod Filled
 pub mod Names

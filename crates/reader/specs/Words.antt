@@ -1,9 +1,7 @@
--- What the words say that are read of a text: of a scalar its label, of a name its text.
-use Prim.Native.Nat.{ℕ, _<_, _≤_}
+-- What is read of a text: of a scalar its label, of a name its text.
+use Prim.Native.Nat.{ℕ, _+_, _-_}
 use mathlib.Core.Path.{_≡_}
 use mathlib.Core.Bool.{Bool}
-use mathlib.Core.List.{List}
-use lib.ListN.{length}
 use Rattle.spec.specs.Outcome.{Outcome, ok, refused, if_then_else_}
 use Rattle.spec.specs.Refusal.{not-json}
 use Rattle.spec.specs.Bytes.{Bytes, Text}
@@ -12,56 +10,77 @@ use Rattle.spec.specs.Value.{Label, leaf}
 use Rattle.lexer.specs.declared.cursor.Cursor.{Cursor}
 use Rattle.lexer.specs.declared.cursor.Scan.{Scan}
 use Rattle.lexer.specs.declared.cursor.Scan.the-variants as Scan
-use Rattle.lexer.specs.declared.strings.Name.{Name}
+use Rattle.lexer.specs.declared.strings.Name as Lexed
 use Rattle.lexer.specs.declared.strings.Name.the-variants as Name
-use Rattle.tape.specs.Layout.{sources, places, spellings, plainString, escapedString, scratchRow, rows}
-use Rattle.table.specs.Meaning.{sourceText, spelled, labelOf, nameText}
-use Rattle.table.specs.Sound.{Verbatim, NameFits, LabelFits}
-use Rattle.reader.specs.declared.words.Word.{Word}
-use Rattle.reader.specs.declared.words.Word.the-variants.{Read, Refused}
+use Rattle.lexer.specs.declared.strings.Quoted.{Quoted}
+use Rattle.lexer.specs.declared.strings.Quoted.the-variants as Quoted
+use Rattle.tape.specs.Layout.{noText, plainString, escapedString, numeral}
+use Rattle.tape.specs.declared.fields.Spelling.{Spelling}
+use Rattle.tape.specs.declared.fields.Name.{Name}
+use Rattle.tape.specs.Cell.{Told}
+use Rattle.tape.specs.Lent.{Texts}
+use Rattle.table.specs.Meaning.{sourceText, labelOf, nameText}
+use Rattle.table.specs.Sound.{NameFits, LabelFits}
+use Rattle.reader.specs.declared.words.Spelled.{Spelled}
+use Rattle.reader.specs.declared.words.Spelled.the-variants as Spelled
+use Rattle.reader.specs.declared.words.Named.{Named}
+use Rattle.reader.specs.declared.words.Named.the-variants as Named
 
 -- what holds whatever the two texts are, provided that the source names this one
-abbrev pub InText : ℕ → Bytes → (Bytes → Bytes → Type 0) → Type 0
-InText source s P = (document patch : Bytes) → sourceText document patch source ≡ s → P document patch
+abbrev pub InText : ℕ → Bytes → (Texts → Type 0) → Type 0
+InText source s P = (T : Texts) → sourceText T source ≡ s → P T
 
--- what a reader is lent: a text whose places fit a spelling, and columns with room for the nodes and the index
-pub record Lent (source : ℕ) (s : Bytes) (values names : List ℕ) : Type 0 where
-  pub source< : source < sources
-  pub short : length s < places
-  pub values-long : rows ≤ length values
-  pub names-long : scratchRow ≤ length names
+-- ---- spellings
+-- of a literal, a container, and what has no name
+abbrev pub noSpelling : Spelling
+noSpelling = record { form = noText; source = 0; start = 0; length = 0 }
 
--- the form of a string, by whether it is written without escapes
+abbrev pub nameless : Name
+nameless = record { text = noSpelling; hash = 0 }
+
+-- of a number from a place up to the next
+abbrev pub numberSpelling : ℕ → ℕ → ℕ → Spelling
+numberSpelling source at next = record { form = numeral; source = source; start = at; length = next - at }
+
+-- of a string whose characters begin at `start` and end before its closing quotation mark, behind which is `next`; by whether it has no escapes
 unfoldable pub stringForm : Bool → ℕ
 stringForm plain = if plain then plainString else escapedString
 
--- a spelling says a text
-pub record Spells (source : ℕ) (s : Bytes) (text : Text) (spelling : ℕ) : Type 0 where
-  pub small : spelling < spellings
-  pub says : InText source s (λ document patch. spelled document patch spelling ≡ text)
-  pub verbatim : InText source s (λ document patch. Verbatim document patch spelling)
+abbrev pub stringSpelling : Bool → ℕ → ℕ → ℕ → Spelling
+stringSpelling plain source start next = record { form = stringForm plain; source = source; start = start; length = next - 1 - start }
 
--- a node's payload says its label, and fits the table
-pub record Labels (source : ℕ) (s : Bytes) (kind : ℕ) (label : Label) (payload : ℕ) : Type 0 where
-  pub small : payload < spellings
-  pub says : InText source s (λ document patch. labelOf document patch kind payload ≡ label)
-  pub fits : InText source s (λ document patch. LabelFits document patch kind payload)
+-- ---- what they say
+-- a node's kind and spelling say its label, and fit the table
+pub record Labels (source : ℕ) (s : Bytes) (kind : ℕ) (label : Label) (value : Spelling) : Type 0 where
+  pub told : Told value
+  pub says : InText source s (λ T. labelOf T kind value ≡ label)
+  pub fits : InText source s (λ T. LabelFits T kind value)
 
--- a name's word says its text, and fits the table
-pub record Titles (source : ℕ) (s : Bytes) (text : Text) (name : ℕ) : Type 0 where
-  pub says : InText source s (λ document patch. nameText document patch name ≡ text)
-  pub fits : InText source s (λ document patch. NameFits document patch name)
+-- a name says its text, and fits the table
+pub record Titles (source : ℕ) (s : Bytes) (text : Text) (name : Name) : Type 0 where
+  pub told : Told (name .text)
+  pub says : InText source s (λ T. nameText T name ≡ text)
+  pub fits : InText source s (λ T. NameFits T name)
 
--- the word 0 spells nothing: of a literal, and of a refusal that is handed on
-unfoldable pub unspelled : Scan → Word
-unspelled (Scan.To next) = Read next 0
-unspelled (Scan.Refused number place) = Refused number place
+-- ---- answers handed on: a literal spells nothing, and a refusal stays what it is
+unfoldable pub unspelled : Scan → Spelled
+unspelled (Scan.To next) = Spelled.Read next noSpelling
+unspelled (Scan.Refused number place) = Spelled.Refused number place
 
-unfoldable pub unspelledName : Name → Word
-unspelledName (Name.Read next hash plain) = Read next 0
-unspelledName (Name.Refused place) = Refused not-json place
+unfoldable pub unquoted : Quoted → Spelled
+unquoted (Quoted.Read next plain) = Spelled.Read next noSpelling
+unquoted (Quoted.Refused place) = Spelled.Refused not-json place
+
+unfoldable pub unnamed : Scan → Named
+unnamed (Scan.To next) = Named.Read next nameless
+unnamed (Scan.Refused number place) = Named.Refused number place
+
+unfoldable pub untitled : Lexed.Name → Named
+untitled (Name.Read next hash plain) = Named.Read next nameless
+untitled (Name.Refused place) = Named.Refused not-json place
 
 -- what a scalar's reader answers
-pub data ScalarIs (source : ℕ) (s : Bytes) (kind : ℕ) (o : Outcome (Value.Value × ℕ)) : Word → Type 0 where
-  scalar-read : (label : Label) (next : Cursor) (payload : ℕ) → o ≡ ok (leaf label, next .at) → Labels source s kind label payload → ScalarIs source s kind o (Read next payload)
-  scalar-refused : (number place : ℕ) → o ≡ refused number place → ScalarIs source s kind o (Refused number place)
+pub data ScalarIs (source : ℕ) (s : Bytes) (kind : ℕ) (o : Outcome (Value.Value × ℕ)) : Spelled → Type 0 where
+  scalar-read : (label : Label) (next : Cursor) (value : Spelling) → o ≡ ok (leaf label, next .at) → Labels source s kind label value
+      → ScalarIs source s kind o (Spelled.Read next value)
+  scalar-refused : (number place : ℕ) → o ≡ refused number place → ScalarIs source s kind o (Spelled.Refused number place)

@@ -1,24 +1,25 @@
 // The next item of a container.
 ghost use mathlib.Core.Path.{_≡_};
-ghost use Prim.Native.Nat.{_+_, _<_, _≤_};
-ghost use Rattle.spec.specs.Limits.{maxNodes};
-ghost use Rattle.spec.specs.Read.{closingBracket, nameFor};
+ghost use Rattle.spec.specs.Read.{closingBracket};
 ghost use Rattle.lexer.specs.Answers.{scanOutcome};
-ghost use Rattle.tape.specs.Layout.{scratchRow};
-ghost use Rattle.reader.specs.Words.{Lent};
-ghost use Rattle.reader.specs.Filled.{Noted};
-ghost use Rattle.reader.specs.Names.{NameIs, Having};
-ghost use Rattle.reader.specs.Items.{afterComma, nextName, itemOf, nextItem, ItemIs};
+ghost use Rattle.reader.specs.Work.{workBefore};
+ghost use Rattle.reader.specs.Names.{Lent, Inside, ItemNameIs};
+ghost use Rattle.reader.specs.Items.{afterComma, itemOf, NextNameIs, NextItemIs};
+use crate::names::Container;
 use crate::names::member_name;
-use crate::words::Word;
-use crate::words::unspelled;
+use crate::words::Named;
+use crate::words::no_name;
+use crate::words::unnamed;
 use lexer::Cursor;
 use lexer::Scan;
 use lexer::peek;
+use spec::refusal;
+use tape::fields::Name;
+use tape::layout::Node;
 
 pub enum Item {
-    // the cursor where the item's value begins, and the word of its name
-    Begins(Cursor, u64),
+    // the cursor where the item's value begins, and its name
+    Begins(Cursor, Name),
     // the cursor after the closing bracket
     Closed(Cursor),
     Refused(u8, usize),
@@ -38,88 +39,61 @@ fn comma(s: &[u8], at: Cursor, first: bool) -> Scan
         return Scan::To(at);
     }
     if peek(s, at.at) != b',' {
-        return Scan::Refused(3, at.at);
+        return Scan::Refused(refusal::NOT_JSON, at.at);
     }
     Scan::To((Cursor { at: at.at + 1 }).blanks(s))
 }
 
 // The name of an item; an array's element has none.
-fn item_name(
-    s: &[u8],
-    at: Cursor,
-    object: bool,
-    source: u64,
-    base: usize,
-    row: usize,
-    end: usize,
-    values: &mut [u64],
-    names: &[u64],
-) -> Word
-    requires { ⌜ Lent source (now s) (now values) (now names) ⌝ }
-    requires { ⌜ (base ≤ row) × (row < end) × (end ≤ base + maxNodes) × (base + maxNodes ≤ scratchRow) ⌝ }
-    ensures { λ r. ⌜ Having source (now (s .entry)) object base row end (now (values .entry)) (now (names .entry)) (λ all. NameIs source (now (s .entry)) object base row end (now (values .exit)) (nameFor object (now (s .entry)) all (at .at)) r) ⌝ }
-    ensures { λ r. ⌜ Noted base end (now (values .entry)) (now (values .exit)) ⌝ }
+fn item_name(s: &[u8], nodes: &[Node], index: &mut [u16], at: Cursor, container: Container) -> Named
+    requires { ⌜ Lent (container .source) (now s) (record { nodes = now nodes; index = now index }) ⌝ }
+    requires { ⌜ Inside container ⌝ }
+    ensures { λ r. ⌜ ItemNameIs (now (s .entry)) container (workBefore nodes index) (now (index .exit)) (at .at) r ⌝ }
 {
-    if object {
-        return member_name(s, at, source, base, row, end, values, names);
+    if container.object {
+        return member_name(s, nodes, index, at, container);
     }
-    Word::Read(at, 0)
+    Named::Read(at, no_name())
 }
 
 // The name of the next item, after the comma before it.
-fn next_name(
-    s: &[u8],
-    at: Cursor,
-    object: bool,
-    source: u64,
-    base: usize,
-    row: usize,
-    end: usize,
-    values: &mut [u64],
-    names: &[u64],
-) -> Word
-    requires { ⌜ Lent source (now s) (now values) (now names) ⌝ }
-    requires { ⌜ (base ≤ row) × (row < end) × (end ≤ base + maxNodes) × (base + maxNodes ≤ scratchRow) ⌝ }
-    ensures { λ r. ⌜ Having source (now (s .entry)) object base row end (now (values .entry)) (now (names .entry)) (λ all. NameIs source (now (s .entry)) object base row end (now (values .exit)) (nextName object (now (s .entry)) all (at .at)) r) ⌝ }
-    ensures { λ r. ⌜ Noted base end (now (values .entry)) (now (values .exit)) ⌝ }
+fn next_name(s: &[u8], nodes: &[Node], index: &mut [u16], at: Cursor, container: Container) -> Named
+    requires { ⌜ Lent (container .source) (now s) (record { nodes = now nodes; index = now index }) ⌝ }
+    requires { ⌜ Inside container ⌝ }
+    ensures { λ r. ⌜ NextNameIs (now (s .entry)) container (workBefore nodes index) (now (index .exit)) (at .at) r ⌝ }
 {
-    let scan = comma(s, at, end == row + 1);
+    let scan = comma(s, at, container.end == container.row + 1);
     let Scan::To(first) = scan else {
-        return unspelled(scan);
+        return unnamed(scan);
     };
-    item_name(s, first, object, source, base, row, end, values, names)
+    item_name(s, nodes, index, first, container)
 }
 
 // An item begins behind its name.
-fn item_of(name: Word) -> Item
+fn item_of(name: Named) -> Item
     ensures { λ r. ⌜ r ≡ itemOf name ⌝ }
 {
     match name {
-        Word::Read(first, word) => Item::Begins(first, word),
-        Word::Refused(number, place) => Item::Refused(number, place),
+        Named::Read(first, title) => Item::Begins(first, title),
+        Named::Refused(number, place) => Item::Refused(number, place),
     }
 }
 
-// The next item of the container in a row, whose items so far stand in the rows up to `end`: from after its opening bracket, or after a value, on.
+// The next item of a container, from after its opening bracket, or after a value, on.
 pub fn next_item(
     s: &[u8],
+    nodes: &[Node],
+    index: &mut [u16],
     at: Cursor,
-    object: bool,
-    source: u64,
-    base: usize,
-    row: usize,
-    end: usize,
-    values: &mut [u64],
-    names: &[u64],
+    container: Container,
 ) -> Item
-    requires { ⌜ Lent source (now s) (now values) (now names) ⌝ }
-    requires { ⌜ (base ≤ row) × (row < end) × (end ≤ base + maxNodes) × (base + maxNodes ≤ scratchRow) ⌝ }
-    ensures { λ r. ⌜ Having source (now (s .entry)) object base row end (now (values .entry)) (now (names .entry)) (λ all. ItemIs source (now (s .entry)) object base row end (now (values .exit)) (nextItem object (now (s .entry)) all (at .at)) r) ⌝ }
-    ensures { λ r. ⌜ Noted base end (now (values .entry)) (now (values .exit)) ⌝ }
+    requires { ⌜ Lent (container .source) (now s) (record { nodes = now nodes; index = now index }) ⌝ }
+    requires { ⌜ Inside container ⌝ }
+    ensures { λ r. ⌜ NextItemIs (now (s .entry)) container (workBefore nodes index) (now (index .exit)) (at .at) r ⌝ }
 {
     let place = at.blanks(s);
-    if peek(s, place.at) == closing_bracket(object) {
+    if peek(s, place.at) == closing_bracket(container.object) {
         return Item::Closed(Cursor { at: place.at + 1 });
     }
-    item_of(next_name(s, place, object, source, base, row, end, values, names))
+    item_of(next_name(s, nodes, index, place, container))
 }

@@ -1,56 +1,62 @@
 // A member's name, with the colon after it.
 ghost use mathlib.Core.Path.{_≡_};
 ghost use mathlib.Core.Bool.{true};
-ghost use Prim.Native.Nat.{_+_, _<_, _≤_};
-ghost use lib.ListN.{length};
-ghost use Rattle.spec.specs.Limits.{maxNodes};
-ghost use Rattle.spec.specs.Read.{nameFor};
 ghost use Rattle.lexer.specs.Answers.{scanOutcome};
-ghost use Rattle.tape.specs.Layout.{scratchRow, rows};
-ghost use Rattle.reader.specs.Words.{Lent};
-ghost use Rattle.reader.specs.Filled.{Noted};
-ghost use Rattle.reader.specs.Names.{afterColon, RepeatedIs, ReachedBy, NameIs, Having};
-use crate::words::Word;
+ghost use Rattle.reader.specs.Work.{workBefore};
+ghost use Rattle.reader.specs.Names.{Lent, Inside, afterColon, RepeatedIs, MemberNameIs};
+use crate::words::Named;
 use crate::words::spell_string;
-use crate::words::unspelled;
-use crate::words::unspelled_name;
+use crate::words::unnamed;
+use crate::words::untitled;
 use index::enter;
 use index::enter_by_hash;
 use lexer::Cursor;
 use lexer::Name;
 use lexer::Scan;
 use lexer::peek;
+use spec::refusal;
 use table::find::Member;
 use table::find::find;
-use tape::words::name;
+use table::find::short;
+use tape::fields;
+use tape::layout::Node;
 
-// Whether the object in a row has a member of a name already, among those in the rows up to `end`; the member in the row `end` is entered in the
-// index under the name. Where the index has no such name on its way, no member has it; and only where it has one are the members searched.
+// A container that is being read: whether it is an object, in which text it stands, where the text's rows begin, its
+// own row, and the row behind its items so far.
+pub struct Container {
+    pub object: bool,
+    pub source: u16,
+    pub base: usize,
+    pub row: usize,
+    pub end: usize,
+}
+
+// Whether an object has a member of this name already; the next member is entered in the index under the name. Where no
+// row on the name's search path has it, no member has it. Otherwise the members are searched.
 fn repeated(
     s: &[u8],
-    values: &mut [u64],
-    names: &[u64],
-    base: usize,
-    row: usize,
-    end: usize,
-    word: u64,
+    nodes: &[Node],
+    index: &mut [u16],
+    object: Container,
+    name: fields::Name,
 ) -> bool
-    requires { ⌜ (base ≤ row) × (row < end) × (end ≤ base + maxNodes) × (base + maxNodes ≤ scratchRow) ⌝ }
-    requires { ⌜ (rows ≤ length (now values)) × (scratchRow ≤ length (now names)) ⌝ }
-    ensures { λ r. ⌜ RepeatedIs (now (s .entry)) (now (values .entry)) (now (names .entry)) base row end word r ⌝ }
-    ensures { λ r. ⌜ ReachedBy (now (s .entry)) (now (values .exit)) base row end word ⌝ }
-    ensures { λ r. ⌜ Noted base end (now (values .entry)) (now (values .exit)) ⌝ }
+    requires { ⌜ Lent (object .source) (now s) (record { nodes = now nodes; index = now index }) ⌝ }
+    requires { ⌜ Inside object ⌝ }
+    ensures { λ r. ⌜ RepeatedIs (now (s .entry)) object (workBefore nodes index) (now (index .exit)) name r ⌝ }
 {
-    if enter_by_hash(values, names, base, row, end, word) {
+    let base = object.base;
+    let row = object.row;
+    let end = object.end;
+    if enter_by_hash(nodes, index, base, row, end, name) {
         return false;
     }
-    if !enter(s, s, values, names, base, row, end, word) {
+    if !enter([s, s], nodes, index, base, row, end, name) {
         return false;
     }
-    match find(values, names, s, s, row + 1, end, word) {
-        Member::At(_) => true,
-        Member::Missing => false,
-    }
+    let Member::At(_) = find([s, s], nodes, row + 1, end, name) else {
+        return false;
+    };
+    true
 }
 
 // The colon after a name, with the blanks around it.
@@ -59,38 +65,37 @@ fn colon(s: &[u8], at: Cursor) -> Scan
 {
     let place = at.blanks(s);
     if peek(s, place.at) != b':' {
-        return Scan::Refused(3, place.at);
+        return Scan::Refused(refusal::NOT_JSON, place.at);
     }
     Scan::To((Cursor { at: place.at + 1 }).blanks(s))
 }
 
-// The name of a member of the object in a row, whose members so far stand in the rows up to `end`.
+// The name of the next member of an object.
 pub fn member_name(
     s: &[u8],
+    nodes: &[Node],
+    index: &mut [u16],
     at: Cursor,
-    source: u64,
-    base: usize,
-    row: usize,
-    end: usize,
-    values: &mut [u64],
-    names: &[u64],
-) -> Word
-    requires { ⌜ Lent source (now s) (now values) (now names) ⌝ }
-    requires { ⌜ (base ≤ row) × (row < end) × (end ≤ base + maxNodes) × (base + maxNodes ≤ scratchRow) ⌝ }
-    ensures { λ r. ⌜ Having source (now (s .entry)) true base row end (now (values .entry)) (now (names .entry)) (λ all. NameIs source (now (s .entry)) true base row end (now (values .exit)) (nameFor true (now (s .entry)) all (at .at)) r) ⌝ }
-    ensures { λ r. ⌜ Noted base end (now (values .entry)) (now (values .exit)) ⌝ }
+    object: Container,
+) -> Named
+    requires { ⌜ Lent (object .source) (now s) (record { nodes = now nodes; index = now index }) ⌝ }
+    requires { ⌜ Inside object × (object .object ≡ true) ⌝ }
+    ensures { λ r. ⌜ MemberNameIs (now (s .entry)) object (workBefore nodes index) (now (index .exit)) (at .at) r ⌝ }
 {
     let read = at.name(s);
     let Name::Read { next, hash, plain } = read else {
-        return unspelled_name(read);
+        return untitled(read);
     };
-    let word = name(spell_string(plain, source, at.at + 1, next.at), hash);
-    if repeated(s, values, names, base, row, end, word) {
-        return Word::Refused(4, next.at - 1);
+    let name = fields::Name {
+        text: spell_string(plain, object.source, at.at + 1, next.at),
+        hash: short(hash),
+    };
+    if repeated(s, nodes, index, object, name) {
+        return Named::Refused(refusal::REPEATED_NAME, next.at - 1);
     }
     let scan = colon(s, next);
     let Scan::To(first) = scan else {
-        return unspelled(scan);
+        return unnamed(scan);
     };
-    Word::Read(first, word)
+    Named::Read(first, name)
 }

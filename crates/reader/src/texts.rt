@@ -3,49 +3,55 @@ ghost use mathlib.Core.Path.{_≡_};
 ghost use Prim.Native.Nat.{_+_, _≤_};
 ghost use Rattle.spec.specs.Limits.{maxNodes};
 ghost use Rattle.spec.specs.Read.{read};
-ghost use Rattle.tape.specs.Layout.{inDocument, inPatch, documentRow, patchRow, scratchRow};
-ghost use Rattle.reader.specs.Words.{Lent};
-ghost use Rattle.tape.specs.Columns.{Scratched};
-ghost use Rattle.reader.specs.Texts.{refusalBefore, reading, TextIs};
+ghost use Rattle.tape.specs.Layout.{scratchRow};
+ghost use Rattle.tape.specs.Lent.{lent};
+ghost use Rattle.reader.specs.Work.{workBefore, workAfter};
+ghost use Rattle.reader.specs.Names.{Lent};
+ghost use Rattle.reader.specs.Filled.{SameBeyond};
+ghost use Rattle.reader.specs.Texts.{refusalBefore, ReadIs, DocumentIs, PatchIs};
 use crate::values::Read;
 use crate::values::value;
+use crate::words::no_name;
+use index;
 use lexer::Cursor;
-use tape::layout::DOCUMENT;
-use tape::layout::IN_DOCUMENT;
-use tape::layout::IN_PATCH;
-use tape::layout::PATCH;
-use tape::layout::ROWS;
-use tape::layout::SCRATCH;
-use tape::moves::clear;
+use spec::limits;
+use spec::refusal;
+use tape::layout;
+use tape::layout::Node;
+use tape::layout::Texts;
 
-// Nested containers.
-const MAX_DEPTH: u32 = 32;
+// The names of a text of at most so many bytes are looked up quickly in an index that is not empty.
+const FEW_BYTES: usize = 512;
 
-// Bytes of a text.
-const MAX_BYTES: usize = 32_768;
-
-// Bytes of a text so short that its names are compared in no time.
-const SHORT: usize = 512;
-
-// The index of names is made empty before a text of this length is read. It need not be empty to be right, only to be quick; for a short text it is
-// left as it is.
-fn empty_index(values: &mut [u64], length: usize)
-    ensures { λ _. ⌜ Scratched (now (values .entry)) (now (values .exit)) ⌝ }
+// The index is made empty before a text of this length is read. It need not be empty to be right, only to be quick; for
+// a short text it is left as it is.
+fn empty_index(index: &mut [u16], length: usize)
+    ensures { λ _. ⌜ SameBeyond (now (index .entry)) (now (index .exit)) ⌝ }
 {
-    if length <= SHORT {
+    if length <= FEW_BYTES {
         return;
     }
-    clear(values, SCRATCH, ROWS - SCRATCH);
+    index::empty(index);
 }
 
 // JSON-text = ws value ws, stored in the rows from `base` on.
-fn read(s: &[u8], source: u64, base: usize, values: &mut [u64], names: &mut [u64]) -> Read
-    requires { ⌜ Lent source (now s) (now values) (now names) ⌝ }
+fn read(s: &[u8], nodes: &mut [Node], index: &mut [u16], source: u16, base: usize) -> Read
+    requires { ⌜ Lent source (now s) (record { nodes = now nodes; index = now index }) ⌝ }
     requires { ⌜ base + maxNodes ≤ scratchRow ⌝ }
-    ensures { λ r. ⌜ TextIs source (now (s .entry)) base (now (values .entry)) (now (names .entry)) (now (values .exit)) (now (names .exit)) (read (now (s .entry))) r ⌝ }
+    ensures { λ r. ⌜ ReadIs source (now (s .entry)) base (workBefore nodes index) (workAfter nodes index) r ⌝ }
 {
     let first = (Cursor { at: 0 }).blanks(s);
-    let r = value(s, first, MAX_DEPTH, source, 0, base, base, values, names);
+    let r = value(
+        s,
+        nodes,
+        index,
+        first,
+        limits::MAX_DEPTH,
+        source,
+        no_name(),
+        base,
+        base,
+    );
     let Read::Value(next, end) = r else {
         return r;
     };
@@ -53,53 +59,57 @@ fn read(s: &[u8], source: u64, base: usize, values: &mut [u64], names: &mut [u64
     if last.at == s.len() {
         return Read::Value(last, end);
     }
-    Read::Refused(3, last.at)
+    Read::Refused(refusal::NOT_JSON, last.at)
 }
 
 // The same, with an index of its own.
-fn read_anew(s: &[u8], source: u64, base: usize, values: &mut [u64], names: &mut [u64]) -> Read
-    requires { ⌜ Lent source (now s) (now values) (now names) ⌝ }
+fn read_anew(s: &[u8], nodes: &mut [Node], index: &mut [u16], source: u16, base: usize) -> Read
+    requires { ⌜ Lent source (now s) (record { nodes = now nodes; index = now index }) ⌝ }
     requires { ⌜ base + maxNodes ≤ scratchRow ⌝ }
-    ensures { λ r. ⌜ TextIs source (now (s .entry)) base (now (values .entry)) (now (names .entry)) (now (values .exit)) (now (names .exit)) (read (now (s .entry))) r ⌝ }
+    ensures { λ r. ⌜ ReadIs source (now (s .entry)) base (workBefore nodes index) (workAfter nodes index) r ⌝ }
 {
-    empty_index(values, s.len());
-    read(s, source, base, values, names)
+    empty_index(index, s.len());
+    read(s, nodes, index, source, base)
 }
 
-// The number of the refusal before a text is read, and 0 for none: a column too short, or the text too long.
-fn refusal(s: &[u8], values: &[u64], names: &[u64]) -> u8
-    ensures { λ r. ⌜ r ≡ refusalBefore (now (values .entry)) (now (names .entry)) (now (s .entry)) ⌝ }
+// The number of the refusal before a text is read, and 0 for none: the table or the index too short, or the text too
+// long.
+fn refusal_before(s: &[u8], nodes: &[Node], index: &[u16]) -> u8
+    ensures { λ r. ⌜ r ≡ refusalBefore (workBefore nodes index) (now (s .entry)) ⌝ }
 {
-    if values.len() < ROWS {
-        return 1;
+    if nodes.len() < layout::ROWS {
+        return refusal::WORK_TOO_SHORT;
     }
-    if names.len() < ROWS {
-        return 1;
+    if index.len() < index::SLOTS {
+        return refusal::WORK_TOO_SHORT;
     }
-    if MAX_BYTES < s.len() {
-        return 2;
+    if limits::MAX_BYTES < s.len() {
+        return refusal::INPUT_TOO_LONG;
     }
-    0
+    refusal::DONE
 }
 
-// The document is read into the rows from 0 on. Where a column is shorter than stated, or the text longer, nothing changes.
-pub fn read_document(document: &[u8], values: &mut [u64], names: &mut [u64]) -> Read
-    ensures { λ r. ⌜ TextIs inDocument (now (document .entry)) documentRow (now (values .entry)) (now (names .entry)) (now (values .exit)) (now (names .exit)) (reading (now (values .entry)) (now (names .entry)) (now (document .entry))) r ⌝ }
+// The document is read into the rows from DOCUMENT on. Where the table or the index is too short, or the text too long,
+// nothing changes.
+pub fn read_document<'a>(texts: Texts<'a>, nodes: &mut [Node], index: &mut [u16]) -> Read
+    ensures { λ r. ⌜ DocumentIs (lent texts) (workBefore nodes index) (workAfter nodes index) r ⌝ }
 {
-    let number = refusal(document, values, names);
-    if number != 0 {
+    let s = texts[0];
+    let number = refusal_before(s, nodes, index);
+    if number != refusal::DONE {
         return Read::Refused(number, 0);
     }
-    read_anew(document, IN_DOCUMENT, DOCUMENT, values, names)
+    read_anew(s, nodes, index, layout::IN_DOCUMENT, layout::DOCUMENT)
 }
 
-// The same of the patch, which is read into the rows behind those of the document.
-pub fn read_patch(patch: &[u8], values: &mut [u64], names: &mut [u64]) -> Read
-    ensures { λ r. ⌜ TextIs inPatch (now (patch .entry)) patchRow (now (values .entry)) (now (names .entry)) (now (values .exit)) (now (names .exit)) (reading (now (values .entry)) (now (names .entry)) (now (patch .entry))) r ⌝ }
+// The same of the patch, which is read into the rows from PATCH on.
+pub fn read_patch<'a>(texts: Texts<'a>, nodes: &mut [Node], index: &mut [u16]) -> Read
+    ensures { λ r. ⌜ PatchIs (lent texts) (workBefore nodes index) (workAfter nodes index) r ⌝ }
 {
-    let number = refusal(patch, values, names);
-    if number != 0 {
+    let s = texts[1];
+    let number = refusal_before(s, nodes, index);
+    if number != refusal::DONE {
         return Read::Refused(number, 0);
     }
-    read_anew(patch, IN_PATCH, PATCH, values, names)
+    read_anew(s, nodes, index, layout::IN_PATCH, layout::PATCH)
 }

@@ -1,26 +1,33 @@
 // Values, one level inside the other.
 ghost use mathlib.Core.Path.{_≡_};
-ghost use Prim.Native.Nat.{ℕ, _+_, _-_, _%_, _<_, _≤_};
+ghost use Prim.Native.Nat.{_+_, _%_, _<_, _≤_};
 ghost use lib.ListN.{length, set};
 ghost use Rattle.spec.specs.Limits.{maxNodes};
-ghost use Rattle.spec.specs.Read.{value};
-ghost use Rattle.tape.specs.Layout.{kinds, spans, spellings, arrayKind, scratchRow};
-ghost use Rattle.tape.specs.Packing.{packed};
-ghost use Rattle.reader.specs.Begins.{scalarOf};
-ghost use Rattle.reader.specs.Words.{Lent};
-ghost use Rattle.reader.specs.Taken.{readTo, Taken, ForTitle};
+ghost use Rattle.spec.specs.Bytes.{byte};
+ghost use Rattle.tape.specs.Layout.{values, sources, arrayKind, scratchRow};
+ghost use Rattle.tape.specs.Fields.{rowWith};
+ghost use Rattle.reader.specs.Begins.{beginning};
+ghost use Rattle.reader.specs.Work.{workBefore, workAfter};
+ghost use Rattle.reader.specs.Names.{Lent};
+ghost use Rattle.reader.specs.Taken.{readTo, Closing, ScalarTaken, ValueTaken};
 use crate::begins::beginning;
-use crate::begins::refusal;
+use crate::begins::refusal_at;
+use crate::begins::room_refusal;
 use crate::items::Item;
 use crate::items::next_item;
-use crate::words::Word;
+use crate::names::Container;
+use crate::words::Spelled;
+use crate::words::no_spelling;
 use crate::words::scalar;
 use lexer::Cursor;
 use lexer::peek;
-use tape::layout::ARRAY;
-use tape::layout::OBJECT;
+use spec::refusal;
+use tape::fields::Cell;
+use tape::fields::Name;
+use tape::fields::node_of;
+use tape::layout;
+use tape::layout::Node;
 use tape::moves::store;
-use tape::words::pack;
 
 pub enum Read {
     // the cursor after the value, and the row after its last
@@ -28,118 +35,160 @@ pub enum Read {
     Refused(u8, usize),
 }
 
-// A node's two words.
-fn put(
-    row: usize,
-    kind: u64,
-    span: usize,
-    payload: u64,
-    name: u64,
-    values: &mut [u64],
-    names: &mut [u64],
-)
-    ensures { λ _. ⌜ now (values .exit) ≡ set (now (values .entry)) row (packed (kind % kinds) (span % spans) (payload % spellings)) ⌝ }
-    ensures { λ _. ⌜ now (names .exit) ≡ set (now (names .entry)) row name ⌝ }
+// A node is stored in a row, with so many nodes below it.
+fn put(nodes: &mut [Node], row: usize, cell: Cell, span: usize)
+    ensures { λ _. ⌜ now (nodes .exit) ≡ set (now (nodes .entry)) row (rowWith cell (span % values)) ⌝ }
 {
-    store(values, row, pack(kind, span, payload));
-    store(names, row, name);
+    store(nodes, row, node_of(cell, span));
 }
 
 // What was read of a scalar, as a value in the rows up to `end`.
-fn read_to(word: Word, end: usize) -> Read
-    ensures { λ r. ⌜ r ≡ readTo word end ⌝ }
+fn read_to(spelled: Spelled, end: usize) -> Read
+    ensures { λ r. ⌜ r ≡ readTo spelled end ⌝ }
 {
-    match word {
-        Word::Read(next, _) => Read::Value(next, end),
-        Word::Refused(number, place) => Read::Refused(number, place),
+    match spelled {
+        Spelled::Read(next, _) => Read::Value(next, end),
+        Spelled::Refused(number, place) => Read::Refused(number, place),
     }
 }
 
-// A scalar of a kind is stored in a row, under a name.
+// The end of a container: its node is stored in its row. Its items stand in the rows behind it, up to `end`.
+fn close(nodes: &mut [Node], row: usize, kind: u16, name: Name, next: Cursor, end: usize) -> Read
+    requires { ⌜ row < end ⌝ }
+    ensures { λ r. ⌜ Closing kind name row end (now (nodes .entry)) (now (nodes .exit)) next r ⌝ }
+{
+    let value = no_spelling();
+    put(
+        nodes,
+        row,
+        Cell {
+            kind,
+            value,
+            name,
+            origin: 0,
+        },
+        end - row - 1,
+    );
+    Read::Value(next, end)
+}
+
+// A scalar of a kind is stored in a row, under a name. The text's rows begin at `base`: as many values have begun
+// before as there are rows from there.
 fn scalar_value(
     s: &[u8],
+    nodes: &mut [Node],
     at: Cursor,
-    kind: u64,
-    source: u64,
-    name: u64,
+    kind: u16,
+    source: u16,
+    name: Name,
+    base: usize,
     row: usize,
-    values: &mut [u64],
-    names: &mut [u64],
 ) -> Read
-    requires { ⌜ Lent source (now s) (now values) (now names) ⌝ }
-    requires { ⌜ (at .at < length (now s)) × (kind < arrayKind) × (row < scratchRow) ⌝ }
-    ensures { λ r. ⌜ ((base : ℕ) → ForTitle source (now (s .entry)) name (λ text. Taken source (now (s .entry)) (at .at) text base row (row + 1) (now (values .entry)) (now (names .entry)) (now (values .exit)) (now (names .exit)) (scalarOf kind (now (s .entry)) (at .at)) r)) ⌝ }
+    requires { ⌜ (kind ≡ beginning (byte (now s) (at .at))) × (kind < arrayKind) × (base ≤ row) × (base + maxNodes ≤ scratchRow) ⌝ }
+    requires { ⌜ (source < sources) × (length (now s) < values) × (scratchRow ≤ length (now nodes)) ⌝ }
+    ensures { λ r. ⌜ ScalarTaken source (now (s .entry)) (at .at) name base row (now (nodes .entry)) (now (nodes .exit)) r ⌝ }
 {
-    let word = scalar(s, at, kind, source);
-    let Word::Read(next, payload) = word else {
-        return read_to(word, row);
+    let number = room_refusal(base, row);
+    if number != refusal::DONE {
+        return Read::Refused(number, at.at);
+    }
+    let spelled = scalar(s, at, kind, source);
+    let Spelled::Read(next, value) = spelled else {
+        return read_to(spelled, row);
     };
-    put(row, kind, 0, payload, name, values, names);
+    put(
+        nodes,
+        row,
+        Cell {
+            kind,
+            value,
+            name,
+            origin: 0,
+        },
+        0,
+    );
     Read::Value(next, row + 1)
 }
 
-// The value at a cursor is stored from `row` on, under a name. The text's rows begin at `base`, so that so many values have begun before as there
-// are rows from there.
-pub fn value(
+// The same of what is no scalar: a container is stored from `row` on. Its scalars are read in the loop, so that only
+// containers take a level of the stack.
+fn container(
     s: &[u8],
+    nodes: &mut [Node],
+    index: &mut [u16],
     at: Cursor,
     levels: u32,
-    source: u64,
-    name: u64,
+    kind: u16,
+    source: u16,
+    name: Name,
     base: usize,
     row: usize,
-    values: &mut [u64],
-    names: &mut [u64],
 ) -> Read
-    requires { ⌜ Lent source (now s) (now values) (now names) ⌝ }
-    requires { ⌜ (at .at ≤ length (now s)) × (base ≤ row) × (row ≤ base + maxNodes) × (base + maxNodes ≤ scratchRow) ⌝ }
-    ensures { λ r. ⌜ ForTitle source (now (s .entry)) name (λ text. Taken source (now (s .entry)) (at .at) text base row (base + maxNodes) (now (values .entry)) (now (names .entry)) (now (values .exit)) (now (names .exit)) (value levels (now (s .entry)) (at .at) (row - base)) r) ⌝ }
+    requires { ⌜ Lent source (now s) (record { nodes = now nodes; index = now index }) ⌝ }
+    requires { ⌜ (kind ≡ beginning (byte (now s) (at .at))) × (arrayKind ≤ kind) × (base ≤ row) × (base + maxNodes ≤ scratchRow) ⌝ }
+    ensures { λ r. ⌜ ValueTaken source (now (s .entry)) (at .at) levels name base row (workBefore nodes index) (workAfter nodes index) r ⌝ }
 {
-    let kind = beginning(peek(s, at.at));
-    let number = refusal(kind, levels, base, row);
-    if number != 0 {
+    let number = refusal_at(kind, levels, base, row);
+    if number != refusal::DONE {
         return Read::Refused(number, at.at);
     }
-    if kind < ARRAY {
-        return scalar_value(s, at, kind, source, name, row, values, names);
-    }
+    let object = kind == layout::OBJECT;
+    let left = levels - 1;
     let mut next = Cursor { at: at.at + 1 };
     let mut end = row + 1;
     loop {
-        match next_item(
-            s,
-            next,
-            kind == OBJECT,
+        let items = Container {
+            object,
             source,
             base,
             row,
             end,
-            values,
-            names,
-        ) {
+        };
+        match next_item(s, nodes, index, next, items) {
             Item::Begins(first, title) => {
-                let r = value(
-                    s,
-                    first,
-                    levels - 1,
-                    source,
-                    title,
-                    base,
-                    end,
-                    values,
-                    names,
-                );
+                // the kind of the item
+                let item = beginning(peek(s, first.at));
+                if item < layout::ARRAY {
+                    let r = scalar_value(s, nodes, first, item, source, title, base, end);
+                    let Read::Value(after, free) = r else {
+                        return r;
+                    };
+                    next = after;
+                    end = free;
+                    continue;
+                }
+                let r = container(s, nodes, index, first, left, item, source, title, base, end);
                 let Read::Value(after, free) = r else {
                     return r;
                 };
                 next = after;
                 end = free;
             }
-            Item::Closed(after) => {
-                put(row, kind, end - row - 1, 0, name, values, names);
-                return Read::Value(after, end);
-            }
+            Item::Closed(after) => return close(nodes, row, kind, name, after, end),
             Item::Refused(number, place) => return Read::Refused(number, place),
         }
     }
+}
+
+// The value at a cursor is stored from `row` on, under a name.
+pub fn value(
+    s: &[u8],
+    nodes: &mut [Node],
+    index: &mut [u16],
+    at: Cursor,
+    levels: u32,
+    source: u16,
+    name: Name,
+    base: usize,
+    row: usize,
+) -> Read
+    requires { ⌜ Lent source (now s) (record { nodes = now nodes; index = now index }) ⌝ }
+    requires { ⌜ (base ≤ row) × (base + maxNodes ≤ scratchRow) ⌝ }
+    ensures { λ r. ⌜ ValueTaken source (now (s .entry)) (at .at) levels name base row (workBefore nodes index) (workAfter nodes index) r ⌝ }
+{
+    let kind = beginning(peek(s, at.at));
+    if kind < layout::ARRAY {
+        return scalar_value(s, nodes, at, kind, source, name, base, row);
+    }
+    container(s, nodes, index, at, levels, kind, source, name, base, row)
 }

@@ -2,20 +2,23 @@
 use Prim.Native.Nat.{ℕ, _-_, _≤_, _<_, min}
 use native.Mathlib.Omega.{arith}
 use native.Mathlib.Decide.{ℕ-discrete}
-use mathlib.Core.Path.{_≡_, sym, ap, _∙_}
+use mathlib.Core.Path.{_≡_, sym, ap, _∙_, subst}
 use mathlib.Core.List.{List, [], _++_, append-assoc}
 use lib.ListN.{length, take, drop, length-append, take-append-drop}
 use lib.Seq.{length-sets, length-take-le, drop-append-le, take-append-seam}
 use borrow.Author.Tests.{eq-eqb, ne-eqb}
 use Rattle.spec.specs.Bytes.{Bytes, ascii}
+use Rattle.spec.specs.Limits.{workNodes, workEntries}
 use Rattle.spec.specs.Answer as Spec
 use Rattle.spec.specs.Answer.{answer, workSuffices}
 use Rattle.claims.proofs.OperationsTheorem.{operations}
+use Rattle.tape.specs.Fields.{Row, noNode}
+use Rattle.tape.specs.Lent.{Texts}
 use Rattle.text.specs.Written.{written, LaidDown}
 use Rattle.text.proofs.StoreLaws.{sets-out, laid-down}
 use Rattle.writer.specs.Writing.{Placed}
 use Rattle.writer.proofs.PlacedLaws.{placed-as, placed-on, placed-whole}
-use Rattle.json_patch.specs.Call.{Answered, ApplyIs, lentOf, wiped}
+use Rattle.json_patch.specs.Call.{Memory, Answered, ApplyIs, lentOf, wiped}
 use Rattle.json_patch.specs.declared.answer.Answer.{Answer}
 use Rattle.json_patch.proofs.AnswerLaws.{answered-as}
 use Rattle.report.specs.Line.{decimal, newline, refusalLine, lineOf}
@@ -23,9 +26,12 @@ use Rattle.report.specs.Report.{ending, lentTo, lineLimit, RunIs}
 use Rattle.report.proofs.DecimalLaws.{decimal-short}
 
 -- a text of form 1 is laid down as it stands
-pub laid-plain : {s before after : Bytes} {count n : ℕ} → LaidDown (written 1 s) before after count → n ≡ min count (length after) → Placed s 0 before after n
+pub laid-plain : {s before after : Bytes} {form count n : ℕ} → form ≡ 1 → LaidDown (written form s) before after count → n ≡ min count (length after)
+    → Placed s 0 before after n
 unfolding written
-laid-plain {s} {before} d e = record { next-is = omega (arith, e, d .count-is, ap length (d .after-is), length-sets before 0 s); after-is = d .after-is }
+laid-plain {s} {before} {after} {count = count} plain laid e =
+    let d : LaidDown (written 1 s) before after count = subst (λ f. LaidDown (written f s) before after count) plain laid in
+    record { next-is = omega (arith, e, d .count-is, ap length (d .after-is), length-sets before 0 s); after-is = d .after-is }
 
 -- past the end nothing is laid down
 pub placed-past : (bytes before : Bytes) (at : ℕ) → length before < at → Placed bytes at before before (length before)
@@ -111,19 +117,23 @@ module _ {A : Spec.Answer} {r : Answer} {before after : Bytes} (h : Answered A b
 placed-front : {bytes before after : Bytes} {n : ℕ} → Placed bytes 0 before after n → length bytes ≤ length before → take n after ≡ bytes
 placed-front {bytes} {before} p h = rw (placed-whole p h .0, placed-whole p h .1, take-append-seam bytes (drop (length bytes) before))
 
-module _ {D P part line' : Bytes} {vs vs' ns ns' : List ℕ} {r : Answer} {n : ℕ} (line : Bytes) (room : ℕ) where
-  pub run-is : room ≡ length line - 1 → ApplyIs D P (take room line) part vs vs' ns ns' r → length part ≡ length (take room line)
-      → Placed (ending r) (r .length) (part ++ drop room line) line' n
-      → Fits r → RunIs D P line line' vs vs' ns ns' n
+module _ {T : Texts} {part line' : Bytes} {ns ns' : List Row} {xs xs' : List ℕ} {r : Answer} {n : ℕ} (line : Bytes) (room : ℕ) where
+  pub run-is : room ≡ length line - 1
+      → ApplyIs T (record { output = take room line; nodes = ns; index = xs }) (record { output = part; nodes = ns'; index = xs' }) r
+      → length part ≡ length (take room line) → Placed (ending r) (r .length) (part ++ drop room line) line' n → Fits r
+      → RunIs T (record { output = line; nodes = ns; index = xs }) (record { output = line'; nodes = ns'; index = xs' }) n
   run-is e is same p fit =
       let fits : room ≤ length line = omega arith in
-      let lent : lentOf (take room line) vs ns ≡ lentTo line vs ns = ap (λ m. record { output = m; values = length vs; names = length ns }) (length-take-le room line fits ∙ e) in
-      let h : Answered (answer D P (lentTo line vs ns)) (take room line) part r = answered-as (ap (answer D P) (sym lent)) (is .answered) in
-      let silent = operations .nothing-written D P (lentTo line vs ns) in
+      let m : Memory = record { output = line; nodes = ns; index = xs } in
+      let lent : lentOf (record { output = take room line; nodes = ns; index = xs }) ≡ lentTo m =
+      ap (λ k. record { output = k; nodes = length ns; index = length xs }) (length-take-le room line fits ∙ e) in
+      let h : Answered (answer (T .document) (T .patch) (lentTo m)) (take room line) part r =
+      answered-as (ap (answer (T .document) (T .patch)) (sym lent)) (is .answered) in
+      let silent = operations .nothing-written (T .document) (T .patch) (lentTo m) in
       let whole = placed-as (line-is h silent) (placed-on (written-placed line room h same fits) p) in
       record {
         placed = whole;
         whole = λ long. placed-front whole (line-short h silent fit (length line) long (omega (arith, written-inside line room h same fits)));
-        values-after = is .values-after ∙ ap (λ l. wiped (workSuffices l) vs) lent;
-        names-after = is .names-after ∙ ap (λ l. wiped (workSuffices l) ns) lent;
+        nodes-after = is .nodes-after ∙ ap (λ l. wiped (workSuffices l) workNodes noNode ns) lent;
+        index-after = is .index-after ∙ ap (λ l. wiped (workSuffices l) workEntries 0 xs) lent;
       }

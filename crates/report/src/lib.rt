@@ -8,8 +8,10 @@ mod pieces; // the pieces of the line
 use json_patch::Answer;
 use json_patch::apply;
 use pieces::put_ending;
+use tape::layout::Node;
 ghost use mathlib.Core.Path.{_≡_};
 ghost use Prim.Native.Nat.{_-_};
+ghost use Rattle.json_patch.specs.Call.{given, memoryBefore, memoryAfter};
 ghost use Rattle.writer.specs.Writing.{Placed};
 ghost use Rattle.report.specs.Report.{ending, RunIs};
 
@@ -33,18 +35,18 @@ fn but_one(length: usize) -> usize
     if length == 0 { 0 } else { length - 1 }
 }
 
-// The patch is applied to the document, with all of `line` but its last byte lent as output, and the line laid down in `line`. The answer is its
-// length. `values` and `names` are the work area, as `apply` takes it.
+// The patch is applied to the document, with all of `line` but its last byte lent as output, and the line laid down in
+// `line`. The answer is its length. `nodes` and `index` are the work area, as `apply` takes it.
 pub fn run<'a>(
     document: &'a [u8],
     patch: &'a [u8],
     line: &mut [u8],
-    values: &mut [u64],
-    names: &mut [u64],
+    nodes: &mut [Node],
+    index: &mut [u16],
 ) -> usize
-    ensures { λ r. ⌜ RunIs (now (document .entry)) (now (patch .entry)) (now (line .entry)) (now (line .exit)) (now (values .entry)) (now (values .exit)) (now (names .entry)) (now (names .exit)) r ⌝ }
+    ensures { λ r. ⌜ RunIs (given document patch) (memoryBefore line nodes index) (memoryAfter line nodes index) r ⌝ }
 {
     let room = but_one(line.len());
-    let answer = apply(document, patch, &mut line[..room], values, names);
+    let answer = apply(document, patch, &mut line[..room], nodes, index);
     report(answer, line)
 }

@@ -7,6 +7,7 @@ ghost use Rattle.writer.specs.Writing.{Placed};
 ghost use Rattle.report.specs.Line.{decimal, refusalLine};
 ghost use Rattle.report.specs.Report.{ending};
 use json_patch::Answer;
+use tape::fields::long;
 use tape::layout::PLAIN_STRING;
 use text::write_text;
 
@@ -20,7 +21,7 @@ fn least(a: usize, b: usize) -> usize
 fn put_bytes(s: &[u8], out: &mut [u8]) -> usize
     ensures { λ r. ⌜ Placed (now (s .entry)) 0 (now (out .entry)) (now (out .exit)) r ⌝ }
 {
-    let count = write_text(PLAIN_STRING, s, out);
+    let count = write_text(long(PLAIN_STRING), s, out);
     least(count, out.len())
 }
 

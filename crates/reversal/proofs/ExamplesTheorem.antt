@@ -15,7 +15,7 @@ use Rattle.spec.specs.Write.{utf8, hexDigit, writeCharacter, writeCharacters, w
 use Rattle.spec.specs.Pointer.{prepend, segments, tilde, unescape, unescapeAll, tokens, allDigits, isIndex, isDash, elementBelow, memberNamed, childAt, child, walk}
 use Rattle.spec.specs.Operation.{put, atParent, insertElement, insertMember, insertChild, removeChild, replaceChild, addAt, removeAtPath, replaceAtPath, moveTo, copyTo, testAt, perform, notTooDeep, notTooLarge, limited}
 use Rattle.spec.specs.Patch.{member, stringOf, stringMember, kindNamed, usesValue, usesFrom, isMove, valueFor, fromFor, membersFor, operationMembers, properPrefix, withPointers, operation, atOp, onFinish, operations, shape, run}
-use Rattle.spec.specs.Answer.{workSuffices, fitting, answerOf, patched, onPatch, onDocument, answer}
+use Rattle.spec.specs.Answer.{workSuffices, fitting, answerOf, patched, onPatch, onDocument, answerIn, answer}
 use Rattle.claims.specs.Pointers.{escapeCharacter, escapeToken, pointerOf}
 use Rattle.reversal.specs.Undo.{resultOr, valueAt, remaining, digitsBefore, indexToken, elementToken, parentTokens, lastToken, mendedIn, mended, isReplace, undoMoved, undoMove, undoOf, undoRun}
 use Rattle.reversal.specs.UndoValue.{opName, valueMember, operationValue, operationValues, undoValue}
@@ -64,7 +64,7 @@ unfolding member stringOf stringMember kindNamed usesValue usesFrom isMove value
 compute-patches = tt
 
 unfoldable compute-answers : Unit {0}
-unfolding workSuffices fitting answerOf patched onPatch onDocument answer
+unfolding workSuffices fitting answerOf patched onPatch onDocument answerIn answer
 compute-answers = tt
 
 unfoldable compute-undos : Unit {0}

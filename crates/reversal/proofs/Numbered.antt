@@ -21,7 +21,7 @@ use Rattle.spec.specs.Equality.{equal}
 use Rattle.spec.specs.Pointer.{Tokens, segments, tilde, unescape, unescapeAll, tokens, isIndex, isDash, elementBelow, memberNamed, childAt, child, walk}
 use Rattle.spec.specs.Operation.{Kind, Operation, atParent, insertElement, insertChild, removeChild, replaceChild, addAt, removeAtPath, replaceAtPath, moveTo, copyTo, testAt, perform, notTooDeep, notTooLarge, limited}
 use Rattle.spec.specs.Patch.{member, stringOf, stringMember, kindNamed, usesValue, usesFrom, isMove, valueFor, fromFor, membersFor, operationMembers, properPrefix, withPointers, operation, Run, finished, stopped, atOp, onFinish, operations, shape, run}
-use Rattle.spec.specs.Answer.{Answer, Lent, answer, success, refusal, workSuffices, fitting, answerOf, patched, onPatch, onDocument}
+use Rattle.spec.specs.Answer.{Answer, Lent, answer, answerIn, success, refusal, workSuffices, fitting, answerOf, patched, onPatch, onDocument}
 
 pub data Numbered {A : Type 0} : Outcome A → Type 0 where
   result : {a : A} → Numbered (ok a)
@@ -414,10 +414,8 @@ document-answer room patch (number h) = refuses h
 
 -- THE ANSWER'S NUMBER is 0 exactly where a text is written
 pub answer-numbered : (document patch : Bytes) (lent : Lent) → NumberedAnswer (answer document patch lent)
-unfolding answer
+unfolding answer answerIn
 answer-numbered document patch lent =
-    either-answer (workSuffices lent)
-    (either-answer (leb (length document) maxBytes)
-    (either-answer (leb (length patch) maxBytes) (document-answer (lent .output) patch (read-numbered document)) (refuses refl))
-    (refuses refl))
-    (refuses refl)
+    either-answer (not (workSuffices lent)) (refuses refl)
+    (either-answer (ltb maxBytes (length document)) (refuses refl)
+    (either-answer (ltb maxBytes (length patch)) (refuses refl) (document-answer (lent .output) patch (read-numbered document))))

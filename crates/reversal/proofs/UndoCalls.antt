@@ -6,7 +6,7 @@ use Prim.Native.Nat.{ℕ, suc, _+_, _≤_, max}
 use native.Mathlib.Omega.{arith}
 use lib.ListN.{length}
 use lib.Dec.{eqb}
-use borrow.Author.Tests.{le-leb, lt-leb}
+use borrow.Author.Tests.{le-leb, le-ltb, lt-leb}
 use Rattle.spec.specs.Outcome.{ok, if_then_else_}
 use Rattle.spec.specs.Limits.{maxBytes}
 use Rattle.spec.specs.Bytes.{Bytes, ascii}
@@ -16,7 +16,7 @@ use Rattle.spec.specs.Value.{tag, isContainer, levels, depths, depth, nodes}
 use Rattle.spec.specs.Write.{comma, write}
 use Rattle.spec.specs.Operation.{Operation, limited}
 use Rattle.spec.specs.Patch.{usesValue, finished, onFinish, run}
-use Rattle.spec.specs.Answer.{answer, refusal, workSuffices, fitting, answerOf, patched, onPatch, onDocument}
+use Rattle.spec.specs.Answer.{answer, answerIn, refusal, workSuffices, fitting, answerOf, patched, onPatch, onDocument}
 use Rattle.spec.specs.Region.{Accepted, WellFormed}
 use Rattle.reversal.specs.Undo.{resultOr, undoOf, undoRun}
 use Rattle.reversal.specs.UndoValue.{valueMember, operationValue, operationValues, undoValue}
@@ -40,13 +40,13 @@ module _ (document patch : Bytes) (lent : UndoLent) where
   pub patch-done : {d v : Value.Value} {os : List Operation} → maxBytes ≤ lent .work → workSuffices (lent .patch) ≡ true → Accepted document d → WellFormed patch os →
       run limited 1 os d ≡ finished v → length (write v) ≤ lent .patch .output →
       undoAnswer document patch lent ≡ undoWritten (lent .undo) (write v) (undoValue (undoRun os d))
-  unfolding undoAnswer afterPatch undoOperations undoRead undoShaped answer onDocument onPatch patched onFinish answerOf fitting
+  unfolding undoAnswer afterPatch undoOperations undoRead undoShaped answer answerIn onDocument onPatch patched onFinish answerOf fitting
   patch-done {d} {v} {os} w work a f h room =
       rw (
         le-leb maxBytes (lent .work) w,
         work,
-        le-leb (length document) maxBytes (a .fits),
-        le-leb (length patch) maxBytes (f .fits),
+        le-ltb maxBytes (length document) (a .fits),
+        le-ltb maxBytes (length patch) (f .fits),
         a .reads,
         f .reads,
         f .shaped,

@@ -5,7 +5,7 @@ use mathlib.Core.List.{List, []}
 use Prim.Native.Nat.{ℕ, _≤_}
 use lib.ListN.{length}
 use lib.Dec.{leb, eqb}
-use borrow.Author.Tests.{leb-true, le-leb, eq-eqb}
+use borrow.Author.Tests.{leb-true, eq-eqb}
 use Rattle.spec.specs.Outcome.{ok, if_then_else_}
 use Rattle.spec.specs.Refusal.{output-too-short}
 use Rattle.spec.specs.Limits.{maxBytes, maxDepth, maxNodes, maxOperations}
@@ -17,9 +17,10 @@ use Rattle.spec.specs.Equality.{equal}
 use Rattle.spec.specs.Read.{read}
 use Rattle.spec.specs.Write.{write}
 use Rattle.spec.specs.Operation.{Operation, limited}
-use Rattle.spec.specs.Patch.{finished, onFinish, run}
-use Rattle.spec.specs.Answer.{Answer, Lent, answer, success, refusal, workSuffices, fitting, answerOf, patched, onPatch, onDocument}
+use Rattle.spec.specs.Patch.{finished, run}
+use Rattle.spec.specs.Answer.{Answer, Lent, answer, success, refusal, fitting, answerOf}
 use Rattle.spec.specs.Region.{Accepted, WellFormed, Enough}
+use Rattle.spec.proofs.RegionTheorem.{called, work-enough, fits}
 use Rattle.claims.specs.Proper.{Proper, Readable}
 use Rattle.claims.specs.Equality.{Distinct, Reordered}
 use Rattle.claims.specs.RoundTrip.{Patched}
@@ -48,24 +49,6 @@ equal-back v w p r =
     let first : Distinct v = proper-repeats (p .items) in
     let second : Distinct w = rw (r .labels) at (alike-repeats (permuted-alike (like-permuted (r .kids))) first) in
     equality .symmetric v w first second (reordered-equal v w p r)
-
--- The call on an accepted document and a well-formed patch, with buffers enough, is the run with limits.
-called : {D P : Bytes} {d : Value.Value} {os : List Operation} (lent : Lent) → Enough D P lent → Accepted D d → WellFormed P os →
-    answer D P lent ≡ answerOf (lent .output) (run limited 1 os d)
-unfolding answer onDocument onPatch patched onFinish
-called {D} {P} {d} {os} lent enough a w = go (workSuffices lent) refl
-  where
-    go : (b : Bool) → workSuffices lent ≡ b → answer D P lent ≡ answerOf (lent .output) (run limited 1 os d)
-    go true h = rw (h, le-leb (length D) maxBytes (a .fits), le-leb (length P) maxBytes (w .fits), a .reads, w .reads, w .shaped, answer)
-    go false h = absurd (enough .work (rw (h, answer)))
-
-room-enough : (room : ℕ) (t : Bytes) → (fitting room t .number ≡ output-too-short → ⊥) → fitting room t ≡ success t
-unfolding fitting
-room-enough room t enough = go (leb (length t) room) refl
-  where
-    go : (b : Bool) → leb (length t) room ≡ b → fitting room t ≡ success t
-    go true h = rw (h, fitting)
-    go false h = absurd (enough (rw (h, fitting)))
 
 -- What is known where both texts are written
 
@@ -179,12 +162,12 @@ module _ (document patch text undo : Bytes) (lent : UndoLent) (h : undoAnswer do
       let last = undone .result in
       let runs = runs-finish 1 (undone .runs) in
       let readable-last = run-readable 1 (undoOperations document patch) e last (all-plain-proper undo-plain) readable-after runs in
-      let call = called again enough (record { fits = short; reads = run-is .reads }) undo-formed ∙ ap (answerOf (again .output)) runs in
+      let call = called again (work-enough enough) (record { fits = short; reads = run-is .reads }) undo-formed ∙ ap (answerOf (again .output)) runs in
       record {
         original = run-is .before;
         restored = last;
         reads = run-is .accepted .reads;
-        succeeds = call ∙ room-enough (again .output) (write last) (λ n. enough .output (ap (λ a. a .number) call ∙ n));
+        succeeds = call ∙ fits (again .output) (write last) (λ n. enough .output (ap (λ a. a .number) call ∙ n));
         reads-back = round-trip .read-back last readable-last;
         equals = equal-back (run-is .before) last (document-readable .proper) (undone .like);
         reordered = like-reordered (undone .like);

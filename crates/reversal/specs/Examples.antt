@@ -4,7 +4,7 @@ use mathlib.Core.Path.{_≡_}
 use Prim.Native.Nat.{ℕ, zero, suc}
 use Prim.Native.String.{String}
 use mathlib.Core.List.{List, [], _∷_}
-use Rattle.spec.specs.Limits.{workWords}
+use Rattle.spec.specs.Limits.{workNodes, workEntries}
 use Rattle.spec.specs.Bytes.{Text, ascii}
 use Rattle.spec.specs.Forest.{none, tree}
 use Rattle.spec.specs.Value as Value
@@ -15,7 +15,7 @@ use Rattle.reversal.specs.Statement.{Situation}
 
 -- bytes of output for the document and for the undo, and of the buffer, with a work area that suffices
 abbrev pub lending : ℕ → ℕ → ℕ → UndoLent
-lending output undo work = record { patch = record { output = output; values = workWords; names = workWords }; undo = undo; work = work }
+lending output undo work = record { patch = record { output = output; nodes = workNodes; index = workEntries }; undo = undo; work = work }
 
 abbrev pub lent : UndoLent
 lent = lending 65_536 32_768 32_768

@@ -6,8 +6,8 @@ use Prim.Native.Nat.{ℕ, _+_, _≤_}
 use native.Mathlib.Nat.{add-zero}
 use native.Mathlib.Omega.{arith}
 use lib.ListN.{length}
-use lib.Dec.{leb}
-use borrow.Author.Tests.{le-leb, leb-true}
+use lib.Dec.{ltb}
+use borrow.Author.Tests.{ltb-false, le-ltb}
 use Rattle.spec.specs.Outcome.{Outcome, ok, refused}
 use Rattle.spec.specs.Limits.{maxBytes}
 use Rattle.spec.specs.Bytes.{Bytes}
@@ -16,7 +16,7 @@ use Rattle.spec.specs.Read.{read}
 use Rattle.spec.specs.Write.{write}
 use Rattle.spec.specs.Operation.{Operation, limited}
 use Rattle.spec.specs.Patch.{Run, finished, stopped, run}
-use Rattle.spec.specs.Answer.{Answer, Lent, answer, onDocument, answerOf, success, refusal, workSuffices}
+use Rattle.spec.specs.Answer.{Answer, Lent, answer, answerIn, onDocument, answerOf, success, refusal, workSuffices}
 use Rattle.spec.specs.Region.{Accepted, WellFormed, Enough}
 use Rattle.spec.proofs.RegionTheorem.{called, work-enough, fits}
 use Rattle.claims.proofs.RoundTripTheorem.{round-trip}
@@ -140,8 +140,8 @@ none-less (same-refusal number text op place l) = ap (λ k. refusal number text 
 
 first-refused : (document first second joined : Bytes) (lent-first lent-joined : Lent) →
     FirstRefused document first second joined lent-first lent-joined → answer document joined lent-joined ≡ answer document first lent-first
-unfolding answer onDocument
-first-refused document first second joined lent-first lent-joined c = go (leb (length document) maxBytes) refl (read document) refl
+unfolding answer answerIn onDocument
+first-refused document first second joined lent-first lent-joined c = go (ltb maxBytes (length document)) refl (read document) refl
   where
     work : workSuffices lent-first ≡ true
     work = work-enough (c .first-enough)
@@ -149,15 +149,15 @@ first-refused document first second joined lent-first lent-joined c = go (leb (l
     joined-work : workSuffices lent-joined ≡ true
     joined-work = work-enough (c .joined-enough)
 
-    go : (b : Bool) → leb (length document) maxBytes ≡ b → (o : Outcome Value.Value) → read document ≡ o →
+    go : (b : Bool) → ltb maxBytes (length document) ≡ b → (o : Outcome Value.Value) → read document ≡ o →
         answer document joined lent-joined ≡ answer document first lent-first
-    go false h o q = rw (work, joined-work, h, answer)
-    go true h (refused n p) q =
-        let first-fits = le-leb (length first) maxBytes (c .first-formed .fits) in
-        let joined-fits = le-leb (length joined) maxBytes (c .joined-formed .fits) in
-        rw (work, joined-work, h, first-fits, joined-fits, q, answer)
-    go true h (ok d) q =
-        let accepted : Accepted document d = record { fits = leb-true (length document) maxBytes h; reads = q } in
+    go true h o q = rw (work, joined-work, h, answerIn)
+    go false h (refused n p) q =
+        let first-fits = le-ltb maxBytes (length first) (c .first-formed .fits) in
+        let joined-fits = le-ltb maxBytes (length joined) (c .joined-formed .fits) in
+        rw (work, joined-work, h, first-fits, joined-fits, q, answerIn)
+    go false h (ok d) q =
+        let accepted : Accepted document d = record { fits = ltb-false maxBytes (length document) h; reads = q } in
         let xs = c .first-operations in
         let r = means-after (elements-mean (c .first-formed) (c .join .first-elements)) (elements-mean (c .joined-formed) (c .join .joined-elements)) in
         let stops' = stays d xs (r .ys) (c .refused) (run limited 1 xs d) refl (comes lent-first accepted (c .first-formed) (c .first-enough)) in

@@ -3,7 +3,7 @@ use Prim.Native.Nat.{ℕ, _<_}
 use native.Mathlib.Omega.{arith}
 use mathlib.Core.Path.{_≡_, refl, sym, ap, _∙_}
 use mathlib.Core.Bool.{Bool, true, false}
-use mathlib.Core.List.{List}
+use mathlib.Core.List.{List, []}
 use lib.Dec.{eqb}
 use lib.ListN.{getD}
 use borrow.Author.Tests.{eq-eqb, ne-eqb}
@@ -15,14 +15,16 @@ use Rattle.spec.specs.Value as Value
 use Rattle.spec.specs.Value.{isObject}
 use Rattle.spec.specs.Operation as Operation
 use Rattle.spec.specs.Pointer.{tokens}
-use Rattle.spec.specs.Patch.{member, stringMember, kindNamed, usesValue, usesFrom, isMove, OperationMembers, valueFor, fromFor, membersFor, operationMembers, withPointers, operation}
+use Rattle.spec.specs.Patch.{member, stringMember, kindNamed, usesValue, usesFrom, isMove}
+use Rattle.spec.specs.Patch.{OperationMembers, valueFor, fromFor, membersFor, operationMembers, withPointers, operation}
 use Rattle.spec.proofs.OutcomeLaws.{>>=-assoc}
 use Rattle.text.specs.Decode.{decode, decodeFrom, decodeLoop, textOf, textFrom}
 use Rattle.pointer.specs.Tokens.{accepted}
 use Rattle.pointer.specs.Prefix.{PrefixOf}
 use Rattle.pointer.proofs.AcceptLaws.{accepted-ok, not-accepted}
-use Rattle.tape.specs.Packing as Packing
-use Rattle.tape.specs.Cell.{Cell}
+use Rattle.tape.specs.Fields as Fields
+use Rattle.tape.specs.declared.fields.Spelling.{Spelling}
+use Rattle.tape.specs.declared.fields.Cell.{Cell}
 use Rattle.tape.proofs.Cells.{formed-fit}
 use Rattle.tape.proofs.Rows.{kind-here}
 use Rattle.tape.proofs.Held.{held-node}
@@ -31,11 +33,15 @@ use Rattle.table.specs.Sound.{NodeHeld}
 use Rattle.table.proofs.MeaningLaws.{isObject-label}
 use Rattle.table.specs.declared.find.Member.{Member}
 use Rattle.table.specs.declared.find.Member.the-variants as Member
-use Rattle.shape.specs.Members.{Sought, textOutcome, TextIs}
-use Rattle.shape.specs.Operation.{Answers, right, wrong, kindOf}
+use Rattle.shape.specs.Kinds.{kindOutcome}
+use Rattle.shape.specs.Members.{Sought, textOutcome, TextIs, StringIs}
+use Rattle.shape.specs.Operation.{Answers, right, wrong, kindOf, KindRows, no-object, object, KindIs}
+use Rattle.shape.specs.declared.kinds.Kind.{Kind}
+use Rattle.shape.specs.declared.kinds.Kind.the-variants as Kind
 use Rattle.shape.specs.declared.members.Spelled.{Spelled}
 use Rattle.shape.specs.declared.members.Spelled.the-variants as Spelled
 use Rattle.shape.proofs.MemberLaws.{sought-missing, sought-at}
+use Rattle.tape.specs.Lent.{Texts, Table}
 
 -- the answer 0 is a result, and any other a refusal
 pub answers-ok : {A : Type 0} {o : Outcome A} {n : ℕ} → Answers o n → n ≡ 0 → (a : A) × (o ≡ ok a)
@@ -47,46 +53,56 @@ answers-refused (right a) d = absurd (d refl)
 answers-refused (wrong number h) d = (refl, h)
 
 -- ---- a text that is known
-module _ {D P : Bytes} {t : Outcome Text} {r : Spelled} (is : TextIs D P t r) where
+module _ {T : Texts} {t : Outcome Text} {r : Spelled} (is : TextIs T t r) where
   pub text-refused : r ≡ Spelled.Not → t ≡ refused wrong-shape 0
   unfolding textOutcome
-  text-refused e = sym (is .text) ∙ ap (textOutcome (spelled D P)) e
+  text-refused e = sym (is .text) ∙ ap (textOutcome (spelled T)) e
 
-  module _ (s : ℕ) (e : r ≡ Spelled.As s) where
-    pub text-spelled : t ≡ ok (spelled D P s)
+  module _ (s : Spelling) (e : r ≡ Spelled.As s) where
+    pub text-spelled : t ≡ ok (spelled T s)
     unfolding textOutcome
-    text-spelled = sym (is .text) ∙ ap (textOutcome (spelled D P)) e
+    text-spelled = sym (is .text) ∙ ap (textOutcome (spelled T)) e
 
-    pub text-decoded : t ≡ ok (decode (partOf D P s))
+    pub text-decoded : t ≡ ok (decode (partOf T s))
     unfolding textOutcome
-    text-decoded = sym (is .decoded) ∙ ap (textOutcome (λ s. decode (partOf D P s))) e
+    text-decoded = sym (is .decoded) ∙ ap (textOutcome (λ s. decode (partOf T s))) e
 
 -- ---- the kind, of an object and of nothing else
-module _ {D P : Bytes} {values names : List ℕ} {row : ℕ} {c : Cell} {kids : Forest Cell} (n : NodeHeld D P values names row c kids)
-    (kind : ℕ) (kind-is : kind ≡ Packing.kindOf (getD values row 0)) where
-  here : kind ≡ c .kind
-  here = kind-is ∙ kind-here (held-node (n .held))
+module _ {w : Table} {row : ℕ} {c : Cell} {kids : Forest Cell} (n : NodeHeld w row c kids) where
+  object-here : isObject (meant (w .texts) c kids .label) ≡ eqb (Fields.kindOf (getD (w .nodes) row [])) 6
+  object-here =
+      isObject-label (w .texts) (c .kind) (c .value) (formed-fit (n .held .formed) .kind) ∙ ap (λ k. eqb k 6) (sym (kind-here (held-node (n .held))))
 
-  object-here : isObject (meant D P c kids .label) ≡ eqb (c .kind) 6
-  object-here = isObject-label D P (c .kind) (c .payload) (formed-fit (n .held .formed) .kind)
-
-  pub no-object : (kind ≡ 6 → ⊥) → refused wrong-shape 0 ≡ kindOf (meant D P c kids)
+  other-kind : (Fields.kindOf (getD (w .nodes) row []) ≡ 6 → ⊥) → kindOf (meant (w .texts) c kids) ≡ refused wrong-shape 0
   unfolding kindOf require _>>=_
-  no-object d = rw (object-here, ne-eqb (c .kind) 6 (λ e. d (here ∙ e)))
+  other-kind d = rw (object-here, ne-eqb _ 6 d)
 
-  pub object-op : kind ≡ 6 → kindOf (meant D P c kids) ≡ stringMember (ascii "op") (meant D P c kids) >>= kindNamed
+  object-op : Fields.kindOf (getD (w .nodes) row []) ≡ 6
+      → kindOf (meant (w .texts) c kids) ≡ stringMember (ascii "op") (meant (w .texts) c kids) >>= kindNamed
   unfolding kindOf require _>>=_
-  object-op e = rw (object-here, eq-eqb (c .kind) 6 (sym here ∙ e))
+  object-op e = rw (object-here, eq-eqb _ 6 e)
 
--- an op that is no string, and one that is
-module _ {D P : Bytes} {o : Outcome Operation.Kind} {t : Outcome Text} {r : Spelled} (steps : o ≡ t >>= kindNamed) (is : TextIs D P t r) where
-  pub op-refused : r ≡ Spelled.Not → refused wrong-shape 0 ≡ o
-  unfolding _>>=_
-  op-refused e = sym (steps ∙ ap (λ t. t >>= kindNamed) (text-refused is e))
+-- each way out of `kind_of`
+module _ {w : Table} {row : ℕ} where
+  kind-is : {r : Kind} → KindRows w row r → KindIs w row r
+  kind-is {r} rows = record { rows = rows; held = λ c kids n. go rows n }
+    where
+      go : {c : Cell} {kids : Forest Cell} → KindRows w row r → NodeHeld w row c kids → kindOutcome r ≡ kindOf (meant (w .texts) c kids)
+      go (no-object d e) n = e ∙ sym (other-kind n d)
+      go (object k s e) n = e ∙ ap (λ t. t >>= kindNamed) (s .held _ _ n .text) ∙ sym (object-op n k)
 
-  pub op-spelled : (s : ℕ) → r ≡ Spelled.As s → kindNamed (spelled D P s) ≡ o
-  unfolding _>>=_
-  op-spelled s e = sym (steps ∙ ap (λ t. t >>= kindNamed) (text-spelled is s e))
+  pub kind-other : (Fields.kindOf (getD (w .nodes) row []) ≡ 6 → ⊥) → KindIs w row Kind.Unknown
+  unfolding kindOutcome
+  kind-other d = kind-is (no-object d refl)
+
+  module _ (k : Fields.kindOf (getD (w .nodes) row []) ≡ 6) {op : Spelled} (s : StringIs w row (ascii "op") op) where
+    pub op-refused : op ≡ Spelled.Not → KindIs w row Kind.Unknown
+    unfolding kindOutcome textOutcome _>>=_
+    op-refused e = kind-is (object k s (rw e))
+
+    pub op-spelled : (t : Spelling) → op ≡ Spelled.As t → {r : Kind} → kindOutcome r ≡ kindNamed (spelled (w .texts) t) → KindIs w row r
+    unfolding textOutcome _>>=_
+    op-spelled t e is = kind-is (object k s (rw e is))
 
 -- ---- the value
 module _ (k : Operation.Kind) (v : Value.Value) where
@@ -94,7 +110,7 @@ module _ (k : Operation.Kind) (v : Value.Value) where
   unfolding valueFor
   value-unused e = rw e (right _)
 
-  module _ {D P : Bytes} {values names : List ℕ} {row : ℕ} {r : Member} (used : usesValue k ≡ true) (s : Sought D P values names row (ascii "value") v r) where
+  module _ {w : Table} {row : ℕ} {r : Member} (used : usesValue k ≡ true) (s : Sought w row (ascii "value") v r) where
     value-is : valueFor k v ≡ member (ascii "value") v
     unfolding valueFor
     value-is = rw used
@@ -105,12 +121,12 @@ module _ (k : Operation.Kind) (v : Value.Value) where
     pub value-there : (at : ℕ) → r ≡ Member.At at → Answers (valueFor k v) 0
     value-there at e = let (c, kids, l, few, n, is) = sought-at at e s in rw (value-is, is) (right _)
 
-  -- ---- `from`: 0 spells the empty text
-  pub from-unused : {D P : Bytes} → usesFrom k ≡ false → TextIs D P (fromFor k v) (Spelled.As 0)
+  -- ---- `from`: no text spells the empty one
+  pub from-unused : {T : Texts} → usesFrom k ≡ false → TextIs T (fromFor k v) (Spelled.As (record { form = 0; source = 0; start = 0; length = 0 }))
   unfolding fromFor textOutcome spelled textOf textFrom partOf decode decodeFrom decodeLoop
   from-unused e = rw e (record { text = refl; decoded = refl })
 
-  pub from-used : {D P : Bytes} {r : Spelled} → usesFrom k ≡ true → TextIs D P (stringMember (ascii "from") v) r → TextIs D P (fromFor k v) r
+  pub from-used : {T : Texts} {r : Spelled} → usesFrom k ≡ true → TextIs T (stringMember (ascii "from") v) r → TextIs T (fromFor k v) r
   unfolding fromFor
   from-used e is = rw e is
 
@@ -186,6 +202,7 @@ module _ (v : Value.Value) where
   unfolding _>>=_
   kind-refused is e = rw (operation-kind, ← is, e) (wrong 8 (omega arith))
 
-  pub kind-known : {o : Outcome Operation.Kind} {k : Operation.Kind} {r : ℕ} → o ≡ kindOf v → o ≡ ok k → Answers (membersFor k v >>= withPointers) r → Answers (operation v) r
+  pub kind-known : {o : Outcome Operation.Kind} {k : Operation.Kind} {r : ℕ} → o ≡ kindOf v → o ≡ ok k
+      → Answers (membersFor k v >>= withPointers) r → Answers (operation v) r
   unfolding _>>=_
   kind-known is e rest = rw (operation-kind, ← is, e) rest

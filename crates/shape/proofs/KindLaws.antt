@@ -7,9 +7,11 @@ use Rattle.spec.specs.Bytes.{Text, ascii}
 use Rattle.spec.specs.Value.{sameText}
 use Rattle.spec.specs.Operation as Operation
 use Rattle.spec.specs.Operation.{add, remove, replace, move, copy, test}
-use Rattle.spec.specs.Patch.{kindNamed}
+use Rattle.spec.specs.Patch.{kindNamed, usesValue, usesFrom, isMove}
 use Rattle.pointer.specs.Tokens.{accepted}
-use Rattle.shape.specs.Kinds.{kindOutcome, answered, asks}
+use Rattle.shape.specs.Kinds.{kindOutcome, answered, asks, usesOf}
+use Rattle.shape.specs.Operation.{Knows}
+use Rattle.shape.specs.declared.kinds.Uses.{Uses}
 use Rattle.shape.specs.declared.kinds.Kind.{Kind}
 use Rattle.shape.specs.declared.kinds.Kind.the-variants as Kind
 
@@ -62,6 +64,17 @@ not-known Kind.Unknown e = refl
 pub asks-known : (q : Operation.Kind → Bool) (kind : Kind) {k : Operation.Kind} {r : Bool} → kindOutcome kind ≡ ok k → r ≡ asks q kind → r ≡ q k
 unfolding answered
 asks-known q kind known e = e ∙ ap (answered q) known
+
+-- what a known kind uses
+module _ {kind : Kind} {k : Operation.Kind} (known : Knows kind k) {u : Uses} (is : u ≡ usesOf kind) where
+  pub value-used : u .value ≡ usesValue k
+  value-used = asks-known usesValue kind (known .is) (ap (λ (u : Uses). u .value) is)
+
+  pub from-used : u .from ≡ usesFrom k
+  from-used = asks-known usesFrom kind (known .is) (ap (λ (u : Uses). u .from) is)
+
+  pub moves-known : u .moves ≡ isMove k
+  moves-known = asks-known isMove kind (known .is) (ap (λ (u : Uses). u .moves) is)
 
 -- a test `if !..` that is not taken
 pub not-false : (b : Bool) → not b ≡ false → b ≡ true

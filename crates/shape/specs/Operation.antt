@@ -1,22 +1,28 @@
 -- What the code answers of one operation, by the definitions of Patch.
 use Prim.Native.Nat.{ℕ, _<_}
 use mathlib.Core.Path.{_≡_}
-use mathlib.Core.List.{List}
+use mathlib.Core.Bool.{Bool}
+use mathlib.Core.List.{List, []}
+use lib.ListN.{getD}
 use Rattle.spec.specs.Outcome.{Outcome, ok, refused, _>>=_, require}
-use Rattle.spec.specs.Refusal.{wrong-shape}
+use Rattle.spec.specs.Refusal.{wrong-shape, malformed-pointer, move-into-child}
 use Rattle.spec.specs.Bytes.{Bytes, ascii}
 use Rattle.spec.specs.Value as Value
 use Rattle.spec.specs.Value.{isObject}
 use Rattle.spec.specs.Operation as Operation
-use Rattle.spec.specs.Patch.{stringMember, kindNamed, valueFor, fromFor, membersFor, withPointers, operation}
+use Rattle.spec.specs.Patch.{stringMember, kindNamed, usesValue, usesFrom, isMove, valueFor, fromFor, membersFor, withPointers, operation}
 use Rattle.text.specs.Decode.{decode}
-use Rattle.table.specs.Meaning.{partOf}
+use Rattle.tape.specs.Layout.{objectKind}
+use Rattle.tape.specs.Fields as Fields
+use Rattle.tape.specs.declared.fields.Spelling.{Spelling}
+use Rattle.tape.specs.Lent.{Texts, Table}
+use Rattle.table.specs.Meaning.{partOf, spelled}
 use Rattle.shape.specs.Kinds.{kindOutcome}
-use Rattle.shape.specs.Members.{ForNode, TextIs}
+use Rattle.shape.specs.Members.{ForNode, textOutcome, TextIs, StringIs}
 use Rattle.shape.specs.declared.kinds.Kind.{Kind}
 use Rattle.shape.specs.declared.members.Spelled.{Spelled}
 
--- a number that stands for an outcome: 0 for a result, and else that of the refusal
+-- a number that stands for an outcome: 0 for a result, and the number of a refusal
 pub data Answers {A : Type 0} : Outcome A → ℕ → Type 0 where
   right : (a : A) → Answers (ok a) 0
   wrong : (number : ℕ) → 0 < number → Answers (refused number 0) number
@@ -25,28 +31,46 @@ pub data Answers {A : Type 0} : Outcome A → ℕ → Type 0 where
 unfoldable pub kindOf : Value.Value → Outcome Operation.Kind
 kindOf v = require wrong-shape (isObject (v .label)) >>= λ _. stringMember (ascii "op") v >>= kindNamed
 
-abbrev pub KindIs : Bytes → Bytes → List ℕ → List ℕ → ℕ → Kind → Type 0
-KindIs D P values names row r = ForNode D P values names row λ v. kindOutcome r ≡ kindOf v
+-- whatever the table holds: by the row's kind, and by the text of the row that is found for `op`
+pub data KindRows (w : Table) (row : ℕ) (r : Kind) : Type 0 where
+  no-object : (Fields.kindOf (getD (w .nodes) row []) ≡ objectKind → ⊥) → kindOutcome r ≡ refused wrong-shape 0 → KindRows w row r
+  object : {op : Spelled} → Fields.kindOf (getD (w .nodes) row []) ≡ objectKind → StringIs w row (ascii "op") op
+      → kindOutcome r ≡ (textOutcome (spelled (w .texts)) op >>= kindNamed)
+      → KindRows w row r
+
+pub record KindIs (w : Table) (row : ℕ) (r : Kind) : Type 0 where
+  pub rows : KindRows w row r
+  pub held : ForNode w row λ v. kindOutcome r ≡ kindOf v
 
 -- of an operation of a known kind
 pub record Knows (kind : Kind) (k : Operation.Kind) : Type 0 where
   pub is : kindOutcome kind ≡ ok k
 
-abbrev pub ValueIs : Bytes → Bytes → List ℕ → List ℕ → ℕ → Kind → ℕ → Type 0
-ValueIs D P values names row kind r = (k : Operation.Kind) → Knows kind k → ForNode D P values names row λ v. Answers (valueFor k v) r
+-- whatever the table holds, no other number is answered of an operation
+pub data OperationNumber : ℕ → Type 0 where
+  nothing : OperationNumber 0
+  shape : OperationNumber wrong-shape
+  pointer : OperationNumber malformed-pointer
+  into-child : OperationNumber move-into-child
 
-abbrev pub FromIs : Bytes → Bytes → List ℕ → List ℕ → ℕ → Kind → Spelled → Type 0
-FromIs D P values names row kind r = (k : Operation.Kind) → Knows kind k → ForNode D P values names row λ v. TextIs D P (fromFor k v) r
+-- ---- the steps: which number is answered of a table that holds no node in the row is free
+pub record ValueIs (w : Table) (row : ℕ) (used : Bool) (r : ℕ) : Type 0 where
+  pub number : OperationNumber r
+  pub held : (k : Operation.Kind) → used ≡ usesValue k → ForNode w row λ v. Answers (valueFor k v) r
+
+abbrev pub FromIs : Table → ℕ → Bool → Spelled → Type 0
+FromIs w row used r = (k : Operation.Kind) → used ≡ usesFrom k → ForNode w row λ v. TextIs (w .texts) (fromFor k v) r
 
 -- the pointers as they stand in strings; the value is free
-abbrev pub PointersAre : Bytes → Bytes → Kind → ℕ → ℕ → ℕ → Type 0
-PointersAre D P kind path from r =
-    (k : Operation.Kind) → Knows kind k → (value : Value.Value) →
-    Answers (withPointers (record { kind = k; path = decode (partOf D P path); from = decode (partOf D P from); value = value })) r
+pub record PointersAre (T : Texts) (moves : Bool) (path from : Spelling) (r : ℕ) : Type 0 where
+  pub number : OperationNumber r
+  pub held : (k : Operation.Kind) → moves ≡ isMove k → (value : Value.Value) →
+      Answers (withPointers (record { kind = k; path = decode (partOf T path); from = decode (partOf T from); value = value })) r
 
-abbrev pub MembersAre : Bytes → Bytes → List ℕ → List ℕ → ℕ → Kind → ℕ → Type 0
-MembersAre D P values names row kind r =
-    (k : Operation.Kind) → Knows kind k → ForNode D P values names row λ v. Answers (membersFor k v >>= withPointers) r
+pub record MembersAre (w : Table) (row : ℕ) (kind : Kind) (r : ℕ) : Type 0 where
+  pub number : OperationNumber r
+  pub held : (k : Operation.Kind) → Knows kind k → ForNode w row λ v. Answers (membersFor k v >>= withPointers) r
 
-abbrev pub OperationIs : Bytes → Bytes → List ℕ → List ℕ → ℕ → ℕ → Type 0
-OperationIs D P values names row r = ForNode D P values names row λ v. Answers (operation v) r
+pub record OperationIs (w : Table) (row r : ℕ) : Type 0 where
+  pub number : OperationNumber r
+  pub held : ForNode w row λ v. Answers (operation v) r

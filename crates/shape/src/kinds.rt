@@ -2,12 +2,14 @@
 use lexer::peek;
 use table::spellings::part;
 use table::spellings::spells;
-use tape::words::length;
+use tape::fields::Spelling;
+use tape::layout::Texts;
 ghost use mathlib.Core.Path.{_≡_};
-ghost use Rattle.spec.specs.Patch.{kindNamed, usesValue, usesFrom, isMove};
+ghost use mathlib.Core.Bool.{true};
+ghost use Rattle.spec.specs.Patch.{kindNamed};
+ghost use Rattle.tape.specs.Lent.{lent};
 ghost use Rattle.table.specs.Meaning.{spelled};
-ghost use Rattle.pointer.specs.Tokens.{accepted};
-ghost use Rattle.shape.specs.Kinds.{kindOutcome, asks};
+ghost use Rattle.shape.specs.Kinds.{kindOutcome, usesOf};
 
 pub enum Kind {
     Add,
@@ -19,115 +21,97 @@ pub enum Kind {
     Unknown,
 }
 
-// The kind that a text names, each of the six words tried in turn.
-fn any_kind<'a>(document: &'a [u8], patch: &'a [u8], op: u64) -> Kind
-    ensures { λ r. ⌜ kindOutcome r ≡ kindNamed (spelled (now (document .entry)) (now (patch .entry)) op) ⌝ }
+// What a kind uses beside `op` and `path`, and whether it moves a value. An unknown kind uses nothing.
+pub struct Uses {
+    pub known: bool,
+    pub value: bool,
+    pub from: bool,
+    pub moves: bool,
+}
+
+fn known(value: bool, from: bool, moves: bool) -> Uses
+    ensures { λ r. ⌜ r ≡ record { known = true; value = value; from = from; moves = moves } ⌝ }
 {
-    if spells(document, patch, op, b"add") {
+    Uses {
+        known: true,
+        value,
+        from,
+        moves,
+    }
+}
+
+pub fn uses_of(kind: Kind) -> Uses
+    ensures { λ r. ⌜ r ≡ usesOf kind ⌝ }
+{
+    match kind {
+        Kind::Add => known(true, false, false),
+        Kind::Remove => known(false, false, false),
+        Kind::Replace => known(true, false, false),
+        Kind::Move => known(false, true, true),
+        Kind::Copy => known(false, true, false),
+        Kind::Test => known(true, false, false),
+        Kind::Unknown => Uses {
+            known: false,
+            value: false,
+            from: false,
+            moves: false,
+        },
+    }
+}
+
+// The kind that a text names. Each of the six words is tried in turn.
+fn any_kind<'a>(texts: Texts<'a>, op: Spelling) -> Kind
+    ensures { λ r. ⌜ kindOutcome r ≡ kindNamed (spelled (lent texts) op) ⌝ }
+{
+    if spells(texts, op, b"add") {
         return Kind::Add;
     }
-    if spells(document, patch, op, b"remove") {
+    if spells(texts, op, b"remove") {
         return Kind::Remove;
     }
-    if spells(document, patch, op, b"replace") {
+    if spells(texts, op, b"replace") {
         return Kind::Replace;
     }
-    if spells(document, patch, op, b"move") {
+    if spells(texts, op, b"move") {
         return Kind::Move;
     }
-    if spells(document, patch, op, b"copy") {
+    if spells(texts, op, b"copy") {
         return Kind::Copy;
     }
-    if spells(document, patch, op, b"test") {
+    if spells(texts, op, b"test") {
         return Kind::Test;
     }
     Kind::Unknown
 }
 
-// The kind that a text names, the word of one kind tried first.
-fn likely_kind<'a>(document: &'a [u8], patch: &'a [u8], op: u64, word: &[u8], kind: Kind) -> Kind
+// The kind that a text names. The word of one kind is tried first.
+fn likely_kind<'a>(texts: Texts<'a>, op: Spelling, word: &[u8], kind: Kind) -> Kind
     requires { ⌜ kindOutcome kind ≡ kindNamed (now word) ⌝ }
-    ensures { λ r. ⌜ kindOutcome r ≡ kindNamed (spelled (now (document .entry)) (now (patch .entry)) op) ⌝ }
+    ensures { λ r. ⌜ kindOutcome r ≡ kindNamed (spelled (lent texts) op) ⌝ }
 {
-    if spells(document, patch, op, word) {
+    if spells(texts, op, word) {
         return kind;
     }
-    any_kind(document, patch, op)
+    any_kind(texts, op)
 }
 
-// The kind that a text names. Its first byte tells which word is likely; where that is not the one, as with an escape, all are tried.
-pub fn kind_named<'a>(document: &'a [u8], patch: &'a [u8], op: u64) -> Kind
-    ensures { λ r. ⌜ kindOutcome r ≡ kindNamed (spelled (now (document .entry)) (now (patch .entry)) op) ⌝ }
+// The kind that a text names. Its first byte tells which word is likely. Where the text is another, as it is with an
+// escape, all words are tried.
+pub fn kind_named<'a>(texts: Texts<'a>, op: Spelling) -> Kind
+    ensures { λ r. ⌜ kindOutcome r ≡ kindNamed (spelled (lent texts) op) ⌝ }
 {
-    let first = peek(part(document, patch, op), 0);
+    let first = peek(part(texts, op), 0);
     match first {
-        b'a' => likely_kind(document, patch, op, b"add", Kind::Add),
-        b'c' => likely_kind(document, patch, op, b"copy", Kind::Copy),
-        b'm' => likely_kind(document, patch, op, b"move", Kind::Move),
-        b't' => likely_kind(document, patch, op, b"test", Kind::Test),
+        b'a' => likely_kind(texts, op, b"add", Kind::Add),
+        b'c' => likely_kind(texts, op, b"copy", Kind::Copy),
+        b'm' => likely_kind(texts, op, b"move", Kind::Move),
+        b't' => likely_kind(texts, op, b"test", Kind::Test),
         b'r' => {
-            if length(op) == 6 {
-                return likely_kind(document, patch, op, b"remove", Kind::Remove);
+            if op.length == 6 {
+                return likely_kind(texts, op, b"remove", Kind::Remove);
             }
-            likely_kind(document, patch, op, b"replace", Kind::Replace)
+            likely_kind(texts, op, b"replace", Kind::Replace)
         }
-        _ => any_kind(document, patch, op),
-    }
-}
-
-pub fn is_known(kind: Kind) -> bool
-    ensures { λ r. ⌜ r ≡ accepted (kindOutcome kind) ⌝ }
-{
-    match kind {
-        Kind::Add => true,
-        Kind::Remove => true,
-        Kind::Replace => true,
-        Kind::Move => true,
-        Kind::Copy => true,
-        Kind::Test => true,
-        Kind::Unknown => false,
-    }
-}
-
-// Which members a kind uses beside op and path.
-pub fn uses_value(kind: Kind) -> bool
-    ensures { λ r. ⌜ r ≡ asks usesValue kind ⌝ }
-{
-    match kind {
-        Kind::Add => true,
-        Kind::Remove => false,
-        Kind::Replace => true,
-        Kind::Move => false,
-        Kind::Copy => false,
-        Kind::Test => true,
-        Kind::Unknown => false,
-    }
-}
-
-pub fn uses_from(kind: Kind) -> bool
-    ensures { λ r. ⌜ r ≡ asks usesFrom kind ⌝ }
-{
-    match kind {
-        Kind::Add => false,
-        Kind::Remove => false,
-        Kind::Replace => false,
-        Kind::Move => true,
-        Kind::Copy => true,
-        Kind::Test => false,
-        Kind::Unknown => false,
-    }
-}
-
-pub fn is_move(kind: Kind) -> bool
-    ensures { λ r. ⌜ r ≡ asks isMove kind ⌝ }
-{
-    match kind {
-        Kind::Add => false,
-        Kind::Remove => false,
-        Kind::Replace => false,
-        Kind::Move => true,
-        Kind::Copy => false,
-        Kind::Test => false,
-        Kind::Unknown => false,
+        _ => any_kind(texts, op),
     }
 }

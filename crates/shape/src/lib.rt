@@ -1,6 +1,23 @@
-// The shape of a patch: document 01, "Patch shape". Nothing is stored: a member of an operation is found again when it runs.
+// The shape of a patch: document 01, "Patch shape". Nothing is stored: a member of an operation is found again when it
+// runs.
+//
+// What is proved: of a patch that the table holds, `shape_of` answers as the definitions do, with the number of the
+// refusal and the operation.
+//
+// What a caller should know: every public function is total and changes nothing. Its contract also says what it answers
+// of a table that holds no tree, and what is free there.
 
-pub mod kinds; // the kinds of operations, by their names
-pub mod members; // a member of an operation, by its name
-pub mod operation; // one operation
-pub mod patch; // the whole patch
+mod kinds; // the kinds of operations, by their names
+mod members; // a member of an operation, by its name
+mod operation; // one operation
+mod patch; // the whole patch
+
+pub use kinds::Kind;
+pub use kinds::Uses;
+pub use kinds::uses_of;
+pub use members::Spelled;
+pub use members::member;
+pub use members::string_member;
+pub use operation::kind_of;
+pub use patch::Shape;
+pub use patch::shape_of;

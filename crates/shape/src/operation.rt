@@ -1,143 +1,110 @@
-// One operation: its members, then its pointers.
+// One operation: its members, then its pointers. A function that answers a number answers 0 where nothing is refused.
 use crate::kinds::Kind;
-use crate::kinds::is_known;
-use crate::kinds::is_move;
 use crate::kinds::kind_named;
-use crate::kinds::uses_from;
-use crate::kinds::uses_value;
+use crate::kinds::uses_of;
 use crate::members::Spelled;
 use crate::members::member;
 use crate::members::string_member;
 use pointer::is_pointer;
 use pointer::proper_prefix;
+use spec::refusal;
 use table::find::Member;
 use table::spellings::part;
-use tape::layout::OBJECT;
-use tape::moves::load;
-use tape::words::kind;
+use tape::fields::Spelling;
+use tape::layout;
+use tape::layout::Node;
+use tape::layout::Texts;
+use tape::nodes::kind;
+ghost use Rattle.tape.specs.Lent.{lent, before};
 ghost use Rattle.shape.specs.Operation.{KindIs, ValueIs, FromIs, PointersAre, MembersAre, OperationIs};
 
-// Numbers of refusals. A function that answers a number answers 0 where nothing is refused.
-pub const WRONG_SHAPE: u8 = 8;
-
-pub const MALFORMED_POINTER: u8 = 10;
-
-pub const MOVE_INTO_CHILD: u8 = 14;
-
-// The kind of the operation in a row, which must be an object with an op.
-pub fn kind_of<'a>(
-    values: &[u64],
-    names: &[u64],
-    document: &'a [u8],
-    patch: &'a [u8],
-    row: usize,
-) -> Kind
-    ensures { λ r. ⌜ KindIs (now (document .entry)) (now (patch .entry)) (now (values .entry)) (now (names .entry)) row r ⌝ }
+// The kind of the operation in a row. It is known only of an object with an `op` that names one.
+pub fn kind_of<'a>(texts: Texts<'a>, nodes: &[Node], row: usize) -> Kind
+    ensures { λ r. ⌜ KindIs (before texts nodes) row r ⌝ }
 {
-    if kind(load(values, row)) != OBJECT {
+    if kind(nodes, row) != layout::OBJECT {
         return Kind::Unknown;
     }
-    let Spelled::As(op) = string_member(values, names, document, patch, row, b"op") else {
+    let Spelled::As(op) = string_member(texts, nodes, row, b"op") else {
         return Kind::Unknown;
     };
-    kind_named(document, patch, op)
+    kind_named(texts, op)
 }
 
-// Refused where the kind uses a value and there is none.
-fn value_number<'a>(
-    values: &[u64],
-    names: &[u64],
-    document: &'a [u8],
-    patch: &'a [u8],
-    row: usize,
-    kind: Kind,
-) -> u8
-    ensures { λ r. ⌜ ValueIs (now (document .entry)) (now (patch .entry)) (now (values .entry)) (now (names .entry)) row kind r ⌝ }
+// Refused where a value is used and there is none.
+fn value_number<'a>(texts: Texts<'a>, nodes: &[Node], row: usize, used: bool) -> u8
+    ensures { λ r. ⌜ ValueIs (before texts nodes) row used r ⌝ }
 {
-    if !uses_value(kind) {
+    if !used {
         return 0;
     }
-    let Member::At(_) = member(values, names, document, patch, row, b"value") else {
-        return WRONG_SHAPE;
+    let Member::At(_) = member(texts, nodes, row, b"value") else {
+        return refusal::WRONG_SHAPE;
     };
     0
 }
 
-// Where `from` stands; 0, which spells the empty text, where the kind does not use it.
-pub fn from_of<'a>(
-    values: &[u64],
-    names: &[u64],
-    document: &'a [u8],
-    patch: &'a [u8],
-    row: usize,
-    kind: Kind,
-) -> Spelled
-    ensures { λ r. ⌜ FromIs (now (document .entry)) (now (patch .entry)) (now (values .entry)) (now (names .entry)) row kind r ⌝ }
+// Where `from` stands, and an empty text where it is not used.
+fn from_of<'a>(texts: Texts<'a>, nodes: &[Node], row: usize, used: bool) -> Spelled
+    ensures { λ r. ⌜ FromIs (before texts nodes) row used r ⌝ }
 {
-    if !uses_from(kind) {
-        return Spelled::As(0);
+    if !used {
+        return Spelled::As(Spelling {
+            form: layout::NO_TEXT,
+            source: 0,
+            start: 0,
+            length: 0,
+        });
     }
-    string_member(values, names, document, patch, row, b"from")
+    string_member(texts, nodes, row, b"from")
 }
 
 // Refused where `path` or `from` is no pointer, or a move leads into what it moves.
-fn pointers_number<'a>(document: &'a [u8], patch: &'a [u8], kind: Kind, path: u64, from: u64) -> u8
-    ensures { λ r. ⌜ PointersAre (now (document .entry)) (now (patch .entry)) kind path from r ⌝ }
+fn pointers_number<'a>(texts: Texts<'a>, moves: bool, path: Spelling, from: Spelling) -> u8
+    ensures { λ r. ⌜ PointersAre (lent texts) moves path from r ⌝ }
 {
-    let to = part(document, patch, path);
+    let to = part(texts, path);
     if !is_pointer(to) {
-        return MALFORMED_POINTER;
+        return refusal::MALFORMED_POINTER;
     }
-    let source = part(document, patch, from);
+    let source = part(texts, from);
     if !is_pointer(source) {
-        return MALFORMED_POINTER;
+        return refusal::MALFORMED_POINTER;
     }
-    if !is_move(kind) {
+    if !moves {
         return 0;
     }
     if proper_prefix(source, to) {
-        return MOVE_INTO_CHILD;
+        return refusal::MOVE_INTO_CHILD;
     }
     0
 }
 
-// Refused where another member than op is wrong, of an operation of a kind.
-fn members_number<'a>(
-    values: &[u64],
-    names: &[u64],
-    document: &'a [u8],
-    patch: &'a [u8],
-    row: usize,
-    kind: Kind,
-) -> u8
-    ensures { λ r. ⌜ MembersAre (now (document .entry)) (now (patch .entry)) (now (values .entry)) (now (names .entry)) row kind r ⌝ }
+// Refused where another member than `op` is wrong, of an operation of a kind.
+fn members_number<'a>(texts: Texts<'a>, nodes: &[Node], row: usize, kind: Kind) -> u8
+    ensures { λ r. ⌜ MembersAre (before texts nodes) row kind r ⌝ }
 {
-    let Spelled::As(path) = string_member(values, names, document, patch, row, b"path") else {
-        return WRONG_SHAPE;
+    let uses = uses_of(kind);
+    let Spelled::As(path) = string_member(texts, nodes, row, b"path") else {
+        return refusal::WRONG_SHAPE;
     };
-    let number = value_number(values, names, document, patch, row, kind);
+    let number = value_number(texts, nodes, row, uses.value);
     if number != 0 {
         return number;
     }
-    let Spelled::As(from) = from_of(values, names, document, patch, row, kind) else {
-        return WRONG_SHAPE;
+    let Spelled::As(from) = from_of(texts, nodes, row, uses.from) else {
+        return refusal::WRONG_SHAPE;
     };
-    pointers_number(document, patch, kind, path, from)
+    pointers_number(texts, uses.moves, path, from)
 }
 
-// Refused where the operation in a row has not the right shape.
-pub fn operation_number<'a>(
-    values: &[u64],
-    names: &[u64],
-    document: &'a [u8],
-    patch: &'a [u8],
-    row: usize,
-) -> u8
-    ensures { λ r. ⌜ OperationIs (now (document .entry)) (now (patch .entry)) (now (values .entry)) (now (names .entry)) row r ⌝ }
+// Refused where the operation in a row is malformed.
+pub fn operation_number<'a>(texts: Texts<'a>, nodes: &[Node], row: usize) -> u8
+    ensures { λ r. ⌜ OperationIs (before texts nodes) row r ⌝ }
 {
-    let kind = kind_of(values, names, document, patch, row);
-    if !is_known(kind) {
-        return WRONG_SHAPE;
+    let kind = kind_of(texts, nodes, row);
+    if !uses_of(kind).known {
+        return refusal::WRONG_SHAPE;
     }
-    members_number(values, names, document, patch, row, kind)
+    members_number(texts, nodes, row, kind)
 }

@@ -1,16 +1,15 @@
 // The whole patch: an array of at most 256 operations, each of the right shape.
-use crate::operation::WRONG_SHAPE;
 use crate::operation::operation_number;
-use tape::layout::ARRAY;
-use tape::moves::load;
+use spec::limits;
+use spec::refusal;
+use tape::layout;
+use tape::layout::Node;
+use tape::layout::Texts;
 use tape::nodes::arity;
 use tape::nodes::end_of;
-use tape::words::kind;
+use tape::nodes::kind;
+ghost use Rattle.tape.specs.Lent.{before};
 ghost use Rattle.shape.specs.Patch.{ElementsAre, PatchIs};
-
-pub const TOO_MANY_OPERATIONS: u8 = 9;
-
-pub const MAX_OPERATIONS: usize = 256;
 
 pub enum Shape {
     Right,
@@ -19,51 +18,38 @@ pub enum Shape {
 }
 
 // The operations in the rows from `start` up to `end`, the first of which is operation 1.
-fn elements<'a>(
-    values: &[u64],
-    names: &[u64],
-    document: &'a [u8],
-    patch: &'a [u8],
-    start: usize,
-    end: usize,
-) -> Shape
-    ensures { λ r. ⌜ ElementsAre (now (document .entry)) (now (patch .entry)) (now (values .entry)) (now (names .entry)) start end r ⌝ }
+fn elements<'a>(texts: Texts<'a>, nodes: &[Node], start: usize, end: usize) -> Shape
+    ensures { λ r. ⌜ ElementsAre (before texts nodes) start end r ⌝ }
 {
     let mut row = start;
     let mut op = 0;
     while row < end {
-        if values.len() <= row {
+        if nodes.len() <= row {
             return Shape::Right;
         }
         op += 1;
-        let number = operation_number(values, names, document, patch, row);
+        let number = operation_number(texts, nodes, row);
         if number != 0 {
             return Shape::Refused(number, op);
         }
-        row = end_of(values, row);
+        row = end_of(nodes, row);
     }
     Shape::Right
 }
 
 // The patch in a row.
-pub fn shape_of<'a>(
-    values: &[u64],
-    names: &[u64],
-    document: &'a [u8],
-    patch: &'a [u8],
-    row: usize,
-) -> Shape
-    ensures { λ r. ⌜ PatchIs (now (document .entry)) (now (patch .entry)) (now (values .entry)) (now (names .entry)) row r ⌝ }
+pub fn shape_of<'a>(texts: Texts<'a>, nodes: &[Node], row: usize) -> Shape
+    ensures { λ r. ⌜ PatchIs (before texts nodes) row r ⌝ }
 {
-    if kind(load(values, row)) != ARRAY {
-        return Shape::Refused(WRONG_SHAPE, 0);
+    if kind(nodes, row) != layout::ARRAY {
+        return Shape::Refused(refusal::WRONG_SHAPE, 0);
     }
-    if MAX_OPERATIONS < arity(values, row) {
-        return Shape::Refused(TOO_MANY_OPERATIONS, 0);
+    if limits::MAX_OPERATIONS < arity(nodes, row) {
+        return Shape::Refused(refusal::TOO_MANY_OPERATIONS, 0);
     }
-    if values.len() <= row {
+    if nodes.len() <= row {
         return Shape::Right;
     }
-    let end = end_of(values, row);
-    elements(values, names, document, patch, row + 1, end)
+    let end = end_of(nodes, row);
+    elements(texts, nodes, row + 1, end)
 }

@@ -13,7 +13,7 @@ use Rattle.spec.specs.Write.{utf8, hexDigit, writeCharacter, writeCharac
 use Rattle.spec.specs.Pointer.{prepend, segments, tilde, unescape, unescapeAll, tokens, allDigits, isIndex, isDash, elementBelow, memberNamed, childAt, child, walk}
 use Rattle.spec.specs.Operation.{put, atParent, insertElement, insertMember, insertChild, removeChild, replaceChild, addAt, removeAtPath, replaceAtPath, moveTo, copyTo, testAt, perform, notTooDeep, notTooLarge, limited}
 use Rattle.spec.specs.Patch.{member, stringOf, stringMember, kindNamed, usesValue, usesFrom, isMove, valueFor, fromFor, membersFor, operationMembers, properPrefix, withPointers, operation, atOp, onFinish, operations, shape, run}
-use Rattle.spec.specs.Answer.{workSuffices, fitting, answerOf, patched, onPatch, onDocument, answer}
+use Rattle.spec.specs.Answer.{workSuffices, fitting, answerOf, patched, onPatch, onDocument, answerIn, answer}
 use Rattle.spec.specs.Examples.{All, starred, zeros}
 
 -- the definitions that compute the answer, layer by layer: to unfold one of these names is to unfold all that its line names
@@ -58,7 +58,7 @@ unfolding member stringOf stringMember kindNamed usesValue usesFrom isMove value
 compute-patches = tt
 
 unfoldable pub compute-answers : Unit {0}
-unfolding workSuffices fitting answerOf patched onPatch onDocument answer
+unfolding workSuffices fitting answerOf patched onPatch onDocument answerIn answer
 compute-answers = tt
 
 unfoldable compute : Unit {0}

@@ -8,7 +8,7 @@ use mathlib.Core.Option.{Option, none, some}
 use Prim.Native.Nat.{ℕ, _+_}
 use lib.ListN.{length}
 use lib.Dec.{leb}
-use borrow.Author.Tests.{le-leb}
+use borrow.Author.Tests.{le-ltb}
 use Rattle.spec.specs.Outcome.{Outcome, ok, refused, if_then_else_}
 use Rattle.spec.specs.Refusal.{too-many-operations, wrong-shape, output-too-short}
 use Rattle.spec.specs.Limits.{maxBytes, maxOperations}
@@ -21,7 +21,7 @@ use Rattle.spec.specs.Write.{write}
 use Rattle.spec.specs.Pointer.{Tokens}
 use Rattle.spec.specs.Operation.{Operation, limited}
 use Rattle.spec.specs.Patch.{Run, finished, stopped, atOp, onFinish, operation, operations, shape, run}
-use Rattle.spec.specs.Answer.{Lent, success, workSuffices, fitting, answer, answerOf, patched, onPatch, onDocument}
+use Rattle.spec.specs.Answer.{Lent, success, workSuffices, fitting, answer, answerOf, patched, onPatch, onDocument, answerIn}
 use Rattle.spec.specs.Elements.{Alone, Each, nothing, one, ElementsOf}
 use Rattle.spec.specs.Region.{Shuffle, done, left, right, Accepted, WellFormed, Enough, SucceedsWith, succeeds, bareRun, hereOr, endsAt, firstEnd, firstTooLarge, Situation, RegionStatement}
 use Rattle.spec.proofs.OutcomeLaws.{first-ok}
@@ -116,17 +116,17 @@ operations-shuffled (right s) a (one {y = v} b bs) (one {y = w} c cs) m (element
 -- The call on an accepted document and a well-formed patch, where the work area suffices, is the run with limits.
 pub called : {D P : Bytes} {d : Value.Value} {os : List Operation} (lent : Lent) → workSuffices lent ≡ true → Accepted D d → WellFormed P os →
     answer D P lent ≡ answerOf (lent .output) (run limited 1 os d)
-unfolding answer onDocument onPatch patched onFinish
-called {D} {P} lent work a w = rw (work, le-leb (length D) maxBytes (a .fits), le-leb (length P) maxBytes (w .fits), a .reads, w .reads, w .shaped, answer)
+unfolding answer answerIn onDocument onPatch patched onFinish
+called {D} {P} lent work a w = rw (work, le-ltb maxBytes (length D) (a .fits), le-ltb maxBytes (length P) (w .fits), a .reads, w .reads, w .shaped, answerIn)
 
 -- where 1 does not apply, the work area suffices
 pub work-enough : {D P : Bytes} {lent : Lent} → Enough D P lent → workSuffices lent ≡ true
-unfolding answer
+unfolding answer answerIn
 work-enough {D} {P} {lent} e = go (workSuffices lent) refl
   where
     go : (b : Bool) → workSuffices lent ≡ b → workSuffices lent ≡ true
     go true h = h
-    go false h = absurd (e .work (rw (h, answer)))
+    go false h = absurd (e .work (rw (h, answerIn)))
 
 -- where 16 does not apply, the text is written
 pub fits : (room : ℕ) (t : Bytes) → (fitting room t .number ≡ output-too-short → ⊥) → fitting room t ≡ success t

@@ -1,13 +1,13 @@
 -- The answer of the whole call: document 01, "The answer".
 use Prim.Native.Nat.{ℕ}
 use mathlib.Core.List.{[]}
-use mathlib.Core.Bool.{Bool, _&&_}
+use mathlib.Core.Bool.{Bool, _&&_, not}
 use lib.ListN.{length}
-use lib.Dec.{leb}
+use lib.Dec.{leb, ltb}
 use Rattle.spec.specs.Outcome.{Outcome, ok, refused, if_then_else_}
 use Rattle.spec.specs.Refusal as Refusal
 use Rattle.spec.specs.Refusal.{work-too-short, input-too-long, output-too-short}
-use Rattle.spec.specs.Limits.{maxBytes, workWords}
+use Rattle.spec.specs.Limits.{maxBytes, workNodes, workEntries}
 use Rattle.spec.specs.Bytes.{Bytes}
 use Rattle.spec.specs.Value as Value
 use Rattle.spec.specs.Read.{read}
@@ -31,14 +31,14 @@ success t = record { number = Refusal.done; text = 0; op = 0; place = 0; written
 abbrev pub refusal : ℕ → ℕ → ℕ → ℕ → Answer
 refusal number text op place = record { number = number; text = text; op = op; place = place; written = [] }
 
--- the lengths of the lent buffers: bytes of the output, words of each column of the work area
+-- the lengths of what is lent: bytes of the output, records of the node table, entries of the index
 pub record Lent : Type 0 where
   pub output : ℕ
-  pub values : ℕ
-  pub names : ℕ
+  pub nodes : ℕ
+  pub index : ℕ
 
 unfoldable pub workSuffices : Lent → Bool
-workSuffices lent = leb workWords (lent .values) && leb workWords (lent .names)
+workSuffices lent = leb workNodes (lent .nodes) && leb workEntries (lent .index)
 
 -- the written text, or 16
 unfoldable pub fitting : ℕ → Bytes → Answer
@@ -65,11 +65,11 @@ onDocument room (refused number place) patch = refusal number 1 0 place
 
 -- "Order: 1, 2, the whole document read, the whole patch read, the shape of every operation, the operations one after another, then 16.
 -- The first that applies is given."
+unfoldable pub answerIn : Bool → ℕ → Bytes → Bytes → Answer
+answerIn enough room document patch =
+    if not enough then refusal work-too-short 0 0 0 else
+    if ltb maxBytes (length document) then refusal input-too-long 1 0 0 else
+    if ltb maxBytes (length patch) then refusal input-too-long 2 0 0 else onDocument room (read document) patch
+
 unfoldable pub answer : Bytes → Bytes → Lent → Answer
-answer document patch lent =
-    if workSuffices lent then
-    (if leb (length document) maxBytes then
-    (if leb (length patch) maxBytes then onDocument (lent .output) (read document) patch
-    else refusal input-too-long 2 0 0)
-    else refusal input-too-long 1 0 0)
-    else refusal work-too-short 0 0 0
+answer document patch lent = answerIn (workSuffices lent) (lent .output) document patch

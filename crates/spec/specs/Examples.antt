@@ -4,7 +4,7 @@ use mathlib.Core.Path.{_≡_}
 use Prim.Native.Nat.{ℕ}
 use Prim.Native.String.{String}
 use mathlib.Core.List.{List, [], _∷_}
-use Rattle.spec.specs.Limits.{workWords}
+use Rattle.spec.specs.Limits.{workNodes, workEntries}
 use Rattle.spec.specs.Bytes.{ascii}
 use Rattle.spec.specs.Answer.{Lent, answer, success, refusal}
 
@@ -15,7 +15,7 @@ pub data Example : Type 0 where
 
 -- the buffers that the patch tool lends
 abbrev pub lent : Lent
-lent = record { output = 65_536; values = workWords; names = workWords }
+lent = record { output = 65_536; nodes = workNodes; index = workEntries }
 
 abbrev pub Holds : Example → Type 0
 Holds (gives d p text) = answer (ascii d) (ascii p) lent ≡ success (ascii text)

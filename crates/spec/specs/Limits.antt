@@ -25,6 +25,11 @@ maxExponent = 9_999
 abbrev pub maxOperations : ℕ
 maxOperations = 256
 
--- words of 64 bits in each of the two buffers of the work area: three parts of as many rows as a text has nodes (docs/WORK-AREA.md)
-abbrev pub workWords : ℕ
-workWords = 6_144
+-- ---- the work area (docs/WORK-AREA.md)
+-- records of the node table: three parts, each of as many rows as a text has nodes
+abbrev pub workNodes : ℕ
+workNodes = 6_144
+
+-- entries of the index
+abbrev pub workEntries : ℕ
+workEntries = 8_192

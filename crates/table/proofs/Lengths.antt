@@ -12,8 +12,9 @@ use Rattle.spec.specs.Bytes.{Bytes, Text}
 use Rattle.spec.specs.Value.{sameText}
 use Rattle.spec.proofs.TextLaws.{sameText-true}
 use Rattle.text.specs.Decode.{characterIn, before, decodeLoop, decodeFrom, unescapeToken, textFrom, textOf}
-use Rattle.tape.specs.Packing.{formOf, sourceOf, startOf, lengthOf}
+use Rattle.tape.specs.declared.fields.Spelling.{Spelling}
 use Rattle.table.specs.Meaning.{sourceText, partOf, spelled}
+use Rattle.tape.specs.Lent.{Texts}
 
 before-short : (o : Outcome (ℕ × ℕ)) (rest : ℕ → Text) (n : ℕ) → ((at : ℕ) → length (rest at) ≤ n) → length (before o rest) ≤ suc n
 unfolding before
@@ -49,13 +50,13 @@ text-short form s = go (eqb form 1) (eqb form 2) (eqb form 3) (decodeLoop (lengt
     go false false false t h = omega arith
 
 -- what a spelling says has at most so many characters as the spelling has bytes
-spelled-short : (D P : Bytes) (w : ℕ) → length (spelled D P w) ≤ lengthOf w
+spelled-short : (T : Texts) (w : Spelling) → length (spelled T w) ≤ w .length
 unfolding spelled partOf
-spelled-short D P w = omega (arith, text-short (formOf w) (partOf D P w), length-take (lengthOf w) (drop (startOf w) (sourceText D P (sourceOf w))))
+spelled-short T w = omega (arith, text-short (w .form) (partOf T w), length-take (w .length) (drop (w .start) (sourceText T (w .source))))
 
-pub too-short : (D P : Bytes) (w : ℕ) (t : Text) → lengthOf w < length t → false ≡ sameText (spelled D P w) t
-too-short D P w t h = go (sameText (spelled D P w) t) refl
+pub too-short : (T : Texts) (w : Spelling) (t : Text) → w .length < length t → false ≡ sameText (spelled T w) t
+too-short T w t h = go (sameText (spelled T w) t) refl
   where
-    go : (r : Bool) → sameText (spelled D P w) t ≡ r → false ≡ sameText (spelled D P w) t
-    go true e = absurd (omega (arith, spelled-short D P w, ap length (sameText-true _ _ e)))
+    go : (r : Bool) → sameText (spelled T w) t ≡ r → false ≡ sameText (spelled T w) t
+    go true e = absurd (omega (arith, spelled-short T w, ap length (sameText-true _ _ e)))
     go false e = sym e

@@ -8,13 +8,15 @@ use Rattle.spec.specs.Numbers.{number}
 use Rattle.decimal.specs.Normal.{withinLimits}
 use Rattle.decimal.proofs.Accepted.{number-within-limits}
 use Rattle.tape.specs.Layout.{numberKind}
+use Rattle.tape.specs.declared.fields.Spelling.{Spelling}
 use Rattle.table.specs.Meaning.{partOf}
 use Rattle.table.specs.Sound.{NumberFits}
+use Rattle.tape.specs.Lent.{Texts}
 
-module _ {D P : Bytes} {kind payload : ℕ} where
-  pub number-fits : (s : Bytes) (start end : ℕ) → number s start ≡ ok end → partOf D P payload ≡ take (end - start) (drop start s)
-      → NumberFits D P kind payload
+module _ {T : Texts} {kind : ℕ} {value : Spelling} where
+  pub number-fits : (s : Bytes) (start end : ℕ) → number s start ≡ ok end → partOf T value ≡ take (end - start) (drop start s)
+      → NumberFits T kind value
   number-fits s start end e p = record { is = λ k. ap withinLimits p ∙ number-within-limits s start end e }
 
-  pub other-fits : (kind ≡ numberKind → ⊥) → NumberFits D P kind payload
+  pub other-fits : (kind ≡ numberKind → ⊥) → NumberFits T kind value
   other-fits h = record { is = λ k. absurd (h k) }

@@ -1,6 +1,6 @@
 -- What the node table means: a spelling is a text, a cell an entry of the definitions, and a forest of cells a forest of entries. Document 01:
 -- "After reading, a string's bytes stand in the document or in the patch; nothing is copied until it is written."
-use Prim.Native.Nat.{ℕ}
+use Prim.Native.Nat.{ℕ, _/_, _%_}
 use mathlib.Core.Path.{_≡_}
 use lib.Dec.{eqb}
 use lib.ListN.{take, drop}
@@ -11,45 +11,51 @@ use Rattle.spec.specs.Value as Value
 use Rattle.spec.specs.Value.{Label, Entry, Members}
 use Rattle.lexer.specs.Hash.{hash}
 use Rattle.text.specs.Decode.{textOf}
-use Rattle.tape.specs.Packing.{formOf, sourceOf, startOf, lengthOf, spellingOf, hashOf}
-use Rattle.tape.specs.Cell.{Cell}
+use Rattle.tape.specs.declared.fields.Spelling.{Spelling}
+use Rattle.tape.specs.declared.fields.Name.{Name}
+use Rattle.tape.specs.declared.fields.Cell.{Cell}
 use Rattle.tape.specs.Map.{mapForest}
+use Rattle.tape.specs.Lent.{Texts}
 
 -- the text that a source names: 0 the document, and else the patch
-unfoldable pub sourceText : Bytes → Bytes → ℕ → Bytes
-sourceText document patch source = if eqb source 0 then document else patch
+unfoldable pub sourceText : Texts → ℕ → Bytes
+sourceText texts source = if eqb source 0 then texts .document else texts .patch
 
 -- the bytes that a spelling names
-unfoldable pub partOf : Bytes → Bytes → ℕ → Bytes
-partOf document patch spelling = take (lengthOf spelling) (drop (startOf spelling) (sourceText document patch (sourceOf spelling)))
+unfoldable pub partOf : Texts → Spelling → Bytes
+partOf texts spelling = take (spelling .length) (drop (spelling .start) (sourceText texts (spelling .source)))
 
 -- the text that it spells
-unfoldable pub spelled : Bytes → Bytes → ℕ → Text
-spelled document patch spelling = textOf (formOf spelling) (partOf document patch spelling)
+unfoldable pub spelled : Texts → Spelling → Text
+spelled texts spelling = textOf (spelling .form) (partOf texts spelling)
 
--- a label by its kind, which is its tag, and its payload
-unfoldable pub labelOf : Bytes → Bytes → ℕ → ℕ → Label
-labelOf document patch kind payload =
+-- a label by its kind, which is its tag, and its text
+unfoldable pub labelOf : Texts → ℕ → Spelling → Label
+labelOf texts kind value =
     if eqb kind 1 then Label.true-literal else
     if eqb kind 2 then Label.false-literal else
-    if eqb kind 3 then Label.number (partOf document patch payload) else
-    if eqb kind 4 then Label.string (spelled document patch payload) else
+    if eqb kind 3 then Label.number (partOf texts value) else
+    if eqb kind 4 then Label.string (spelled texts value) else
     if eqb kind 5 then Label.array else
     if eqb kind 6 then Label.object else Label.null-literal
 
-abbrev pub nameText : Bytes → Bytes → ℕ → Text
-nameText document patch name = spelled document patch (spellingOf name)
+abbrev pub nameText : Texts → Name → Text
+nameText texts name = spelled texts (name .text)
 
-abbrev pub entryOf : Bytes → Bytes → Cell → Entry
-entryOf document patch c = record { name = nameText document patch (c .name); label = labelOf document patch (c .kind) (c .payload) }
+abbrev pub entryOf : Texts → Cell → Entry
+entryOf texts c = record { name = nameText texts (c .name); label = labelOf texts (c .kind) (c .value) }
 
-abbrev pub members : Bytes → Bytes → Forest Cell → Members
-members document patch f = mapForest (entryOf document patch) f
+abbrev pub members : Texts → Forest Cell → Members
+members texts f = mapForest (entryOf texts) f
 
 -- the value that a node is
-abbrev pub meant : Bytes → Bytes → Cell → Forest Cell → Value.Value
-meant document patch c kids = record { label = labelOf document patch (c .kind) (c .payload); kids = members document patch kids }
+abbrev pub meant : Texts → Cell → Forest Cell → Value.Value
+meant texts c kids = record { label = labelOf texts (c .kind) (c .value); kids = members texts kids }
 
--- a name's word has the hash of the text that it spells
-pub record Hashed (document patch : Bytes) (name : ℕ) : Type 0 where
-  pub is : hashOf name ≡ hash (nameText document patch name)
+-- the 16 bits of a hash that a node has room for
+unfoldable pub shortHash : ℕ → ℕ
+shortHash h = h / 4_096 % 65_536
+
+-- a name has the hash of the text that it spells
+pub record Hashed (texts : Texts) (name : Name) : Type 0 where
+  pub is : name .hash ≡ shortHash (hash (nameText texts name))

@@ -2,20 +2,24 @@
 use crate::spellings::same_spelling;
 use crate::spellings::spells;
 use lexer::mix;
+use tape::fields::Name;
+use tape::fields::kind_in;
+use tape::fields::name_of;
+use tape::fields::wide;
 use tape::layout::ARRAY;
-use tape::layout::HASHES;
+use tape::layout::HASH;
+use tape::layout::Node;
+use tape::layout::SPAN;
+use tape::layout::TAGS;
+use tape::layout::Texts;
 use tape::nodes::BLOCK;
-use tape::words::hash;
-use tape::words::kind;
-use tape::words::span;
-use tape::words::spelling;
 ghost use mathlib.Core.Path.{_≡_};
-ghost use Prim.Native.Nat.{_≤_, _<_, min};
+ghost use Prim.Native.Nat.{_≤_, min};
 ghost use lib.ListN.{length};
 ghost use Rattle.lexer.specs.Hash.{hash};
-ghost use Rattle.tape.specs.Layout.{hashes};
-ghost use Rattle.tape.specs.Packing.{hashOf};
-ghost use Rattle.table.specs.Find.{SameNameIs, NamedIs, limitOf, QuietIs, FindIs, FindAsciiIs, Between};
+ghost use Rattle.tape.specs.Lent.{lent, before};
+ghost use Rattle.table.specs.Meaning.{shortHash};
+ghost use Rattle.table.specs.Find.{sameName, isNamed, limitOf, QuietIs, FindIs, FindAsciiIs};
 
 pub enum Member {
     // the member's row
@@ -23,44 +27,31 @@ pub enum Member {
     Missing,
 }
 
-// Whether two names are the same. They are told apart by their hashes; only where these are equal are the texts compared.
-pub fn same_name<'a>(document: &'a [u8], patch: &'a [u8], a: u64, b: u64) -> bool
-    ensures { λ r. ⌜ SameNameIs (now (document .entry)) (now (patch .entry)) a b r ⌝ }
+// Whether two names are the same. Their texts are compared only where their hashes are equal.
+pub fn same_name<'a>(texts: Texts<'a>, a: Name, b: Name) -> bool
+    ensures { λ r. ⌜ r ≡ sameName (lent texts) a b ⌝ }
 {
-    if hash(a) != hash(b) {
+    if a.hash != b.hash {
         return false;
     }
-    same_spelling(document, patch, spelling(a), spelling(b))
+    same_spelling(texts, a.text, b.text)
 }
 
-fn least(a: usize, b: usize) -> usize
-    ensures { λ r. ⌜ r ≡ min a b ⌝ }
+// The rows from `end` on, or behind the table, are not looked at.
+fn limit(nodes: &[Node], end: usize) -> usize
+    ensures { λ r. ⌜ r ≡ limitOf (now (nodes .entry)) end ⌝ }
 {
-    if a < b {
-        return a;
+    if end < nodes.len() {
+        return end;
     }
-    b
+    nodes.len()
 }
 
-// The rows from `end` on, or behind one of the columns, are not looked at.
-fn limit(values: &[u64], names: &[u64], end: usize) -> usize
-    ensures { λ r. ⌜ r ≡ limitOf (now (values .entry)) (now (names .entry)) end ⌝ }
-{
-    least(end, least(values.len(), names.len()))
-}
-
-// A number that is HASHES or more only where the two names' hashes differ.
-fn apart(a: u64, b: u64) -> u64
-    ensures { λ r. ⌜ (hashOf a ≡ hashOf b → r < hashes) ⌝ }
-{
-    (hash(a) ^ hash(b)) + (HASHES - 1)
-}
-
-// Whether the row is a multiple of BLOCK and in the BLOCK rows from it on no node has children and no name has the hash of this one. No row
-// waits for what another one holds, so that several are compared at a time.
-fn quiet(values: &[u64], names: &[u64], row: usize, stop: usize, name: u64) -> bool
-    requires { ⌜ (row ≤ stop) × (stop ≤ length (now values)) × (stop ≤ length (now names)) ⌝ }
-    ensures { λ r. ⌜ QuietIs (now (values .entry)) (now (names .entry)) row stop name r ⌝ }
+// Whether the row is a multiple of BLOCK and in the BLOCK rows from it on no node has children and no name has this hash.
+// Such rows are passed together: no turn waits for another row's span.
+fn quiet(nodes: &[Node], row: usize, stop: usize, hash: u16) -> bool
+    requires { ⌜ (row ≤ stop) × (stop ≤ length (now nodes)) ⌝ }
+    ensures { λ r. ⌜ QuietIs (now (nodes .entry)) row stop hash r ⌝ }
 {
     if row % BLOCK != 0 {
         return false;
@@ -68,52 +59,39 @@ fn quiet(values: &[u64], names: &[u64], row: usize, stop: usize, name: u64) -> b
     if stop - row < BLOCK {
         return false;
     }
-    // an `or` has the span 0 only if each of its words has
-    let mut spans = 0;
-    // an `and` is at most each of its numbers
-    let mut others = HASHES;
+    // an `or` is 0 only if each of its numbers is
+    let mut spans: u16 = 0;
     let mut i = 0;
     while i < BLOCK {
-        spans |= values[row + i];
-        others &= apart(names[row + i], name);
+        if nodes[row + i][HASH] == hash {
+            return false;
+        }
+        spans |= nodes[row + i][SPAN];
         i += 1;
     }
-    if others < HASHES {
-        return false;
-    }
-    span(spans) == 0
+    spans == 0
 }
 
 // The first of the trees in the rows from `start` up to `end` that has the name.
-pub fn find<'a>(
-    values: &[u64],
-    names: &[u64],
-    document: &'a [u8],
-    patch: &'a [u8],
-    start: usize,
-    end: usize,
-    name: u64,
-) -> Member
-    ensures { λ r. ⌜ FindIs (now (document .entry)) (now (patch .entry)) (now (values .entry)) (now (names .entry)) start end name r ⌝ }
-    ensures { λ r. ⌜ Between start end (now (values .entry)) r ⌝ }
+pub fn find<'a>(texts: Texts<'a>, nodes: &[Node], start: usize, end: usize, name: Name) -> Member
+    ensures { λ r. ⌜ FindIs (before texts nodes) start end name r ⌝ }
 {
-    let stop = limit(values, names, end);
+    let stop = limit(nodes, end);
     let mut row = start;
     while row < stop {
-        if quiet(values, names, row, stop, name) {
+        if quiet(nodes, row, stop, name.hash) {
             row += BLOCK;
             continue;
         }
-        if same_name(document, patch, names[row], name) {
+        if same_name(texts, name_of(nodes[row]), name) {
             return Member::At(row);
         }
-        // a scalar has no children; by this test the next turn does not wait for the word, where the processor foresees the kind
-        let word = values[row];
-        if kind(word) < ARRAY {
+        // a scalar has no children; where its kind is predicted, the next turn does not wait for the span
+        if kind_in(nodes[row][TAGS]) < ARRAY {
             row += 1;
             continue;
         }
-        row = row + 1 + span(word);
+        row = row + 1 + wide(nodes[row][SPAN]);
     }
     Member::Missing
 }
@@ -131,37 +109,45 @@ fn hash_ascii(name: &[u8]) -> u32
     h
 }
 
-// Whether a name is the text that is given by its bytes and has the hash `h`.
-fn is_named<'a>(document: &'a [u8], patch: &'a [u8], word: u64, h: u64, name: &[u8]) -> bool
-    ensures { λ r. ⌜ NamedIs (now (document .entry)) (now (patch .entry)) word h (now (name .entry)) r ⌝ }
+// The 16 bits of a hash that a node has room for.
+pub fn short(hash: u32) -> u16
+    ensures { λ r. ⌜ r ≡ shortHash hash ⌝ }
 {
-    if hash(word) != h {
+    (hash / 4096 % 65536) as u16
+}
+
+// Whether a name is the text that is given by its bytes and has the hash `h`.
+fn is_named<'a>(texts: Texts<'a>, own: Name, h: u16, name: &[u8]) -> bool
+    ensures { λ r. ⌜ r ≡ isNamed (lent texts) own h (now (name .entry)) ⌝ }
+{
+    if own.hash != h {
         return false;
     }
-    spells(document, patch, spelling(word), name)
+    spells(texts, own.text, name)
 }
 
 // The same, of a name that is given by its bytes, each of which is a character.
 pub fn find_ascii<'a>(
-    values: &[u64],
-    names: &[u64],
-    document: &'a [u8],
-    patch: &'a [u8],
+    texts: Texts<'a>,
+    nodes: &[Node],
     start: usize,
     end: usize,
     name: &[u8],
 ) -> Member
-    ensures { λ r. ⌜ FindAsciiIs (now (document .entry)) (now (patch .entry)) (now (values .entry)) (now (names .entry)) start end (now (name .entry)) r ⌝ }
-    ensures { λ r. ⌜ Between start end (now (values .entry)) r ⌝ }
+    ensures { λ r. ⌜ FindAsciiIs (before texts nodes) start end (now (name .entry)) r ⌝ }
 {
-    let h = hash_ascii(name) as u64;
-    let stop = limit(values, names, end);
+    let h = short(hash_ascii(name));
+    let stop = limit(nodes, end);
     let mut row = start;
     while row < stop {
-        if is_named(document, patch, names[row], h, name) {
+        if is_named(texts, name_of(nodes[row]), h, name) {
             return Member::At(row);
         }
-        row = row + 1 + span(values[row]);
+        if kind_in(nodes[row][TAGS]) < ARRAY {
+            row += 1;
+            continue;
+        }
+        row = row + 1 + wide(nodes[row][SPAN]);
     }
     Member::Missing
 }

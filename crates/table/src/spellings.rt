@@ -1,31 +1,32 @@
-// Spellings: words that say where a text stands.
+// Spellings: where a text stands.
 ghost use mathlib.Core.Path.{_≡_};
 ghost use Rattle.spec.specs.Value.{sameText};
+ghost use Rattle.tape.specs.Lent.{lent};
 ghost use Rattle.table.specs.Meaning.{sourceText, partOf, spelled};
-use tape::words::form;
-use tape::words::length;
-use tape::words::source;
-use tape::words::start;
+use tape::fields::Spelling;
+use tape::fields::long;
+use tape::fields::wide;
+use tape::layout::Texts;
 use text::same_ascii;
 use text::same_text;
 
 // The text that a source names.
-fn text_of<'a>(document: &'a [u8], patch: &'a [u8], source: u64) -> &'a [u8]
-    ensures { λ r. ⌜ now r ≡ sourceText (now (document .entry)) (now (patch .entry)) source ⌝ }
+fn text_of<'a>(texts: Texts<'a>, source: u16) -> &'a [u8]
+    ensures { λ r. ⌜ now r ≡ sourceText (lent texts) source ⌝ }
 {
     if source == 0 {
-        return document;
+        return texts[0];
     }
-    patch
+    texts[1]
 }
 
 // The bytes that a spelling names, in the document or in the patch.
-pub fn part<'a>(document: &'a [u8], patch: &'a [u8], spelling: u64) -> &'a [u8]
-    ensures { λ r. ⌜ now r ≡ partOf (now (document .entry)) (now (patch .entry)) spelling ⌝ }
+pub fn part<'a>(texts: Texts<'a>, spelling: Spelling) -> &'a [u8]
+    ensures { λ r. ⌜ now r ≡ partOf (lent texts) spelling ⌝ }
 {
-    let s = text_of(document, patch, source(spelling));
-    let first = start(spelling);
-    let count = length(spelling);
+    let s = text_of(texts, spelling.source);
+    let first = wide(spelling.start);
+    let count = wide(spelling.length);
     if s.len() <= first {
         let end = s.len();
         return &s[end..];
@@ -38,21 +39,21 @@ pub fn part<'a>(document: &'a [u8], patch: &'a [u8], spelling: u64) -> &'a [u8]
 }
 
 // Whether two spellings say the same text.
-pub fn same_spelling<'a>(document: &'a [u8], patch: &'a [u8], a: u64, b: u64) -> bool
-    ensures { λ r. ⌜ r ≡ sameText (spelled (now (document .entry)) (now (patch .entry)) a) (spelled (now (document .entry)) (now (patch .entry)) b) ⌝ }
+pub fn same_spelling<'a>(texts: Texts<'a>, a: Spelling, b: Spelling) -> bool
+    ensures { λ r. ⌜ r ≡ sameText (spelled (lent texts) a) (spelled (lent texts) b) ⌝ }
 {
-    let s = part(document, patch, a);
-    let t = part(document, patch, b);
-    same_text(form(a), s, form(b), t)
+    let s = part(texts, a);
+    let t = part(texts, b);
+    same_text(long(a.form), s, long(b.form), t)
 }
 
 // Whether a spelling says the text that is given by its bytes, each of which is a character. It says no more characters than it has bytes.
-pub fn spells<'a>(document: &'a [u8], patch: &'a [u8], spelling: u64, text: &[u8]) -> bool
-    ensures { λ r. ⌜ r ≡ sameText (spelled (now (document .entry)) (now (patch .entry)) spelling) (now (text .entry)) ⌝ }
+pub fn spells<'a>(texts: Texts<'a>, spelling: Spelling, text: &[u8]) -> bool
+    ensures { λ r. ⌜ r ≡ sameText (spelled (lent texts) spelling) (now (text .entry)) ⌝ }
 {
-    if length(spelling) < text.len() {
+    if wide(spelling.length) < text.len() {
         return false;
     }
-    let s = part(document, patch, spelling);
-    same_ascii(form(spelling), s, text)
+    let s = part(texts, spelling);
+    same_ascii(long(spelling.form), s, text)
 }

@@ -1,4 +1,4 @@
--- Laws of cells: what a node's word tells, and of which forests the words tell all.
+-- Laws of cells: what a node's row tells, and of which forests the rows tell all.
 use Prim.Native.Nat.{ℕ, zero, suc, _%_, _≤_, _<_}
 use native.Mathlib.Omega.{arith}
 use mathlib.Core.Path.{_≡_, refl, ap, _∙_, subst}
@@ -6,44 +6,64 @@ use mathlib.Core.Bool.{Bool, true, false}
 use lib.Dec.{leb}
 use borrow.Author.Tests.{leb-true, leb-false}
 use Rattle.spec.specs.Forest.{Forest, none, tree, Tree, single, count, size, before, from, nth, replaceAt, _⧺_}
-use Rattle.tape.specs.Layout.{arrayKind, kinds, spans, spellings}
-use Rattle.tape.specs.Packing.{packed, kindOf, spanOf, payloadOf, withSpan}
-use Rattle.tape.specs.Cell.{Cell, word, nameWord, Fit, Formed, formed-none, formed-tree}
+use Rattle.tape.specs.Layout.{arrayKind, values}
+use Rattle.tape.specs.declared.fields.Spelling.{Spelling}
+use Rattle.tape.specs.declared.fields.Name.{Name}
+use Rattle.tape.specs.declared.fields.Cell.{Cell}
+use Rattle.tape.specs.Fields.{Row, kindOf, spanOf, withSpan, cellOf, rowWith}
+use Rattle.tape.specs.Cell.{rowOf, Fit, Formed, formed-none, formed-tree}
 use Rattle.tape.proofs.Forests.{from-nth}
-use Rattle.tape.proofs.Packing.{kind-packed, span-packed, payload-packed, withSpan-packed, packed-fits}
+use Rattle.tape.proofs.FieldLaws.{kind-tagged, form-tagged, source-tagged, name-form-tagged, name-source-tagged}
+
+abbrev pub noText : Spelling
+noText = record { form = 0; source = 0; start = 0; length = 0 }
+
+abbrev pub noName : Name
+noName = record { text = noText; hash = 0 }
 
 -- any tree, where a law asks for one
 abbrev pub blank : Tree Cell
-blank = record { root = record { kind = 0; payload = 0; name = 0 }; kids = none }
+blank = record { root = record { kind = 0; value = noText; name = noName; origin = 0 }; kids = none }
 
--- ---- a node's word
+-- ---- a node's row
+pub span-row : (c : Cell) (kids : Forest Cell) → spanOf (rowOf c kids) ≡ size kids
+unfolding rowOf
+span-row c kids = refl
+
+-- the row of the same node with other children
+pub withSpan-row : (c : Cell) (kids others : Forest Cell) (span : ℕ) → span ≡ size others → size others < values
+    → withSpan (rowOf c kids) (span % values) ≡ rowOf c others
+unfolding rowOf
+withSpan-row c kids others span e h = let n : span % values ≡ size others = omega arith in ap (rowWith c) n
+
 module _ {c : Cell} {kids : Forest Cell} (fit : Fit c kids) where
-  pub kind-word : kindOf (word c kids) ≡ c .kind
-  unfolding word
-  kind-word = kind-packed (c .kind) (size kids) (c .payload) (omega (arith, fit .kind))
+  pub kind-row : kindOf (rowOf c kids) ≡ c .kind
+  unfolding rowOf
+  kind-row = kind-tagged (c .kind) (c .value .form) (c .value .source) (c .name .text .form) (c .name .text .source) (omega (arith, fit .kind))
 
-  pub span-word : spanOf (word c kids) ≡ size kids
-  unfolding word
-  span-word = span-packed (c .kind) (size kids) (c .payload) (omega (arith, fit .kind)) (fit .small)
+  -- the row tells the cell whole
+  pub cell-row : cellOf (rowOf c kids) ≡ c
+  unfolding rowOf
+  cell-row =
+      let k = kind-row in
+      let f = form-tagged (c .kind) (c .value .form) (c .value .source) (c .name .text .form) (c .name .text .source) (fit .value .form) in
+      let s = source-tagged (c .kind) (c .value .form) (c .value .source) (c .name .text .form) (c .name .text .source) (fit .value .source) in
+      let nf = name-form-tagged (c .kind) (c .value .form) (c .value .source) (c .name .text .form) (c .name .text .source) (fit .name .form) in
+      let ns = name-source-tagged (c .kind) (c .value .form) (c .value .source) (c .name .text .form) (c .name .text .source) (fit .name .source) in
+      λ i.
+      record {
+        kind = k i;
+        value = record { form = f i; source = s i; start = c .value .start; length = c .value .length };
+        name = record { text = record { form = nf i; source = ns i; start = c .name .text .start; length = c .name .text .length }; hash = c .name .hash };
+        origin = c .origin;
+      }
 
-  pub payload-word : payloadOf (word c kids) ≡ c .payload
-  unfolding word
-  payload-word = payload-packed (c .kind) (size kids) (c .payload) (omega (arith, fit .kind)) (fit .small)
+  -- the row that `node_of` makes
+  pub made-row : (span : ℕ) → span ≡ size kids → rowWith c (span % values) ≡ rowOf c kids
+  unfolding rowOf
+  made-row span e = let n : span % values ≡ size kids = omega (arith, fit .small) in ap (rowWith c) n
 
-  -- the word of the same node with other children
-  pub withSpan-word : (others : Forest Cell) (span : ℕ) → span ≡ size others → size others < spans
-      → withSpan (word c kids) (span % spans) ≡ word c others
-  unfolding word
-  withSpan-word others span e h =
-      let n : span % spans ≡ size others = omega arith in
-      withSpan-packed (c .kind) (size kids) (c .payload) (omega (arith, fit .kind)) (fit .small) (span % spans) ∙ ap (λ n. packed (c .kind) n (c .payload)) n
-
-  -- the word that `pack` makes
-  pub packed-word : c .payload < spellings → packed (c .kind % kinds) (size kids % spans) (c .payload % spellings) ≡ word c kids
-  unfolding word
-  packed-word h = packed-fits (c .kind) (size kids) (c .payload) (omega (arith, fit .kind)) (fit .small) h
-
--- a node with children is a container, and a container may have any children that its word can tell
+-- a node with children is a container, and a container may have any children that its row can tell
 pub container-fit : {c : Cell} {kids : Forest Cell} → Fit c kids → 0 < count kids → arrayKind ≤ c .kind
 unfolding count
 container-fit {c} {kids} fit some = go (leb arrayKind (c .kind)) refl
@@ -52,13 +72,8 @@ container-fit {c} {kids} fit some = go (leb arrayKind (c .kind)) refl
     go true e = leb-true arrayKind (c .kind) e
     go false e = absurd (omega (arith, ap count (fit .scalar (leb-false arrayKind (c .kind) e))))
 
-pub fit-container : {c : Cell} {kids : Forest Cell} (others : Forest Cell) → Fit c kids → arrayKind ≤ c .kind → size others < spans → Fit c others
-fit-container others fit container small = record { kind = fit .kind; small = small; scalar = λ h. absurd (omega arith) }
-
--- the column of names tells nothing of the children
-pub nameWord-same : (c : Cell) (kids others : Forest Cell) → nameWord c kids ≡ nameWord c others
-unfolding nameWord
-nameWord-same c kids others = refl
+pub fit-container : {c : Cell} {kids : Forest Cell} (others : Forest Cell) → Fit c kids → arrayKind ≤ c .kind → size others < values → Fit c others
+fit-container others fit container small = record { kind = fit .kind; small = small; scalar = λ h. absurd (omega arith); value = fit .value; name = fit .name }
 
 -- ---- well-formed forests
 module _ {c : Cell} {kids rest : Forest Cell} where

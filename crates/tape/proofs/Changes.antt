@@ -9,13 +9,14 @@ use lib.Seq.{take-at, drop-at, drop-append-seam, getD-append-seam, set-append-se
 use Rattle.spec.specs.Forest.{Forest, tree, Tree, count, size, before, from, nth, replaceAt, _⧺_}
 use Rattle.tape.specs.Columns.{replaced, usedAfter, spliced}
 use Rattle.tape.specs.Tape.{tape, Holds, Laid}
-use Rattle.tape.specs.Layout.{spans}
-use Rattle.tape.specs.Packing.{withSpan}
-use Rattle.tape.specs.Cell.{Cell, word, nameWord, Fit}
+use Rattle.tape.specs.Layout.{values}
+use Rattle.tape.specs.Fields.{Row, withSpan}
+use Rattle.tape.specs.declared.fields.Cell.{Cell}
+use Rattle.tape.specs.Cell.{rowOf}
 use Rattle.tape.specs.Rows.{childRow}
 use Rattle.tape.proofs.Columns.{Room, replaced-within, take-spliced}
 use Rattle.tape.proofs.Forests.{from-nth}
-use Rattle.tape.proofs.Cells.{withSpan-word, nameWord-same}
+use Rattle.tape.proofs.Cells.{withSpan-row}
 use Rattle.tape.proofs.Tape.{length-tape, tape-⧺, tape-cut}
 
 -- ---- the words of a changed forest
@@ -117,27 +118,18 @@ laid-word {w = w} {xs} {used} {f} {back} front x z l =
     let split : xs ≡ front ++ (x ∷ (tape w f ++ (back ++ drop used xs))) = sym (take-append-drop used xs) ∙ rw (l .is) (simp append-assoc) in
     ap (λ ys. getD ys (length front) z) split ∙ getD-append-seam front x (tape w f ++ (back ++ drop used xs)) z
 
--- ---- the two columns: a node whose children are changed gets its new span, and keeps its name
-module _ {xs : List ℕ} {used : ℕ} {front : List ℕ} {c : Cell} {rest : Forest Cell} {back : List ℕ} (kids : Forest Cell) where
-  pub laid-span : {changed : Forest Cell} (row span : ℕ) → Fit c kids → row ≡ length front → span ≡ size changed → span < spans
-      → Laid word xs used (front ++ (word c kids ∷ [])) changed (tape word rest ++ back)
-      → Laid word (set xs row (withSpan (getD xs row 0) (span % spans))) used front (tree c changed rest) back
-  laid-span {changed} row span fit e n h l =
-      let here : getD xs row 0 ≡ word c kids = rw e (laid-word front (word c kids) 0 l) in
-      let new : withSpan (getD xs row 0) (span % spans) ≡ word c changed = rw here (withSpan-word fit changed span n (omega arith)) in
-      laid-store c row (word c kids) (withSpan (getD xs row 0) (span % spans)) e new l
-
-  pub laid-name : {changed : Forest Cell} → Laid nameWord xs used (front ++ (nameWord c kids ∷ [])) changed (tape nameWord rest ++ back)
-      → Laid nameWord xs used front (tree c changed rest) back
-  laid-name {changed} l = laid-tree c (nameWord c kids) l (nameWord-same c kids changed)
+-- ---- a node whose children are changed gets its new span
+module _ {xs : List Row} {used : ℕ} {front : List Row} {c : Cell} {rest : Forest Cell} {back : List Row} (kids : Forest Cell) where
+  pub laid-span : {changed : Forest Cell} (row span : ℕ) → row ≡ length front → span ≡ size changed → span < values
+      → Laid rowOf xs used (front ++ (rowOf c kids ∷ [])) changed (tape rowOf rest ++ back)
+      → Laid rowOf (set xs row (withSpan (getD xs row []) (span % values))) used front (tree c changed rest) back
+  laid-span {changed} row span e n h l =
+      let here : getD xs row [] ≡ rowOf c kids = rw e (laid-word front (rowOf c kids) [] l) in
+      let new : withSpan (getD xs row []) (span % values) ≡ rowOf c changed = rw here (withSpan-row c kids changed span n (omega arith)) in
+      laid-store c row (rowOf c kids) (withSpan (getD xs row []) (span % values)) e new l
 
   -- the same where one child was changed, as a walk comes up from it
-  pub laid-span-child : (k : ℕ) (b : Tree Cell) (row span : ℕ) → Fit c kids → row ≡ length front → span ≡ size (replaceAt k b kids) → span < spans
-      → Laid word xs used ((front ++ (word c kids ∷ [])) ++ tape word (before k kids)) (tree (b .root) (b .kids) (from (suc k) kids)) (tape word rest ++ back)
-      → Laid word (set xs row (withSpan (getD xs row 0) (span % spans))) used front (tree c (replaceAt k b kids) rest) back
-  laid-span-child k b row span fit e n h l = laid-span row span fit e n h (laid-put b k kids l)
-
-  pub laid-name-child : (k : ℕ) (b : Tree Cell)
-      → Laid nameWord xs used ((front ++ (nameWord c kids ∷ [])) ++ tape nameWord (before k kids)) (tree (b .root) (b .kids) (from (suc k) kids)) (tape nameWord rest ++ back)
-      → Laid nameWord xs used front (tree c (replaceAt k b kids) rest) back
-  laid-name-child k b l = laid-name (laid-put b k kids l)
+  pub laid-span-child : (k : ℕ) (b : Tree Cell) (row span : ℕ) → row ≡ length front → span ≡ size (replaceAt k b kids) → span < values
+      → Laid rowOf xs used ((front ++ (rowOf c kids ∷ [])) ++ tape rowOf (before k kids)) (tree (b .root) (b .kids) (from (suc k) kids)) (tape rowOf rest ++ back)
+      → Laid rowOf (set xs row (withSpan (getD xs row []) (span % values))) used front (tree c (replaceAt k b kids) rest) back
+  laid-span-child k b row span e n h l = laid-span row span e n h (laid-put b k kids l)

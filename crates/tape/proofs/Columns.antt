@@ -182,26 +182,10 @@ module _ {W : Type 0} (xs : List W) (used at removed source n : ℕ) where
         rw (spliced-in, ← e, ← drop-drop, drop-at kept (drop (usedAfter used removed n) xs) (usedAfter used removed n) kept-length, drop-drop)
 
 -- ---- only words in the scratch rows change
-pub scratched-not : {xs : List ℕ} → Scratched xs xs
-scratched-not = record { before = refl; behind = refl; same-length = refl }
-
-pub scratched-then : {xs ys zs : List ℕ} → Scratched xs ys → Scratched ys zs → Scratched xs zs
-scratched-then a b = record { before = b .before ∙ a .before; behind = b .behind ∙ a .behind; same-length = b .same-length ∙ a .same-length }
-
--- some of them are made the same, or none, since the column is too short
-pub scratched-filled : {xs ys : List ℕ} (x start n : ℕ) → ys ≡ filled x xs start n → scratchRow ≤ start → start + n ≤ rows → Scratched xs ys
-scratched-filled {xs} {ys} x start n is above below = rw is (go (decLt (length xs) (start + n)))
-  where
-    go : Dec (length xs < start + n) → Scratched xs (filled x xs start n)
-    go (yes h) = rw (filled-out xs x start n h) scratched-not
-    go (no h) =
-        let inside : start + n ≤ length xs = omega arith in
-        record { before = filled-before x xs start n inside scratchRow above; behind = filled-behind x xs start n inside rows below; same-length = filled-length x xs start n inside }
-
 -- others are copied there
-pub scratched-moved : {xs ys : List ℕ} (start n : ℕ) → ys ≡ moved xs scratchRow start n → scratchRow + n ≤ rows → rows ≤ length xs → start + n ≤ length xs → Scratched xs ys
+pub scratched-moved : {W : Type 0} {xs ys : List W} (start n : ℕ) → ys ≡ moved xs scratchRow start n → scratchRow + n ≤ rows → rows ≤ length xs → start + n ≤ length xs → Scratched xs ys
 unfolding copied
-scratched-moved {xs} start n is few long there =
+scratched-moved {W} {xs} start n is few long there =
     let target : scratchRow + n ≤ length xs = omega arith in
     let new = take n (drop start xs) in
     let many : length new ≡ n = length-words xs scratchRow start n target there in

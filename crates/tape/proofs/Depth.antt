@@ -3,15 +3,16 @@ use Prim.Native.Nat.{ℕ, suc, _+_, _-_, _≤_, _<_, max}
 use native.Mathlib.Omega.{arith}
 use mathlib.Core.Path.{_≡_, refl, sym, ap, _∙_, subst}
 use mathlib.Core.Bool.{Bool, true, false, _&&_}
-use mathlib.Core.List.{List, _++_}
+use mathlib.Core.List.{List, [], _++_}
 use lib.Dec.{leb}
 use lib.ListN.{getD}
 use borrow.Author.Tests.{le-leb, lt-leb, leb-true, leb-false}
 use Rattle.spec.specs.Forest.{Forest, tree, size}
 use Rattle.tape.specs.Layout.{arrayKind}
-use Rattle.tape.specs.Packing.{kindOf}
+use Rattle.tape.specs.Fields.{Row, kindOf}
 use Rattle.tape.specs.Tape.{tape}
-use Rattle.tape.specs.Cell.{Cell, word, Formed, Node, level, deep}
+use Rattle.tape.specs.declared.fields.Cell.{Cell}
+use Rattle.tape.specs.Cell.{rowOf, Formed, Node, level, deep}
 use Rattle.tape.specs.Rows.{endOf, ForNode, WithinIs}
 use Rattle.tape.proofs.Tape.{Left, left-all, left-next, left-none, left-first}
 use Rattle.tape.proofs.Cells.{formed-kids, formed-rest}
@@ -58,19 +59,19 @@ module _ (c : Cell) (kids : Forest Cell) (m : ℕ) where
   level-below h e = rw (level-container c (deep kids) h) (leb-same (suc (deep kids)) m (deep kids) (m - 1) (λ q. omega arith) (λ q. omega arith))
 
 -- ---- the loop over a node's children: whether all fit is whether those that are left do
-pub record Undecided (xs : List ℕ) (row end m : ℕ) (kids : Forest Cell) : Type 0 where
+pub record Undecided (xs : List Row) (row end m : ℕ) (kids : Forest Cell) : Type 0 where
   pub rest : Forest Cell
-  pub after : List ℕ
-  pub left : Left word xs row end rest after
+  pub after : List Row
+  pub left : Left rowOf xs row end rest after
   pub formed : Formed rest
   pub same : leb (deep kids) m ≡ leb (deep rest) m
 
-pub undecided-all : {xs : List ℕ} {at : ℕ} {c : Cell} {kids : Forest Cell} (m : ℕ) → Node xs at c kids
+pub undecided-all : {xs : List Row} {at : ℕ} {c : Cell} {kids : Forest Cell} (m : ℕ) → Node xs at c kids
     → Undecided xs (at + 1) (at + 1 + size kids) m kids
 undecided-all {kids = kids} m node =
-    record { rest = kids; after = tape word (node .rest) ++ node .after; left = left-all (node .held); formed = formed-kids (node .formed); same = refl }
+    record { rest = kids; after = tape rowOf (node .rest) ++ node .held .after; left = left-all (node .held .rows); formed = formed-kids (node .held .formed); same = refl }
 
-module _ {xs : List ℕ} {row end m : ℕ} {kids : Forest Cell} (u : Undecided xs row end m kids) where
+module _ {xs : List Row} {row end m : ℕ} {kids : Forest Cell} (u : Undecided xs row end m kids) where
   pub undecided-none : end ≤ row → leb (deep kids) m ≡ true
   unfolding deep
   undecided-none h = u .same ∙ ap (λ f. leb (deep f) m) (left-none (u .left) h) ∙ le-leb 0 m (omega arith)
@@ -78,13 +79,13 @@ module _ {xs : List ℕ} {row end m : ℕ} {kids : Forest Cell} (u : Undecided x
   module _ (more : row < end) where
     -- the first that is left
     first : {C : Type 0}
-        → ((c : Cell) (ks rest : Forest Cell) → leb (deep kids) m ≡ leb (level c (deep ks)) m && leb (deep rest) m → Node xs row c ks → Left word xs row end (tree c ks rest) (u .after) → Formed rest → C)
+        → ((c : Cell) (ks rest : Forest Cell) → leb (deep kids) m ≡ leb (level c (deep ks)) m && leb (deep rest) m → Node xs row c ks → Left rowOf xs row end (tree c ks rest) (u .after) → Formed rest → C)
         → C
     first then-it =
         left-first (u .left) more λ c ks rest e l.
         let o : Formed (tree c ks rest) = subst Formed e (u .formed) in
         let fits = u .same ∙ ap (λ f. leb (deep f) m) e ∙ deep-tree c ks m rest in
-        then-it c ks rest fits (record { rest = rest; after = u .after; held = l .held; formed = o }) l (formed-rest o)
+        then-it c ks rest fits (record { rest = rest; held = record { after = u .after; rows = l .held; formed = o } }) l (formed-rest o)
 
     pub undecided-deep : (r : Bool) → r ≡ false → WithinIs xs row m r → leb (deep kids) m ≡ false
     undecided-deep r d j = first λ c ks rest e node l o. e ∙ ap (λ b. b && leb (deep rest) m) (sym (j c ks node) ∙ d)
@@ -102,14 +103,14 @@ module _ {xs : List ℕ} {row end m : ℕ} {kids : Forest Cell} (u : Undecided x
 
 -- ---- each way out of `within`
 -- at the head of the loop, of whatever node the column holds in a row
-abbrev pub Judging : List ℕ → ℕ → ℕ → ℕ → Type 0
+abbrev pub Judging : List Row → ℕ → ℕ → ℕ → Type 0
 Judging xs at row m = ForNode xs at (λ c kids. Undecided xs row (at + 1 + size kids) m kids)
 
-module _ {xs : List ℕ} {at : ℕ} (levels : ℕ) where
-  pub within-scalar : kindOf (getD xs at 0) < arrayKind → WithinIs xs at levels true
+module _ {xs : List Row} {at : ℕ} (levels : ℕ) where
+  pub within-scalar : kindOf (getD xs at []) < arrayKind → WithinIs xs at levels true
   within-scalar h c kids node = sym (level-fits c kids levels (omega (arith, kind-here node)))
 
-  module _ (container : arrayKind ≤ kindOf (getD xs at 0)) where
+  module _ (container : arrayKind ≤ kindOf (getD xs at [])) where
     pub within-flat : levels ≡ 0 → WithinIs xs at levels false
     within-flat e c kids node = sym (level-flat c kids levels (omega (arith, kind-here node)) e)
 
@@ -122,9 +123,9 @@ module _ {xs : List ℕ} {at : ℕ} (levels : ℕ) where
       within-deep h r d j c kids node =
           sym (level-below c kids levels (omega (arith, kind-here node)) some ∙ undecided-deep (judging c kids node) (omega (arith, end-here node)) r d j)
 
-pub judging-all : (xs : List ℕ) (at m : ℕ) → Judging xs at (at + 1) m
+pub judging-all : (xs : List Row) (at m : ℕ) → Judging xs at (at + 1) m
 judging-all xs at m c kids node = undecided-all m node
 
-pub judging-next : (xs : List ℕ) (at row m end next : ℕ) → end ≡ endOf xs at → row < end → next ≡ endOf xs row → (r : Bool) → r ≡ true
+pub judging-next : (xs : List Row) (at row m end next : ℕ) → end ≡ endOf xs at → row < end → next ≡ endOf xs row → (r : Bool) → r ≡ true
     → WithinIs xs row m r → Judging xs at row m → Judging xs at next m
 judging-next xs at row m end next e h n r d j judging c kids node = undecided-next (judging c kids node) (omega (arith, end-here node)) next n r d j

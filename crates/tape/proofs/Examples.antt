@@ -4,20 +4,22 @@ use native.Mathlib.Omega.{arith}
 use mathlib.Core.Path.{_≡_, refl}
 use mathlib.Core.List.{List, [], _∷_}
 use Rattle.spec.specs.Forest.{Forest, none, tree, count, size, before}
-use Rattle.spec.specs.Limits.{workWords, maxNodes}
-use Rattle.tape.specs.Layout.{arrayKind, numberKind, spans, patchRow, rows}
-use Rattle.tape.specs.Packing.{packed}
+use Rattle.spec.specs.Limits.{workNodes, maxNodes}
+use Rattle.tape.specs.Layout.{arrayKind, numberKind, values, patchRow, rows}
+use Rattle.tape.specs.Fields.{Row, noNode}
 use Rattle.tape.specs.Tape.{tape}
-use Rattle.tape.specs.Cell.{Cell, word, Fit, Formed, formed-none, formed-tree, Node, level, deep}
+use Rattle.tape.specs.declared.fields.Cell.{Cell}
+use Rattle.tape.specs.Cell.{rowOf, Fit, Formed, formed-none, formed-tree, Node, level, deep}
+use Rattle.tape.proofs.Cells.{noText, noName}
 use Rattle.tape.specs.Columns.{spliceFits, spliced, replaced, inside}
 use Rattle.tape.specs.Rows.{endOf, childRow, childOf}
 use Rattle.tape.specs.declared.nodes.Located.the-variants.{At, Fewer}
 
 abbrev number : Cell
-number = record { kind = numberKind; payload = 9; name = 0 }
+number = record { kind = numberKind; value = record { form = 4; source = 1; start = 300; length = 9 }; name = noName; origin = 0 }
 
 abbrev array : Cell
-array = record { kind = arrayKind; payload = 0; name = 0 }
+array = record { kind = arrayKind; value = noText; name = noName; origin = 0 }
 
 abbrev one : Forest Cell
 one = tree number none none
@@ -25,15 +27,37 @@ one = tree number none none
 abbrev kids : Forest Cell
 kids = tree number none (tree array one one)
 
-abbrev column : List ℕ
-column = 77 ∷ packed 5 4 0 ∷ packed 3 0 9 ∷ packed 5 1 0 ∷ packed 3 0 9 ∷ packed 3 0 9 ∷ 88 ∷ []
+-- a row's tags: 3 + 8 * (4 + 8 * 1) of a number in the patch
+abbrev column : List Row
+column =
+    noNode
+    ∷ (0 ∷ 0 ∷ 0 ∷ 0 ∷ 4 ∷ 0 ∷ 5 ∷ 0 ∷ [])
+    ∷ (0 ∷ 0 ∷ 300 ∷ 9 ∷ 0 ∷ 0 ∷ 99 ∷ 0 ∷ [])
+    ∷ (0 ∷ 0 ∷ 0 ∷ 0 ∷ 1 ∷ 0 ∷ 5 ∷ 0 ∷ [])
+    ∷ (0 ∷ 0 ∷ 300 ∷ 9 ∷ 0 ∷ 0 ∷ 99 ∷ 0 ∷ [])
+    ∷ (0 ∷ 0 ∷ 300 ∷ 9 ∷ 0 ∷ 0 ∷ 99 ∷ 0 ∷ [])
+    ∷ noNode ∷ []
 
 scalar : Fit number none
 unfolding size
-scalar = record { kind = omega arith; small = omega arith; scalar = λ h. refl }
+scalar =
+    record {
+      kind = omega arith;
+      small = omega arith;
+      scalar = λ h. refl;
+      value = record { form = omega arith; source = omega arith };
+      name = record { form = omega arith; source = omega arith };
+    }
 
-container : (ks : Forest Cell) → size ks < spans → Fit array ks
-container ks h = record { kind = omega arith; small = h; scalar = λ l. absurd (omega arith) }
+container : (ks : Forest Cell) → size ks < values → Fit array ks
+container ks h =
+    record {
+      kind = omega arith;
+      small = h;
+      scalar = λ l. absurd (omega arith);
+      value = record { form = omega arith; source = omega arith };
+      name = record { form = omega arith; source = omega arith };
+    }
 
 formed-one : Formed one
 formed-one = formed-tree scalar formed-none formed-none
@@ -44,8 +68,8 @@ formed = formed-tree (container kids (omega arith)) (formed-tree scalar formed-n
 
 -- the second row holds the array
 pub node : Node column 1 array kids
-unfolding tape word size
-node = record { rest = none; after = 88 ∷ []; held = record { is = refl }; formed = formed }
+unfolding tape rowOf size
+node = record { rest = none; held = record { after = noNode ∷ []; rows = record { is = refl }; formed = formed } }
 
 pub end-row : endOf column 1 ≡ 6
 end-row = refl
@@ -72,5 +96,5 @@ splice-example = refl
 pub patch-part : patchRow ≡ maxNodes
 patch-part = refl
 
-pub all-parts : rows ≡ workWords
+pub all-parts : rows ≡ workNodes
 all-parts = refl

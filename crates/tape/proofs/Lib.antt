@@ -1,5 +1,5 @@
 -- Laws that the proofs cite, here and in the crates above.
-pub mod Packing
+pub mod FieldLaws
 pub mod Columns
 pub mod Loops
 pub mod Forests

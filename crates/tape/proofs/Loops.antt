@@ -7,7 +7,6 @@ use mathlib.Core.List.{List, [], _∷_, _++_, append-assoc}
 use lib.ListN.{length, take, drop, getD, set, replicate, replicate-append-replicate, length-drop, length-replicate, take-append-drop}
 use lib.Seq.{paste-zero, sets-eq, drop-cons, take-suc, getD-drop, take-take, drop-drop, take-add}
 use Rattle.tape.specs.Columns.{replaced, copied, moved, usedAfter, spliced, filled}
-use lib.Bits.{bitOr, or-add-and, and-le-l, and-le-r}
 use Rattle.spec.proofs.ListLaws.{drop-take}
 use Rattle.tape.proofs.Columns.{Room, moved-in, spliced-in, filled-in, length-replaced, take-replaced, words-replaced, drop-replaced, replaced-one, replaced-further, replaced-before, length-words}
 
@@ -116,23 +115,6 @@ filled-further {W} x xs start n h =
     let first : 0 + start ≡ start = omega arith in
     rw (filled-in ys x start n (omega arith), ← (replicate-append-replicate start n x))
     (rw first at (replaced-further xs 0 start n (replicate start x) (replicate n x) (omega arith) (length-replicate start x)))
-
--- words that are already so, filled
-pub filled-same : {W : Type 0} (x : W) (xs : List W) (start n : ℕ) → start + n ≤ length xs → take n (drop start xs) ≡ replicate n x → filled x xs start n ≡ xs
-unfolding replaced copied
-filled-same x xs start n h e = rw (filled-in xs x start n h, ← e) (copied-same xs start n)
-
--- a word more of those that are all 0 where their disjunction is
-pub or-clear : (xs : List ℕ) (start i bits : ℕ) → start + i < length xs → (bits ≡ 0 → take i (drop start xs) ≡ replicate i 0)
-    → bitOr bits (getD xs (start + i) 0) ≡ 0 → take (i + 1) (drop start xs) ≡ replicate (i + 1) 0
-or-clear xs start i bits inside so-far none =
-    let word : ℕ = getD xs (start + i) 0 in
-    let none-before : bits ≡ 0 = omega (arith, or-add-and bits word, and-le-l bits word, and-le-r bits word) in
-    let here : getD (drop start xs) i 0 ≡ 0 = let zero-here : word ≡ 0 = omega (arith, or-add-and bits word, and-le-l bits word, and-le-r bits word) in getD-drop start xs i 0 ∙ zero-here in
-    let there : i < length (drop start xs) = simp length-drop (omega arith) in
-    let more : replicate {A = ℕ} i 0 ++ (0 ∷ []) ≡ replicate (i + 1) 0 = replicate-append-replicate i 1 0 in
-    let one-more : take (i + 1) (drop start xs) ≡ replicate {A = ℕ} i 0 ++ (0 ∷ []) = rw (add-one, take-suc (drop start xs) i 0 there, so-far none-before, here) in
-    one-more ∙ more
 
 -- ---- a splice by two moves
 module _ {W : Type 0} (xs : List W) (used at removed source n : ℕ) (in-use : at + removed ≤ used) (room : Room xs used removed source n) where

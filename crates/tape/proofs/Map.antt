@@ -9,7 +9,8 @@ use Rattle.spec.specs.Bytes.{Text}
 use Rattle.spec.specs.Forest.{Forest, none, tree, Tree, single, count, size, before, from, insertAt, removeAt, replaceAt, nth, _⧺_}
 use Rattle.spec.specs.Value.{Entry, tag, isContainer, levels, depths, sameText, find}
 use Rattle.tape.specs.Layout.{arrayKind, objectKind}
-use Rattle.tape.specs.Cell.{Cell, Formed, formed-none, formed-tree, level, deep}
+use Rattle.tape.specs.declared.fields.Cell.{Cell}
+use Rattle.tape.specs.Cell.{Formed, formed-none, formed-tree, level, deep}
 use Rattle.tape.specs.Map.{mapForest, mapTree, position}
 use Rattle.tape.proofs.Forests.{from-nth, from-all}
 

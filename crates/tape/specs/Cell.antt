@@ -1,32 +1,32 @@
--- Cells: what a node of the table bears beside its children.
+-- Cells in the table: the row of a node, and which forests the rows tell whole.
 use Prim.Native.Nat.{ℕ, suc, _<_, _≤_, max}
 use mathlib.Core.Path.{_≡_}
 use mathlib.Core.List.{List}
 use lib.Dec.{leb}
 use Rattle.spec.specs.Outcome.{if_then_else_}
 use Rattle.spec.specs.Forest.{Forest, none, tree, size}
-use Rattle.tape.specs.Layout.{arrayKind, objectKind, spans}
-use Rattle.tape.specs.Packing.{packed}
+use Rattle.tape.specs.Layout.{values, arrayKind, objectKind, forms, sources}
+use Rattle.tape.specs.Fields.{Row, rowWith}
+use Rattle.tape.specs.declared.fields.Spelling.{Spelling}
+use Rattle.tape.specs.declared.fields.Cell.{Cell}
 use Rattle.tape.specs.Tape.{Holds}
 
--- the name is the whole word of the column of names
-pub record Cell : Type 0 where
-  pub kind : ℕ
-  pub payload : ℕ
-  pub name : ℕ
+-- a node's row: what it bears, and how many nodes are below it
+unfoldable pub rowOf : Cell → Forest Cell → Row
+rowOf c kids = rowWith c (size kids)
 
--- a node's word in the column of values, and in the column of names
-unfoldable pub word : Cell → Forest Cell → ℕ
-word c kids = packed (c .kind) (size kids) (c .payload)
+-- a text whose form and source fit a node's tags
+pub record Told (s : Spelling) : Type 0 where
+  pub form : s .form < forms
+  pub source : s .source < sources
 
-unfoldable pub nameWord : Cell → Forest Cell → ℕ
-nameWord c kids = c .name
-
--- a node that its word tells whole; a scalar has no children
+-- a node that its row tells whole; a scalar has no children
 pub record Fit (c : Cell) (kids : Forest Cell) : Type 0 where
   pub kind : c .kind ≤ objectKind
-  pub small : size kids < spans
+  pub small : size kids < values
   pub scalar : c .kind < arrayKind → kids ≡ none
+  pub value : Told (c .value)
+  pub name : Told (c .name .text)
 
 pub data Formed : Forest Cell → Type 0 where
   formed-none : Formed none
@@ -40,17 +40,13 @@ unfoldable pub deep : Forest Cell → ℕ
 deep none = 0
 deep (tree c kids rest) = max (level c (deep kids)) (deep rest)
 
--- the column of values holds a node in a row
-pub record Node (values : List ℕ) (at : ℕ) (c : Cell) (kids : Forest Cell) : Type 0 where
-  pub rest : Forest Cell
-  pub after : List ℕ
-  pub held : Holds word values at (tree c kids rest) after
-  pub formed : Formed (tree c kids rest)
-
--- both columns hold a forest from a row on
-pub record Held (values names : List ℕ) (at : ℕ) (f : Forest Cell) : Type 0 where
-  pub after : List ℕ
-  pub behind : List ℕ
-  pub words : Holds word values at f after
-  pub titles : Holds nameWord names at f behind
+-- the table holds a forest from a row on
+pub record Held (nodes : List Row) (at : ℕ) (f : Forest Cell) : Type 0 where
+  pub after : List Row
+  pub rows : Holds rowOf nodes at f after
   pub formed : Formed f
+
+-- it holds a node in a row
+pub record Node (nodes : List Row) (at : ℕ) (c : Cell) (kids : Forest Cell) : Type 0 where
+  pub rest : Forest Cell
+  pub held : Held nodes at (tree c kids rest)

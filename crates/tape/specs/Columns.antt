@@ -8,6 +8,7 @@ use lib.Dec.{leb}
 use lib.ListN.{length, take, drop, replicate}
 use Rattle.spec.specs.Outcome.{if_then_else_}
 use Rattle.tape.specs.Layout.{scratchRow, rows}
+use Rattle.tape.specs.Fields.{Row, noNode}
 
 -- how many words are in use when `removed` of them are replaced by n
 abbrev pub usedAfter : ℕ → ℕ → ℕ → ℕ
@@ -44,12 +45,12 @@ module _ {W : Type 0} where
   unfoldable pub filled : W → List W → ℕ → ℕ → List W
   filled x xs start n = if inside xs start n then replaced xs start n (replicate n x) else xs
 
--- n words at a row made 0
-abbrev pub cleared : List ℕ → ℕ → ℕ → List ℕ
-cleared xs start n = filled 0 xs start n
+-- n rows made rows without a node
+abbrev pub wiped : List Row → ℕ → ℕ → List Row
+wiped nodes start n = filled noNode nodes start n
 
 -- only words in the scratch rows change
-pub record Scratched (xs ys : List ℕ) : Type 0 where
+pub record Scratched {W : Type 0} (xs ys : List W) : Type 0 where
   pub before : take scratchRow ys ≡ take scratchRow xs
   pub behind : drop rows ys ≡ drop rows xs
   pub same-length : length ys ≡ length xs

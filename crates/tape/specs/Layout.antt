@@ -1,4 +1,4 @@
--- The node table's numbers: kinds of nodes, fields of words, rows of a column. src/layout.rt has the same.
+-- The node table's numbers: kinds of nodes, fields of nodes, rows of the table. src/layout.rt has the same.
 use Prim.Native.Nat.{ℕ}
 
 -- ---- a node's kind, numbered as `tag` numbers a label; from arrayKind on they are containers
@@ -47,12 +47,12 @@ inDocument = 0
 abbrev pub inPatch : ℕ
 inPatch = 1
 
--- ---- how many values a field can have; a span is below twice the number of nodes that a text may have
+-- ---- how many values a field can have, and the parts of a node's tags
+abbrev pub values : ℕ
+values = 65_536
+
 abbrev pub kinds : ℕ
 kinds = 8
-
-abbrev pub spans : ℕ
-spans = 4_096
 
 abbrev pub forms : ℕ
 forms = 8
@@ -60,19 +60,7 @@ forms = 8
 abbrev pub sources : ℕ
 sources = 2
 
--- of a text's start, and of its length
-abbrev pub places : ℕ
-places = 65_536
-
--- 2^36
-abbrev pub spellings : ℕ
-spellings = 68_719_476_736
-
--- 2^28
-abbrev pub hashes : ℕ
-hashes = 268_435_456
-
--- ---- a column's rows: three parts, each of as many rows as a text may have nodes
+-- ---- the table's rows: three parts, each of as many rows as a text may have nodes
 abbrev pub documentRow : ℕ
 documentRow = 0
 

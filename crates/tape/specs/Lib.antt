@@ -1,7 +1,8 @@
 pub mod Layout
-pub mod Packing
+pub mod Fields
 pub mod Columns
 pub mod Tape
 pub mod Cell
 pub mod Rows
 pub mod Map
+pub mod Lent

@@ -1,4 +1,4 @@
--- The node table: a forest in preorder, one word for each node. What a word tells of a node is left open, so that each law serves both columns.
+-- The node table: a forest in preorder, one row for each node. What a row tells of a node is left open.
 use Prim.Native.Nat.{ℕ}
 use mathlib.Core.Path.{_≡_}
 use mathlib.Core.List.{List, [], _∷_, _++_}

@@ -1,16 +1,13 @@
-// The node table: a forest in preorder, one word a node in each of two lent columns.
-//
-//     values[row] = kind + 8 * (span + 4096 * payload)
-//     names[row]  = spelling + 2^36 * hash
+// The node table: a forest in preorder, one row of eight fields a node, in lent memory.
 //
 // A node's span says how many nodes are below it, at every depth: its first child stands in the next row, and the tree behind it in the row
 // that is 1 + span further on. A spelling says where a text stands, so that nothing is copied until it is written.
 
 // the numbers of the table
 pub mod layout;
-// a word's fields
-pub mod words;
-// words of a column loaded, stored, moved and cleared
+// a node's fields
+pub mod fields;
+// nodes loaded, stored, moved and cleared
 pub mod moves;
 // nodes by their rows
 pub mod nodes;

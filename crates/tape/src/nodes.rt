@@ -1,37 +1,60 @@
-// Nodes of the table, by their rows in the column of values.
+// Nodes of the table, by their rows.
+use crate::fields::kind_in;
+use crate::fields::narrow;
+use crate::fields::wide;
 use crate::layout::ARRAY;
-use crate::moves::load;
-use crate::moves::store;
-use crate::words::kind;
-use crate::words::span;
-use crate::words::with_span;
+use crate::layout::Node;
+use crate::layout::SPAN;
+use crate::layout::TAGS;
 ghost use mathlib.Core.Path.{_≡_};
 ghost use Prim.Native.Nat.{_%_, _≤_};
 ghost use lib.ListN.{length, getD, set};
-ghost use Rattle.tape.specs.Layout.{spans};
-ghost use Rattle.tape.specs.Packing.{withSpan};
-ghost use Rattle.tape.specs.Rows.{endOf, ChildIs, ArityIs, WithinIs, Bounded, LeavesIs};
+ghost use mathlib.Core.List.{[]};
+ghost use Rattle.tape.specs.Layout.{values};
+ghost use Rattle.tape.specs.Fields.{kindOf, spanOf, withSpan};
+ghost use Rattle.tape.specs.Rows.{endOf, ChildIs, ArityIs, WithinIs, LeavesIs};
+
+// The kind of the node in a row, and 0 behind the table.
+pub fn kind(nodes: &[Node], row: usize) -> u16
+    ensures { λ r. ⌜ r ≡ kindOf (getD (now (nodes .entry)) row []) ⌝ }
+{
+    if nodes.len() <= row {
+        return 0;
+    }
+    kind_in(nodes[row][TAGS])
+}
+
+// How many nodes are below it.
+pub fn span(nodes: &[Node], row: usize) -> usize
+    ensures { λ r. ⌜ r ≡ spanOf (getD (now (nodes .entry)) row []) ⌝ }
+{
+    if nodes.len() <= row {
+        return 0;
+    }
+    wide(nodes[row][SPAN])
+}
 
 // The row behind the tree that begins in the row `at`.
-pub fn end_of(values: &[u64], at: usize) -> usize
-    ensures { λ r. ⌜ r ≡ endOf (now (values .entry)) at ⌝ }
+pub fn end_of(nodes: &[Node], at: usize) -> usize
+    ensures { λ r. ⌜ r ≡ endOf (now (nodes .entry)) at ⌝ }
 {
-    if values.len() <= at {
-        return values.len();
+    if nodes.len() <= at {
+        return nodes.len();
     }
-    let end = at + 1 + span(values[at]);
-    if values.len() < end {
-        return values.len();
+    let end = at + 1 + wide(nodes[at][SPAN]);
+    if nodes.len() < end {
+        return nodes.len();
     }
     end
 }
 
 // The span of the node in a row is changed, as it must be where its children change.
-pub fn set_span(values: &mut [u64], row: usize, span: usize)
-    ensures { λ _. ⌜ now (values .exit) ≡ set (now (values .entry)) row (withSpan (getD (now (values .entry)) row 0) (span % spans)) ⌝ }
+pub fn set_span(nodes: &mut [Node], row: usize, span: usize)
+    ensures { λ _. ⌜ now (nodes .exit) ≡ set (now (nodes .entry)) row (withSpan (getD (now (nodes .entry)) row []) (span % values)) ⌝ }
 {
-    let word = with_span(load(values, row), span);
-    store(values, row, word);
+    if row < nodes.len() {
+        nodes[row][SPAN] = narrow(span);
+    }
 }
 
 // How many rows are looked at together.
@@ -39,9 +62,9 @@ pub const BLOCK: usize = 16;
 
 // Whether the row is a multiple of BLOCK, and the nodes in the BLOCK rows from it on have no children and are at most `most`. No row waits for what
 // another one holds, so that several are looked at at a time.
-fn leaves(values: &[u64], row: usize, end: usize, most: usize) -> bool
-    requires { ⌜ (row ≤ end) × (end ≤ length (now values)) ⌝ }
-    ensures { λ r. ⌜ LeavesIs (now (values .entry)) row end most r ⌝ }
+fn leaves(nodes: &[Node], row: usize, end: usize, most: usize) -> bool
+    requires { ⌜ (row ≤ end) × (end ≤ length (now nodes)) ⌝ }
+    ensures { λ r. ⌜ LeavesIs (now (nodes .entry)) row end most r ⌝ }
 {
     if row % BLOCK != 0 {
         return false;
@@ -52,14 +75,14 @@ fn leaves(values: &[u64], row: usize, end: usize, most: usize) -> bool
     if end - row < BLOCK {
         return false;
     }
-    // an `or` has the span 0 only if each of its words has
-    let mut words: u64 = 0;
+    // an `or` is 0 only if each of its numbers is
+    let mut spans: u16 = 0;
     let mut i = 0;
     while i < BLOCK {
-        words |= values[row + i];
+        spans |= nodes[row + i][SPAN];
         i += 1;
     }
-    span(words) == 0
+    spans == 0
 }
 
 pub enum Located {
@@ -70,74 +93,72 @@ pub enum Located {
 }
 
 // The k-th child of the node in the row `at`.
-pub fn child(values: &[u64], at: usize, k: usize) -> Located
-    ensures { λ r. ⌜ ChildIs (now (values .entry)) at k r ⌝ }
-    ensures { λ r. ⌜ Bounded (now (values .entry)) at k r ⌝ }
+pub fn child(nodes: &[Node], at: usize, k: usize) -> Located
+    ensures { λ r. ⌜ ChildIs (now (nodes .entry)) at k r ⌝ }
 {
-    if values.len() <= at {
+    if nodes.len() <= at {
         return Located::Fewer(0);
     }
-    let end = end_of(values, at);
+    let end = end_of(nodes, at);
     let mut row = at + 1;
     let mut passed = 0;
     while row < end {
         if passed == k {
             return Located::At(row);
         }
-        if leaves(values, row, end, k - passed) {
+        if leaves(nodes, row, end, k - passed) {
             row += BLOCK;
             passed += BLOCK;
             continue;
         }
-        row = end_of(values, row);
+        row = end_of(nodes, row);
         passed += 1;
     }
     Located::Fewer(passed)
 }
 
 // How many children the node in the row `at` has.
-pub fn arity(values: &[u64], at: usize) -> usize
-    ensures { λ r. ⌜ ArityIs (now (values .entry)) at r ⌝ }
-    ensures { λ r. ⌜ r ≤ length (now (values .entry)) ⌝ }
+pub fn arity(nodes: &[Node], at: usize) -> usize
+    ensures { λ r. ⌜ ArityIs (now (nodes .entry)) at r ⌝ }
 {
-    if values.len() <= at {
+    if nodes.len() <= at {
         return 0;
     }
-    let end = end_of(values, at);
+    let end = end_of(nodes, at);
     let mut row = at + 1;
     let mut passed = 0;
     while row < end {
-        if leaves(values, row, end, BLOCK) {
+        if leaves(nodes, row, end, BLOCK) {
             row += BLOCK;
             passed += BLOCK;
             continue;
         }
-        row = end_of(values, row);
+        row = end_of(nodes, row);
         passed += 1;
     }
     passed
 }
 
 // Whether the tree in the row `at` nests at most `levels` containers.
-pub fn within(values: &[u64], at: usize, levels: u32) -> bool
-    ensures { λ r. ⌜ WithinIs (now (values .entry)) at levels r ⌝ }
+pub fn within(nodes: &[Node], at: usize, levels: u32) -> bool
+    ensures { λ r. ⌜ WithinIs (now (nodes .entry)) at levels r ⌝ }
 {
-    if values.len() <= at {
+    if nodes.len() <= at {
         return false;
     }
-    if kind(values[at]) < ARRAY {
+    if kind_in(nodes[at][TAGS]) < ARRAY {
         return true;
     }
     if levels == 0 {
         return false;
     }
-    let end = end_of(values, at);
+    let end = end_of(nodes, at);
     let mut row = at + 1;
     while row < end {
-        if !within(values, row, levels - 1) {
+        if !within(nodes, row, levels - 1) {
             return false;
         }
-        row = end_of(values, row);
+        row = end_of(nodes, row);
     }
     true
 }

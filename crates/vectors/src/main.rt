@@ -9,12 +9,17 @@ use cases::Part;
 use cases::Place;
 use cases::case_at;
 use checks::all_bytes;
+use checks::all_clear;
 use checks::all_zero;
+use index;
 use json_patch::Answer;
 use json_patch::apply;
 use lines::print_answer;
 use lines::print_no_case;
 use lines::say;
+use tape::fields::narrow;
+use tape::layout;
+use tape::layout::Node;
 ghost use mathlib.Core.Path.{_≡_};
 ghost use Prim.Native.Nat.{_≤_};
 ghost use lib.ListN.{length};
@@ -28,9 +33,8 @@ const OUTPUT: usize = 65_536;
 // As many bytes, and the newline.
 const LINE: usize = 65_537;
 
-const WORK_WORDS: usize = 6_144;
-
-const SHORT_WORDS: usize = 6_143;
+// A record less than the work area has.
+const SHORT_ROWS: usize = 6_143;
 
 // What the output holds before a call: a byte that no text has.
 const UNWRITTEN: u8 = 255;
@@ -41,17 +45,17 @@ fn lend<'a>(
     patch: &'a [u8],
     room: usize,
     output: &mut [u8],
-    values: &mut [u64],
-    names: &mut [u64],
+    nodes: &mut [Node],
+    index: &mut [u16],
 ) -> Answer
     requires { ⌜ room ≤ length (now output) ⌝ }
 {
-    apply(document, patch, &mut output[..room], values, names)
+    apply(document, patch, &mut output[..room], nodes, index)
 }
 
 // The case's line, with another text in it where there is not as much room, or where the call has not left the memory as it must. Before the
 // call the work area holds rubbish.
-fn run_case<'a>(name: &'a [u8], room: usize, document: &'a [u8], patch: &'a [u8], rubbish: u64) {
+fn run_case<'a>(name: &'a [u8], room: usize, document: &'a [u8], patch: &'a [u8], rubbish: u16) {
     say(name);
     say(b": ");
     if OUTPUT < room {
@@ -59,14 +63,15 @@ fn run_case<'a>(name: &'a [u8], room: usize, document: &'a [u8], patch: &'a [u8]
         return;
     }
     let mut output = [UNWRITTEN; LINE];
-    let mut values = [rubbish; WORK_WORDS];
-    let mut names = [rubbish; WORK_WORDS];
-    let answer = lend(document, patch, room, &mut output, &mut values, &mut names);
-    if !all_zero(&values) {
+    let node = [rubbish; 8];
+    let mut nodes = [node; layout::ROWS];
+    let mut index = [rubbish; index::SLOTS];
+    let answer = lend(document, patch, room, &mut output, &mut nodes, &mut index);
+    if !all_clear(&nodes) {
         say(b"the work area is not all zero\n");
         return;
     }
-    if !all_zero(&names) {
+    if !all_zero(&index) {
         say(b"the work area is not all zero\n");
         return;
     }
@@ -95,7 +100,7 @@ fn run_at(file: &[u8], at: usize) -> Place
     let name = part(file, c.name);
     let document = part(file, c.document);
     let patch = part(file, c.patch);
-    run_case(name, c.room, document, patch, at as u64);
+    run_case(name, c.room, document, patch, narrow(at));
     Place::At(c.next)
 }
 
@@ -144,13 +149,14 @@ fn read_file(buf: &mut [u8]) -> Contents
     r
 }
 
-// The call with a work buffer that is a word too short, which no case can say: 1, before anything else, and the output untouched.
+// The call with a node table that is a record too short, which no case can say: 1, before anything else, and the output untouched.
 fn run_short() {
     let mut output = [UNWRITTEN; 80];
-    let mut values = [1u64; SHORT_WORDS];
-    let mut names = [1u64; WORK_WORDS];
-    let answer = apply(b"[]", b"[]", &mut output, &mut values, &mut names);
-    say(b"work-a-word-short: ");
+    let node = [1u16; 8];
+    let mut nodes = [node; SHORT_ROWS];
+    let mut index = [1u16; index::SLOTS];
+    let answer = apply(b"[]", b"[]", &mut output, &mut nodes, &mut index);
+    say(b"work-a-record-short: ");
     if !all_bytes(&output, 0, UNWRITTEN) {
         say(b"the output is changed\n");
         return;

@@ -4,7 +4,8 @@ use native.Mathlib.Omega.{arith}
 use mathlib.Core.Path.{_≡_, refl, ap, sym, _∙_}
 use mathlib.Core.Bool.{Bool, true, false}
 use mathlib.Core.List.{List, [], _∷_}
-use lib.Dec.{eqb}
+use lib.Dec.{eqb, ltb}
+use borrow.Author.Tests.{lt-ltb, le-ltb, eqb-true}
 use lib.ListN.{length, take, drop, length-take, length-drop}
 use lib.Seq.{drop-drop}
 use Rattle.spec.specs.Outcome.{if_then_else_}
@@ -12,15 +13,15 @@ use Rattle.spec.specs.Bytes.{Bytes}
 use Rattle.spec.proofs.ListLaws.{drop-take}
 use Rattle.lexer.specs.Hash.{hash}
 use Rattle.lexer.specs.Names.{part}
-use Rattle.lexer.proofs.NameLaws.{hash-bound}
 use Rattle.text.specs.Decode.{textOf}
-use Rattle.tape.specs.Layout.{forms, sources, places, spellings, hashes}
-use Rattle.tape.specs.Packing.{spelling, formOf, sourceOf, startOf, lengthOf, nameOf, spellingOf, hashOf}
-use Rattle.tape.proofs.Packing.{form-spelling, source-spelling, start-spelling, length-spelling, spelling<, spelling-fits, spelling-name, hash-name, name-fits}
-use Rattle.table.specs.Meaning.{sourceText, partOf, spelled, nameText}
+use Rattle.tape.specs.Layout.{values, sources, inDocument, inPatch}
+use Rattle.tape.specs.Lent.{Texts}
+use Rattle.tape.specs.declared.fields.Spelling.{Spelling}
+use Rattle.tape.specs.declared.fields.Name.{Name}
+use Rattle.table.specs.Meaning.{sourceText, partOf, spelled, nameText, shortHash}
 use Rattle.pointer.specs.Tokens.{tokenBytes, endOf}
 use Rattle.pointer.specs.declared.answers.Token.{Token}
-use Rattle.walk.specs.Names.{NamesToken, Short, TokenNameIs}
+use Rattle.walk.specs.Names.{NamesToken, Short, noName, sourceOf, tokenName, nameAt, TokenNameIs}
 
 -- ---- bytes of a text found again by their number
 prefix : {A : Type 0} (m n : ℕ) (l : List A) → take (length (take m (take n l))) l ≡ take m (take n l)
@@ -29,90 +30,99 @@ prefix (suc m) zero l = refl
 prefix (suc m) (suc n) [] = refl
 prefix (suc m) (suc n) (x ∷ l) = ap (_∷_ x) (prefix m n l)
 
-source-short : (D P : Bytes) (source : ℕ) → Short D P → length (sourceText D P source) < places
+source-short : (T : Texts) (source : ℕ) → Short T → length (sourceText T source) < values
 unfolding sourceText
-source-short D P source short = go (eqb source 0)
+source-short T source short = go (eqb source 0)
   where
-    go : (b : Bool) → length (if b then D else P) < places
+    go : (b : Bool) → length (if b then T .document else T .patch) < values
     go true = short .document
     go false = short .patch
 
-module _ (D P : Bytes) (path at : ℕ) (t : Token) where
+-- a source that fits a node's tags names the same text
+pub source-told : (s : Spelling) → sourceOf s < sources
+unfolding sourceOf
+source-told s = go (eqb (s .source) inDocument)
+  where
+    go : (b : Bool) → (if b then inDocument else inPatch) < sources
+    go true = omega arith
+    go false = omega arith
+
+same-source : (T : Texts) (s : Spelling) → sourceText T (sourceOf s) ≡ sourceText T (s .source)
+unfolding sourceText sourceOf
+same-source T s = go (eqb (s .source) inDocument) refl
+  where
+    go : (b : Bool) → eqb (s .source) inDocument ≡ b
+        → (if eqb (if b then inDocument else inPatch) 0 then T .document else T .patch) ≡ (if eqb (s .source) 0 then T .document else T .patch)
+    go true e = rw e
+    go false e = rw e
+
+module _ (T : Texts) (path : Spelling) (at : ℕ) (t : Token) where
   abbrev bytes : Bytes
-  bytes = tokenBytes (partOf D P path) at t
+  bytes = tokenBytes (partOf T path) at t
 
   -- the token's bytes stand in the text that the path names
-  stand : take (length bytes) (drop (startOf path + at) (sourceText D P (sourceOf path))) ≡ bytes
+  stand : take (length bytes) (drop (path .start + at) (sourceText T (path .source))) ≡ bytes
   unfolding tokenBytes partOf part
   stand =
-      let source = drop (startOf path) (sourceText D P (sourceOf path)) in
-      rw (← drop-drop, drop-take at (lengthOf path) source) (prefix (endOf t - at) (lengthOf path - at) (drop at source))
+      let source = drop (path .start) (sourceText T (path .source)) in
+      rw (← drop-drop, drop-take at (path .length) source) (prefix (endOf t - at) (path .length - at) (drop at source))
 
-  few : length bytes < places
-  unfolding tokenBytes partOf part
-  few = simp (length-take, length-drop) (omega arith)
+  module _ (short : Short T) (start< : path .start < values) where
+    few : length bytes < values
+    unfolding tokenBytes partOf part
+    few = let l = source-short T (path .source) short in simp (length-take, length-drop) (omega arith)
 
-  begins : Short D P → at ≤ length (partOf D P path) → startOf path + at < places
-  unfolding partOf
-  begins short h =
-      let l = simp (length-take, length-drop) at h in
-      omega (arith, source-short D P (sourceOf path) short)
+    module _ (inside : at ≤ length (partOf T path)) where
+      begins : path .start + at < values
+      unfolding partOf
+      begins =
+          let l = simp (length-take, length-drop) at inside in
+          omega (arith, source-short T (path .source) short, start<)
 
--- ---- the name
-spelled-of : (D P : Bytes) (s form source start n : ℕ) → formOf s ≡ form → sourceOf s ≡ source → startOf s ≡ start → lengthOf s ≡ n
-    → spelled D P s ≡ textOf form (take n (drop start (sourceText D P source)))
-unfolding spelled partOf
-spelled-of D P s form source start n a b c d = rw (a, b, c, d)
+      -- the name says the token
+      says-token : nameText T (nameAt path at bytes) ≡ textOf 3 bytes
+      unfolding spelled partOf
+      says-token =
+          let start : (path .start + at) % values ≡ path .start + at = omega (arith, begins) in
+          let count : length bytes % values ≡ length bytes = omega (arith, few) in
+          ap (textOf 3)
+          (ap (λ n. take n (drop ((path .start + at) % values) (sourceText T (sourceOf path)))) count
+          ∙ ap (λ n. take (length bytes) (drop n (sourceText T (sourceOf path)))) start
+          ∙ ap (λ s. take (length bytes) (drop (path .start + at) s)) (same-source T path)
+          ∙ stand)
 
-module _ (D P : Bytes) (path at : ℕ) (t : Token) (short : Short D P) (inside : at ≤ length (partOf D P path)) where
-  start< : startOf path + at < places
-  start< = begins D P path at t short inside
-
-  -- a spelling of the token's bytes, and a name of it with the hash of what it says
-  module _ (s : ℕ) (is : s ≡ spelling 3 (sourceOf path) (startOf path + at) (length (bytes D P path at t))) where
-    form-is : formOf s ≡ 3
-    form-is = ap formOf is ∙ form-spelling 3 (sourceOf path) (startOf path + at) (length (bytes D P path at t)) (omega arith) (omega arith) start< (few D P path at t)
-
-    says-token : spelled D P s ≡ textOf 3 (bytes D P path at t)
-    says-token =
-        let n = length (bytes D P path at t) in
-        let b = startOf path + at in
-        spelled-of D P s 3 (sourceOf path) b n form-is
-        (ap sourceOf is ∙ source-spelling 3 (sourceOf path) b n (omega arith) (omega arith) start< (few D P path at t))
-        (ap startOf is ∙ start-spelling 3 (sourceOf path) b n (omega arith) (omega arith) start< (few D P path at t))
-        (ap lengthOf is ∙ length-spelling 3 (sourceOf path) b n (omega arith) (omega arith) start< (few D P path at t))
-        ∙ ap (textOf 3) (stand D P path at t)
-
-    named : (h r : ℕ) → h ≡ hash (textOf 3 (bytes D P path at t)) → r ≡ nameOf (s % spellings) (h % hashes) → NamesToken D P r (textOf 3 (bytes D P path at t))
-    named h r hashed made =
-        let n = length (bytes D P path at t) in
-        let s< : s < spellings = rw is (spelling< 3 (sourceOf path) (startOf path + at) n (omega arith) (omega arith) start< (few D P path at t)) in
-        let r-is : r ≡ nameOf s h = made ∙ name-fits s h s< (rw hashed (hash-bound (textOf 3 (bytes D P path at t)))) in
-        let of : spellingOf r ≡ s = ap spellingOf r-is ∙ spelling-name s h s< in
-        let says : nameText D P r ≡ textOf 3 (bytes D P path at t) = ap (spelled D P) of ∙ says-token in
-        record {
-          token =
-              record {
-                form = ap formOf of ∙ form-is;
-                hashed = record { is = ap hashOf r-is ∙ hash-name s h s< ∙ hashed ∙ ap hash (sym says) };
-              };
-          says = says;
-        }
+      named : NamesToken T (nameAt path at bytes) (textOf 3 bytes)
+      named =
+          record {
+            token =
+                record {
+                  form = refl;
+                  told = record { form = omega arith; source = source-told path };
+                  hashed = record { is = ap (λ s. shortHash (hash s)) (sym says-token) };
+                };
+            says = says-token;
+          }
 
 -- what `token_name` makes
-pub token-named : (D P : Bytes) (path at : ℕ) (t : Token) (pointer bytes : Bytes) (source start s h r : ℕ) → pointer ≡ partOf D P path → bytes ≡ tokenBytes pointer at t
-    → source ≡ sourceOf path → start ≡ startOf path → s ≡ spelling (3 % forms) (source % sources) ((start + at) % places) (length bytes % places)
-    → h ≡ hash (textOf 3 bytes) → r ≡ nameOf (s % spellings) (h % hashes) → TokenNameIs D P path at t r
-token-named D P path at t pointer bytes source start s h r pointer-is bytes-is source-is start-is made hashed name-made short inside =
-    let b : bytes ≡ tokenBytes (partOf D P path) at t = bytes-is ∙ ap (λ p. tokenBytes p at t) pointer-is in
-    let n = length (tokenBytes (partOf D P path) at t) in
-    let fits = spelling-fits 3 (sourceOf path) (startOf path + at) n (omega arith) (omega arith) (start< D P path at t short inside) (few D P path at t) in
-    named D P path at t short inside s (made ∙ rw (b, source-is, start-is) fits) h r (hashed ∙ ap (λ l. hash (textOf 3 l)) b) name-made
+module _ (T : Texts) (path : Spelling) (at : ℕ) (t : Token) (pointer : Bytes) (pointer-is : pointer ≡ partOf T path) where
+  pub token-named : (source start n h : ℕ) → path .start < values → at ≤ length pointer → source ≡ sourceOf path → start ≡ (path .start + at) % values
+      → n ≡ length (tokenBytes pointer at t) % values → h ≡ shortHash (hash (textOf 3 (tokenBytes pointer at t)))
+      → TokenNameIs T path at t (record { text = record { form = 3; source = source; start = start; length = n }; hash = h })
+  unfolding tokenName
+  token-named source start n h start< inside e f g k =
+      let made : record { text = record { form = 3; source = source; start = start; length = n }; hash = h } ≡ nameAt path at (tokenBytes pointer at t) =
+      λ i. record { text = record { form = 3; source = e i; start = f i; length = g i }; hash = k i } in
+      let is = made ∙ ap (λ p. nameAt path at (tokenBytes p at t)) pointer-is in
+      record {
+        is = rw (le-ltb (length (partOf T path)) at (omega (arith, ap length pointer-is))) is;
+        names = λ short inside. rw is (named T path at t short start< inside);
+      }
 
--- behind the end of a pointer no token begins
-pub no-token : (D P : Bytes) (path at r : ℕ) (t : Token) (pointer : Bytes) → pointer ≡ partOf D P path → length pointer < at → TokenNameIs D P path at t r
-no-token D P path at r t pointer e h short inside = absurd (omega (arith, ap length e))
-
-pub pointer-few : (D P : Bytes) (path : ℕ) (pointer : Bytes) → pointer ≡ partOf D P path → length pointer < places
-unfolding partOf
-pointer-few D P path pointer e = rw e (simp (length-take, length-drop) (omega arith))
+  -- behind the end of a pointer no token begins
+  pub no-token : (r : Name) → length pointer < at → r ≡ noName → TokenNameIs T path at t r
+  unfolding tokenName
+  no-token r h e =
+      record {
+        is = rw (lt-ltb (length (partOf T path)) at (omega (arith, ap length pointer-is))) e;
+        names = λ short inside. absurd (omega (arith, ap length pointer-is));
+      }

@@ -1,44 +1,69 @@
 -- What a walk along a pointer answers.
 use Prim.Native.Nat.{ℕ, _+_, _≤_}
 use mathlib.Core.Path.{_≡_}
-use mathlib.Core.List.{List}
+use mathlib.Core.Bool.{Bool, true, false}
 use lib.ListN.{length}
 use Rattle.spec.specs.Outcome.{Outcome, ok, refused}
-use Rattle.spec.specs.Bytes.{Bytes}
+use Rattle.spec.specs.Refusal.{malformed-pointer}
 use Rattle.spec.specs.Forest.{Forest, size}
 use Rattle.spec.specs.Value as Value
 use Rattle.spec.specs.Pointer.{Tokens, tokens, walk}
 use Rattle.text.specs.Decode.{decode}
-use Rattle.tape.specs.Cell.{Cell}
+use Rattle.tape.specs.declared.fields.Spelling.{Spelling}
+use Rattle.tape.specs.declared.fields.Cell.{Cell}
 use Rattle.table.specs.Meaning.{partOf, meant}
-use Rattle.pointer.specs.Tokens.{tokensFrom}
-use Rattle.walk.specs.Names.{Short}
+use Rattle.pointer.specs.Tokens.{accepted, tokensFrom, FirstOf, TokenAt}
+use Rattle.pointer.specs.declared.answers.First.the-variants as First
+use Rattle.pointer.specs.declared.answers.Token.{Token}
+use Rattle.pointer.specs.declared.answers.Token.the-variants as Token
+use Rattle.walk.specs.Names.{Short, tokenName}
+use Rattle.walk.specs.Step.{StepRows}
 use Rattle.table.specs.Sound.{NodeHeld, ForHeld}
 use Rattle.walk.specs.declared.steps.Child.{Child}
 use Rattle.walk.specs.declared.steps.Child.the-variants.{At, Refused}
+use Rattle.tape.specs.Lent.{Texts, Table}
 
 -- a path spells a pointer that has these tokens
-pub record PathIs (D P : Bytes) (path : ℕ) (ts : Tokens) : Type 0 where
-  pub is : tokens (decode (partOf D P path)) ≡ ok ts
+pub record PathIs (T : Texts) (path : Spelling) (ts : Tokens) : Type 0 where
+  pub is : tokens (decode (partOf T path)) ≡ ok ts
 
 -- and these from a place on
-pub record TokensFrom (D P : Bytes) (path at : ℕ) (ts : Tokens) : Type 0 where
-  pub is : tokensFrom (partOf D P path) at ≡ ok ts
+pub record TokensFrom (T : Texts) (path : Spelling) (at : ℕ) (ts : Tokens) : Type 0 where
+  pub is : tokensFrom (partOf T path) at ≡ ok ts
 
 -- The outcome of a walk from a node with so many nodes below it: the row of a node that is the value reached, and that lies in the tree where
 -- the walk began; or the refusal's number.
-pub data Walked (D P : Bytes) (values names : List ℕ) (row span : ℕ) (o : Outcome Value.Value) : Child → Type 0 where
-  reached : {at : ℕ} {c : Cell} {kids : Forest Cell} → o ≡ ok (meant D P c kids) → NodeHeld D P values names at c kids → row ≤ at
-      → at + size kids ≤ row + span → Walked D P values names row span o (At at)
-  lost : {number : ℕ} → o ≡ refused number 0 → Walked D P values names row span o (Refused number)
+pub data Walked (w : Table) (row span : ℕ) (o : Outcome Value.Value) : Child → Type 0 where
+  reached : {at : ℕ} {c : Cell} {kids : Forest Cell} → o ≡ ok (meant (w .texts) c kids) → NodeHeld w at c kids → row ≤ at
+      → at + size kids ≤ row + span → Walked w row span o (At at)
+  lost : {number : ℕ} → o ≡ refused number 0 → Walked w row span o (Refused number)
 
--- from a node in a row, along the tokens from a place of the pointer on, or along all
-abbrev pub WalkFromIs : Bytes → Bytes → List ℕ → List ℕ → ℕ → ℕ → ℕ → Child → Type 0
-WalkFromIs D P values names row path at r =
-    (ts : Tokens) → Short D P → at ≤ length (partOf D P path) → TokensFrom D P path at ts
-    → ForHeld D P values names row (λ c kids. Walked D P values names row (size kids) (walk ts (meant D P c kids)) r)
+-- ---- whatever the records hold: token after token from a place of the pointer on, each a step, up to the first refusal or the last token
+pub data WalkRows (w : Table) (path : Spelling) : ℕ → ℕ → Child → Type 0 where
+  walk-lost : {at row number : ℕ} (t : Token) → TokenAt (partOf (w .texts) path) at t
+      → StepRows w row (tokenName (w .texts) path at t) (Refused number) → WalkRows w path at row (Refused number)
+  walk-last : {at row child : ℕ} (end : ℕ) → TokenAt (partOf (w .texts) path) at (Token.Last end)
+      → StepRows w row (tokenName (w .texts) path at (Token.Last end)) (At child) → WalkRows w path at row (At child)
+  walk-next : {at row child : ℕ} {r : Child} (end next : ℕ) → TokenAt (partOf (w .texts) path) at (Token.Next end next)
+      → StepRows w row (tokenName (w .texts) path at (Token.Next end next)) (At child) → WalkRows w path next child r → WalkRows w path at row r
 
-abbrev pub WalkIs : Bytes → Bytes → List ℕ → List ℕ → ℕ → ℕ → Child → Type 0
-WalkIs D P values names row path r =
-    (ts : Tokens) → Short D P → PathIs D P path ts
-    → ForHeld D P values names row (λ c kids. Walked D P values names row (size kids) (walk ts (meant D P c kids)) r)
+-- along all tokens, where the pointer has any; the empty pointer leads to the node itself
+pub data PathRows (w : Table) (row : ℕ) (path : Spelling) : Child → Type 0 where
+  path-root : FirstOf (partOf (w .texts) path) First.Root → PathRows w row path (At row)
+  path-below : {at : ℕ} {r : Child} → FirstOf (partOf (w .texts) path) (First.At at) → WalkRows w path at row r → PathRows w row path r
+
+-- whether a path spells a pointer
+abbrev pub isPointer : Texts → Spelling → Bool
+isPointer T path = accepted (tokens (decode (partOf T path)))
+
+-- ---- from a node in a row, along the tokens from a place of the pointer on, or along all
+pub record WalkFromIs (w : Table) (row : ℕ) (path : Spelling) (at : ℕ) (r : Child) : Type 0 where
+  pub rows : WalkRows w path at row r
+  pub held : (ts : Tokens) → Short (w .texts) → at ≤ length (partOf (w .texts) path) → TokensFrom (w .texts) path at ts
+      → ForHeld w row (λ c kids. Walked w row (size kids) (walk ts (meant (w .texts) c kids)) r)
+
+pub record WalkIs (w : Table) (row : ℕ) (path : Spelling) (r : Child) : Type 0 where
+  pub malformed : isPointer (w .texts) path ≡ false → r ≡ Refused malformed-pointer
+  pub rows : isPointer (w .texts) path ≡ true → PathRows w row path r
+  pub held : (ts : Tokens) → Short (w .texts) → PathIs (w .texts) path ts
+      → ForHeld w row (λ c kids. Walked w row (size kids) (walk ts (meant (w .texts) c kids)) r)

@@ -5,29 +5,33 @@ use crate::steps::step;
 use pointer::First;
 use pointer::Token;
 use pointer::first;
+use pointer::is_pointer;
 use pointer::token;
+use spec::refusal;
 use table::spellings::part;
+use tape::fields::Spelling;
+use tape::layout::Node;
+use tape::layout::Texts;
+ghost use Rattle.tape.specs.Lent.{before};
 ghost use Rattle.walk.specs.Path.{WalkFromIs, WalkIs};
 
 // From the node in the row `start`, along the tokens from a place of the pointer on, one after another.
 fn walk_from<'a>(
-    values: &[u64],
-    names: &[u64],
-    document: &'a [u8],
-    patch: &'a [u8],
+    texts: Texts<'a>,
+    nodes: &[Node],
     start: usize,
-    path: u64,
+    path: Spelling,
     first: usize,
 ) -> Child
-    ensures { λ r. ⌜ WalkFromIs (now (document .entry)) (now (patch .entry)) (now (values .entry)) (now (names .entry)) start path first r ⌝ }
+    ensures { λ r. ⌜ WalkFromIs (before texts nodes) start path first r ⌝ }
 {
-    let pointer = part(document, patch, path);
+    let pointer = part(texts, path);
     let mut at = first;
     let mut row = start;
     loop {
         let t = token(pointer, at);
-        let name = token_name(document, patch, path, at, t);
-        let r = step(values, names, document, patch, row, name);
+        let name = token_name(texts, path, at, t);
+        let r = step(texts, nodes, row, name);
         let Child::At(child) = r else {
             return r;
         };
@@ -39,21 +43,17 @@ fn walk_from<'a>(
     }
 }
 
-// From the node in the row `start`, along the pointer that `path` spells.
-pub fn walk<'a>(
-    values: &[u64],
-    names: &[u64],
-    document: &'a [u8],
-    patch: &'a [u8],
-    start: usize,
-    path: u64,
-) -> Child
-    ensures { λ r. ⌜ WalkIs (now (document .entry)) (now (patch .entry)) (now (values .entry)) (now (names .entry)) start path r ⌝ }
+// From the node in the row `start`, along the pointer that `path` spells. A text that is no pointer is refused with 10.
+pub fn walk<'a>(texts: Texts<'a>, nodes: &[Node], start: usize, path: Spelling) -> Child
+    ensures { λ r. ⌜ WalkIs (before texts nodes) start path r ⌝ }
 {
-    let pointer = part(document, patch, path);
+    let pointer = part(texts, path);
+    if !is_pointer(pointer) {
+        return Child::Refused(refusal::MALFORMED_POINTER);
+    }
     match first(pointer) {
         First::Root => Child::At(start),
-        First::At(at) => walk_from(values, names, document, patch, start, path, at),
-        First::Malformed => Child::At(start),
+        First::At(at) => walk_from(texts, nodes, start, path, at),
+        First::Malformed => Child::Refused(refusal::MALFORMED_POINTER),
     }
 }

@@ -1,19 +1,18 @@
 // From a value to the child that a token names.
 use pointer::Index;
 use pointer::index;
+use spec::refusal;
 use table::find::Member;
 use table::find::find;
 use table::spellings::part;
-use tape::layout::ARRAY;
-use tape::layout::OBJECT;
-use tape::moves::load;
+use tape::fields::Name;
+use tape::layout;
+use tape::layout::Node;
+use tape::layout::Texts;
+use tape::nodes;
 use tape::nodes::Located;
-use tape::nodes::child;
-use tape::nodes::end_of;
-use tape::words::kind;
-use tape::words::spelling;
-ghost use Prim.Native.Nat.{_<_};
-ghost use Rattle.walk.specs.Step.{NthIs, ElementIs, MemberIs, StepIs, Ahead};
+ghost use Rattle.tape.specs.Lent.{before};
+ghost use Rattle.walk.specs.Step.{NthIs, ElementIs, MemberIs, StepIs};
 
 pub enum Child {
     // the child's row
@@ -23,77 +22,51 @@ pub enum Child {
 }
 
 // The child at a position.
-fn nth(values: &[u64], row: usize, k: usize) -> Child
-    ensures { λ r. ⌜ NthIs (now (values .entry)) row k r ⌝ }
-    ensures { λ r. ⌜ Ahead row (now (values .entry)) r ⌝ }
+fn nth<'a>(texts: Texts<'a>, nodes: &[Node], row: usize, k: usize) -> Child
+    ensures { λ r. ⌜ NthIs (before texts nodes) row k r ⌝ }
 {
-    let Located::At(at) = child(values, row, k) else {
-        return Child::Refused(11);
+    let Located::At(at) = nodes::child(nodes, row, k) else {
+        return Child::Refused(refusal::LOCATION_MISSING);
     };
     Child::At(at)
 }
 
 // An array's element.
-fn element<'a>(values: &[u64], document: &'a [u8], patch: &'a [u8], row: usize, token: u64) -> Child
-    ensures { λ r. ⌜ ElementIs (now (document .entry)) (now (patch .entry)) (now (values .entry)) row token r ⌝ }
-    ensures { λ r. ⌜ Ahead row (now (values .entry)) r ⌝ }
+fn element<'a>(texts: Texts<'a>, nodes: &[Node], row: usize, token: Name) -> Child
+    ensures { λ r. ⌜ ElementIs (before texts nodes) row token r ⌝ }
 {
-    let i = index(part(document, patch, spelling(token)));
+    let i = index(part(texts, token.text));
     match i {
-        Index::At(n) => return nth(values, row, n),
-        Index::Not => return Child::Refused(12),
-        Index::Dash => return Child::Refused(11),
-        Index::Beyond => return Child::Refused(11),
+        Index::At(n) => return nth(texts, nodes, row, n),
+        Index::Not => return Child::Refused(refusal::NO_INDEX),
+        Index::Dash => return Child::Refused(refusal::LOCATION_MISSING),
+        Index::Beyond => return Child::Refused(refusal::LOCATION_MISSING),
     }
 }
 
 // An object's member.
-fn member<'a>(
-    values: &[u64],
-    names: &[u64],
-    document: &'a [u8],
-    patch: &'a [u8],
-    row: usize,
-    token: u64,
-) -> Child
-    ensures { λ r. ⌜ MemberIs (now (document .entry)) (now (patch .entry)) (now (values .entry)) (now (names .entry)) row token r ⌝ }
-    ensures { λ r. ⌜ Ahead row (now (values .entry)) r ⌝ }
+fn member<'a>(texts: Texts<'a>, nodes: &[Node], row: usize, token: Name) -> Child
+    ensures { λ r. ⌜ MemberIs (before texts nodes) row token r ⌝ }
 {
-    if values.len() <= row {
-        return Child::Refused(11);
+    if nodes.len() <= row {
+        return Child::Refused(refusal::LOCATION_MISSING);
     }
-    let Member::At(at) = find(
-        values,
-        names,
-        document,
-        patch,
-        row + 1,
-        end_of(values, row),
-        token,
-    ) else {
-        return Child::Refused(11);
+    let Member::At(at) = find(texts, nodes, row + 1, nodes::end_of(nodes, row), token) else {
+        return Child::Refused(refusal::LOCATION_MISSING);
     };
     Child::At(at)
 }
 
 // The child of the node in a row that a token names; the token is given as a name, with its hash.
-pub fn step<'a>(
-    values: &[u64],
-    names: &[u64],
-    document: &'a [u8],
-    patch: &'a [u8],
-    row: usize,
-    token: u64,
-) -> Child
-    ensures { λ r. ⌜ StepIs (now (document .entry)) (now (patch .entry)) (now (values .entry)) (now (names .entry)) row token r ⌝ }
-    ensures { λ r. ⌜ Ahead row (now (values .entry)) r ⌝ }
+pub fn step<'a>(texts: Texts<'a>, nodes: &[Node], row: usize, token: Name) -> Child
+    ensures { λ r. ⌜ StepIs (before texts nodes) row token r ⌝ }
 {
-    let k = kind(load(values, row));
-    if k == ARRAY {
-        return element(values, document, patch, row, token);
+    let k = nodes::kind(nodes, row);
+    if k == layout::ARRAY {
+        return element(texts, nodes, row, token);
     }
-    if k == OBJECT {
-        return member(values, names, document, patch, row, token);
+    if k == layout::OBJECT {
+        return member(texts, nodes, row, token);
     }
-    Child::Refused(11)
+    Child::Refused(refusal::LOCATION_MISSING)
 }

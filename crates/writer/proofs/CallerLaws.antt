@@ -9,26 +9,27 @@ use Rattle.spec.specs.Bytes.{Bytes}
 use Rattle.spec.specs.Forest.{Forest}
 use Rattle.spec.specs.Value.{depth}
 use Rattle.spec.specs.Write.{write}
-use Rattle.tape.specs.Cell.{Cell}
+use Rattle.tape.specs.declared.fields.Cell.{Cell}
 use Rattle.tape.proofs.Cells.{formed-fit, formed-kids}
 use Rattle.table.specs.Meaning.{meant}
 use Rattle.table.specs.Sound.{NodeHeld}
 use Rattle.table.proofs.MeaningLaws.{depth-meant}
 use Rattle.writer.specs.Writing.{Writable, FitsIs, WriteIs}
 use Rattle.writer.proofs.PlacedLaws.{placed-whole}
+use Rattle.tape.specs.Lent.{Table}
 
-module _ {D P : Bytes} {vs ns : List ℕ} {at levels : ℕ} {c : Cell} {kids : Forest Cell} (n : NodeHeld D P vs ns at c kids)
-    (low : depth (meant D P c kids) ≤ levels) where
-  writable : Writable D P vs ns at levels c kids
+module _ {W : Table} {at levels : ℕ} {c : Cell} {kids : Forest Cell} (n : NodeHeld W at c kids)
+    (low : depth (meant (W .texts) c kids) ≤ levels) where
+  writable : Writable W at levels c kids
   writable =
       let o = n .held .formed in
-      record { node = n; nested = subst (λ d. d ≤ levels) (depth-meant D P c kids (formed-fit o .kind) (formed-kids o)) low }
+      record { node = n; nested = subst (λ d. d ≤ levels) (depth-meant (W .texts) c kids (formed-fit o .kind) (formed-kids o)) low }
 
   -- `fits` answers whether there is room for the value's text
-  pub fits-is : (room : ℕ) {told : Bool} → FitsIs D P vs ns at levels room told → told ≡ leb (length (write (meant D P c kids))) room
+  pub fits-is : (room : ℕ) {told : Bool} → FitsIs W at levels room told → told ≡ leb (length (write (meant (W .texts) c kids))) room
   fits-is room is = is c kids writable
 
   -- `write` lays that text down where there is room for it, and behind it the output is as it was
-  pub written-whole : {before after : Bytes} {r : ℕ} → WriteIs D P vs ns at levels before after r → length (write (meant D P c kids)) ≤ length before
-      → (r ≡ length (write (meant D P c kids))) × (after ≡ write (meant D P c kids) ++ drop (length (write (meant D P c kids))) before)
-  written-whole is room = placed-whole (is c kids writable) room
+  pub written-whole : {before after : Bytes} {r : ℕ} → WriteIs W at levels before after r → length (write (meant (W .texts) c kids)) ≤ length before
+      → (r ≡ length (write (meant (W .texts) c kids))) × (after ≡ write (meant (W .texts) c kids) ++ drop (length (write (meant (W .texts) c kids))) before)
+  written-whole is room = placed-whole (is .held c kids writable) room

@@ -9,8 +9,9 @@ use lib.ListN.{length, take, drop, set, length-append, length-drop, take-append-
 use lib.Seq.{sets, length-sets, take-set-le, drop-set-add, take-all}
 use borrow.Rule.Slice.PartMut.{putMid, same-len-mid}
 use Rattle.spec.specs.Bytes.{Bytes}
+use Rattle.text.specs.Written.{written, LaidDown}
 use Rattle.text.proofs.StoreLaws.{sets-out, stores-on, laid-down}
-use Rattle.writer.specs.Writing.{Placed}
+use Rattle.writer.specs.Writing.{Placed, PlacedSome}
 
 -- stores from a place on are stores to the part that begins before it
 sets-part : (n : ℕ) (l : Bytes) (i : ℕ) (vs : Bytes) → sets l (n + i) vs ≡ take n l ++ sets (drop n l) i vs
@@ -36,8 +37,19 @@ module _ {bytes : Bytes} {at : ℕ} {before after : Bytes} {next : ℕ} (p : Pla
   placed-inside = omega (arith, p .next-is)
 
 -- the same bytes, said another way
-pub placed-as : {bytes others : Bytes} {at : ℕ} {before after : Bytes} {next : ℕ} → bytes ≡ others → Placed others at before after next → Placed bytes at before after next
-placed-as {at = at} {before} e p = record { next-is = p .next-is ∙ ap (λ b. min (at + length b) (length before)) (sym e); after-is = p .after-is ∙ ap (sets before at) (sym e) }
+pub placed-as : {bytes others : Bytes} {at : ℕ} {before after : Bytes} {next : ℕ} → bytes ≡ others → Placed others at before after next
+    → Placed bytes at before after next
+placed-as {at = at} {before} e p = record {
+  next-is = p .next-is ∙ ap (λ b. min (at + length b) (length before)) (sym e);
+  after-is = p .after-is ∙ ap (sets before at) (sym e);
+}
+
+-- a part that another crate lays down, in its form
+pub placed-part : (s : Bytes) {form form' : ℕ} {before after : Bytes} {count n : ℕ} → form' ≡ form → LaidDown (written form' s) before after count
+    → n ≡ min count (length after) → Placed (written form s) 0 before after n
+placed-part s {form} {form'} {before} {after} e p f =
+    let long : length after ≡ length before = ap length (p .after-is) ∙ length-sets before 0 (written form' s) in
+    rw (← e) (record { next-is = omega (arith, p .count-is); after-is = p .after-is })
 
 pub placed-none : (at : ℕ) (before : Bytes) → at ≤ length before → Placed [] at before before at
 placed-none at before h = record { next-is = omega arith; after-is = refl }
@@ -47,7 +59,8 @@ pub placed-full : (bytes before : Bytes) → length before ≡ 0 → Placed byte
 placed-full bytes before h = record { next-is = omega arith; after-is = sym (sets-out before 0 bytes (omega arith)) }
 
 -- bytes behind bytes
-pub placed-on : {u v : Bytes} {i j k : ℕ} {before between after : Bytes} → Placed u i before between j → Placed v j between after k → Placed (u ++ v) i before after k
+pub placed-on : {u v : Bytes} {i j k : ℕ} {before between after : Bytes} → Placed u i before between j → Placed v j between after k
+    → Placed (u ++ v) i before after k
 placed-on {u} {v} {i} {j} {k} {before} {between} {after} p q =
     let long = placed-length p in
     let place : j ≡ min (i + length u) (length between) = p .next-is ∙ ap (min (i + length u)) (sym long) in
@@ -69,7 +82,8 @@ module _ (out : Bytes) (put : ℕ) where
 
   back-is : (ys : Bytes) → back out put ys ≡ take put out ++ ys
   back-is ys =
-      ap (λ l. take put out ++ (ys ++ l)) (drop-of-length-le (drop put out) {i = length out - put} (rw length-drop (omega arith))) ∙ ap (λ l. take put out ++ l) (append-nil ys)
+      ap (λ l. take put out ++ (ys ++ l)) (drop-of-length-le (drop put out) {i = length out - put} (rw length-drop (omega arith)))
+      ∙ ap (λ l. take put out ++ l) (append-nil ys)
 
   -- it comes back as long as it was lent, and so does the whole; and what fits the part fits the whole
   pub back-length : (ys : Bytes) → length ys ≡ length (lent out put) → length (back out put ys) ≡ length out
@@ -79,7 +93,8 @@ module _ (out : Bytes) (put : ℕ) where
   lent-fits n h l = omega (arith, ap length lent-is, length-drop put out)
 
 -- bytes laid down in the part behind others, said of the whole
-pub placed-then : {u v : Bytes} {i j n : ℕ} {before between part : Bytes} → Placed u i before between j → Placed v 0 (lent between j) part n → Placed (u ++ v) i before (back between j part) (j + n)
+pub placed-then : {u v : Bytes} {i j n : ℕ} {before between part : Bytes} → Placed u i before between j → Placed v 0 (lent between j) part n
+    → Placed (u ++ v) i before (back between j part) (j + n)
 placed-then {u} {v} {i} {j} {n} {before} {between} {part} p q =
     let h : j ≤ length between = omega (arith, placed-inside p, placed-length p) in
     let e = lent-is between j in
@@ -107,5 +122,17 @@ turn-fits out put n part last {m} h j k f =
     (omega arith, back-length between (put + n) last k ∙ same)
 
 -- where there is room for all
-pub placed-whole : {bytes before after : Bytes} {next : ℕ} → Placed bytes 0 before after next → length bytes ≤ length before → (next ≡ length bytes) × (after ≡ bytes ++ drop (length bytes) before)
+pub placed-whole : {bytes before after : Bytes} {next : ℕ} → Placed bytes 0 before after next → length bytes ≤ length before
+    → (next ≡ length bytes) × (after ≡ bytes ++ drop (length bytes) before)
 placed-whole {bytes} {before} p h = (omega (arith, p .next-is), p .after-is ∙ laid-down bytes before h)
+
+-- ---- some bytes
+pub some-none : (at : ℕ) (before : Bytes) → at ≤ length before → PlacedSome at before before at
+some-none at before h = record { bytes = []; placed = placed-none at before h }
+
+pub some-then : {i j n : ℕ} {before between part v : Bytes} → PlacedSome i before between j → Placed v 0 (lent between j) part n
+    → PlacedSome i before (back between j part) (j + n)
+some-then s q = record { bytes = _; placed = placed-then (s .placed) q }
+
+pub some-on : {u : Bytes} {i j k : ℕ} {before between after : Bytes} → Placed u i before between j → PlacedSome j between after k → PlacedSome i before after k
+some-on p s = record { bytes = _; placed = placed-on p (s .placed) }

@@ -9,31 +9,36 @@ use Rattle.spec.specs.Bytes.{Bytes}
 use Rattle.spec.specs.Forest.{Forest, tree}
 use Rattle.spec.specs.Write.{writeItems, write}
 use Rattle.tape.specs.Layout.{arrayKind}
-use Rattle.tape.specs.Cell.{Cell, deep}
+use Rattle.tape.specs.Fields.{nameOf}
+use Rattle.tape.specs.declared.fields.Cell.{Cell}
+use Rattle.tape.specs.Cell.{deep}
 use Rattle.tape.specs.Rows.{endOf}
 use Rattle.tape.proofs.Depth.{level-container}
-use Rattle.tape.proofs.Held.{name-here, Remaining, remaining-all, remaining-next, remaining-none, remaining-first}
+use Rattle.tape.proofs.Rows.{cell-here}
+use Rattle.tape.proofs.Held.{held-node, Remaining, remaining-all, remaining-next, remaining-none, remaining-first}
 use Rattle.table.specs.Meaning.{members, meant}
 use Rattle.table.specs.Sound.{Sound, NodeHeld}
 use Rattle.table.proofs.AllLaws.{all-first, all-kids, all-rest}
 use Rattle.writer.specs.Pieces.{prefixBytes}
-use Rattle.writer.specs.Writing.{Writable}
+use Rattle.writer.specs.Writing.{Writable, ForWritable}
 use Rattle.writer.proofs.PieceLaws.{items-tree, items-none}
+use Rattle.tape.specs.Lent.{Table}
 
 -- `R text` is what the code knows of the text so far: that it is laid down, or how long it is
-pub record Progress (D P : Bytes) (vs ns : List ℕ) (object : Bool) (levels : ℕ) (kids : Forest Cell) (row end : ℕ) (first : Bool) (R : Bytes → Type 0) : Type 0 where
+pub record Progress (W : Table) (object : Bool) (levels : ℕ) (kids : Forest Cell) (row end : ℕ) (first : Bool) (R : Bytes → Type 0) : Type 0 where
   pub text : Bytes
   pub so-far : R text
   pub left : Forest Cell
-  pub remaining : Remaining vs ns row end left
-  pub sound : Sound D P left
+  pub remaining : Remaining (W .nodes) row end left
+  pub sound : Sound (W .texts) left
   pub nested : deep left ≤ levels
-  pub whole : writeItems object true (members D P kids) ≡ text ++ writeItems object first (members D P left)
+  pub whole : writeItems object true (members (W .texts) kids) ≡ text ++ writeItems object first (members (W .texts) left)
 
-module _ {D P : Bytes} {vs ns : List ℕ} where
+module _ {W : Table} where
   -- before the first turn
-  pub progress-all : {at levels : ℕ} {c : Cell} {kids : Forest Cell} {R : Bytes → Type 0} (object : Bool) (end : ℕ) → end ≡ endOf vs at → arrayKind ≤ c .kind
-      → Writable D P vs ns at levels c kids → R [] → Progress D P vs ns object (levels - 1) kids (at + 1) end true R
+  pub progress-all : {at levels : ℕ} {c : Cell} {kids : Forest Cell} {R : Bytes → Type 0} (object : Bool) (end : ℕ) → end ≡ endOf (W .nodes) at
+      → arrayKind ≤ c .kind
+      → Writable W at levels c kids → R [] → Progress W object (levels - 1) kids (at + 1) end true R
   progress-all {c = c} {kids} object end e h w r =
       record {
         text = [];
@@ -45,38 +50,41 @@ module _ {D P : Bytes} {vs ns : List ℕ} where
         whole = refl;
       }
 
-  module _ {object : Bool} {levels : ℕ} {kids : Forest Cell} {row end : ℕ} {first : Bool} {R : Bytes → Type 0} (p : Progress D P vs ns object levels kids row end first R) where
+  module _ {object : Bool} {levels : ℕ} {kids : Forest Cell} {row end : ℕ} {first : Bool} {R : Bytes → Type 0}
+      (p : Progress W object levels kids row end first R) where
     -- a turn: what the code does to the text, given the value in the row
-    pub progress-next : {R' : Bytes → Type 0} → row < end → (next : ℕ) → next ≡ endOf vs row
-        → ((c : Cell) (ks : Forest Cell) → Writable D P vs ns row levels c ks → (text : Bytes) → R text → R' (text ++ prefixBytes D P object first (getD ns row 0) ++ write (meant D P c ks)))
-        → Progress D P vs ns object levels kids next end false R'
+    pub progress-next : {R' : Bytes → Type 0} → row < end → (next : ℕ) → ForWritable W row levels (λ v. next ≡ endOf (W .nodes) row)
+        → ((c : Cell) (ks : Forest Cell) → Writable W row levels c ks → (text : Bytes) → R text
+        → R' (text ++ prefixBytes (W .texts) object first (nameOf (getD (W .nodes) row [])) ++ write (meant (W .texts) c ks)))
+        → Progress W object levels kids next end false R'
     unfolding deep
     progress-next more next n step =
         remaining-first (p .remaining) more λ c ks rest e r.
-        let s : Sound D P (tree c ks rest) = subst (Sound D P) e (p .sound) in
+        let s : Sound (W .texts) (tree c ks rest) = subst (Sound (W .texts)) e (p .sound) in
         let d : deep (tree c ks rest) ≤ levels = subst (λ f. deep f ≤ levels) e (p .nested) in
-        let node : NodeHeld D P vs ns row c ks = record { rest = rest; held = r .held; label = all-first s .label; sound = all-kids s } in
-        let w : Writable D P vs ns row levels c ks = record { node = node; nested = omega arith } in
-        let name : getD ns row 0 ≡ c .name = name-here (r .held) in
-        let before : Bytes = prefixBytes D P object first (c .name) in
-        let value : Bytes = write (meant D P c ks) in
+        let node : NodeHeld W row c ks = record { rest = rest; held = r .held; label = all-first s .label; sound = all-kids s } in
+        let w : Writable W row levels c ks = record { node = node; nested = omega arith } in
+        let name : nameOf (getD (W .nodes) row []) ≡ c .name = ap (λ (d : Cell). d .name) (cell-here (held-node (r .held)) []) in
+        let before : Bytes = prefixBytes (W .texts) object first (c .name) in
+        let value : Bytes = write (meant (W .texts) c ks) in
         record {
           text = p .text ++ before ++ value;
           so-far = rw name at (step c ks w (p .text) (p .so-far));
           left = rest;
-          remaining = remaining-next next n r;
+          remaining = remaining-next next (n c ks w) r;
           sound = all-rest s;
           nested = omega arith;
           whole =
               p .whole
-              ∙ ap (λ f. p .text ++ writeItems object first (members D P f)) e
-              ∙ ap (_++_ (p .text)) (items-tree D P object first c ks rest (all-first s .title .verbatim))
+              ∙ ap (λ f. p .text ++ writeItems object first (members (W .texts) f)) e
+              ∙ ap (_++_ (p .text)) (items-tree (W .texts) object first c ks rest (all-first s .name .verbatim))
               ∙ simp append-assoc;
         }
 
     -- after the last
-    pub progress-none : end ≤ row → R (writeItems object true (members D P kids))
+    pub progress-none : end ≤ row → R (writeItems object true (members (W .texts) kids))
     progress-none h =
-        let all : writeItems object true (members D P kids) ≡ p .text =
-        p .whole ∙ ap (λ f. p .text ++ writeItems object first (members D P f)) (remaining-none (p .remaining) h) ∙ ap (_++_ (p .text)) (items-none D P object first) ∙ append-nil (p .text) in
+        let all : writeItems object true (members (W .texts) kids) ≡ p .text =
+        p .whole ∙ ap (λ f. p .text ++ writeItems object first (members (W .texts) f)) (remaining-none (p .remaining) h)
+        ∙ ap (_++_ (p .text)) (items-none (W .texts) object first) ∙ append-nil (p .text) in
         rw all (p .so-far)

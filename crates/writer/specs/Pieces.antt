@@ -1,4 +1,4 @@
--- The pieces that a value's text is put together from, by the words of the node table. Of strings that are verbatim they are those of the
+-- The pieces that a value's text is put together from, by the fields of the nodes. Of strings that are verbatim they are those of the
 -- definitions (proofs/PieceLaws).
 use Prim.Native.Nat.{ℕ}
 use Prim.Native.Char.{code}
@@ -10,21 +10,23 @@ use Rattle.spec.specs.Bytes.{Bytes, ascii}
 use Rattle.spec.specs.Write.{comma}
 use Rattle.text.specs.Written.{written}
 use Rattle.tape.specs.Layout.{trueKind, falseKind, numberKind, stringKind}
-use Rattle.tape.specs.Packing.{formOf, spellingOf}
+use Rattle.tape.specs.declared.fields.Spelling.{Spelling}
+use Rattle.tape.specs.declared.fields.Name.{Name}
+use Rattle.tape.specs.Lent.{Texts}
 use Rattle.table.specs.Meaning.{partOf}
 
 -- a string between its quotation marks
-unfoldable pub stringBytes : Bytes → Bytes → ℕ → Bytes
-stringBytes document patch spelling = (code "\"" ∷ []) ++ written (formOf spelling) (partOf document patch spelling) ++ (code "\"" ∷ [])
+unfoldable pub stringBytes : Texts → Spelling → Bytes
+stringBytes T spelling = (code "\"" ∷ []) ++ written (spelling .form) (partOf T spelling) ++ (code "\"" ∷ [])
 
 unfoldable pub literalBytes : ℕ → Bytes
 literalBytes kind = if eqb kind trueKind then ascii "true" else if eqb kind falseKind then ascii "false" else ascii "null"
 
 -- a value that is no container
-unfoldable pub scalarBytes : Bytes → Bytes → ℕ → ℕ → Bytes
-scalarBytes document patch kind payload =
-    if eqb kind stringKind then stringBytes document patch payload else
-    if eqb kind numberKind then partOf document patch payload else literalBytes kind
+unfoldable pub scalarBytes : Texts → ℕ → Spelling → Bytes
+scalarBytes T kind value =
+    if eqb kind stringKind then stringBytes T value else
+    if eqb kind numberKind then partOf T value else literalBytes kind
 
 -- the brackets of an object, or of an array
 unfoldable pub openingBracket : Bool → ℕ
@@ -34,9 +36,9 @@ unfoldable pub closingBracket : Bool → ℕ
 closingBracket object = if object then code "}" else code "]"
 
 -- a member's name and the colon; an array's element has none
-unfoldable pub nameBytes : Bytes → Bytes → Bool → ℕ → Bytes
-nameBytes document patch object name = if object then stringBytes document patch (spellingOf name) ++ (code ":" ∷ []) else []
+unfoldable pub nameBytes : Texts → Bool → Name → Bytes
+nameBytes T object name = if object then stringBytes T (name .text) ++ (code ":" ∷ []) else []
 
 -- what stands before a value in a container
-unfoldable pub prefixBytes : Bytes → Bytes → Bool → Bool → ℕ → Bytes
-prefixBytes document patch object first name = comma first ++ nameBytes document patch object name
+unfoldable pub prefixBytes : Texts → Bool → Bool → Name → Bytes
+prefixBytes T object first name = comma first ++ nameBytes T object name

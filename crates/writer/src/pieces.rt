@@ -1,59 +1,52 @@
 // The pieces of a value's text, each laid down at the front of `out`, which is the rest of the output.
-ghost use mathlib.Core.Path.{_≡_};
-ghost use Rattle.spec.specs.Write.{comma};
-ghost use Rattle.writer.specs.Pieces.{stringBytes, literalBytes, scalarBytes, openingBracket, closingBracket, nameBytes, prefixBytes};
-ghost use Rattle.writer.specs.Writing.{Placed};
 use crate::output::put_byte;
 use crate::output::put_part;
 use table::spellings::part;
-use tape::layout::FALSE;
-use tape::layout::NUMBER;
-use tape::layout::PLAIN_STRING;
-use tape::layout::STRING;
-use tape::layout::TRUE;
-use tape::words::form;
-use tape::words::spelling;
+use tape::fields::Name;
+use tape::fields::Spelling;
+use tape::layout;
+use tape::layout::Texts;
+ghost use Rattle.tape.specs.Lent.{lent};
+ghost use mathlib.Core.Path.{_≡_};
+ghost use Rattle.spec.specs.Write.{comma};
+ghost use Rattle.writer.specs.Pieces.{stringBytes, literalBytes, scalarBytes, openingBracket, closingBracket};
+ghost use Rattle.writer.specs.Pieces.{nameBytes, prefixBytes};
+ghost use Rattle.writer.specs.Writing.{Placed};
 
 // A string between its quotation marks.
-pub fn write_string<'a>(document: &'a [u8], patch: &'a [u8], spelling: u64, out: &mut [u8]) -> usize
-    ensures { λ r. ⌜ Placed (stringBytes (now (document .entry)) (now (patch .entry)) spelling) 0 (now (out .entry)) (now (out .exit)) r ⌝ }
+pub fn write_string<'a>(texts: Texts<'a>, spelling: Spelling, out: &mut [u8]) -> usize
+    ensures { λ r. ⌜ Placed (stringBytes (lent texts) spelling) 0 (now (out .entry)) (now (out .exit)) r ⌝ }
 {
-    let s = part(document, patch, spelling);
+    let s = part(texts, spelling);
     let mut put = put_byte(b'"', out);
-    let n = put_part(form(spelling), s, &mut out[put..]);
+    let n = put_part(spelling.form, s, &mut out[put..]);
     put += n;
     let last = put_byte(b'"', &mut out[put..]);
     put + last
 }
 
-fn write_literal(kind: u64, out: &mut [u8]) -> usize
+fn write_literal(kind: u16, out: &mut [u8]) -> usize
     ensures { λ r. ⌜ Placed (literalBytes kind) 0 (now (out .entry)) (now (out .exit)) r ⌝ }
 {
-    if kind == TRUE {
-        return put_part(PLAIN_STRING, b"true", out);
+    if kind == layout::TRUE {
+        return put_part(layout::PLAIN_STRING, b"true", out);
     }
-    if kind == FALSE {
-        return put_part(PLAIN_STRING, b"false", out);
+    if kind == layout::FALSE {
+        return put_part(layout::PLAIN_STRING, b"false", out);
     }
-    put_part(PLAIN_STRING, b"null", out)
+    put_part(layout::PLAIN_STRING, b"null", out)
 }
 
 // A value that is no container; a number is copied.
-pub fn write_scalar<'a>(
-    document: &'a [u8],
-    patch: &'a [u8],
-    kind: u64,
-    payload: u64,
-    out: &mut [u8],
-) -> usize
-    ensures { λ r. ⌜ Placed (scalarBytes (now (document .entry)) (now (patch .entry)) kind payload) 0 (now (out .entry)) (now (out .exit)) r ⌝ }
+pub fn write_scalar<'a>(texts: Texts<'a>, kind: u16, value: Spelling, out: &mut [u8]) -> usize
+    ensures { λ r. ⌜ Placed (scalarBytes (lent texts) kind value) 0 (now (out .entry)) (now (out .exit)) r ⌝ }
 {
-    if kind == STRING {
-        return write_string(document, patch, payload, out);
+    if kind == layout::STRING {
+        return write_string(texts, value, out);
     }
-    if kind == NUMBER {
-        let s = part(document, patch, payload);
-        return put_part(PLAIN_STRING, s, out);
+    if kind == layout::NUMBER {
+        let s = part(texts, value);
+        return put_part(layout::PLAIN_STRING, s, out);
     }
     write_literal(kind, out)
 }
@@ -81,35 +74,28 @@ fn write_comma(first: bool, out: &mut [u8]) -> usize
 }
 
 // A member's name and the colon.
-fn write_name<'a>(
-    document: &'a [u8],
-    patch: &'a [u8],
-    object: bool,
-    name: u64,
-    out: &mut [u8],
-) -> usize
-    ensures { λ r. ⌜ Placed (nameBytes (now (document .entry)) (now (patch .entry)) object name) 0 (now (out .entry)) (now (out .exit)) r ⌝ }
+fn write_name<'a>(texts: Texts<'a>, object: bool, name: Name, out: &mut [u8]) -> usize
+    ensures { λ r. ⌜ Placed (nameBytes (lent texts) object name) 0 (now (out .entry)) (now (out .exit)) r ⌝ }
 {
     if !object {
         return 0;
     }
-    let put = write_string(document, patch, spelling(name), out);
+    let put = write_string(texts, name.text, out);
     let last = put_byte(b':', &mut out[put..]);
     put + last
 }
 
 // What stands before a value in a container.
 pub fn write_prefix<'a>(
-    document: &'a [u8],
-    patch: &'a [u8],
+    texts: Texts<'a>,
     object: bool,
     first: bool,
-    name: u64,
+    name: Name,
     out: &mut [u8],
 ) -> usize
-    ensures { λ r. ⌜ Placed (prefixBytes (now (document .entry)) (now (patch .entry)) object first name) 0 (now (out .entry)) (now (out .exit)) r ⌝ }
+    ensures { λ r. ⌜ Placed (prefixBytes (lent texts) object first name) 0 (now (out .entry)) (now (out .exit)) r ⌝ }
 {
     let put = write_comma(first, out);
-    let n = write_name(document, patch, object, name, &mut out[put..]);
+    let n = write_name(texts, object, name, &mut out[put..]);
     put + n
 }

@@ -1,4 +1,5 @@
--- `same_label` meets its contract, by the kinds and then by the payloads.
+-- `same_label` meets its contract, by the kinds and then by the texts.
+use mathlib.Core.Path.{_∙_, ap}
 use borrow.Author.Needs.{needs}
 use Rattle.equality.proofs.LabelLaws.{labels-differ, labels-other, labels-number, labels-string}
 use Rattle.equality.proofs.same_label.Statement.{statement}
@@ -8,29 +9,32 @@ pub same-label-spec : {M : Type 1} → statement M
 same-label-spec =
     tie.close
     (tie.spec
-    -- kind-requires
+    -- array-read-kind-in
+    (λ c. search needs)
+    -- kind-in-requires
     (λ c κs. search needs)
-    -- kind-requires-2
+    -- array-read-kind-in-2
+    (λ c. search needs)
+    -- kind-in-requires-2
     (λ c κs. search needs)
     -- returns
-    (λ c. labels-differ _ _ (c .before .before .kind .ensures) (c .before .kind2 .ensures) (c .if1 .taken))
-    -- payload-requires
+    (λ c. labels-differ _ _ (c .before .before .kind-in .ensures) (c .before .kind-in2 .ensures) (c .if1 .taken))
+    -- value-of-requires
     (λ c κs. search needs)
-    -- payload-requires-2
+    -- value-of-requires-2
     (λ c κs. search needs)
     -- same-spelling-requires
     (λ c κs. search needs)
     -- returns-2
     (λ c.
-    let l = c .before .before in
-    let k = l .before .before in
-    labels-string _ _ (k .before .before .kind .ensures) (k .before .kind2 .ensures) (k .if1 .left)
-    _ _ (l .payload .ensures) (c .before .payload2 .ensures) (l .before .if2 .taken) _ (c .same-spelling .ensures))
-    -- payload-requires-3
+    labels-string _ _ (c .before .before .before .before .before .before .kind-in .ensures) (c .before .before .before .before .before .kind-in2 .ensures)
+    (c .before .before .before .before .if1 .left)
+    _ _ (c .before .before .value-of .ensures) (c .before .value-of2 .ensures) (c .before .before .before .if2 .taken) _ (c .same-spelling .ensures))
+    -- value-of-requires-3
     (λ c κs. search needs)
     -- part-requires
     (λ c κs. search needs)
-    -- payload-requires-4
+    -- value-of-requires-4
     (λ c κs. search needs)
     -- part-requires-2
     (λ c κs. search needs)
@@ -38,12 +42,12 @@ same-label-spec =
     (λ c κs. search needs)
     -- returns-3
     (λ c.
-    let l = c .before .before .before .before in
-    let k = l .before .before .before in
-    labels-number _ _ (k .before .before .kind .ensures) (k .before .kind2 .ensures) (k .if1 .left)
-    _ _ (l .payload3 .ensures) (c .before .before .payload4 .ensures) (l .before .if3 .taken)
-    _ _ (c .before .before .before .part .ensures) (c .before .part2 .ensures) _ (c .same-number .ensures))
+    labels-number _ _ (c .before .before .before .before .before .before .before .before .before .kind-in .ensures)
+    (c .before .before .before .before .before .before .before .before .kind-in2 .ensures)
+    (c .before .before .before .before .before .before .before .if1 .left)
+    _ _ (c .before .before .before .before .value-of3 .ensures) (c .before .before .value-of4 .ensures)
+    (c .before .before .before .before .before .if3 .taken) _ _ (c .before .before .before .part .ensures) (c .before .part2 .ensures) _
+    (c .same-number .ensures))
     -- returns-4
-    (λ c.
-    let k = c .before .before in
-    labels-other _ _ (k .before .before .kind .ensures) (k .before .kind2 .ensures) (k .if1 .left) (c .if3 .left) (c .before .if2 .left)))
+    (λ c. labels-other _ _ (c .before .before .before .before .kind-in .ensures) (c .before .before .before .kind-in2 .ensures) (c .before .before .if1 .left)
+    (c .if3 .left) (c .before .if2 .left)))

@@ -10,18 +10,23 @@ pub sought-spec : {M : Type 1} → statement M
 sought-spec =
     tie.close
     (tie.spec
-    -- add-find, find-requires
+    -- add-find
     (λ c. search needs)
+    -- find-requires
     (λ c κs. search needs)
     -- returns
-    (λ c hints. searched (c .find .ensures .0))
-    -- lookup-requires, enum-known-pair, enum-told, add-find-2, find-requires-2
+    (λ c hints. searched (c .find .ensures))
+    -- lookup-requires
     (λ c κs. search needs)
+    -- enum-known-pair
     (λ c. search needs)
+    -- enum-told
     (λ c. search needs)
+    -- add-find-2
     (λ c. search needs)
+    -- find-requires-2
     (λ c κs. search needs)
     -- returns-2
-    (λ c hints. searched (c .find2 .ensures .0))
+    (λ c hints. searched (c .find2 .ensures))
     -- returns-3
-    (λ c hints. let l = c .before .before .before in sought-hinted hints (omega arith) _ (l .lookup .ensures) (c .before .pair .given .1)))
+    (λ c hints. sought-hinted hints (omega arith) _ (c .before .before .before .lookup .ensures) (c .before .pair .given .1)))

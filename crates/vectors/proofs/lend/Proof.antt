@@ -14,7 +14,7 @@ lend-spec =
     (λ c. search needs)
     -- slice-aggregate-apply
     (λ c.
-    let a = c .before .before .before .before .before .before .args in
+    let a = c .before .before .before .before .before .args in
     sym (length-take-le (a .room) (a .output .now) (omega arith)))
     -- apply-requires
     (λ c κs. search needs)

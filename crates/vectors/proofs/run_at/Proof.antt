@@ -22,7 +22,9 @@ run-at-spec =
     (λ c κs. let t = c .before in standing _ _ (t .before .c .given .1) (t .before .before .before .case-at .ensures) .document)
     -- part-requires-3
     (λ c κs. let t = c .before .before in standing _ _ (t .before .c .given .1) (t .before .before .before .case-at .ensures) .patch)
+    -- narrow-requires
+    (λ c κs. search needs)
     -- run-case-requires
     (λ c κs. search needs)
     -- returns-2
-    (λ c. let t = c .before .before .before .before in standing _ _ (t .before .c .given .1) (t .before .before .before .case-at .ensures) .next))
+    (λ c. let t = c .before .before .before .before .before in standing _ _ (t .before .c .given .1) (t .before .before .before .case-at .ensures) .next))

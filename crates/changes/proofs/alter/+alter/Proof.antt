@@ -1,11 +1,13 @@
--- `alter` meets its contract; the levels fall.
+-- `alter` meets its contract; the levels below fall.
 use Prim.Native.Nat.{ℕ, _<_}
 use native.Mathlib.Omega.{arith}
+use mathlib.Core.Path.{refl}
 use borrow.Author.Needs.{needs}
 use borrow.Fn.Kinds.{In}
 use borrow.Fn.PlainCycle.{Measures, is, falls, and}
+use Rattle.changes.proofs.KeptLaws.{frame-done}
 use Rattle.changes.proofs.TokenLaws.{token-read}
-use Rattle.changes.proofs.AlterLaws.{alter-scalar, alter-last, alter-refused, alter-done, alter-not, few-done}
+use Rattle.changes.proofs.AlterLaws.{alter-outside, alter-last, alter-refused, alter-flat, alter-done, alter-not}
 use Rattle.changes.proofs.alter.alter.Reads as alter
 use Rattle.changes.proofs.alter.alter.Kinds as alter-kinds
 use Rattle.changes.proofs.alter.+alter.Lts-alter as alter-lts
@@ -18,14 +20,14 @@ use Rattle.walk.proofs.step.Reads as step-reads
 use Rattle.changes.proofs.alter.+alter.{statement}
 use Rattle.changes.proofs.alter.+alter.Tie.{close}
 
-abbrev μ-alter : Measures 3 alter-kinds.ps ℕ
-μ-alter κs a = a .1 .1 .1 .1 .1 .1 .0
+abbrev μ-alter : Measures 2 alter-kinds.ps ℕ
+μ-alter κs a = a .1 .1 .0 .below
 
-abbrev alter-at : ℕ → In 3 alter-kinds.ps
-alter-at t = and 3 alter-kinds.ps (is 3 alter-kinds.ps μ-alter t) alter.Pre
+abbrev alter-at : ℕ → In 2 alter-kinds.ps
+alter-at t = and 2 alter-kinds.ps (is 2 alter-kinds.ps μ-alter t) alter.Pre
 
-abbrev alter-below : ℕ → In 3 alter-kinds.ps
-alter-below t = and 3 alter-kinds.ps (falls 3 alter-kinds.ps _<_ μ-alter t) alter.Pre
+abbrev alter-below : ℕ → In 2 alter-kinds.ps
+alter-below t = and 2 alter-kinds.ps (falls 2 alter-kinds.ps _<_ μ-alter t) alter.Pre
 
 pub +alter-spec : {M : Type 1} → statement M
 +alter-spec = close μ-alter λ t. alter-lts.spec (
@@ -47,7 +49,7 @@ pub +alter-spec : {M : Type 1} → statement M
     (alter-at t)
     alter.Post
     -- returns
-    (λ c. (alter-scalar (c .if1 .taken), tt))
+    (λ c. alter-outside (c .if1 .taken))
     -- part-requires
     (λ c κs. search needs)
     -- token-requires
@@ -58,21 +60,36 @@ pub +alter-spec : {M : Type 1} → statement M
     (λ c. search needs)
     -- enum-told
     (λ c. search needs)
-    -- sub-change-child
-    (λ c. search needs)
     -- change-child-requires
     (λ c κs. search needs)
     -- same-length
     (λ c. search needs)
-    -- same-length-2
-    (λ c. search needs)
     -- returns-2
-    (λ c. (alter-last (token-read _ (c .before .before .before .before .before .before .before .before .before .before .before .part .ensures) (c .before .before .before .before .before .before .before .before .before .before .token .ensures) (c .before .before .before .before .before .before .before .before .before .token-name .ensures)) _ _ _ (omega (arith, c .before .before .before .before .before .before .before .before .before .before .before .before .if1 .left)) (c .before .before .before .before .before .before .before .enum-told .given .1) (c .before .before .before .before .change-child .ensures .0), c .before .before .before .before .change-child .ensures .1))
+    (λ c.
+    let at-change-child = c .before in
+    let at-enum-told = at-change-child .before .before in
+    let at-token-name = at-enum-told .before .before in
+    let at-token = at-token-name .before in
+    let at-part = at-token .before in
+    let read = token-read _ (at-part .part .ensures) (at-token .token .ensures) (at-token-name .token-name .ensures) in
+    alter-last read _ (at-enum-told .enum-told .given .1) (at-change-child .change-child .ensures))
     -- step-requires
     (λ c κs. search needs)
     -- enum-known-child
     (λ c. search needs)
-    -- sub-alter
+    -- same-length-2
+    (λ c. search needs)
+    -- returns-3
+    (λ c.
+    let at-child = c .before .before .before in
+    let at-step = at-child .before .before in
+    let at-t = at-step .before .before .before in
+    let at-token-name = at-t .before .before in
+    let at-token = at-token-name .before in
+    let at-part = at-token .before in
+    let read = token-read _ (at-part .part .ensures) (at-token .token .ensures) (at-token-name .token-name .ensures) in
+    alter-flat _ read (at-t .t .given .1) _ refl _ (at-step .step .ensures) _ (at-child .child .given .1) (c .if2 .taken))
+    -- sub-t27
     (λ c. search needs)
     -- alter-requires
     (λ c κs. search needs)
@@ -82,23 +99,53 @@ pub +alter-spec : {M : Type 1} → statement M
     (λ c. search needs)
     -- same-length-3
     (λ c. search needs)
+    -- returns-4
+    (λ c.
+    let at-alter = c .before .before .before in
+    let at-if2 = at-alter .before .before .before in
+    let at-child = at-if2 .before .before .before in
+    let at-step = at-child .before .before in
+    let at-t = at-step .before .before .before in
+    let at-token-name = at-t .before .before in
+    let at-token = at-token-name .before in
+    let at-part = at-token .before in
+    let read = token-read _ (at-part .part .ensures) (at-token .token .ensures) (at-token-name .token-name .ensures) in
+    alter-not _ read (at-t .t .given .1) _ refl _ (at-step .step .ensures) _ (at-child .child .given .1) _ (omega (arith, at-if2 .if2 .left)) _
+    (at-alter .alter .ensures) _
+    (c .enum-told2 .given .1))
+    -- resize-requires
+    (λ c κs. frame-done (c .before .before .r .given .1) (c .before .before .before .before .before .alter .ensures .frame) .0)
     -- same-length-4
     (λ c. search needs)
-    -- returns-3
-    (λ c. (alter-not (token-read _ (c .before .before .before .before .before .before .before .before .before .before .before .before .before .before .before .before .before .before .before .before .part .ensures) (c .before .before .before .before .before .before .before .before .before .before .before .before .before .before .before .before .before .before .before .token .ensures) (c .before .before .before .before .before .before .before .before .before .before .before .before .before .before .before .before .before .before .token-name .ensures)) (c .before .before .before .before .before .before .before .before .before .before .before .before .before .before .before .before .t .given .1) (omega (arith, c .before .before .before .before .before .before .before .before .before .before .before .before .before .before .before .before .before .before .before .before .before .if1 .left)) _ (c .before .before .before .before .before .before .before .before .before .before .before .before .step .ensures .0) _ (c .before .before .before .before .before .before .before .before .before .before .child .given .1) _ (c .before .before .before .before .before .before .alter .ensures .0) _ (c .enum-told2 .given .1), c .before .before .before .before .before .before .alter .ensures .1))
-    -- resize-requires
-    (λ c κs. few-done (c .before .before .r .given .1) (c .before .before .before .before .before .before .before .before .alter .ensures .1))
-    -- same-length-5
-    (λ c. search needs)
-    -- same-length-6
-    (λ c. search needs)
-    -- returns-4
-    (λ c. (alter-done (token-read _ (c .before .before .before .before .before .before .before .before .before .before .before .before .before .before .before .before .before .before .before .before .before .before .before .before .before .part .ensures) (c .before .before .before .before .before .before .before .before .before .before .before .before .before .before .before .before .before .before .before .before .before .before .before .before .token .ensures) (c .before .before .before .before .before .before .before .before .before .before .before .before .before .before .before .before .before .before .before .before .before .before .before .token-name .ensures)) (c .before .before .before .before .before .before .before .before .before .before .before .before .before .before .before .before .before .before .before .before .before .t .given .1) (omega (arith, c .before .before .before .before .before .before .before .before .before .before .before .before .before .before .before .before .before .before .before .before .before .before .before .before .before .before .if1 .left)) _ (c .before .before .before .before .before .before .before .before .before .before .before .before .before .before .before .before .before .step .ensures .0) _ (c .before .before .before .before .before .before .before .before .before .before .before .before .before .before .before .child .given .1) _ (c .before .before .before .before .before .before .before .before .before .before .before .alter .ensures .0) _ (c .before .before .before .before .before .r .given .1) (few-done (c .before .before .before .before .before .r .given .1) (c .before .before .before .before .before .before .before .before .before .before .before .alter .ensures .1)) (c .before .before .resize .ensures), few-done (c .before .before .before .before .before .r .given .1) (c .before .before .before .before .before .before .before .before .before .before .before .alter .ensures .1)))
+    -- returns-5
+    (λ c.
+    let at-resize = c .before in
+    let at-r = at-resize .before .before .before in
+    let at-alter = at-r .before .before .before in
+    let at-if2 = at-alter .before .before .before in
+    let at-child = at-if2 .before .before .before in
+    let at-step = at-child .before .before in
+    let at-t = at-step .before .before .before in
+    let at-token-name = at-t .before .before in
+    let at-token = at-token-name .before in
+    let at-part = at-token .before in
+    let at-if1 = at-part .before in
+    let at-pre = at-if1 .before .before in
+    let read = token-read _ (at-part .part .ensures) (at-token .token .ensures) (at-token-name .token-name .ensures) in
+    alter-done _ read (at-t .t .given .1) _ refl _ (at-step .step .ensures) _ (at-child .child .given .1) _ (omega (arith, at-if2 .if2 .left)) _
+    (at-alter .alter .ensures) (at-pre .pre .1) (omega (arith, at-if1 .if1 .left)) _
+    (at-r .r .given .1) (at-resize .resize .ensures))
     -- enum-known-n
     (λ c. search needs)
-    -- same-length-7
+    -- same-length-5
     (λ c. search needs)
-    -- same-length-8
-    (λ c. search needs)
-    -- returns-5
-    (λ c. (alter-refused (token-read _ (c .before .before .before .before .before .before .before .before .before .before .before .part .ensures) (c .before .before .before .before .before .before .before .before .before .before .token .ensures) (c .before .before .before .before .before .before .before .before .before .token-name .ensures)) _ (c .before .before .before .step .ensures .0) (c .before .before .before .before .before .before .before .t .given .1) _ (c .before .n .given .1), tt))
+    -- returns-6
+    (λ c.
+    let at-n = c .before in
+    let at-step = at-n .before .before in
+    let at-t = at-step .before .before .before in
+    let at-token-name = at-t .before .before in
+    let at-token = at-token-name .before in
+    let at-part = at-token .before in
+    let read = token-read _ (at-part .part .ensures) (at-token .token .ensures) (at-token-name .token-name .ensures) in
+    alter-refused read _ (at-step .step .ensures) (at-t .t .given .1) _ (at-n .n .given .1))

@@ -1,7 +1,6 @@
-use Rattle.changes.proofs.ChangeLaws.{add-array, add-object, add-scalar}
-use Rattle.tape.specs.Packing.{kindOf}
+-- `add` meets its contract.
 use borrow.Author.Needs.{needs}
-use mathlib.Core.Path.{ap, _∙_}
+use Rattle.changes.proofs.ChangeLaws.{add-array, add-object, add-scalar}
 use Rattle.changes.proofs.children.add.Statement.{statement}
 use Rattle.changes.proofs.children.add.Tie as tie
 
@@ -9,27 +8,29 @@ pub add-spec : {M : Type 1} → statement M
 add-spec =
     tie.close
     (tie.spec
-    -- load-requires
-    (λ c κs. search needs)
     -- kind-requires
     (λ c κs. search needs)
     -- add-element-requires
     (λ c κs. search needs)
     -- same-length
     (λ c. search needs)
-    -- same-length-2
-    (λ c. search needs)
     -- returns
-    (λ c. (add-array _ (c .before .before .before .before .before .before .before .before .kind .ensures ∙ ap kindOf (c .before .before .before .before .before .before .before .before .before .load .ensures)) (c .before .before .before .before .before .before .before .if1 .taken) (c .before .before .before .before .add-element .ensures .0), c .before .before .before .before .add-element .ensures .1))
+    (λ c.
+    let at-add-element = c .before in
+    let at-if1 = at-add-element .before .before in
+    let at-kind = at-if1 .before in
+    add-array _ (at-kind .kind .ensures) (at-if1 .if1 .taken) (at-add-element .add-element .ensures))
     -- add-member-requires
     (λ c κs. search needs)
-    -- same-length-3
-    (λ c. search needs)
-    -- same-length-4
+    -- same-length-2
     (λ c. search needs)
     -- returns-2
-    (λ c. (add-object _ (c .before .before .before .before .before .before .before .before .before .kind .ensures ∙ ap kindOf (c .before .before .before .before .before .before .before .before .before .before .load .ensures)) (c .before .before .before .before .before .before .before .if2 .taken) (c .before .before .before .before .add-member .ensures .0), c .before .before .before .before .add-member .ensures .1))
-    -- same-length-5
+    (λ c.
+    let at-add-member = c .before in
+    let at-if2 = at-add-member .before .before in
+    let at-kind = at-if2 .before .before in
+    add-object _ (at-kind .kind .ensures) (at-if2 .if2 .taken) (at-add-member .add-member .ensures))
+    -- same-length-3
     (λ c. search needs)
     -- returns-3
-    (λ c. (add-scalar _ (c .before .before .kind .ensures ∙ ap kindOf (c .before .before .before .load .ensures)) (c .before .if1 .left) (c .if2 .left), tt)))
+    (λ c. add-scalar _ (c .before .before .kind .ensures) (c .before .if1 .left) (c .if2 .left)))

@@ -1,5 +1,6 @@
-use Rattle.changes.proofs.ChangeLaws.{member-outside, member-replaced, member-added}
+-- `add_member` meets its contract.
 use borrow.Author.Needs.{needs}
+use Rattle.changes.proofs.ChangeLaws.{member-replaced, member-added}
 use Rattle.changes.proofs.children.add_member.Statement.{statement}
 use Rattle.changes.proofs.children.add_member.Tie as tie
 
@@ -7,8 +8,6 @@ pub add-member-spec : {M : Type 1} → statement M
 add-member-spec =
     tie.close
     (tie.spec
-    -- returns
-    (λ c. (member-outside (c .if1 .taken), tt))
     -- end-of-requires
     (λ c κs. search needs)
     -- add-find
@@ -21,17 +20,23 @@ add-member-spec =
     (λ c κs. search needs)
     -- same-length
     (λ c. search needs)
-    -- same-length-2
-    (λ c. search needs)
-    -- returns-2
-    (λ c. (member-replaced _ (c .before .before .before .before .before .before .before .before .before .before .before .before .before .end-of .ensures) _ (c .before .before .before .before .before .before .before .before .before .before .find .ensures .0) _ (c .before .before .before .before .before .before .before .before .at .given .1) (c .before .before .before .before .replace-child .ensures .0 _ _), c .before .before .before .before .replace-child .ensures .1))
+    -- returns
+    (λ c.
+    let at-replace-child = c .before in
+    let at-at = at-replace-child .before .before .before in
+    let at-find = at-at .before .before in
+    let at-end-of = at-find .before .before .before in
+    member-replaced _ (at-end-of .end-of .ensures) _ (at-find .find .ensures) _ (at-at .at .given .1) (at-replace-child .replace-child .ensures))
     -- enum-told
     (λ c. search needs)
     -- put-requires
     (λ c κs. search needs)
-    -- same-length-3
+    -- same-length-2
     (λ c. search needs)
-    -- same-length-4
-    (λ c. search needs)
-    -- returns-3
-    (λ c. (member-added _ (c .before .before .before .before .before .before .before .before .before .before .before .before .end-of .ensures) _ (c .before .before .before .before .before .before .before .before .before .find .ensures .0) (c .before .before .before .before .before .before .before .enum-told .given .1) (c .before .before .before .before .put .ensures .0), c .before .before .before .before .put .ensures .1)))
+    -- returns-2
+    (λ c.
+    let at-put = c .before in
+    let at-enum-told = at-put .before .before in
+    let at-find = at-enum-told .before .before in
+    let at-end-of = at-find .before .before .before in
+    member-added _ (at-end-of .end-of .ensures) _ (at-find .find .ensures) (at-enum-told .enum-told .given .1) (at-put .put .ensures)))

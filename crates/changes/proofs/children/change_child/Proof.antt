@@ -1,5 +1,6 @@
-use Rattle.changes.proofs.ChangeLaws.{changed-add, changed-remove, changed-replace}
+-- `change_child` meets its contract.
 use borrow.Author.Needs.{needs}
+use Rattle.changes.proofs.ChangeLaws.{changed-add, changed-remove, changed-replace}
 use Rattle.changes.proofs.children.change_child.Statement.{statement}
 use Rattle.changes.proofs.children.change_child.Tie as tie
 
@@ -13,27 +14,21 @@ change-child-spec =
     (λ c κs. search needs)
     -- same-length
     (λ c. search needs)
-    -- same-length-2
-    (λ c. search needs)
     -- returns
-    (λ c. (changed-add _ _ (c .before .before .before .before .before .before .before .before .change .given .1) (c .before .before .before .before .add .ensures .0), c .before .before .before .before .add .ensures .1))
+    (λ c. changed-add _ _ (c .before .before .before .before .change .given .1) (c .before .add .ensures))
     -- enum-told
     (λ c. search needs)
     -- remove-requires
     (λ c κs. search needs)
-    -- same-length-3
-    (λ c. search needs)
-    -- same-length-4
+    -- same-length-2
     (λ c. search needs)
     -- returns-2
-    (λ c. (changed-remove _ (c .before .before .before .before .before .before .before .enum-told .given .1) (c .before .before .before .before .remove .ensures .0), c .before .before .before .before .remove .ensures .1))
+    (λ c. changed-remove _ (c .before .before .before .enum-told .given .1) (c .before .remove .ensures))
     -- enum-known-change-2
     (λ c. search needs)
     -- replace-requires
     (λ c κs. search needs)
-    -- same-length-5
-    (λ c. search needs)
-    -- same-length-6
+    -- same-length-3
     (λ c. search needs)
     -- returns-3
-    (λ c. (changed-replace _ _ (c .before .before .before .before .before .before .before .before .change2 .given .1) (c .before .before .before .before .replace .ensures .0), c .before .before .before .before .replace .ensures .1)))
+    (λ c. changed-replace _ _ (c .before .before .before .before .change2 .given .1) (c .before .replace .ensures)))

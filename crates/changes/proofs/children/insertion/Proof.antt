@@ -1,5 +1,6 @@
-use Rattle.changes.proofs.ChangeLaws.{insertion-dash, insertion-at, insertion-beyond, insertion-not}
+-- `insertion` meets its contract.
 use borrow.Author.Needs.{needs}
+use Rattle.changes.proofs.ChangeLaws.{insertion-dash, insertion-at, insertion-beyond, insertion-not}
 use Rattle.changes.proofs.children.insertion.Statement.{statement}
 use Rattle.changes.proofs.children.insertion.Tie as tie
 

@@ -1,5 +1,6 @@
-use Rattle.changes.proofs.ChangeLaws.{remove-done, remove-refused}
+-- `remove` meets its contract.
 use borrow.Author.Needs.{needs}
+use Rattle.changes.proofs.ChangeLaws.{remove-done, remove-refused}
 use Rattle.changes.proofs.children.remove.Statement.{statement}
 use Rattle.changes.proofs.children.remove.Tie as tie
 
@@ -15,15 +16,15 @@ remove-spec =
     (λ c κs. search needs)
     -- same-length
     (λ c. search needs)
-    -- same-length-2
-    (λ c. search needs)
     -- returns
-    (λ c. (remove-done _ (c .before .before .before .before .before .before .before .before .before .before .step .ensures .0) _ (c .before .before .before .before .before .before .before .before .at .given .1) (c .before .before .before .before .take-out .ensures .0), c .before .before .before .before .take-out .ensures .1))
+    (λ c.
+    let at-take-out = c .before in
+    let at-at = at-take-out .before .before .before in
+    let at-step = at-at .before .before in
+    remove-done _ (at-step .step .ensures) _ (at-at .at .given .1) (at-take-out .take-out .ensures))
     -- enum-known-n
     (λ c. search needs)
-    -- same-length-3
-    (λ c. search needs)
-    -- same-length-4
+    -- same-length-2
     (λ c. search needs)
     -- returns-2
-    (λ c. (remove-refused _ (c .before .before .before .step .ensures .0) _ (c .before .n .given .1), tt)))
+    (λ c. remove-refused _ (c .before .before .before .step .ensures) _ (c .before .n .given .1)))

@@ -1,5 +1,6 @@
-use Rattle.changes.proofs.ChangeLaws.{replace-done, replace-refused}
+-- `replace` meets its contract.
 use borrow.Author.Needs.{needs}
+use Rattle.changes.proofs.ChangeLaws.{replace-done, replace-refused}
 use Rattle.changes.proofs.children.replace.Statement.{statement}
 use Rattle.changes.proofs.children.replace.Tie as tie
 
@@ -15,15 +16,15 @@ replace-spec =
     (λ c κs. search needs)
     -- same-length
     (λ c. search needs)
-    -- same-length-2
-    (λ c. search needs)
     -- returns
-    (λ c. (replace-done _ (c .before .before .before .before .before .before .before .before .before .before .step .ensures .0) _ (c .before .before .before .before .before .before .before .before .at .given .1) (c .before .before .before .before .replace-child .ensures .0 _ _), c .before .before .before .before .replace-child .ensures .1))
+    (λ c.
+    let at-replace-child = c .before in
+    let at-at = at-replace-child .before .before .before in
+    let at-step = at-at .before .before in
+    replace-done _ (at-step .step .ensures) _ (at-at .at .given .1) (at-replace-child .replace-child .ensures))
     -- enum-known-n
     (λ c. search needs)
-    -- same-length-3
-    (λ c. search needs)
-    -- same-length-4
+    -- same-length-2
     (λ c. search needs)
     -- returns-2
-    (λ c. (replace-refused _ (c .before .before .before .step .ensures .0) _ (c .before .n .given .1), tt)))
+    (λ c. replace-refused _ (c .before .before .before .step .ensures) _ (c .before .n .given .1)))

@@ -1,5 +1,8 @@
-use Rattle.changes.proofs.ChangeLaws.{child-replaced}
+-- `replace_child` meets its contract.
 use borrow.Author.Needs.{needs}
+use mathlib.Core.Path.{ap, _∙_}
+use Rattle.tape.specs.Fields.{nameOf}
+use Rattle.changes.proofs.ChangeLaws.{child-replaced}
 use Rattle.changes.proofs.children.replace_child.Statement.{statement}
 use Rattle.changes.proofs.children.replace_child.Tie as tie
 
@@ -11,11 +14,16 @@ replace-child-spec =
     (λ c κs. search needs)
     -- load-requires
     (λ c κs. search needs)
+    -- name-of-requires
+    (λ c κs. search needs)
     -- put-requires
     (λ c κs. search needs)
     -- same-length
     (λ c. search needs)
-    -- same-length-2
-    (λ c. search needs)
     -- returns
-    (λ c. (λ D P. child-replaced _ _ (c .before .before .before .before .before .before .before .before .before .size .ensures) (c .before .before .before .before .before .before .before .load .ensures) (c .before .before .before .before .put .ensures .0), c .before .before .before .before .put .ensures .1)))
+    (λ c.
+    let at-put = c .before in
+    let at-name-of = at-put .before .before in
+    let at-load = at-name-of .before in
+    let at-size = at-load .before .before in
+    child-replaced _ _ (at-size .size .ensures) (at-name-of .name-of .ensures ∙ ap nameOf (at-load .load .ensures)) (at-put .put .ensures)))

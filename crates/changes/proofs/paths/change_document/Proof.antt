@@ -1,3 +1,4 @@
+-- `change_document` meets its contract.
 use borrow.Author.Needs.{needs}
 use Rattle.changes.proofs.PathLaws.{document-added, document-kept, document-replaced}
 use Rattle.changes.proofs.paths.change_document.Statement.{statement}
@@ -13,10 +14,8 @@ change-document-spec =
     (λ c κs. search needs)
     -- same-length
     (λ c. search needs)
-    -- same-length-2
-    (λ c. search needs)
     -- returns
-    (λ c. document-added _ _ (c .before .before .before .before .before .before .before .before .change .given .1) (c .before .before .before .before .replace-document .ensures))
+    (λ c. document-added _ _ (c .before .before .before .before .change .given .1) (c .before .replace-document .ensures))
     -- enum-told
     (λ c. search needs)
     -- returns-2
@@ -25,9 +24,7 @@ change-document-spec =
     (λ c. search needs)
     -- replace-document-requires-2
     (λ c κs. search needs)
-    -- same-length-3
-    (λ c. search needs)
-    -- same-length-4
+    -- same-length-2
     (λ c. search needs)
     -- returns-3
-    (λ c. document-replaced _ _ (c .before .before .before .before .before .before .before .before .change2 .given .1) (c .before .before .before .before .replace-document2 .ensures)))
+    (λ c. document-replaced _ _ (c .before .before .before .before .change2 .given .1) (c .before .replace-document2 .ensures)))

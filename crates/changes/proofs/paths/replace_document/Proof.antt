@@ -1,7 +1,10 @@
-use native.Mathlib.Omega.{arith}
+-- `replace_document` meets its contract.
 use borrow.Author.Needs.{needs}
+use mathlib.Core.Path.{refl}
+use native.Mathlib.Omega.{arith}
 use borrow.Author.Tests.{not-true, not-false}
-use Rattle.changes.proofs.PathLaws.{replace-deep, replace-large, replace-done}
+use Rattle.changes.specs.Rows.{unchanged}
+use Rattle.changes.proofs.PathLaws.{replace-frame, replace-deep, replace-large, replace-done}
 use Rattle.changes.proofs.paths.replace_document.Statement.{statement}
 use Rattle.changes.proofs.paths.replace_document.Tie as tie
 
@@ -14,20 +17,40 @@ replace-document-spec =
     -- same-length
     (λ c. search needs)
     -- returns
-    (λ c. λ D P v d x kids offered. replace-deep d offered (c .before .within .ensures) (not-true _ (c .if1 .taken)))
+    (λ c.
+    record {
+      frame = unchanged refl;
+      held = λ T v d x kids offered. replace-deep offered (c .before .within .ensures) (not-true _ (c .if1 .taken));
+    })
     -- size-requires
     (λ c κs. search needs)
     -- same-length-2
     (λ c. search needs)
     -- returns-2
-    (λ c. λ D P v d x kids offered. replace-large d offered (c .before .before .before .before .within .ensures) (not-false _ (c .before .before .before .if1 .left)) _ (c .before .size .ensures) (omega arith))
+    (λ c.
+    let at-size = c .before in
+    let at-if1 = at-size .before .before in
+    let at-within = at-if1 .before in
+    record {
+      frame = unchanged refl;
+      held = λ T v d x kids offered.
+          replace-large offered (at-within .within .ensures) (not-false _ (at-if1 .if1 .left)) _ (at-size .size .ensures) (c .if2 .taken);
+    })
     -- splice-requires
-    (λ c κs. search needs)
-    -- splice-requires-2
     (λ c κs. search needs)
     -- same-length-3
     (λ c. search needs)
-    -- same-length-4
-    (λ c. search needs)
     -- returns-3
-    (λ c. λ D P v d x kids offered. replace-done d offered (c .before .before .before .before .before .before .before .before .before .before .before .before .within .ensures) (not-false _ (c .before .before .before .before .before .before .before .before .before .before .before .if1 .left)) _ (c .before .before .before .before .before .before .before .before .before .size .ensures) (omega arith) (c .before .before .before .before .before .before .splice .ensures) (c .before .before .splice2 .ensures)))
+    (λ c.
+    let at-splice = c .before in
+    let at-if2 = at-splice .before .before in
+    let at-size = at-if2 .before in
+    let at-if1 = at-size .before .before in
+    let at-within = at-if1 .before in
+    let at-pre = at-within .before .before in
+    record {
+      frame = replace-frame _ _ _ (at-pre .pre) (at-if2 .if2 .left) (at-splice .splice .ensures);
+      held = λ T v d x kids offered.
+          replace-done offered (at-within .within .ensures) (not-false _ (at-if1 .if1 .left)) _ (at-size .size .ensures) d (at-if2 .if2 .left)
+          (at-splice .splice .ensures);
+    }))

@@ -1,5 +1,6 @@
-use mathlib.Core.Path.{_∙_}
+-- `resize` meets its contract.
 use borrow.Author.Needs.{needs}
+use mathlib.Core.Path.{_∙_}
 use Rattle.changes.proofs.PutLaws.{resize-is}
 use Rattle.changes.proofs.trees.resize.Statement.{statement}
 use Rattle.changes.proofs.trees.resize.Tie as tie
@@ -8,8 +9,6 @@ pub resize-spec : {M : Type 1} → statement M
 resize-spec =
     tie.close
     (tie.spec
-    -- load-requires
-    (λ c κs. search needs)
     -- span-requires
     (λ c κs. search needs)
     -- add-minus
@@ -21,4 +20,10 @@ resize-spec =
     -- same-length
     (λ c. search needs)
     -- returns
-    (λ c. let a = c .before .before .before .before .before .before .before .before .before .args in c .before .before .set-span .ensures ∙ resize-is (a .values .now) (a .row) (a .used) (a .then) _ _ (c .before .before .before .before .before .before .load .ensures) (c .before .before .before .before .before .span .ensures) (c .before .before .before .before .minus .ensures)))
+    (λ c.
+    let at-set-span = c .before in
+    let at-minus = at-set-span .before .before in
+    let at-span = at-minus .before in
+    let at-args = at-span .before .before in
+    let a = at-args .args in
+    at-set-span .set-span .ensures ∙ resize-is (a .nodes .now) (a .row) (a .used) (a .then) (at-span .span .ensures .0) (at-minus .minus .ensures)))

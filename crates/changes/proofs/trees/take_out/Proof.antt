@@ -1,6 +1,6 @@
-use native.Mathlib.Omega.{arith}
+-- `take_out` meets its contract.
 use borrow.Author.Needs.{needs}
-use Rattle.changes.proofs.PutLaws.{taken-out}
+use Rattle.changes.proofs.PutLaws.{take-made}
 use Rattle.changes.proofs.trees.take_out.Statement.{statement}
 use Rattle.changes.proofs.trees.take_out.Tie as tie
 
@@ -12,19 +12,19 @@ take-out-spec =
     (λ c κs. search needs)
     -- minus-requires
     (λ c κs. search needs)
-    -- same-length
-    (λ c. search needs)
-    -- returns
-    (λ c. (λ D P levels z k kth place. absurd (omega (arith, z .few)), tt))
     -- splice-requires
-    (λ c κs. search needs)
-    -- splice-requires-2
     (λ c κs. search needs)
     -- resize-requires
     (λ c κs. search needs)
-    -- same-length-2
+    -- same-length
     (λ c. search needs)
-    -- same-length-3
-    (λ c. search needs)
-    -- returns-2
-    (λ c. (λ D P levels z k kth place. taken-out z k kth _ place _ (c .before .before .before .before .before .before .before .before .before .before .before .before .before .before .size .ensures) _ (c .before .before .before .before .before .before .before .before .before .before .before .before .before .minus .ensures) (c .before .before .before .before .before .before .before .before .before .before .splice .ensures) (c .before .before .before .before .before .before .splice2 .ensures) (c .before .before .resize .ensures), omega arith)))
+    -- returns
+    (λ c.
+    let at-resize = c .before in
+    let at-splice = at-resize .before .before .before in
+    let at-minus = at-splice .before .before in
+    let at-size = at-minus .before in
+    let at-args = at-size .before .before in
+    let a = at-args .args in
+    take-made (a .parent) (at-args .pre) (a .at) _ _ (at-size .size .ensures) (at-minus .minus .ensures) (at-splice .splice .ensures)
+    (at-resize .resize .ensures)))

@@ -38,4 +38,8 @@ other-hash-spec =
     -- loop-less
     (λ c. scalar-less _ _ _ (c .before .before .before .before .letter .ensures) _ _ (c .before .before .c .given .1))
     -- loop-again
-    (λ c. other-more _ (scalar-text _ _ _ (c .before .before .before .before .letter .ensures) _ _ (c .before .before .c .given .1)) (c .other-mix .ensures) (c .before .before .before .before .before .loop .inv)))
+    (λ c.
+    let at-letter = c .before .before .before .before .letter in
+    let at-c = c .before .before .c in
+    let at-loop = c .before .before .before .before .before .loop in
+    other-more _ (scalar-text _ _ _ (at-letter .ensures) _ _ (at-c .given .1)) (c .other-mix .ensures) (at-loop .inv)))

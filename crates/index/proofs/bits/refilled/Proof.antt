@@ -3,6 +3,7 @@ use Prim.Native.Nat.{_+_, _%_}
 use mathlib.Core.Path.{refl, ap}
 use Rattle.text.proofs.Auto.{auto}
 use Rattle.text.proofs.LetterLaws.{scalar-text, refused-text}
+use Rattle.index.specs.Bits.{otherHashes}
 use Rattle.index.proofs.BitLaws.{filled-still, filled-end, filled-next}
 use Rattle.index.proofs.bits.refilled.Statement.{statement}
 use Rattle.index.proofs.bits.refilled.Tie as tie
@@ -12,12 +13,10 @@ refilled-spec =
     tie.close
     (tie.spec
     -- returns
-    (λ c. filled-still _ _ _ _ (c .if1 .taken))
-    -- spelling-requires
-    (λ c κs. search auto)
+    (λ c. filled-still _ _ _ (c .if1 .taken))
     -- part-requires
     (λ c κs. search auto)
-    -- form-requires
+    -- long-requires
     (λ c κs. search auto)
     -- letter-requires
     (λ c κs. search auto)
@@ -27,21 +26,25 @@ refilled-spec =
     (λ c. search auto)
     -- returns-2
     (λ c.
-    let read = c .before .before in
-    let part = read .before .before in
-    filled-end _ _ _ _ (part .before .spelling .ensures) (read .before .form .ensures) (part .part .ensures) (part .before .before .if1 .left) _
-    (refused-text _ _ _ (read .letter .ensures) _ (c .enum-told .given .1))
+    let at-long = c .before .before .before .long in
+    let at-part = c .before .before .before .before .part in
+    let at-if1 = c .before .before .before .before .before .if1 in
+    let at-letter = c .before .before .letter in
+    filled-end _ _ _ (at-long .ensures) (at-part .ensures) (at-if1 .left) _
+    (refused-text _ _ _ (at-letter .ensures) _ (c .enum-told .given .1))
     refl
     refl)
     -- other-hash-requires
     (λ c κs. search auto)
-    -- add-t13
+    -- add-t12
     (λ c. search auto)
     -- returns-3
     (λ c.
-    let known = c .before .before in
-    let read = known .before .before in
-    let part = read .before .before in
-    filled-next _ _ _ _ (part .before .spelling .ensures) (read .before .form .ensures) (part .part .ensures) (part .before .before .if1 .left) _ _
-    (scalar-text _ _ _ (read .letter .ensures) _ _ (known .next .given .1))
-    (ap (λ n. 0x1000_0000 + n % 0x1000_0000) (c .other-hash .ensures))))
+    let at-long = c .before .before .before .before .before .long in
+    let at-part = c .before .before .before .before .before .before .part in
+    let at-if1 = c .before .before .before .before .before .before .before .if1 in
+    let at-letter = c .before .before .before .before .letter in
+    let at-next = c .before .before .next in
+    filled-next _ _ _ (at-long .ensures) (at-part .ensures) (at-if1 .left) _ _
+    (scalar-text _ _ _ (at-letter .ensures) _ _ (at-next .given .1))
+    (ap (λ n. otherHashes + n % otherHashes) (c .other-hash .ensures))))

@@ -1,19 +1,19 @@
--- `lookup` meets its contract: rows grow along the way, and what it answers was tested.
+-- `lookup` meets its contract: rows grow along the path, and what it answers was tested.
 use Prim.Native.Nat.{_-_}
 use native.Mathlib.Omega.{arith}
 use mathlib.Core.Path.{refl}
 use borrow.Author.Needs.{needs}
-use Rattle.index.specs.Ways.{room}
+use Rattle.index.specs.Slots.{room}
 use Rattle.index.specs.Members.{noted, not-found}
 use Rattle.index.proofs.members.lookup.Statement.{statement}
 use Rattle.index.proofs.members.lookup.Tie as tie
 
 abbrev Inv-loop : tie.InvT-loop
-Inv-loop document patch values names top object name parent at₀ last₀ bits₀ at last bits = Unit {0}
+Inv-loop texts nodes index top object name at₀ last₀ bits₀ at last bits = Unit {0}
 
 -- the rows from the last one on
 abbrev μ-loop : tie.MeasureT-loop
-μ-loop document patch values names top object name parent at₀ last₀ bits₀ at last bits = room - last
+μ-loop texts nodes index top object name at₀ last₀ bits₀ at last bits = room - last
 
 pub lookup-spec : {M : Type 1} → statement M
 lookup-spec =
@@ -21,34 +21,33 @@ lookup-spec =
     (tie.spec
     Inv-loop
     μ-loop
-    -- returns, returns-2
+    -- returns
     (λ c. not-found)
+    -- returns-2
     (λ c. not-found)
-    -- add-parent, hash-requires, bucket-requires, hash-requires-2, hash-bits-requires, loop-holds, slot-requires
+    -- bucket-requires
+    (λ c κs. search needs)
+    -- hash-bits-requires
+    (λ c κs. search needs)
+    -- loop-holds
     (λ c. search needs)
+    -- slot-requires
     (λ c κs. search needs)
-    (λ c κs. search needs)
-    (λ c κs. search needs)
-    (λ c κs. search needs)
-    (λ c. search needs)
-    (λ c κs. search needs)
-    -- returns-3, returns-4
+    -- returns-3
     (λ c. not-found)
+    -- returns-4
     (λ c. not-found)
-    -- mul-slot, add-slot, slot-requires-2, add-load, load-requires, same-name-requires, add-t24
-    (λ c. search needs)
-    (λ c. search needs)
+    -- is-noted-requires
     (λ c κs. search needs)
-    (λ c. search needs)
-    (λ c κs. search needs)
-    (λ c κs. search needs)
+    -- add-t17
     (λ c. search needs)
     -- returns-5
-    (λ c.
-    noted _ _ refl (omega arith) (omega arith) (omega (arith, c .before .before .before .before .slot2 .ensures, c .before .before .before .if5 .taken))
-    (rw (c .before .before .load .ensures, c .if6 .taken) at (c .before .same-name .ensures)))
-    -- refilled-requires, branch-requires, loop-less, loop-again
+    (λ c. noted _ _ refl (omega arith) (omega arith) (c .before .is-noted .ensures (c .if5 .taken)))
+    -- refilled-requires
     (λ c κs. search needs)
+    -- branch-requires
     (λ c κs. search needs)
+    -- loop-less
     (λ c. search needs)
+    -- loop-again
     (λ c. search needs))

@@ -1,9 +1,9 @@
--- `set_slot` meets its contract: the word in its row has the number.
-use Prim.Native.Nat.{_%_}
-use mathlib.Core.Path.{ap, _∙_}
+-- `set_slot` meets its contract. Assumes nothing.
+use mathlib.Core.Path.{sym, ap}
 use lib.ListN.{set}
+use lib.Seq.{set-out}
 use borrow.Author.Needs.{needs}
-use Rattle.index.specs.Slots.{numbers, withField, rowOf, slotSet}
+use Rattle.index.specs.Slots.{slotSet}
 use Rattle.index.proofs.slots.set_slot.Statement.{statement}
 use Rattle.index.proofs.slots.set_slot.Tie as tie
 
@@ -12,19 +12,15 @@ unfolding slotSet
 set-slot-spec =
     tie.close
     (tie.spec
-    -- add-row
+    -- narrow-requires
+    (λ c κs. search needs)
+    -- mul-index
     (λ c. search needs)
-    -- load-requires
-    (λ c κs. search needs)
-    -- with-field-requires
-    (λ c κs. search needs)
-    -- store-requires
-    (λ c κs. search needs)
+    -- slice-write-index
+    (λ c. search needs)
     -- same-length
     (λ c. search needs)
     -- returns
-    (λ c.
-    let loaded = c .before .before .before .before .before in
-    let a = loaded .before .before .before .args in
-    c .before .before .store .ensures
-    ∙ ap (set (a .column .now) (rowOf (a .at))) (c .before .before .before .before .with-field .ensures ∙ ap (λ w. withField w (a .at % 4) (a .number % numbers)) (loaded .load .ensures))))
+    (λ c. rw (c .narrow .ensures))
+    -- returns-2
+    (λ c. sym (set-out _ _ _ (c .if1 .left))))

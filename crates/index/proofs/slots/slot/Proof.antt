@@ -1,8 +1,8 @@
--- `slot` meets its contract: the field of the word in its row.
-use Prim.Native.Nat.{_%_}
-use mathlib.Core.Path.{ap, _∙_}
+-- `slot` meets its contract. Assumes nothing.
+use mathlib.Core.Path.{sym}
+use lib.ListN.{List·getD-eq-default}
 use borrow.Author.Needs.{needs}
-use Rattle.index.specs.Slots.{fieldOf, slotAt}
+use Rattle.index.specs.Slots.{slotAt}
 use Rattle.index.proofs.slots.slot.Statement.{statement}
 use Rattle.index.proofs.slots.slot.Tie as tie
 
@@ -11,11 +11,13 @@ unfolding slotAt
 slot-spec =
     tie.close
     (tie.spec
-    -- add-load
-    (λ c. search needs)
-    -- load-requires
-    (λ c κs. search needs)
-    -- field-requires
-    (λ c κs. search needs)
     -- returns
-    (λ c. c .field .ensures ∙ ap (λ w. fieldOf w (c .before .before .before .args .at % 4)) (c .before .load .ensures)))
+    (λ c. sym (List·getD-eq-default (c .before .before .args .index .now) 0 (c .if1 .taken)))
+    -- mul-wide
+    (λ c. search needs)
+    -- shared-slice-read-wide
+    (λ c. search needs)
+    -- wide-requires
+    (λ c κs. search needs)
+    -- returns-2
+    (λ c. c .wide .ensures .0))

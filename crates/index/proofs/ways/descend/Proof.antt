@@ -3,16 +3,18 @@ use Prim.Native.Nat.{_-_}
 use mathlib.Core.Path.{refl, ap, _∙_}
 use native.Mathlib.Omega.{arith}
 use borrow.Author.Needs.{needs}
-use Rattle.index.specs.Bits.{hashBits}
+use Rattle.tape.specs.Fields.{nameOf}
+use Rattle.tape.specs.Lent.{tableOf}
 use Rattle.index.proofs.WayLaws.{Descending, descending-start, descending-next, descended-none, descended-past}
 use Rattle.index.proofs.ways.descend.Statement.{statement}
 use Rattle.index.proofs.ways.descend.Tie as tie
 
 abbrev Inv-loop : tie.InvT-loop
-Inv-loop document patch values names base limit start word at₀ last₀ same₀ bits₀ at last same bits = Descending document patch values names base limit start word at last same bits
+Inv-loop texts nodes index base limit start name at₀ last₀ same₀ bits₀ at last same bits =
+    Descending (tableOf texts nodes) index base limit start name at last same bits
 
 abbrev μ-loop : tie.MeasureT-loop
-μ-loop document patch values names base limit start word at₀ last₀ same₀ bits₀ at last same bits = limit - last
+μ-loop texts nodes index base limit start name at₀ last₀ same₀ bits₀ at last same bits = limit - last
 
 pub descend-spec : {M : Type 1} → statement M
 descend-spec =
@@ -20,21 +22,21 @@ descend-spec =
     (tie.spec
     Inv-loop
     μ-loop
-    -- hash-requires
-    (λ c κs. search needs)
     -- hash-bits-requires
     (λ c κs. search needs)
     -- loop-holds
-    (λ c. descending-start _ _ _ _ _ _ _ _ _ (c .hash-bits .ensures ∙ ap hashBits (c .before .hash .ensures)) refl (omega arith) (omega arith) (omega arith))
+    (λ c. descending-start _ _ _ _ _ _ _ (c .hash-bits .ensures) refl (omega arith) (omega arith))
     -- slot-requires
     (λ c κs. search needs)
     -- returns
-    (λ c. descended-none _ _ _ _ _ _ _ _ (c .before .before .loop .inv) _ (c .before .slot .ensures) (omega arith))
+    (λ c. descended-none _ _ _ _ _ _ (c .before .before .loop .inv) _ (c .before .slot .ensures) (omega arith))
     -- returns-2
-    (λ c. descended-past _ _ _ _ _ _ _ _ (c .before .before .before .loop .inv) _ (c .before .before .slot .ensures) (omega arith))
+    (λ c. descended-past _ _ _ _ _ _ (c .before .before .before .loop .inv) _ (c .before .before .slot .ensures) (omega arith))
     -- add-load
     (λ c. search needs)
     -- load-requires
+    (λ c κs. search needs)
+    -- name-of-requires
     (λ c κs. search needs)
     -- same-name-requires
     (λ c κs. search needs)
@@ -48,8 +50,13 @@ descend-spec =
     (λ c. omega arith)
     -- loop-again
     (λ c.
-    let filled = c .before .before .before in
-    let looked = filled .before .before .before .before .before .before in
-    let asked = looked .before .before .before .before .before .before .before .before .pre in
-    descending-next _ _ _ _ _ _ _ _ (looked .before .loop .inv) _ (looked .slot .ensures) (omega arith) (omega arith) (omega (arith, asked)) _ _ (filled .before .before .before .load .ensures) (filled .before .before .same-name .ensures) (filled .before .either .ensures)
-    (filled .refilled .ensures) (c .before .branch .ensures) refl refl))
+    let inv = c .before .before .before .before .before .before .before .before .before .before .before .loop .inv in
+    let slot-is = c .before .before .before .before .before .before .before .before .before .before .slot .ensures in
+    let asked = c .before .before .before .before .before .before .before .before .before .before .before .before .before .before .pre in
+    let name-of-is = c .before .before .before .before .before .before .name-of .ensures in
+    let load-is = c .before .before .before .before .before .before .before .load .ensures in
+    let same-name-is = c .before .before .before .before .before .same-name .ensures in
+    let either-is = c .before .before .before .before .either .ensures in
+    let refilled-is = c .before .before .before .refilled .ensures in
+    descending-next _ _ _ _ _ _ inv _ slot-is (omega arith) (omega arith) (omega (arith, asked)) _ _
+    (name-of-is ∙ ap nameOf load-is) same-name-is either-is refilled-is (c .before .branch .ensures) refl refl))

@@ -1,18 +1,18 @@
 -- `descend_by_hash` meets its contract: rows grow along a way, and names whose hashes differ are different.
 use Prim.Native.Nat.{_-_, _<_}
-use mathlib.Core.Path.{refl, sym, ap, _∙_}
+use mathlib.Core.Path.{refl, ap, _∙_}
 use native.Mathlib.Omega.{arith}
 use borrow.Author.Needs.{needs}
-use Rattle.index.specs.Bits.{hashBits}
+use Rattle.tape.specs.Fields.{nameOf}
 use Rattle.index.proofs.WayLaws.{Passing, passing-start, passing-next, passed-none, passed-past, no-slot}
 use Rattle.index.proofs.ways.descend_by_hash.Statement.{statement}
 use Rattle.index.proofs.ways.descend_by_hash.Tie as tie
 
 abbrev Inv-loop : tie.InvT-loop
-Inv-loop values names base limit start word h at₀ last₀ left₀ at last left = (last < limit) × Passing values names base limit start word at last left
+Inv-loop nodes index base limit start name at₀ last₀ left₀ at last left = (last < limit) × Passing nodes index base limit start name at last left
 
 abbrev μ-loop : tie.MeasureT-loop
-μ-loop values names base limit start word h at₀ last₀ left₀ at last left = limit - last
+μ-loop nodes index base limit start name at₀ last₀ left₀ at last left = limit - last
 
 pub descend-by-hash-spec : {M : Type 1} → statement M
 descend-by-hash-spec =
@@ -20,12 +20,10 @@ descend-by-hash-spec =
     (tie.spec
     Inv-loop
     μ-loop
-    -- hash-requires
-    (λ c κs. search needs)
     -- hash-bits-requires
     (λ c κs. search needs)
     -- loop-holds
-    (λ c. (omega arith, passing-start (c .hash-bits .ensures ∙ ap hashBits (c .before .hash .ensures)) (omega arith) (omega arith) (omega arith)))
+    (λ c. (omega arith, passing-start (c .hash-bits .ensures) (omega arith) (omega arith)))
     -- slot-requires
     (λ c κs. search needs)
     -- returns
@@ -36,7 +34,7 @@ descend-by-hash-spec =
     (λ c. search needs)
     -- load-requires
     (λ c κs. search needs)
-    -- hash-requires-2
+    -- name-of-requires
     (λ c κs. search needs)
     -- returns-3
     (λ c. no-slot)
@@ -48,10 +46,12 @@ descend-by-hash-spec =
     (λ c. omega arith)
     -- loop-again
     (λ c.
-    let compared = c .before .before .before in
-    let looked = compared .before .before .before .before in
-    let h = looked .before .before .before .hash .ensures in (
+    let inv = c .before .before .before .before .before .before .before .before .before .before .loop .inv .1 in
+    let slot-is = c .before .before .before .before .before .before .before .before .before .slot .ensures in
+    let name-of-is = c .before .before .before .before .before .name-of .ensures in
+    let load-is = c .before .before .before .before .before .before .load .ensures in
+    let if3-is = c .before .before .if3 .left in (
       omega arith,
-      passing-next (looked .before .loop .inv .1) _ (looked .slot .ensures) (omega arith) (omega arith) (omega arith) (compared .before .load .ensures)
-          (λ e. c .before .before .if3 .left (compared .hash2 .ensures ∙ e ∙ sym h)) (omega arith) (c .branch .ensures) refl,
+      passing-next inv _ slot-is (omega arith) (omega arith) (omega arith) (name-of-is ∙ ap nameOf load-is)
+          (λ e. if3-is e) (omega arith) (c .branch .ensures) refl,
     )))

@@ -1,4 +1,5 @@
 -- `enter` meets its contract: nothing is done where the numbers do not fit, and else the row is put where the way of its name ends.
+use mathlib.Core.Path.{refl}
 use native.Mathlib.Omega.{arith}
 use borrow.Author.Needs.{needs}
 use Rattle.index.proofs.WayLaws.{not-entered, entered}
@@ -10,25 +11,24 @@ enter-spec =
     tie.close
     (tie.spec
     -- returns
-    (λ c. not-entered _ _ _ _ _ _ _ _ (λ h. omega arith))
+    (λ c. not-entered _ _ _ _ _ _ (λ h. omega arith))
     -- returns-2
-    (λ c. not-entered _ _ _ _ _ _ _ _ (λ h. omega arith))
+    (λ c. not-entered _ _ _ _ _ _ (λ h. omega arith))
     -- sub-new
     (λ c. search needs)
     -- returns-3
-    (λ c. not-entered _ _ _ _ _ _ _ _ (λ h. omega arith))
-    -- hash-requires
-    (λ c κs. search needs)
+    (λ c. not-entered _ _ _ _ _ _ (λ h. omega arith))
     -- bucket-requires
     (λ c κs. search needs)
     -- descend-requires
-    (λ c κs. (omega arith, omega arith, omega arith, omega (arith, c .before .bucket .ensures), omega (arith, c .before .bucket .ensures)))
+    (λ c κs. (omega arith, omega arith, omega arith, omega (arith, c .before .bucket .ensures)))
     -- set-slot-requires
     (λ c κs. search needs)
     -- same-length
     (λ c. search needs)
     -- returns-4
     (λ c.
-    let sought = c .before .before .before .before in
-    let start = sought .before .before in
-    entered _ _ _ _ _ _ _ _ _ (start .before .hash .ensures) (start .bucket .ensures) (sought .descend .ensures) (c .before .before .set-slot .ensures)))
+    let at-bucket = c .before .before .before .before .before .before .bucket in
+    let at-descend = c .before .before .before .before .descend in
+    let at-set-slot = c .before .before .set-slot in
+    entered _ _ _ _ _ _ _ refl (at-bucket .ensures) (at-descend .ensures) (at-set-slot .ensures)))

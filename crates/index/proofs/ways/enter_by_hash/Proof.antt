@@ -1,4 +1,5 @@
 -- `enter_by_hash` meets its contract: the row is put where the way of its name ends, if the hash leads there.
+use mathlib.Core.Path.{refl}
 use native.Mathlib.Omega.{arith}
 use borrow.Author.Needs.{needs}
 use Rattle.index.proofs.WayLaws.{not-by-hash, entered-by-hash}
@@ -17,12 +18,10 @@ enter-by-hash-spec =
     (λ c. search needs)
     -- returns-3
     (λ c. not-by-hash)
-    -- hash-requires
-    (λ c κs. search needs)
     -- bucket-requires
     (λ c κs. search needs)
     -- descend-by-hash-requires
-    (λ c κs. (omega arith, omega arith, omega arith, omega (arith, c .before .bucket .ensures), omega (arith, c .before .bucket .ensures)))
+    (λ c κs. (omega arith, omega arith, omega arith, omega (arith, c .before .bucket .ensures)))
     -- same-length
     (λ c. search needs)
     -- returns-4
@@ -33,6 +32,7 @@ enter-by-hash-spec =
     (λ c. search needs)
     -- returns-5
     (λ c.
-    let sought = c .before .before .before .before .before in
-    let start = sought .before .before in
-    entered-by-hash (start .before .hash .ensures) (start .bucket .ensures) (sought .descend-by-hash .ensures) (omega arith) (c .before .before .set-slot .ensures)))
+    let at-bucket = c .before .before .before .before .before .before .before .bucket in
+    let at-descend-by-hash = c .before .before .before .before .before .descend-by-hash in
+    let at-set-slot = c .before .before .set-slot in
+    entered-by-hash refl (at-bucket .ensures) (at-descend-by-hash .ensures) (omega arith) (at-set-slot .ensures)))

@@ -1,7 +1,8 @@
--- `checked` meets its contract, by the two lengths.
-use borrow.Author.Needs.{needs}
+-- `checked` meets its contract, by the two lengths and by what is read of both texts.
 use native.Mathlib.Omega.{arith}
+use borrow.Author.Needs.{needs}
 use Rattle.json_patch.proofs.AnswerLaws.{answered-refusal, answered-as, work-suffices, answer-document-long, answer-patch-long, answer-read}
+use Rattle.json_patch.proofs.StageLaws.{document-unread, patch-unread, patch-read}
 use Rattle.json_patch.proofs.stages.checked.Statement.{statement}
 use Rattle.json_patch.proofs.stages.checked.Tie as tie
 
@@ -9,21 +10,62 @@ pub checked-spec : {M : Type 1} → statement M
 checked-spec =
     tie.close
     (tie.spec
-    -- refusal-requires
+    -- element-copy-out-if1
+    (λ c. search needs)
+    -- refused-requires
     (λ c κs. search needs)
     -- returns
-    (λ c h i. answered-as (answer-document-long _ _ _ (work-suffices _ h i) (omega arith)) (answered-refusal (c .refusal .ensures)))
-    -- refusal-requires-2
+    (λ c h i. answered-as (answer-document-long _ _ _ (work-suffices _ h i) (omega arith)) (answered-refusal (c .refused .ensures)))
+    -- element-copy-out-if2
+    (λ c. search needs)
+    -- refused-requires-2
     (λ c κs. search needs)
     -- returns-2
-    (λ c h i. answered-as (answer-patch-long _ _ _ (work-suffices _ h i) (omega arith) (omega arith)) (answered-refusal (c .refusal2 .ensures)))
-    -- with-document-requires
+    (λ c h i. answered-as (answer-patch-long _ _ _ (work-suffices _ h i) (omega arith) (omega arith)) (answered-refusal (c .refused2 .ensures)))
+    -- read-document-requires
+    (λ c κs. search needs)
+    -- enum-known-document
+    (λ c. search needs)
+    -- enum-told
+    (λ c. search needs)
+    -- unread-requires
     (λ c κs. search needs)
     -- same-length
     (λ c. search needs)
     -- same-length-2
     (λ c. search needs)
+    -- returns-3
+    (λ c h i.
+    answered-as (answer-read _ _ _ (work-suffices _ h i) (omega (arith, c .before .before .before .before .before .before .before .before .before .before .if1 .left)) (omega (arith, c .before .before .before .before .before .before .before .before .before .if2 .left)))
+    (document-unread h i (omega (arith, c .before .before .before .before .before .before .before .before .before .before .if1 .left)) (omega (arith, c .before .before .before .before .before .before .before .before .before .if2 .left)) (c .before .before .before .before .before .before .read-document .ensures) (c .before .enum-told .given .1) (c .unread .ensures)))
+    -- read-patch-requires
+    (λ c κs. search needs)
+    -- enum-told-2
+    (λ c. search needs)
+    -- enum-told-3
+    (λ c. search needs)
+    -- unread-requires-2
+    (λ c κs. search needs)
     -- same-length-3
     (λ c. search needs)
-    -- returns-3
-    (λ c h i. answered-as (answer-read _ _ _ (work-suffices _ h i) (omega arith) (omega arith)) (c .before .before .before .before .before .before .with-document .ensures h i (omega arith) (omega arith))))
+    -- same-length-4
+    (λ c. search needs)
+    -- returns-4
+    (λ c h i.
+    answered-as (answer-read _ _ _ (work-suffices _ h i) (omega (arith, c .before .before .before .before .before .before .before .before .before .before .before .before .before .before .before .before .before .before .before .if1 .left)) (omega (arith, c .before .before .before .before .before .before .before .before .before .before .before .before .before .before .before .before .before .before .if2 .left)))
+    (patch-unread h i (omega (arith, c .before .before .before .before .before .before .before .before .before .before .before .before .before .before .before .before .before .before .before .if1 .left)) (omega (arith, c .before .before .before .before .before .before .before .before .before .before .before .before .before .before .before .before .before .before .if2 .left)) (c .before .before .before .before .before .before .before .before .before .before .before .before .before .before .before .read-document .ensures) (c .before .before .before .before .before .before .before .before .before .before .document .given .1)
+    (c .before .before .before .before .before .before .before .before .before .before .before .before .before .before .before .read-document .kept .1 .0) (c .before .before .before .before .before .before .before .before .before .before .before .before .before .before .before .read-document .kept .1 .1 .0) (c .before .before .before .before .before .before .read-patch .ensures) (c .before .enum-told3 .given .1) (c .unread2 .ensures)))
+    -- run-patch-requires
+    (λ c κs. search needs)
+    -- same-length-5
+    (λ c. search needs)
+    -- same-length-6
+    (λ c. search needs)
+    -- same-length-7
+    (λ c. search needs)
+    -- returns-5
+    (λ c h i.
+    answered-as (answer-read _ _ _ (work-suffices _ h i) (omega (arith, c .before .before .before .before .before .before .before .before .before .before .before .before .before .before .before .before .before .before .before .before .before .before .before .before .before .before .before .if1 .left)) (omega (arith, c .before .before .before .before .before .before .before .before .before .before .before .before .before .before .before .before .before .before .before .before .before .before .before .before .before .before .if2 .left)))
+    (patch-read h i (omega (arith, c .before .before .before .before .before .before .before .before .before .before .before .before .before .before .before .before .before .before .before .before .before .before .before .before .before .before .before .if1 .left)) (omega (arith, c .before .before .before .before .before .before .before .before .before .before .before .before .before .before .before .before .before .before .before .before .before .before .before .before .before .before .if2 .left)) (c .before .before .before .before .before .before .before .before .before .before .before .before .before .before .before .before .before .before .before .before .before .before .before .read-document .ensures) (c .before .before .before .before .before .before .before .before .before .before .before .before .before .before .before .before .before .before .document .given .1)
+    (c .before .before .before .before .before .before .before .before .before .before .before .before .before .before .before .before .before .before .before .before .before .before .before .read-document .kept .1 .0) (c .before .before .before .before .before .before .before .before .before .before .before .before .before .before .before .before .before .before .before .before .before .before .before .read-document .kept .1 .1 .0) (c .before .before .before .before .before .before .before .before .before .before .before .before .before .before .read-patch .ensures) (c .before .before .before .before .before .before .before .before .before .enum-told2 .given .1) (c .before .before .before .before .before .before .before .before .before .before .before .before .before .before .read-patch .kept .1 .0)
+    (c .before .before .before .before .before .run-patch .ensures))))

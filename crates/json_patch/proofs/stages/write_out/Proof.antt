@@ -1,4 +1,5 @@
 -- `write_out` meets its contract, by whether the text fits.
+use native.Mathlib.Omega.{arith}
 use borrow.Author.Needs.{needs}
 use borrow.Author.Tests.{not-true, not-false}
 use Rattle.json_patch.proofs.StageLaws.{text-refused, text-written}
@@ -11,10 +12,10 @@ write-out-spec =
     (tie.spec
     -- fits-requires
     (λ c κs. search needs)
-    -- refusal-requires
+    -- refused-requires
     (λ c κs. search needs)
     -- returns
-    (λ c used v d. text-refused d _ (c .before .before .fits2 .ensures) (not-true _ (c .before .if1 .taken)) (c .refusal .ensures))
+    (λ c used v d. text-refused d _ (c .before .before .fits2 .ensures) (not-true _ (c .before .if1 .taken)) (c .refused .ensures))
     -- write-requires
     (λ c κs. search needs)
     -- success-requires
@@ -22,4 +23,4 @@ write-out-spec =
     -- same-length
     (λ c. search needs)
     -- returns-2
-    (λ c used v d. text-written d _ (c .before .before .before .before .before .before .fits2 .ensures) (not-false _ (c .before .before .before .before .before .if1 .left)) (c .before .before .before .write .ensures .0) (c .success .ensures)))
+    (λ c used v d. text-written d _ (c .before .before .before .before .before .before .fits2 .ensures) (not-false _ (c .before .before .before .before .before .if1 .left)) (c .before .before .before .write .ensures) (c .success .ensures)))

@@ -1,5 +1,7 @@
-use Rattle.operations.proofs.TransferLaws.{aside-done, aside-refused}
+-- `move_aside` meets its contract, by what the removal answers.
+use native.Mathlib.Omega.{arith}
 use borrow.Author.Needs.{needs}
+use Rattle.operations.proofs.TransferLaws.{aside-refused, aside-done}
 use Rattle.operations.proofs.transfers.move_aside.Statement.{statement}
 use Rattle.operations.proofs.transfers.move_aside.Tie as tie
 
@@ -15,15 +17,12 @@ move-aside-spec =
     (λ c. search needs)
     -- same-length
     (λ c. search needs)
-    -- same-length-2
-    (λ c. search needs)
     -- returns
-    (λ c. aside-refused _ (c .before .before .before .before .before .before .change-at .ensures) (c .enum-told .given .1))
+    (λ c. aside-refused _ (c .before .before .before .change-at .ensures) (c .enum-told .given .1))
     -- change-at-requires-2
     (λ c κs. search needs)
-    -- same-length-3
-    (λ c. search needs)
-    -- same-length-4
+    -- same-length-2
     (λ c. search needs)
     -- returns-2
-    (λ c. aside-done _ (c .before .before .before .before .before .before .before .before .before .before .before .before .before .before .change-at .ensures) _ (c .before .before .before .before .before .before .before .before .r .given .1) (c .before .before .before .before .change-at2 .ensures)))
+    (λ c. aside-done _ (c .before .before .before .before .before .before .before .change-at .ensures) _ (c .before .before .before .before .r .given .1)
+    (c .before .change-at2 .ensures)))

@@ -1,5 +1,9 @@
-use Rattle.operations.proofs.AsideLaws.{set-aside}
+-- `set_aside` meets its contract.
+use native.Mathlib.Omega.{arith}
 use borrow.Author.Needs.{needs}
+use mathlib.Core.Path.{_∙_, ap}
+use Rattle.tape.specs.Layout.{scratchRow}
+use Rattle.tape.specs.Columns.{moved}
 use Rattle.operations.proofs.transfers.set_aside.Statement.{statement}
 use Rattle.operations.proofs.transfers.set_aside.Tie as tie
 
@@ -11,11 +15,8 @@ set-aside-spec =
     (λ c κs. search needs)
     -- slide-requires
     (λ c κs. search needs)
-    -- slide-requires-2
-    (λ c κs. search needs)
     -- same-length
     (λ c. search needs)
-    -- same-length-2
-    (λ c. search needs)
     -- returns
-    (λ c. set-aside _ (c .before .before .before .before .before .before .before .before .size .ensures) (c .before .before .before .before .before .before .slide .ensures) (c .before .before .slide2 .ensures)))
+    (λ c. c .before .slide .ensures ∙ ap (moved (c .before .before .before .before .before .args .nodes .now) scratchRow
+    (c .before .before .before .before .before .args .row)) (c .before .before .before .size .ensures)))

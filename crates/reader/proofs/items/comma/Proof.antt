@@ -25,4 +25,8 @@ comma-spec =
     -- blanks-requires
     (λ c κs. search auto)
     -- returns-3
-    (λ c. ap ok (c .blanks .ensures) ∙ comma-here _ _ _ (c .before .before .before .before .if1 .left) (sym (c .before .before .before .peek .ensures) ∙ c .before .before .if2 .left)))
+    (λ c.
+    let test = c .before .before .before .before .if1 .left in
+    let peek-is = c .before .before .before .peek .ensures in
+    let if2-is = c .before .before .if2 .left in
+    ap ok (c .blanks .ensures) ∙ comma-here _ _ _ test (sym peek-is ∙ if2-is)))

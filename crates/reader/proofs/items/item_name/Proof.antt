@@ -1,5 +1,5 @@
+-- `item_name` meets its contract.
 use Rattle.lexer.proofs.Auto.{auto}
-use Rattle.reader.proofs.FilledLaws.{noted-none}
 use Rattle.reader.proofs.MemberLaws.{item-named, item-nameless}
 use Rattle.reader.proofs.items.item_name.Statement.{statement}
 use Rattle.reader.proofs.items.item_name.Tie as tie
@@ -9,10 +9,12 @@ item-name-spec =
     tie.close
     (tie.spec
     -- member-name-requires
-    (λ c κs. search auto)
+    (λ c κs. (c .before .before .before .before .pre .0, (c .before .before .before .before .pre .1, c .before .if1 .taken)))
     -- same-length
     (λ c. search auto)
     -- returns
-    (λ c. (item-named _ (c .before .before .before .before .if1 .taken) (c .before .before .member-name .ensures .0), c .before .before .member-name .ensures .1))
+    (λ c. item-named _ (c .before .before .before .before .if1 .taken) (c .before .before .member-name .ensures))
+    -- no-name-requires
+    (λ c κs. search auto)
     -- returns-2
-    (λ c. (item-nameless _ _ (c .if1 .left), noted-none _)))
+    (λ c. item-nameless _ (c .before .if1 .left) (c .no-name .ensures)))

@@ -22,10 +22,18 @@ colon-spec =
     -- peek-requires
     (λ c κs. search auto)
     -- returns
-    (λ c. let s = c .before .before .before .before .args .s .now in rw (c .before .before .blanks .ensures) (colon-missing _ _ (λ e. c .if1 .taken (c .before .peek .ensures ∙ ap (byte s) (c .before .before .blanks .ensures) ∙ e))))
+    (λ c.
+    let a = c .before .before .before .before .args .s .now in
+    let blanks-is = c .before .before .blanks .ensures in
+    let s = a in rw blanks-is (colon-missing _ _ (λ e. c .if1 .taken (c .before .peek .ensures ∙ ap (byte s) blanks-is ∙ e))))
     -- add-t7
     (λ c. omega (arith, here _ _ _ (sym (c .before .before .peek .ensures)) (omega arith)))
     -- blanks-requires-2
     (λ c κs. search auto)
     -- returns-2
-    (λ c. let s = c .before .before .before .before .before .before .args .s .now in ap ok (c .blanks2 .ensures ∙ ap (λ n. blanks s (n + 1)) (c .before .before .before .before .blanks .ensures)) ∙ colon-here _ _ (ap (byte s) (sym (c .before .before .before .before .blanks .ensures)) ∙ sym (c .before .before .before .peek .ensures) ∙ c .before .before .if1 .left)))
+    (λ c.
+    let a = c .before .before .before .before .before .before .args .s .now in
+    let blanks-is = c .before .before .before .before .blanks .ensures in
+    let peek-is = c .before .before .before .peek .ensures in
+    let test = c .before .before .if1 .left in
+    let s = a in ap ok (c .blanks2 .ensures ∙ ap (λ n. blanks s (n + 1)) blanks-is) ∙ colon-here _ _ (ap (byte s) (sym blanks-is) ∙ sym peek-is ∙ test)))

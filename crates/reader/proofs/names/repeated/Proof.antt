@@ -1,11 +1,11 @@
+-- `repeated` meets its contract: by the hash, by the search path, and else by a search.
 use Rattle.lexer.proofs.Auto.{auto}
 use native.Mathlib.Omega.{arith}
 use mathlib.Core.Path.{refl, subst}
 use borrow.Author.Tests.{not-true}
 use Rattle.table.specs.Find.{FindIs}
 use Rattle.index.proofs.WayLaws.{entered-after}
-use Rattle.reader.proofs.FilledLaws.{noted-entered}
-use Rattle.reader.proofs.MemberLaws.{repeated-reached, repeated-new, repeated-found, repeated-missing}
+use Rattle.reader.proofs.MemberLaws.{repeated-new, repeated-found, repeated-missing}
 use Rattle.reader.proofs.names.repeated.Statement.{statement}
 use Rattle.reader.proofs.names.repeated.Tie as tie
 
@@ -19,16 +19,22 @@ repeated-spec =
     (λ c. search auto)
     -- returns
     (λ c.
-    let e = c .before .before .before .enter-by-hash .ensures .entered (c .if1 .taken) _ _ in
-    (repeated-new e (omega arith) (omega arith) (omega arith) (omega arith) (omega arith) refl, (repeated-reached e (omega arith) (omega arith) (omega arith) (omega arith) (omega arith), noted-entered e)))
+    let asked = c .before .before .before .before .before .before .before .pre .0 in
+    let asked-2 = c .before .before .before .before .before .before .before .pre .1 in
+    let enter-by-hash-is = c .before .before .before .enter-by-hash .ensures .entered in
+    repeated-new (asked) (asked-2) (enter-by-hash-is (c .if1 .taken) _) refl)
     -- enter-requires
     (λ c κs. search auto)
     -- same-length-2
     (λ c. search auto)
     -- returns-2
     (λ c.
-    let e = entered-after (c .before .before .before .before .before .before .before .before .enter-by-hash .ensures) (c .before .before .before .before .before .if1 .left) (c .before .before .before .enter .ensures) in
-    (repeated-new e (omega arith) (omega arith) (omega arith) (omega arith) (omega arith) (not-true _ (c .if2 .taken)), (repeated-reached e (omega arith) (omega arith) (omega arith) (omega arith) (omega arith), noted-entered e)))
+    let asked = c .before .before .before .before .before .before .before .before .before .before .before .before .pre .0 in
+    let asked-2 = c .before .before .before .before .before .before .before .before .before .before .before .before .pre .1 in
+    let enter-by-hash-is = c .before .before .before .before .before .before .before .before .enter-by-hash .ensures in
+    let test = c .before .before .before .before .before .if1 .left in
+    let enter-is = c .before .before .before .enter .ensures in
+    repeated-new (asked) (asked-2) (entered-after enter-by-hash-is test enter-is) (not-true _ (c .if2 .taken)))
     -- add-find
     (λ c. search auto)
     -- find-requires
@@ -41,13 +47,23 @@ repeated-spec =
     (λ c. search auto)
     -- returns-3
     (λ c.
-    let e = entered-after (c .before .before .before .before .before .before .before .before .before .before .before .before .enter-by-hash .ensures) (c .before .before .before .before .before .before .before .before .before .if1 .left) (c .before .before .before .before .before .before .before .enter .ensures) in
-    let found = subst (FindIs _ _ _ _ _ _ _) (c .enum-told .given .1) (c .before .before .find .ensures .0) in
-    (repeated-found e (omega arith) (omega arith) (omega arith) (omega arith) (omega arith) _ found, (repeated-reached e (omega arith) (omega arith) (omega arith) (omega arith) (omega arith), noted-entered e)))
+    let enter-by-hash-is = c .before .before .before .before .before .before .before .before .before .before .before .enter-by-hash .ensures in
+    let test = c .before .before .before .before .before .before .before .before .if1 .left in
+    let enter-is = c .before .before .before .before .before .before .enter .ensures in
+    let asked = c .before .before .before .before .before .before .before .before .before .before .before .before .before .before .before .pre .0 in
+    let asked-2 = c .before .before .before .before .before .before .before .before .before .before .before .before .before .before .before .pre .1 in
+    let find-is = c .before .before .find .ensures in
+    let e = entered-after enter-by-hash-is test enter-is in
+    repeated-missing (asked) (asked-2) e (subst (FindIs _ _ _ _) (c .enum-told2 .given .1) find-is))
     -- same-length-4
     (λ c. search auto)
     -- returns-4
     (λ c.
-    let e = entered-after (c .before .before .before .before .before .before .before .before .before .before .before .before .enter-by-hash .ensures) (c .before .before .before .before .before .before .before .before .before .if1 .left) (c .before .before .before .before .before .before .before .enter .ensures) in
-    let missing = subst (FindIs _ _ _ _ _ _ _) (c .enum-told2 .given .1) (c .before .before .find .ensures .0) in
-    (repeated-missing e (omega arith) (omega arith) (omega arith) (omega arith) (omega arith) missing, (repeated-reached e (omega arith) (omega arith) (omega arith) (omega arith) (omega arith), noted-entered e))))
+    let enter-by-hash-is = c .before .before .before .before .before .before .before .before .before .before .before .enter-by-hash .ensures in
+    let test = c .before .before .before .before .before .before .before .before .if1 .left in
+    let enter-is = c .before .before .before .before .before .before .enter .ensures in
+    let asked = c .before .before .before .before .before .before .before .before .before .before .before .before .before .before .before .pre .0 in
+    let asked-2 = c .before .before .before .before .before .before .before .before .before .before .before .before .before .before .before .pre .1 in
+    let find-is = c .before .before .find .ensures in
+    let e = entered-after enter-by-hash-is test enter-is in
+    repeated-found (asked) (asked-2) e _ (subst (FindIs _ _ _ _) (c .enum-told .given .1) find-is)))

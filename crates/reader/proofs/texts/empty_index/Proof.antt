@@ -1,6 +1,10 @@
+-- `empty_index` meets its contract.
 use Rattle.lexer.proofs.Auto.{auto}
-use native.Mathlib.Omega.{arith}
-use Rattle.tape.proofs.Columns.{scratched-not, scratched-filled}
+use mathlib.Core.Path.{ap, _∙_}
+use lib.ListN.{drop}
+use Rattle.index.specs.Slots.{slots}
+use Rattle.index.proofs.SlotLaws.{empty-beyond}
+use Rattle.reader.proofs.FilledLaws.{beyond-none}
 use Rattle.reader.proofs.texts.empty_index.Statement.{statement}
 use Rattle.reader.proofs.texts.empty_index.Tie as tie
 
@@ -9,12 +13,10 @@ empty-index-spec =
     tie.close
     (tie.spec
     -- returns
-    (λ c. scratched-not)
-    -- sub-clear
-    (λ c. search auto)
-    -- clear-requires
+    (λ c. beyond-none)
+    -- empty-requires
     (λ c κs. search auto)
     -- same-length
     (λ c. search auto)
     -- returns-2
-    (λ c. scratched-filled 0 _ _ (c .before .before .clear .ensures) (omega arith) (omega arith)))
+    (λ c. record { is = ap (drop slots) (c .before .before .empty .ensures) ∙ empty-beyond _ .beyond }))

@@ -1,7 +1,7 @@
+-- `read` meets its contract.
 use Rattle.lexer.proofs.Auto.{auto}
 use native.Mathlib.Omega.{arith}
 use mathlib.Core.Path.{refl}
-use Rattle.lexer.proofs.BlankLaws.{blanks-within}
 use Rattle.reader.proofs.TextLaws.{text-whole, text-more, text-unread}
 use Rattle.reader.proofs.texts.read.Statement.{statement}
 use Rattle.reader.proofs.texts.read.Tie as tie
@@ -12,8 +12,10 @@ read-spec =
     (tie.spec
     -- blanks-requires
     (λ c κs. search auto)
+    -- no-name-requires
+    (λ c κs. search auto)
     -- value-requires
-    (λ c κs. let p = c .before .before .before .before .before .before .pre in (p .0, (rw (c .before .before .blanks .ensures) (blanks-within _ 0 (omega arith)), omega arith, omega arith, p .1)))
+    (λ c κs. (c .before .before .before .before .before .before .pre .0, (omega arith, c .before .before .before .before .before .before .pre .1)))
     -- enum-known-r
     (λ c. search auto)
     -- enum-told
@@ -24,8 +26,9 @@ read-spec =
     (λ c. search auto)
     -- returns
     (λ c.
-    let call = c .before .before .before .before .before .before in
-    text-unread _ _ (call .before .before .before .blanks .ensures) (call .value .ensures) _ _ (c .enum-told .given .1))
+    let call = c .before .before .before .before .before in
+    let first = call .before .before .before .before .blanks .ensures in
+    text-unread _ _ first (call .before .no-name .ensures) (call .value .ensures) _ _ (c .enum-told .given .1))
     -- blanks-requires-2
     (λ c κs. search auto)
     -- same-length-3
@@ -35,10 +38,12 @@ read-spec =
     -- returns-2
     (λ c.
     let taken = c .before .before .before .before in
-    let call = taken .before .before .before .before .before .before in
+    let call = taken .before .before .before .before .before in
+    let long = call .value .kept .1 .0 in
+    let first = call .before .before .before .before .blanks .ensures in
     let p = call .before .before .before .before .before .before .before .pre in
-    text-whole _ _ (call .before .before .before .blanks .ensures) (call .value .ensures) _ _ _ (taken .r .given .1) (c .before .before .blanks2 .ensures) _ refl (c .if1 .taken) (p .1)
-    (omega (arith, p .0 .values-long, call .value .kept .1 .1 .1 .1 .1 .1 .1 .0)) (omega (arith, p .0 .names-long, call .value .kept .1 .1 .1 .1 .1 .1 .1 .1 .0)))
+    text-whole _ _ first (call .before .no-name .ensures) (call .value .ensures) _ _ _ (taken .r .given .1) (c .before .before .blanks2 .ensures) _ refl
+    (c .if1 .taken) (p .1) (omega (arith, p .0 .nodes-long, long)))
     -- same-length-5
     (λ c. search auto)
     -- same-length-6
@@ -46,5 +51,7 @@ read-spec =
     -- returns-3
     (λ c.
     let taken = c .before .before .before .before in
-    let call = taken .before .before .before .before .before .before in
-    text-more _ _ (call .before .before .before .blanks .ensures) (call .value .ensures) _ _ _ (taken .r .given .1) (c .before .before .blanks2 .ensures) (c .if1 .left)))
+    let call = taken .before .before .before .before .before in
+    let first = call .before .before .before .before .blanks .ensures in
+    text-more _ _ first (call .before .no-name .ensures) (call .value .ensures) _ _ _ (taken .r .given .1) (c .before .before .blanks2 .ensures)
+    (c .if1 .left)))

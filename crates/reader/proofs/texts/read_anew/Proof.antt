@@ -1,3 +1,4 @@
+-- `read_anew` meets its contract.
 use Rattle.lexer.proofs.Auto.{auto}
 use Rattle.reader.proofs.TextLaws.{lent-still, text-anew}
 use Rattle.reader.proofs.texts.read_anew.Statement.{statement}
@@ -11,13 +12,13 @@ read-anew-spec =
     (λ c κs. search auto)
     -- read-requires
     (λ c κs.
-    let p = c .before .before .before .before .before .before .before .before .before .pre in
-    (lent-still (p .0) (c .before .before .before .before .empty-index .kept .0), p .1))
+    let asked = c .before .before .before .before .before .before .before .before .pre .0 in
+    let empty-index-is = c .before .before .before .before .empty-index .kept .0 in
+    let asked-2 = c .before .before .before .before .before .before .before .before .pre .1 in
+    (lent-still (asked) empty-index-is, asked-2))
     -- same-length
     (λ c. search auto)
     -- same-length-2
     (λ c. search auto)
     -- returns
-    (λ c.
-    let emptied = c .before .before .before .before .before .before .before .before .before in
-    text-anew (emptied .empty-index .ensures) (c .before .before .before .before .read .ensures)))
+    (λ c. text-anew (c .before .before .before .before .before .before .before .before .empty-index .ensures) (c .before .before .before .read .ensures)))

@@ -1,3 +1,4 @@
+-- `number` meets its contract.
 use Rattle.lexer.proofs.Auto.{auto}
 use native.Mathlib.Omega.{arith}
 use Rattle.lexer.proofs.AnswerLaws.{to-ok}
@@ -20,11 +21,10 @@ number-spec =
     (λ c κs. search auto)
     -- returns
     (λ c. number-refused _ _ _ (scan-handed _ _ (c .before .before .before .number .ensures) (c .before .enum-told .given .1) (c .unspelled .ensures)))
-    -- sub-spell
-    (λ c. let taken = c .before .before .before in omega (arith, number-ok-past _ _ _ (to-ok _ (taken .before .before .number .ensures) (taken .scan .given .1))))
-    -- spell-requires
-    (λ c κs. search auto)
+    -- spell-number-requires
+    (λ c κs. let k = number-ok-past _ _ _ (to-ok _ (c .before .before .before .number .ensures) (c .before .scan .given .1)) in (omega arith, omega arith))
     -- returns-2
     (λ c.
-    let taken = c .before .before .before .before in
-    number-read _ _ _ _ _ (omega arith) (omega arith) (to-ok _ (taken .before .before .number .ensures) (taken .scan .given .1)) (c .spell .ensures)))
+    let number-is = c .before .before .before .before .number .ensures in
+    let scan-is = c .before .before .scan .given .1 in
+    number-read _ _ _ _ _ (omega arith) (to-ok _ number-is scan-is) (c .spell-number .ensures)))

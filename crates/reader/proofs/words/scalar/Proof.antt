@@ -28,16 +28,23 @@ scalar-spec =
     -- unspelled-requires
     (λ c κs. search auto)
     -- returns-3
-    (λ c. rw (c .before .before .if3 .taken) (literal-read _ _ _ 0 Label.null-literal _ _ _ (omega arith) (c .before .null-literal .ensures) (c .unspelled .ensures) (λ D P. refl)))
+    (λ c.
+    let if3-is = c .before .before .if3 .taken in
+    rw if3-is (literal-read _ _ _ 0 Label.null-literal _ _ _ (omega arith) (c .before .null-literal .ensures) (c .unspelled .ensures) (λ T. refl)))
     -- true-literal-requires
     (λ c κs. search auto)
     -- unspelled-requires-2
     (λ c κs. search auto)
     -- returns-4
-    (λ c. rw (c .before .before .if4 .taken) (literal-read _ _ _ 1 Label.true-literal _ _ _ (omega arith) (c .before .true-literal .ensures) (c .unspelled2 .ensures) (λ D P. refl)))
+    (λ c.
+    let if4-is = c .before .before .if4 .taken in
+    rw if4-is (literal-read _ _ _ 1 Label.true-literal _ _ _ (omega arith) (c .before .true-literal .ensures) (c .unspelled2 .ensures) (λ T. refl)))
     -- false-literal-requires
     (λ c κs. search auto)
     -- unspelled-requires-3
     (λ c κs. search auto)
     -- returns-5
-    (λ c. let kind : c .before .before .before .before .before .before .before .before .args .kind ≡ 2 = omega arith in rw kind (literal-read _ _ _ 2 Label.false-literal _ _ _ (omega arith) (c .before .false-literal .ensures) (c .unspelled3 .ensures) (λ D P. refl))))
+    (λ c.
+    let a = c .before .before .before .before .before .before .before .before .args .kind in
+    let kind : a ≡ 2 = omega arith in
+    rw kind (literal-read _ _ _ 2 Label.false-literal _ _ _ (omega arith) (c .before .false-literal .ensures) (c .unspelled3 .ensures) (λ T. refl))))

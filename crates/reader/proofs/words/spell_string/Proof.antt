@@ -1,12 +1,9 @@
+-- `spell_string` meets its contract: its numbers fit a field.
 use Rattle.lexer.proofs.Auto.{auto}
 use Prim.Native.Nat.{_-_, _%_}
 use native.Mathlib.Omega.{arith}
-use mathlib.Core.Path.{ap, _∙_}
-use Rattle.tape.specs.Layout.{forms, sources, places}
-use Rattle.tape.specs.Packing.{spelling}
-use Rattle.tape.proofs.Packing.{spelling-fits}
-use Rattle.reader.specs.Words.{stringForm}
-use Rattle.reader.proofs.WordLaws.{form-string}
+use mathlib.Core.Path.{_≡_}
+use Rattle.tape.specs.Layout.{values}
 use Rattle.reader.proofs.words.spell_string.Statement.{statement}
 use Rattle.reader.proofs.words.spell_string.Tie as tie
 
@@ -16,11 +13,17 @@ spell-string-spec =
     (tie.spec
     -- string-form-requires
     (λ c κs. search auto)
-    -- sub-spell
+    -- narrow-requires
+    (λ c κs. search auto)
+    -- sub-narrow
     (λ c. search auto)
-    -- sub-spell-2
+    -- sub-narrow-2
     (λ c. search auto)
-    -- spell-requires
+    -- narrow-requires-2
     (λ c κs. search auto)
     -- returns
-    (λ c. let a = c .before .before .args in c .spell .ensures ∙ ap (λ f. spelling (f % forms) (a .source % sources) (a .start % places) ((a .next - 1 - a .start) % places)) (c .before .string-form .ensures) ∙ spelling-fits (stringForm (a .plain)) (a .source) (a .start) (a .next - 1 - a .start) (form-string (a .plain)) (omega arith) (omega arith) (omega arith)))
+    (λ c.
+    let a = c .before .before .before .args in
+    let start : a .start % values ≡ a .start = omega arith in
+    let count : (a .next - 1 - a .start) % values ≡ a .next - 1 - a .start = omega arith in
+    rw (c .before .before .string-form .ensures, c .before .narrow .ensures, c .narrow2 .ensures, start, count)))

@@ -1,5 +1,6 @@
-use mathlib.Core.Path.{sym, ap}
+-- `unspelled` meets its contract.
 use Rattle.lexer.proofs.Auto.{auto}
+use mathlib.Core.Path.{sym, ap}
 use Rattle.reader.specs.Words.{unspelled}
 use Rattle.reader.proofs.words.unspelled.Statement.{statement}
 use Rattle.reader.proofs.words.unspelled.Tie as tie
@@ -11,9 +12,11 @@ unspelled-spec =
     (tie.spec
     -- enum-known-scan
     (λ c. search auto)
+    -- no-spelling-requires
+    (λ c κs. search auto)
     -- enum-known-scan-2
     (λ c. search auto)
     -- returns
-    (λ c. ap unspelled (sym (c .before .scan .given .1)))
+    (λ c. rw (c .no-spelling .ensures) (ap unspelled (sym (c .before .before .scan .given .1))))
     -- returns-2
     (λ c. ap unspelled (sym (c .before .scan2 .given .1))))

@@ -8,6 +8,8 @@ pub put-bytes-spec : {M : Type 1} → statement M
 put-bytes-spec =
     tie.close
     (tie.spec
+    -- long-requires
+    (λ c κs. search needs)
     -- write-text-requires
     (λ c κs. search needs)
     -- least-requires
@@ -15,4 +17,4 @@ put-bytes-spec =
     -- same-length
     (λ c. search needs)
     -- returns
-    (λ c. laid-plain (c .before .before .before .write-text .ensures) (c .least .ensures)))
+    (λ c. laid-plain (c .before .before .before .before .before .long .ensures) (c .before .before .before .write-text .ensures) (c .least .ensures)))

@@ -33,8 +33,6 @@ kind-named-spec =
     (λ c. search needs)
     -- likely-kind-requires-4
     (λ c κs. refl)
-    -- length-requires
-    (λ c κs. search needs)
     -- slice-aggregate-likely-kind-5
     (λ c. search needs)
     -- likely-kind-requires-5

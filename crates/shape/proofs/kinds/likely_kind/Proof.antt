@@ -14,7 +14,7 @@ likely-kind-spec =
     -- spells-requires
     (λ c κs. search needs)
     -- returns
-    (λ c. let start = c .before .before .before .before .before in start .pre ∙ ap kindNamed (sym (sameText-true _ _ (told (c .before .spells .ensures) (c .if1 .taken)))))
+    (λ c. c .before .before .before .pre ∙ ap kindNamed (sym (sameText-true _ _ (told (c .before .spells .ensures) (c .if1 .taken)))))
     -- any-kind-requires
     (λ c κs. search needs)
     -- returns-2

@@ -1,9 +1,7 @@
--- `member` meets its contract, by that of the search among the node's children.
+-- `member` meets its contract, by that of the search among the rows behind.
 use native.Mathlib.Omega.{arith}
 use borrow.Author.Needs.{needs}
-use Rattle.tape.proofs.Held.{held-node}
-use Rattle.tape.proofs.Rows.{no-node}
-use Rattle.shape.proofs.MemberLaws.{members-asked, member-sought}
+use Rattle.shape.proofs.MemberLaws.{member-is, member-out}
 use Rattle.shape.proofs.members.member.Statement.{statement}
 use Rattle.shape.proofs.members.member.Tie as tie
 
@@ -12,7 +10,7 @@ member-spec =
     tie.close
     (tie.spec
     -- returns
-    (λ c e kids n. no-node (held-node (n .held)) (omega arith))
+    (λ c. member-out (omega arith))
     -- end-of-requires
     (λ c κs. search needs)
     -- add-find-ascii
@@ -20,4 +18,4 @@ member-spec =
     -- find-ascii-requires
     (λ c κs. search needs)
     -- returns-2
-    (λ c e kids n. member-sought n (c .find-ascii .ensures .0 kids (members-asked n _ (c .before .end-of .ensures)))))
+    (λ c. member-is (c .before .end-of .ensures) (c .find-ascii .ensures)))

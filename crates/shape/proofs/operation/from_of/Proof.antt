@@ -1,10 +1,9 @@
--- `from_of` meets its contract, by whether the kind uses `from`.
+-- `from_of` meets its contract, by whether `from` is used.
 use mathlib.Core.Path.{sym, _∙_}
 use borrow.Author.Needs.{needs}
 use borrow.Author.Tests.{not-true}
 use Rattle.spec.specs.Bytes.{ascii}
-use Rattle.spec.specs.Patch.{usesFrom}
-use Rattle.shape.proofs.KindLaws.{asks-known, not-false}
+use Rattle.shape.proofs.KindLaws.{not-false}
 use Rattle.shape.proofs.AnswerLaws.{from-unused, from-used}
 use Rattle.shape.proofs.operation.from_of.Statement.{statement}
 use Rattle.shape.proofs.operation.from_of.Tie as tie
@@ -14,13 +13,11 @@ unfolding ascii
 from-of-spec =
     tie.close
     (tie.spec
-    -- uses-from-requires
-    (λ c κs. search needs)
     -- returns
-    (λ c k known e kids n. from-unused k _ (sym (asks-known usesFrom _ (known .is) (c .before .uses-from .ensures)) ∙ not-true _ (c .if1 .taken)))
+    (λ c. λ k is e kids n. from-unused k _ (sym is ∙ not-true _ (c .if1 .taken)))
     -- slice-aggregate-string-member
     (λ c. search needs)
     -- string-member-requires
     (λ c κs. search needs)
     -- returns-2
-    (λ c k known e kids n. from-used k _ (sym (asks-known usesFrom _ (known .is) (c .before .before .before .uses-from .ensures)) ∙ not-false _ (c .before .before .if1 .left)) (c .string-member .ensures e kids n)))
+    (λ c. λ k is e kids n. from-used k _ (sym is ∙ not-false _ (c .before .before .if1 .left)) (c .string-member .ensures .held e kids n)))

@@ -1,24 +1,20 @@
 -- `kind_of` meets its contract, by the node's kind and the member `op`.
-use mathlib.Core.Path.{ap, _∙_}
+use mathlib.Core.Path.{sym, _∙_}
 use borrow.Author.Needs.{needs}
 use Rattle.spec.specs.Bytes.{ascii}
-use Rattle.tape.specs.Packing.{kindOf}
-use Rattle.shape.specs.Kinds.{kindOutcome}
-use Rattle.shape.proofs.AnswerLaws.{no-object, object-op, op-refused, op-spelled}
+use Rattle.shape.proofs.AnswerLaws.{kind-other, op-refused, op-spelled}
 use Rattle.shape.proofs.operation.kind_of.Statement.{statement}
 use Rattle.shape.proofs.operation.kind_of.Tie as tie
 
 pub kind-of-spec : {M : Type 1} → statement M
-unfolding ascii kindOutcome
+unfolding ascii
 kind-of-spec =
     tie.close
     (tie.spec
-    -- load-requires
-    (λ c κs. search needs)
     -- kind-requires
     (λ c κs. search needs)
     -- returns
-    (λ c e kids n. no-object n _ (c .before .kind .ensures ∙ ap kindOf (c .before .before .load .ensures)) (c .if1 .taken))
+    (λ c. kind-other (λ e. c .if1 .taken (c .before .kind .ensures ∙ e)))
     -- slice-aggregate-string-member
     (λ c. search needs)
     -- string-member-requires
@@ -28,8 +24,17 @@ kind-of-spec =
     -- enum-told
     (λ c. search needs)
     -- returns-2
-    (λ c e kids n. op-refused (object-op n _ (c .before .before .before .before .before .kind .ensures ∙ ap kindOf (c .before .before .before .before .before .before .load .ensures)) (c .before .before .before .before .if1 .left)) (c .before .before .string-member .ensures e kids n) (c .enum-told .given .1))
+    (λ c.
+    let kind = c .before .before .before .before .before .kind in
+    let if1 = c .before .before .before .before .if1 in
+    let string-member = c .before .before .string-member in
+    op-refused (sym (kind .ensures) ∙ if1 .left) (string-member .ensures) (c .enum-told .given .1))
     -- kind-named-requires
     (λ c κs. search needs)
     -- returns-3
-    (λ c e kids n. c .kind-named .ensures ∙ op-spelled (object-op n _ (c .before .before .before .before .before .before .before .kind .ensures ∙ ap kindOf (c .before .before .before .before .before .before .before .before .load .ensures)) (c .before .before .before .before .before .before .if1 .left)) (c .before .before .before .before .string-member .ensures e kids n) _ (c .before .before .op .given .1)))
+    (λ c.
+    let kind = c .before .before .before .before .before .before .before .kind in
+    let if1 = c .before .before .before .before .before .before .if1 in
+    let string-member = c .before .before .before .before .string-member in
+    let op = c .before .before .op in
+    op-spelled (sym (kind .ensures) ∙ if1 .left) (string-member .ensures) _ (op .given .1) (c .kind-named .ensures)))

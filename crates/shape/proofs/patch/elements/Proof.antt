@@ -2,15 +2,16 @@
 use Prim.Native.Nat.{_≤_, _-_}
 use native.Mathlib.Omega.{arith}
 use borrow.Author.Needs.{needs}
+use Rattle.tape.specs.Lent.{tableOf}
 use Rattle.shape.proofs.RunLaws.{LeftAny, left-all, left-none, left-inside, left-refused, left-next}
 use Rattle.shape.proofs.patch.elements.Statement.{statement}
 use Rattle.shape.proofs.patch.elements.Tie as tie
 
 abbrev Inv-loop : tie.InvT-loop
-Inv-loop values names document patch start end row₀ op₀ row op = (op ≤ row) × LeftAny document patch values names start end row op
+Inv-loop texts nodes start end row₀ op₀ row op = (op ≤ row) × LeftAny (tableOf texts nodes) start end row op
 
 abbrev μ-loop : tie.MeasureT-loop
-μ-loop values names document patch start end row₀ op₀ row op = end - row
+μ-loop texts nodes start end row₀ op₀ row op = end - row
 
 pub elements-spec : {M : Type 1} → statement M
 elements-spec =
@@ -19,7 +20,7 @@ elements-spec =
     Inv-loop
     μ-loop
     -- loop-holds
-    (λ c. (omega arith, left-all _ _ _ _ _ _))
+    (λ c. (omega arith, left-all _ _ _))
     -- returns
     (λ c. left-inside (c .before .before .loop .inv .1) (omega arith) (omega arith))
     -- add-op
@@ -33,6 +34,9 @@ elements-spec =
     -- loop-less
     (λ c. search needs)
     -- loop-again
-    (λ c. (omega arith, left-next (c .before .before .before .before .before .loop .inv .1) (omega arith) (c .before .before .operation-number .ensures) (c .before .if2 .left) _ (c .end-of .ensures)))
+    (λ c.
+    let loop = c .before .before .before .before .before .loop in
+    let operation-number = c .before .before .operation-number in
+    (omega arith, left-next (loop .inv .1) (omega arith) (operation-number .ensures) (c .before .if2 .left) _ (c .end-of .ensures)))
     -- returns-3
     (λ c. left-none (c .before .loop .inv .1) (omega arith)))

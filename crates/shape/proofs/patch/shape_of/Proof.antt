@@ -1,11 +1,8 @@
 -- `shape_of` meets its contract, by the node's kind, the number of its elements, and these.
 use native.Mathlib.Omega.{arith}
-use mathlib.Core.Path.{_∙_, ap}
+use mathlib.Core.Path.{sym, _∙_}
 use borrow.Author.Needs.{needs}
-use Rattle.tape.specs.Packing.{kindOf}
-use Rattle.tape.proofs.Rows.{no-node}
-use Rattle.tape.proofs.Held.{held-node}
-use Rattle.shape.proofs.RunLaws.{no-array, too-many, few-enough, rows-children}
+use Rattle.shape.proofs.RunLaws.{patch-other, patch-out, patch-long, patch-elements}
 use Rattle.shape.proofs.patch.shape_of.Statement.{statement}
 use Rattle.shape.proofs.patch.shape_of.Tie as tie
 
@@ -13,18 +10,16 @@ pub shape-of-spec : {M : Type 1} → statement M
 shape-of-spec =
     tie.close
     (tie.spec
-    -- load-requires
-    (λ c κs. search needs)
     -- kind-requires
     (λ c κs. search needs)
     -- returns
-    (λ c e kids n. no-array n _ (c .before .kind .ensures ∙ ap kindOf (c .before .before .load .ensures)) (c .if1 .taken))
+    (λ c. patch-other (λ e. c .if1 .taken (c .before .kind .ensures ∙ e)))
     -- arity-requires
     (λ c κs. search needs)
     -- returns-2
-    (λ c e kids n. too-many n _ (c .before .before .before .kind .ensures ∙ ap kindOf (c .before .before .before .before .load .ensures)) (c .before .before .if1 .left) _ (c .before .arity .ensures .0) (omega arith))
+    (λ c. patch-long (sym (c .before .before .before .kind .ensures) ∙ c .before .before .if1 .left) (c .before .arity .ensures) (omega arith))
     -- returns-3
-    (λ c e kids n. no-node (held-node (n .held)) (omega arith))
+    (λ c. patch-out (sym (c .before .before .before .before .kind .ensures) ∙ c .before .before .before .if1 .left) (omega arith))
     -- end-of-requires
     (λ c κs. search needs)
     -- add-elements
@@ -32,4 +27,8 @@ shape-of-spec =
     -- elements-requires
     (λ c κs. search needs)
     -- returns-4
-    (λ c e kids n. few-enough n _ (c .before .before .before .before .before .before .kind .ensures ∙ ap kindOf (c .before .before .before .before .before .before .before .load .ensures)) (c .before .before .before .before .before .if1 .left) _ (c .before .before .before .before .arity .ensures .0) (omega arith) (c .elements .ensures kids (rows-children _ (c .before .end-of .ensures) n))))
+    (λ c.
+    let kind = c .before .before .before .before .before .before .kind in
+    let if1 = c .before .before .before .before .before .if1 in
+    let arity = c .before .before .before .before .arity in
+    patch-elements (sym (kind .ensures) ∙ if1 .left) (arity .ensures) (omega arith) (c .before .end-of .ensures) (c .elements .ensures)))

@@ -1,17 +1,20 @@
 -- `find_ascii` meets its contract, as `find` does.
 use Prim.Native.Nat.{_≤_, _-_}
 use native.Mathlib.Omega.{arith}
-use mathlib.Core.Path.{sym, _∙_}
+use mathlib.Core.Path.{sym, ap, _∙_}
 use borrow.Author.Needs.{needs}
-use Rattle.table.proofs.Search.{SeekingAny, seeking-all, seek-found, seek-next, seek-over, seek-hashed}
+use Rattle.tape.specs.Lent.{both}
+use Rattle.table.specs.Meaning.{shortHash}
+use Rattle.table.specs.Find.{isNamed}
+use Rattle.table.proofs.Search.{Passed, pass, meet, over, behind-scalar, behind-container, finds-ascii}
 use Rattle.table.proofs.find.find_ascii.Statement.{statement}
 use Rattle.table.proofs.find.find_ascii.Tie as tie
 
 abbrev Inv-loop : tie.InvT-loop
-Inv-loop values names document patch start end name h stop row₀ row = (start ≤ row) × SeekingAny document patch values names start end name row
+Inv-loop texts nodes start end name h stop row₀ row = (start ≤ row) × Passed nodes stop (λ n. isNamed (both texts) n h name) start row
 
 abbrev μ-loop : tie.MeasureT-loop
-μ-loop values names document patch start end name h stop row₀ row = stop - row
+μ-loop texts nodes start end name h stop row₀ row = stop - row
 
 pub find-ascii-spec : {M : Type 1} → statement M
 find-ascii-spec =
@@ -21,45 +24,61 @@ find-ascii-spec =
     μ-loop
     -- hash-ascii-requires
     (λ c κs. search needs)
-    -- cast-h
-    (λ c. search needs)
+    -- short-requires
+    (λ c κs. search needs)
     -- limit-requires
     (λ c κs. search needs)
     -- loop-holds
-    (λ c. (omega arith, seeking-all _ _ _ _ _ _ _))
-    -- mul-is-named
+    (λ c. (omega arith, λ r s. s))
+    -- mul-name-of
     (λ c. search needs)
-    -- shared-slice-read-is-named
+    -- shared-slice-copy-out-name-of
     (λ c. search needs)
+    -- name-of-requires
+    (λ c κs. search needs)
     -- is-named-requires
     (λ c κs. search needs)
     -- returns
     (λ c.
-    let l = c .before .before .before .before .loop in (
-      λ f a.
-          let s = l .inv .1 f a in
-          seek-found a s (omega arith) (sym (c .if1 .taken) ∙ c .before .is-named .ensures (seek-hashed a s (omega arith)) (c .before .before .before .before .before .before .hash-ascii .ensures)),
-      (omega arith, omega arith, omega arith),
-    ))
-    -- add-row
+    finds-ascii _ (c .before .before .before .before .before .before .limit .ensures) (c .before .before .before .before .before .before .before .short .ensures ∙ ap shortHash (c .before .before .before .before .before .before .before .before .hash-ascii .ensures))
+    (meet (c .before .before .before .before .before .loop .inv .1) (omega arith) (sym (c .if1 .taken) ∙ c .before .is-named .ensures) (c .before .before .name-of .ensures)))
+    -- mul-kind-in
     (λ c. search needs)
-    -- mul-span
+    -- index-1-kind-in
     (λ c. search needs)
-    -- shared-slice-read-span
+    -- index-2-kind-in
     (λ c. search needs)
-    -- span-requires
+    -- kind-in-requires
     (λ c κs. search needs)
-    -- add-row-2
+    -- add-row
     (λ c. search needs)
     -- loop-less
     (λ c. search needs)
     -- loop-again
-    (λ c.
-    let l = c .before .before .before .before .before .before .loop in (
+    (λ c. (
       omega arith,
-      λ f a.
-          let s = l .inv .1 f a in
-          seek-next a s (omega arith) _ (omega arith) (sym (c .before .before .if1 .left) ∙ c .before .before .before .is-named .ensures (seek-hashed a s (omega arith)) (c .before .before .before .before .before .before .before .before .hash-ascii .ensures)),
+      pass (c .before .before .before .before .before .before .before .before .loop .inv .1) _ (omega arith) (sym (c .before .before .before .if1 .left) ∙ c .before .before .before .before .is-named .ensures) (c .before .before .before .before .before .name-of .ensures)
+          (behind-scalar _ (c .before .before .before .before .before .before .before .before .loop .row) (omega (arith, c .before .kind-in .ensures))),
+    ))
+    -- add-row-2
+    (λ c. search needs)
+    -- mul-wide
+    (λ c. search needs)
+    -- index-1-wide
+    (λ c. search needs)
+    -- index-2-wide
+    (λ c. search needs)
+    -- wide-requires
+    (λ c κs. search needs)
+    -- add-row-3
+    (λ c. search needs)
+    -- loop-less-2
+    (λ c. search needs)
+    -- loop-again-2
+    (λ c. (
+      omega arith,
+      pass (c .before .before .before .before .before .before .before .before .before .before .loop .inv .1) _ (omega arith) (sym (c .before .before .before .before .before .if1 .left) ∙ c .before .before .before .before .before .before .is-named .ensures) (c .before .before .before .before .before .before .before .name-of .ensures)
+          (omega (arith, c .wide .ensures, behind-container (c .before .before .before .before .before .before .before .before .before .before .before .before .before .before .before .args .nodes .now) (c .before .before .before .before .before .before .before .before .before .before .loop .row) (omega (arith, c .before .before .before .kind-in .ensures)))),
     ))
     -- returns-2
-    (λ c. (λ f a. seek-over a (c .before .loop .inv .1 f a) _ (c .before .before .limit .ensures) (omega arith), tt)))
+    (λ c. finds-ascii _ (c .before .before .limit .ensures) (c .before .before .before .short .ensures ∙ ap shortHash (c .before .before .before .before .hash-ascii .ensures)) (over (c .before .loop .inv .1) (omega arith))))

@@ -1,10 +1,8 @@
--- `is_named` meets its contract: a text that is the same has the same hash.
+-- `is_named` meets its contract.
 use native.Mathlib.Omega.{arith}
-use mathlib.Core.Path.{ap, _∙_}
 use borrow.Author.Needs.{needs}
-use Rattle.spec.specs.Value.{sameText}
-use Rattle.table.specs.Meaning.{spelled}
-use Rattle.table.proofs.Search.{other-text}
+use Rattle.tape.specs.Lent.{both}
+use Rattle.table.proofs.Search.{other-named, hash-named}
 use Rattle.table.proofs.find.is_named.Statement.{statement}
 use Rattle.table.proofs.find.is_named.Tie as tie
 
@@ -12,15 +10,9 @@ pub is-named-spec : {M : Type 1} → statement M
 is-named-spec =
     tie.close
     (tie.spec
-    -- hash-requires
-    (λ c κs. search needs)
     -- returns
-    (λ c. other-text _ (λ e. omega (arith, c .before .hash .ensures, c .if1 .taken, e)))
-    -- spelling-requires
-    (λ c κs. search needs)
+    (λ c. other-named _ _ _ _ (λ e. omega (arith, c .if1 .taken, e)))
     -- spells-requires
     (λ c κs. search needs)
     -- returns-2
-    (λ c hashed is.
-    let a = c .before .before .before .before .before .before .before .args in
-    c .spells .ensures ∙ ap (λ n. sameText (spelled (a .document .now) (a .patch .now) n) (a .name .now)) (c .before .spelling .ensures)))
+    (λ c. hash-named (both (c .before .before .before .before .args .texts)) (c .before .before .before .before .args .own) _ _ (omega (arith, c .before .if1 .left)) (c .spells .ensures)))

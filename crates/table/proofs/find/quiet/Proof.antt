@@ -1,7 +1,7 @@
 -- `quiet` meets its contract, by what the rows up to i tell.
 use Prim.Native.Nat.{_≤_, _-_}
 use native.Mathlib.Omega.{arith}
-use mathlib.Core.Path.{sym, _∙_}
+use mathlib.Core.Path.{sym}
 use mathlib.Core.Bool.{true≢false}
 use borrow.Author.Needs.{needs}
 use borrow.Author.Tests.{eqb-true}
@@ -11,10 +11,10 @@ use Rattle.table.proofs.find.quiet.Statement.{statement}
 use Rattle.table.proofs.find.quiet.Tie as tie
 
 abbrev Inv-loop : tie.InvT-loop
-Inv-loop values names row stop name spans₀ others₀ i₀ spans others i = (i ≤ block) × Scanned values names name row i spans others
+Inv-loop nodes row stop hash spans₀ i₀ spans i = (i ≤ block) × Scanned nodes hash row i spans
 
 abbrev μ-loop : tie.MeasureT-loop
-μ-loop values names row stop name spans₀ others₀ i₀ spans others i = block - i
+μ-loop nodes row stop hash spans₀ i₀ spans i = block - i
 
 pub quiet-spec : {M : Type 1} → statement M
 quiet-spec =
@@ -23,36 +23,36 @@ quiet-spec =
     Inv-loop
     μ-loop
     -- returns
-    (λ c. λ e. absurd (true≢false (sym e)))
+    (λ c e. absurd (true≢false (sym e)))
     -- sub-if2
     (λ c. search needs)
     -- returns-2
-    (λ c. λ e. absurd (true≢false (sym e)))
+    (λ c e. absurd (true≢false (sym e)))
     -- loop-holds
     (λ c. (omega arith, scanned-none))
+    -- add-if3
+    (λ c. search needs)
+    -- mul-if3
+    (λ c. search needs)
+    -- index-1-if3
+    (λ c. search needs)
+    -- index-2-if3
+    (λ c. search needs)
+    -- returns-3
+    (λ c e. absurd (true≢false (sym e)))
     -- add-spans
     (λ c. search needs)
     -- mul-spans
     (λ c. search needs)
-    -- shared-slice-read-spans
+    -- index-1-spans
     (λ c. search needs)
-    -- add-apart
+    -- index-2-spans
     (λ c. search needs)
-    -- mul-apart
-    (λ c. search needs)
-    -- shared-slice-read-apart
-    (λ c. search needs)
-    -- apart-requires
-    (λ c κs. search needs)
     -- add-i
     (λ c. search needs)
     -- loop-less
     (λ c. search needs)
     -- loop-again
-    (λ c. (omega arith, scanned-next _ (c .apart .ensures) (c .before .before .before .before .loop .inv .1)))
-    -- returns-3
-    (λ c. λ e. absurd (true≢false (sym e)))
-    -- span-requires
-    (λ c κs. search needs)
+    (λ c. (omega arith, scanned-next (c .before .if3 .left) (c .before .before .before .before .loop .inv .1)))
     -- returns-4
-    (λ c. λ e. (omega arith, scanned-quiet block (omega arith) (sym (c .span .ensures) ∙ eqb-true _ _ e) (omega arith) (c .before .before .before .loop .inv .1))))
+    (λ c e. (omega arith, scanned-quiet block (omega arith) (eqb-true _ _ e) (c .before .loop .inv .1))))

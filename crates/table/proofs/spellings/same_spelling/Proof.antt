@@ -16,14 +16,14 @@ same-spelling-spec =
     (λ c κs. search needs)
     -- part-requires-2
     (λ c κs. search needs)
-    -- form-requires
+    -- long-requires
     (λ c κs. search needs)
-    -- form-requires-2
+    -- long-requires-2
     (λ c κs. search needs)
     -- same-text-requires
     (λ c κs. search needs)
     -- returns
     (λ c.
     c .same-text .ensures ∙ ap₂ sameText
-    (ap₂ textOf (c .before .before .form .ensures) (c .before .before .before .before .part .ensures))
-    (ap₂ textOf (c .before .form2 .ensures) (c .before .before .before .part2 .ensures))))
+    (ap₂ textOf (c .before .before .long .ensures) (c .before .before .before .before .part .ensures))
+    (ap₂ textOf (c .before .long2 .ensures) (c .before .before .before .part2 .ensures))))

@@ -14,15 +14,15 @@ unfolding spelled
 spells-spec =
     tie.close
     (tie.spec
-    -- length-requires
+    -- wide-requires
     (λ c κs. search needs)
     -- returns
-    (λ c. too-short _ _ _ _ (omega arith))
+    (λ c. too-short _ _ _ (omega arith))
     -- part-requires
     (λ c κs. search needs)
-    -- form-requires
+    -- long-requires
     (λ c κs. search needs)
     -- same-ascii-requires
     (λ c κs. search needs)
     -- returns-2
-    (λ c. c .same-ascii .ensures ∙ ap (λ t. sameText t (c .before .before .before .before .before .before .before .before .args .text .now)) (ap₂ textOf (c .before .form .ensures) (c .before .before .part .ensures))))
+    (λ c. c .same-ascii .ensures ∙ ap (λ t. sameText t (c .before .before .before .before .before .before .args .text .now)) (ap₂ textOf (c .before .long .ensures) (c .before .before .part .ensures))))

@@ -1,4 +1,5 @@
 -- `text_of` meets its contract, by the test on the source.
+use borrow.Author.Needs.{needs}
 use borrow.Author.Tests.{eq-eqb, ne-eqb}
 use Rattle.table.specs.Meaning.{sourceText}
 use Rattle.table.proofs.spellings.text_of.Statement.{statement}
@@ -9,7 +10,11 @@ unfolding sourceText
 text-of-spec =
     tie.close
     (tie.spec
+    -- array-copy-out-result
+    (λ c. search needs)
     -- returns
-    (λ c. rw (eq-eqb _ _ (c .if1 .taken)))
+    (λ c. rw (eq-eqb _ _ (c .before .if1 .taken)))
+    -- array-copy-out-result-2
+    (λ c. search needs)
     -- returns-2
-    (λ c. rw (ne-eqb _ _ (c .if1 .left))))
+    (λ c. rw (ne-eqb _ _ (c .before .if1 .left))))

@@ -25,16 +25,16 @@ slide-spec =
     -- same-length
     (λ c. search needs)
     -- returns-4
-    (λ c. c .before .before .shift-down .ensures ∙ sym (moved-in _ _ _ _ (omega arith) (omega arith)))
+    (λ c. c .before .shift-down .ensures ∙ sym (moved-in _ _ _ _ (omega arith) (omega arith)))
     -- shift-up-requires
     (λ c κs. search needs)
     -- same-length-2
     (λ c. search needs)
     -- returns-5
-    (λ c. c .before .before .shift-up .ensures ∙ sym (moved-in _ _ _ _ (omega arith) (omega arith)))
+    (λ c. c .before .shift-up .ensures ∙ sym (moved-in _ _ _ _ (omega arith) (omega arith)))
     -- returns-6
     (λ c.
-    let a = c .before .before .before .before .before .before .args in
+    let a = c .before .before .before .before .before .args in
     let e : a .to ≡ a .start = omega arith in
-    sym (copied-same (a .column .now) (a .start) (a .count)) ∙ ap (λ to. copied (a .column .now) to (a .start) (a .count)) (sym e)
+    sym (copied-same (a .nodes .now) (a .start) (a .count)) ∙ ap (λ to. copied (a .nodes .now) to (a .start) (a .count)) (sym e)
     ∙ sym (moved-in _ _ _ _ (omega arith) (omega arith))))

@@ -40,6 +40,6 @@ splice-spec =
     (λ c. search needs)
     -- returns-7
     (λ c.
-    let a = c .before .before .before .before .before .before .before .before .before .before .before .before .before .before .before .args in
-    c .before .before .slide2 .ensures ∙ ap (λ m. moved m (a .at) (a .source) (a .count)) (c .before .before .before .before .before .before .slide .ensures)
-    ∙ two-moves (a .column .now) (a .used) (a .at) (a .removed) (a .source) (a .count) (omega arith) (record { before = omega arith; after = omega arith; there = omega arith })))
+    let a = c .before .before .before .before .before .before .before .before .before .before .before .before .args in
+    c .before .slide2 .ensures ∙ ap (λ m. moved m (a .at) (a .source) (a .count)) (c .before .before .before .before .slide .ensures)
+    ∙ two-moves (a .nodes .now) (a .used) (a .at) (a .removed) (a .source) (a .count) (omega arith) (record { before = omega arith; after = omega arith; there = omega arith })))

@@ -9,13 +9,13 @@ pub store-spec : {M : Type 1} → statement M
 store-spec =
     tie.close
     (tie.spec
-    -- mul-column
+    -- mul-nodes
     (λ c. search needs)
-    -- slice-write-column
+    -- slice-write-nodes
     (λ c. search needs)
     -- same-length
     (λ c. search needs)
     -- returns
     (λ c. search needs)
     -- returns-2
-    (λ c. let a = c .before .args in sym (set-out (a .column .now) (a .row) (a .word) (c .if1 .left))))
+    (λ c. let a = c .before .args in sym (set-out (a .nodes .now) (a .row) (a .node) (c .if1 .left))))

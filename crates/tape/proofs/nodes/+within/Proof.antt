@@ -12,7 +12,7 @@ use Rattle.tape.proofs.nodes.within.Reads as within
 use Rattle.tape.proofs.nodes.within.Kinds as within-kinds
 use Rattle.tape.proofs.nodes.+within.Lts-within as within-lts
 use Rattle.tape.proofs.nodes.end_of.Reads as end-of-reads
-use Rattle.tape.proofs.words.kind.Reads as kind-reads
+use Rattle.tape.proofs.fields.kind_in.Reads as kind-in-reads
 use Rattle.tape.proofs.nodes.+within.{statement}
 use Rattle.tape.proofs.nodes.+within.Tie.{close}
 
@@ -27,15 +27,15 @@ abbrev within-below : ℕ → In 1 within-kinds.ps
 within-below t = and 1 within-kinds.ps (falls 1 within-kinds.ps _<_ μ-within t) within.Pre
 
 abbrev within-Inv-loop : within-lts.InvT-loop
-within-Inv-loop values at levels end row₀ row = (row ≤ length values) × Judging values at row (levels - 1)
+within-Inv-loop nodes at levels end row₀ row = (row ≤ length nodes) × Judging nodes at row (levels - 1)
 
 abbrev within-μ-loop : within-lts.MeasureT-loop
-within-μ-loop values at levels end row₀ row = end - row
+within-μ-loop nodes at levels end row₀ row = end - row
 
 pub +within-spec : {M : Type 1} → statement M
 +within-spec = close μ-within λ t. within-lts.spec (
-  kind-reads.Asked,
-  kind-reads.Learnt,
+  kind-in-reads.Asked,
+  kind-in-reads.Learnt,
   end-of-reads.Asked,
   end-of-reads.Learnt,
   within-below t,
@@ -47,11 +47,11 @@ pub +within-spec : {M : Type 1} → statement M
     within-μ-loop
     -- returns
     (λ c cell kids node. no-node node (c .if1 .taken))
-    -- mul-kind
+    -- mul-kind-in, index-1-kind-in, index-2-kind-in
     (λ c. search needs)
-    -- shared-slice-read-kind
     (λ c. search needs)
-    -- kind-requires
+    (λ c. search needs)
+    -- kind-in-requires
     (λ c κs. search needs)
     -- returns-2
     (λ c. within-scalar _ (omega arith))

@@ -3,16 +3,16 @@ use Prim.Native.Nat.{_≤_, _<_, _-_, _+_}
 use native.Mathlib.Omega.{arith}
 use lib.ListN.{length}
 use borrow.Author.Needs.{needs}
-use Rattle.tape.specs.Rows.{block}
-use Rattle.tape.proofs.Rows.{Passing, passed-none, passing-next, passing-leaves, no-node, arity-counted}
+use Rattle.tape.specs.Rows.{block, Steps, steps-none}
+use Rattle.tape.proofs.Rows.{steps-leaves, steps-on, arity-counted, arity-out}
 use Rattle.tape.proofs.nodes.arity.Statement.{statement}
 use Rattle.tape.proofs.nodes.arity.Tie as tie
 
 abbrev Inv-loop : tie.InvT-loop
-Inv-loop values at end row₀ passed₀ row passed = (passed + at < row) × (row ≤ length values) × Passing values at row passed
+Inv-loop nodes at end row₀ passed₀ row passed = (passed + at < row) × (row ≤ length nodes) × Steps nodes end (at + 1) passed row
 
 abbrev μ-loop : tie.MeasureT-loop
-μ-loop values at end row₀ passed₀ row passed = end - row
+μ-loop nodes at end row₀ passed₀ row passed = end - row
 
 pub arity-spec : {M : Type 1} → statement M
 arity-spec =
@@ -21,13 +21,13 @@ arity-spec =
     Inv-loop
     μ-loop
     -- returns
-    (λ c. (λ cell kids node. no-node node (c .if1 .taken), omega arith))
+    (λ c. arity-out (c .if1 .taken))
     -- end-of-requires
     (λ c κs. search needs)
     -- add-row
     (λ c. search needs)
     -- loop-holds
-    (λ c. (omega arith, omega arith, λ cell kids node. passed-none _ kids))
+    (λ c. (omega arith, omega arith, steps-none))
     -- leaves-requires
     (λ c κs. (omega arith, omega arith))
     -- add-row-2, add-passed, loop-less
@@ -38,7 +38,7 @@ arity-spec =
     (λ c.
     let l = c .before .leaves .ensures (c .if2 .taken) in
     let i = c .before .before .before .loop .inv in
-    (omega arith, omega arith, passing-leaves (i .2) _ (c .before .before .before .before .end-of .ensures) block (l .0) (l .2)))
+    (omega arith, omega arith, steps-leaves block (l .0) (omega arith) (l .2) (i .2)))
     -- end-of-requires-2
     (λ c κs. search needs)
     -- add-passed
@@ -46,6 +46,6 @@ arity-spec =
     -- loop-less
     (λ c. search needs)
     -- loop-again
-    (λ c. (omega arith, omega arith, passing-next (c .before .before .before .before .loop .inv .2) _ (c .before .before .before .before .before .end-of .ensures) _ (c .end-of2 .ensures) (omega arith)))
+    (λ c. (omega arith, omega arith, steps-on _ (c .end-of2 .ensures) (omega arith) (c .before .before .before .before .loop .inv .2)))
     -- returns-2
-    (λ c. (arity-counted (c .before .loop .inv .2) _ (c .before .before .end-of .ensures) (omega arith), omega arith)))
+    (λ c. arity-counted (c .before .before .end-of .ensures) (c .before .loop .inv .2) (omega arith) (omega arith)))

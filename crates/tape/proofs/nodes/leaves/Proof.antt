@@ -1,7 +1,7 @@
--- `leaves` meets its contract, by what the words up to i tell.
+-- `leaves` meets its contract, by what the spans up to i tell.
 use Prim.Native.Nat.{_≤_, _-_}
 use native.Mathlib.Omega.{arith}
-use mathlib.Core.Path.{sym, _∙_}
+use mathlib.Core.Path.{sym}
 use mathlib.Core.Bool.{true≢false}
 use borrow.Author.Needs.{needs}
 use borrow.Author.Tests.{eqb-true}
@@ -11,10 +11,10 @@ use Rattle.tape.proofs.nodes.leaves.Statement.{statement}
 use Rattle.tape.proofs.nodes.leaves.Tie as tie
 
 abbrev Inv-loop : tie.InvT-loop
-Inv-loop values row end most words₀ i₀ words i = (i ≤ block) × Ored values row i words
+Inv-loop nodes row end most spans₀ i₀ spans i = (i ≤ block) × Ored nodes row i spans
 
 abbrev μ-loop : tie.MeasureT-loop
-μ-loop values row end most words₀ i₀ words i = block - i
+μ-loop nodes row end most spans₀ i₀ spans i = block - i
 
 pub leaves-spec : {M : Type 1} → statement M
 leaves-spec =
@@ -32,7 +32,8 @@ leaves-spec =
     (λ c. λ e. absurd (true≢false (sym e)))
     -- loop-holds
     (λ c. (omega arith, ored-none))
-    -- add-words, mul-words, shared-slice-read-words, add-i, loop-less
+    -- add-spans, mul-spans, index-1-spans, index-2-spans, add-i, loop-less
+    (λ c. search needs)
     (λ c. search needs)
     (λ c. search needs)
     (λ c. search needs)
@@ -40,7 +41,5 @@ leaves-spec =
     (λ c. search needs)
     -- loop-again
     (λ c. (omega arith, ored-next (c .before .before .loop .inv .1)))
-    -- span-requires
-    (λ c κs. search needs)
     -- returns-4
-    (λ c. λ e. (omega arith, omega arith, λ j h. c .before .before .loop .inv .1 .leaves (sym (c .span .ensures) ∙ eqb-true _ _ e) j (omega arith))))
+    (λ c. λ e. (omega arith, omega arith, λ j h. c .before .loop .inv .1 .leaves (eqb-true _ _ e) j (omega arith))))

@@ -10,10 +10,10 @@ use Rattle.vectors.proofs.checks.all_zero.Statement.{statement}
 use Rattle.vectors.proofs.checks.all_zero.Tie as tie
 
 abbrev Inv-loop : tie.InvT-loop
-Inv-loop words i₀ i = allAre 0 (drop i words) ≡ allAre 0 words
+Inv-loop entries i₀ i = allAre 0 (drop i entries) ≡ allAre 0 entries
 
 abbrev μ-loop : tie.MeasureT-loop
-μ-loop words i₀ i = length words - i
+μ-loop entries i₀ i = length entries - i
 
 pub all-zero-spec : {M : Type 1} → statement M
 all-zero-spec =
@@ -31,7 +31,7 @@ all-zero-spec =
     (λ c.
     let l = c .before .before .before in
     let a = l .before .args in
-    sym (are-not 0 (a .words .now) (l .loop .i) (omega arith) (c .if1 .taken)) ∙ l .loop .inv)
+    sym (are-not 0 (a .entries .now) (l .loop .i) (omega arith) (c .if1 .taken)) ∙ l .loop .inv)
     -- add-i
     (λ c. search needs)
     -- loop-less
@@ -40,8 +40,8 @@ all-zero-spec =
     (λ c.
     let l = c .before .before .before in
     let a = l .before .args in
-    sym (are-next 0 (a .words .now) (l .loop .i) (omega arith) (c .if1 .left)) ∙ l .loop .inv)
+    sym (are-next 0 (a .entries .now) (l .loop .i) (omega arith) (c .if1 .left)) ∙ l .loop .inv)
     -- returns-2
     (λ c.
     let a = c .before .before .args in
-    sym (are-all 0 (a .words .now) (c .before .loop .i) (omega arith)) ∙ c .before .loop .inv))
+    sym (are-all 0 (a .entries .now) (c .before .loop .i) (omega arith)) ∙ c .before .loop .inv))

@@ -1,5 +1,7 @@
+use mathlib.Core.Path.{sym, _∙_}
 use borrow.Author.Needs.{needs}
-use Rattle.walk.proofs.PathLaws.{walk-root, walk-at, walk-malformed}
+use borrow.Author.Tests.{not-true, not-false}
+use Rattle.walk.proofs.PathLaws.{walk-malformed, walk-root, walk-at, walk-never}
 use Rattle.walk.proofs.path.walk.Statement.{statement}
 use Rattle.walk.proofs.path.walk.Tie as tie
 
@@ -9,6 +11,10 @@ walk-spec =
     (tie.spec
     -- part-requires
     (λ c κs. search needs)
+    -- is-pointer-requires
+    (λ c κs. search needs)
+    -- returns
+    (λ c. walk-malformed _ (c .before .before .part .ensures) (sym (c .before .is-pointer .ensures) ∙ not-true _ (c .if1 .taken)))
     -- first-requires
     (λ c κs. search needs)
     -- enum-told
@@ -19,9 +25,28 @@ walk-spec =
     (λ c κs. search needs)
     -- enum-told-2
     (λ c. search needs)
-    -- returns
-    (λ c. walk-root _ (c .before .before .before .part .ensures) _ (c .before .before .first .ensures) (c .enum-told .given .1))
     -- returns-2
-    (λ c. walk-at _ (c .before .before .before .before .before .part .ensures) _ (c .before .before .before .before .first .ensures) _ (c .before .before .at .given .1) (c .walk-from .ensures))
+    (λ c.
+    let at-first = c .before .before in
+    let at-if1 = at-first .before in
+    let at-is-pointer = at-if1 .before in
+    let at-part = at-is-pointer .before in
+    walk-root _ (at-part .part .ensures) (sym (at-is-pointer .is-pointer .ensures) ∙ not-false _ (at-if1 .if1 .left)) _ (at-first .first .ensures)
+    (c .enum-told .given .1))
     -- returns-3
-    (λ c. walk-malformed _ (c .before .before .before .part .ensures) _ (c .before .before .first .ensures) (c .enum-told2 .given .1)))
+    (λ c.
+    let at-at = c .before .before in
+    let at-first = at-at .before .before in
+    let at-if1 = at-first .before in
+    let at-is-pointer = at-if1 .before in
+    let at-part = at-is-pointer .before in
+    walk-at _ (at-part .part .ensures) (sym (at-is-pointer .is-pointer .ensures) ∙ not-false _ (at-if1 .if1 .left)) _ (at-first .first .ensures) _
+    (at-at .at .given .1) (c .walk-from .ensures))
+    -- returns-4
+    (λ c.
+    let at-first = c .before .before in
+    let at-if1 = at-first .before in
+    let at-is-pointer = at-if1 .before in
+    let at-part = at-is-pointer .before in
+    walk-never _ (at-part .part .ensures) (sym (at-is-pointer .is-pointer .ensures) ∙ not-false _ (at-if1 .if1 .left)) _ (at-first .first .ensures)
+    (c .enum-told2 .given .1)))

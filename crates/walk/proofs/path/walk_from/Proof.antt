@@ -2,15 +2,16 @@
 use Prim.Native.Nat.{_-_}
 use lib.ListN.{length}
 use borrow.Author.Needs.{needs}
+use Rattle.tape.specs.Lent.{tableOf}
 use Rattle.walk.proofs.PathLaws.{Walking, walking-all, walking-lost, walking-done, walking-next, walking-less}
 use Rattle.walk.proofs.path.walk_from.Statement.{statement}
 use Rattle.walk.proofs.path.walk_from.Tie as tie
 
 abbrev Inv-loop : tie.InvT-loop
-Inv-loop values names document patch start path first pointer at₀ row₀ at row = Walking document patch values names start path first at row
+Inv-loop texts nodes start path first pointer at₀ row₀ at row = Walking (tableOf texts nodes) start path first at row
 
 abbrev μ-loop : tie.MeasureT-loop
-μ-loop values names document patch start path first pointer at₀ row₀ at row = length pointer - at
+μ-loop texts nodes start path first pointer at₀ row₀ at row = length pointer - at
 
 pub walk-from-spec : {M : Type 1} → statement M
 walk-from-spec =
@@ -21,7 +22,7 @@ walk-from-spec =
     -- part-requires
     (λ c κs. search needs)
     -- loop-holds
-    (λ c. walking-all _ _ _ _ _ _ _)
+    (λ c. walking-all _ _ _ _)
     -- token-requires
     (λ c κs. search needs)
     -- token-name-requires
@@ -33,14 +34,47 @@ walk-from-spec =
     -- enum-told
     (λ c. search needs)
     -- returns
-    (λ c. walking-lost (c .before .before .before .before .before .loop .inv) _ (c .before .before .before .before .before .before .part .ensures) (c .before .before .before .before .token .ensures) (c .before .before .before .token-name .ensures) _ (c .before .before .step .ensures .0) _ (c .enum-told .given .1))
+    (λ c.
+    let at-step = c .before .before in
+    let at-token-name = at-step .before in
+    let at-token = at-token-name .before in
+    let at-loop = at-token .before in
+    let at-part = at-loop .before in
+    walking-lost (at-loop .loop .inv) _ (at-part .part .ensures) (at-token .token .ensures) (at-token-name .token-name .ensures) _
+    (at-step .step .ensures) _ (c .enum-told .given .1))
     -- enum-known-t
     (λ c. search needs)
     -- enum-told-2
     (λ c. search needs)
     -- returns-2
-    (λ c. walking-done (c .before .before .before .before .before .before .before .before .loop .inv) _ (c .before .before .before .before .before .before .before .before .before .part .ensures) (c .before .before .before .before .before .before .before .token .ensures) (c .before .before .before .before .before .before .token-name .ensures) _ (c .before .before .before .before .before .step .ensures .0) _ (c .before .before .before .r .given .1) _ (c .enum-told2 .given .1))
+    (λ c.
+    let at-r = c .before .before .before in
+    let at-step = at-r .before .before in
+    let at-token-name = at-step .before in
+    let at-token = at-token-name .before in
+    let at-loop = at-token .before in
+    let at-part = at-loop .before in
+    walking-done (at-loop .loop .inv) _ (at-part .part .ensures) (at-token .token .ensures) (at-token-name .token-name .ensures) _
+    (at-step .step .ensures) _ (at-r .r .given .1) _ (c .enum-told2 .given .1))
     -- loop-less
-    (λ c. walking-less (c .before .before .before .before .before .before .before .before .before .loop .inv) _ (c .before .before .before .before .before .before .before .before .before .before .part .ensures) (c .before .before .before .before .before .before .before .before .token .ensures) (c .before .before .before .before .before .before .before .token-name .ensures) _ (c .before .before .before .before .before .before .step .ensures .0) _ (c .before .before .before .before .r .given .1) _ _ (c .before .t .given .1))
+    (λ c.
+    let at-t = c .before in
+    let at-r = at-t .before .before .before in
+    let at-step = at-r .before .before in
+    let at-token-name = at-step .before in
+    let at-token = at-token-name .before in
+    let at-loop = at-token .before in
+    let at-part = at-loop .before in
+    walking-less (at-loop .loop .inv) _ (at-part .part .ensures) (at-token .token .ensures) (at-token-name .token-name .ensures) _
+    (at-step .step .ensures) _ (at-r .r .given .1) _ _ (at-t .t .given .1))
     -- loop-again
-    (λ c. walking-next (c .before .before .before .before .before .before .before .before .before .loop .inv) _ (c .before .before .before .before .before .before .before .before .before .before .part .ensures) (c .before .before .before .before .before .before .before .before .token .ensures) (c .before .before .before .before .before .before .before .token-name .ensures) _ (c .before .before .before .before .before .before .step .ensures .0) _ (c .before .before .before .before .r .given .1) _ _ (c .before .t .given .1)))
+    (λ c.
+    let at-t = c .before in
+    let at-r = at-t .before .before .before in
+    let at-step = at-r .before .before in
+    let at-token-name = at-step .before in
+    let at-token = at-token-name .before in
+    let at-loop = at-token .before in
+    let at-part = at-loop .before in
+    walking-next (at-loop .loop .inv) _ (at-part .part .ensures) (at-token .token .ensures) (at-token-name .token-name .ensures) _
+    (at-step .step .ensures) _ (at-r .r .given .1) _ _ (at-t .t .given .1)))

@@ -7,8 +7,6 @@ pub element-spec : {M : Type 1} → statement M
 element-spec =
     tie.close
     (tie.spec
-    -- spelling-requires
-    (λ c κs. search needs)
     -- part-requires
     (λ c κs. search needs)
     -- index-requires
@@ -18,16 +16,20 @@ element-spec =
     -- nth-requires
     (λ c κs. search needs)
     -- returns
-    (λ c. (element-at _ (c .before .before .before .before .before .before .spelling .ensures) _ (c .before .before .before .before .before .part .ensures) _ (c .before .before .before .before .index .ensures) _ (c .before .before .i .given .1) (c .nth .ensures .0), c .nth .ensures .1))
+    (λ c.
+    let at-i = c .before .before in
+    let at-index = at-i .before .before in
+    let at-part = at-index .before in
+    element-at _ (at-part .part .ensures) _ (at-index .index .ensures) _ (at-i .i .given .1) (c .nth .ensures))
     -- enum-told
     (λ c. search needs)
     -- returns-2
-    (λ c. (element-not _ (c .before .before .before .before .spelling .ensures) _ (c .before .before .before .part .ensures) _ (c .before .before .index .ensures) (c .enum-told .given .1), tt))
+    (λ c. element-not _ (c .before .before .before .part .ensures) _ (c .before .before .index .ensures) (c .enum-told .given .1))
     -- enum-told-2
     (λ c. search needs)
     -- returns-3
-    (λ c. (element-dash _ (c .before .before .before .before .spelling .ensures) _ (c .before .before .before .part .ensures) _ (c .before .before .index .ensures) (c .enum-told2 .given .1), tt))
+    (λ c. element-dash _ (c .before .before .before .part .ensures) _ (c .before .before .index .ensures) (c .enum-told2 .given .1))
     -- enum-told-3
     (λ c. search needs)
     -- returns-4
-    (λ c. (element-beyond _ (c .before .before .before .before .spelling .ensures) _ (c .before .before .before .part .ensures) _ (c .before .before .index .ensures) (c .enum-told3 .given .1), tt)))
+    (λ c. element-beyond _ (c .before .before .before .part .ensures) _ (c .before .before .index .ensures) (c .enum-told3 .given .1)))

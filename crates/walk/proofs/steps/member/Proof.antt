@@ -1,5 +1,5 @@
 use borrow.Author.Needs.{needs}
-use Rattle.walk.proofs.StepLaws.{ahead-member, member-outside, member-at, member-missing}
+use Rattle.walk.proofs.StepLaws.{member-outside, member-at, member-missing}
 use Rattle.walk.proofs.steps.member.Statement.{statement}
 use Rattle.walk.proofs.steps.member.Tie as tie
 
@@ -8,7 +8,7 @@ member-spec =
     tie.close
     (tie.spec
     -- returns
-    (λ c. (member-outside (c .if1 .taken), tt))
+    (λ c. member-outside (c .if1 .taken))
     -- add-find
     (λ c. search needs)
     -- end-of-requires
@@ -20,6 +20,10 @@ member-spec =
     -- enum-told
     (λ c. search needs)
     -- returns-2
-    (λ c. (member-missing _ (c .before .before .before .end-of .ensures) _ (c .before .before .find .ensures .0) (c .enum-told .given .1), tt))
+    (λ c. member-missing _ (c .before .before .before .end-of .ensures) _ (c .before .before .find .ensures) (c .enum-told .given .1))
     -- returns-3
-    (λ c. (member-at _ (c .before .before .before .before .end-of .ensures) _ (c .before .before .before .find .ensures .0) _ (c .before .at .given .1), ahead-member _ _ _ _ (c .before .before .before .find .ensures .1) _ (c .before .at .given .1))))
+    (λ c.
+    let at-at = c .before in
+    let at-find = at-at .before .before in
+    let at-end-of = at-find .before in
+    member-at _ (at-end-of .end-of .ensures) _ (at-find .find .ensures) _ (at-at .at .given .1)))

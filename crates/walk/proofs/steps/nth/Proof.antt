@@ -1,5 +1,5 @@
 use borrow.Author.Needs.{needs}
-use Rattle.walk.proofs.StepLaws.{nth-at, nth-fewer, ahead-child}
+use Rattle.walk.proofs.StepLaws.{nth-at, nth-fewer}
 use Rattle.walk.proofs.steps.nth.Statement.{statement}
 use Rattle.walk.proofs.steps.nth.Tie as tie
 
@@ -14,6 +14,6 @@ nth-spec =
     -- enum-told
     (λ c. search needs)
     -- returns
-    (λ c. (nth-fewer _ _ (c .before .before .child .ensures .0) _ (c .enum-told .given .1), tt))
+    (λ c. nth-fewer _ _ (c .before .before .child .ensures) _ (c .enum-told .given .1))
     -- returns-2
-    (λ c. (nth-at _ _ (c .before .before .before .child .ensures .0) _ (c .before .at .given .1), ahead-child _ _ _ _ (c .before .before .before .child .ensures .1) _ (c .before .at .given .1))))
+    (λ c. nth-at _ _ (c .before .before .before .child .ensures) _ (c .before .at .given .1)))

@@ -3,6 +3,7 @@ use native.Mathlib.Omega.{arith}
 use borrow.Author.Needs.{needs}
 use Rattle.writer.proofs.LengthLaws.{comma-short, name-short, prefix-length}
 use Rattle.writer.proofs.lengths.prefix_length.Statement.{statement}
+use Rattle.tape.specs.Lent.{both}
 use Rattle.writer.proofs.lengths.prefix_length.Tie as tie
 
 pub prefix-length-spec : {M : Type 1} → statement M
@@ -15,7 +16,16 @@ prefix-length-spec =
     (λ c κs. search needs)
     -- add-result
     (λ c.
-    let a = c .before .before .before .before .args in
-    omega (arith, comma-short (a .first), name-short (a .document .now) (a .patch .now) (a .object) (a .name)))
+    omega (
+      arith,
+      comma-short (c .before .before .args .first),
+      name-short (both (c .before .before .args .texts)) (c .before .before .args .object)
+          (c .before .before .args .name),
+    ))
     -- returns
-    (λ c. let a = c .before .before .before .before .args in omega (arith, prefix-length (a .document .now) (a .patch .now) (a .object) (a .first) (a .name))))
+    (λ c.
+    omega (
+      arith,
+      prefix-length (both (c .before .before .args .texts)) (c .before .before .args .object) (c .before .before .args .first)
+          (c .before .before .args .name),
+    )))

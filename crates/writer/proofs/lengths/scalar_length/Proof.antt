@@ -13,12 +13,12 @@ scalar-length-spec =
     -- string-length-requires
     (λ c κs. search needs)
     -- returns
-    (λ c. c .string-length .ensures ∙ sym (ap length (scalar-string _ _ _ _ (c .before .if1 .taken))))
+    (λ c. c .string-length .ensures ∙ sym (ap length (scalar-string _ _ _ (c .before .if1 .taken))))
     -- part-requires
     (λ c κs. search needs)
     -- returns-2
-    (λ c. ap length (c .part .ensures ∙ sym (scalar-number _ _ _ _ (c .before .before .if1 .left) (c .before .if2 .taken))))
+    (λ c. ap length (c .part .ensures ∙ sym (scalar-number _ _ _ (c .before .before .if1 .left) (c .before .if2 .taken))))
     -- literal-length-requires
     (λ c κs. search needs)
     -- returns-3
-    (λ c. c .literal-length .ensures ∙ sym (ap length (scalar-literal _ _ _ _ (c .before .before .if1 .left) (c .before .if2 .left)))))
+    (λ c. c .literal-length .ensures ∙ sym (ap length (scalar-literal _ _ _ (c .before .before .if1 .left) (c .before .if2 .left)))))

@@ -29,7 +29,10 @@ write-literal-spec =
     (λ c. search needs)
     -- returns-2
     (λ c.
-    placed-as (rw (ne-eqb _ _ (c .before .before .before .before .before .before .if1 .left), eq-eqb _ _ (c .before .before .before .before .before .if2 .taken))) (c .before .before .put-part2 .ensures))
+    let if1 = c .before .before .before .before .before .before .if1 in
+    let if2 = c .before .before .before .before .before .if2 in
+    let put-part2 = c .before .before .put-part2 in
+    placed-as (rw (ne-eqb _ _ (if1 .left), eq-eqb _ _ (if2 .taken))) (put-part2 .ensures))
     -- slice-aggregate-put-part-3
     (λ c. search needs)
     -- put-part-requires-3
@@ -38,4 +41,7 @@ write-literal-spec =
     (λ c. search needs)
     -- returns-3
     (λ c.
-    placed-as (rw (ne-eqb _ _ (c .before .before .before .before .before .before .if1 .left), ne-eqb _ _ (c .before .before .before .before .before .if2 .left))) (c .before .before .put-part3 .ensures)))
+    let if1 = c .before .before .before .before .before .before .if1 in
+    let if2 = c .before .before .before .before .before .if2 in
+    let put-part3 = c .before .before .put-part3 in
+    placed-as (rw (ne-eqb _ _ (if1 .left), ne-eqb _ _ (if2 .left))) (put-part3 .ensures)))

@@ -1,5 +1,6 @@
 -- `write_name` meets its contract: a member's name and the colon are laid down one behind the other.
 use native.Mathlib.Omega.{arith}
+use mathlib.Core.Path.{refl}
 use borrow.Author.Needs.{needs}
 use borrow.Author.Tests.{not-true, not-false}
 use Rattle.writer.proofs.PlacedLaws.{placed-as, placed-none, placed-then}
@@ -12,9 +13,7 @@ write-name-spec =
     tie.close
     (tie.spec
     -- returns
-    (λ c. placed-as (name-element _ _ _ _ (not-true _ (c .if1 .taken))) (placed-none 0 _ (omega arith)))
-    -- spelling-requires
-    (λ c κs. search needs)
+    (λ c. placed-as (name-element _ _ _ (not-true _ (c .if1 .taken))) (placed-none 0 _ (omega arith)))
     -- write-string-requires
     (λ c κs. search needs)
     -- sub-put-byte
@@ -31,7 +30,7 @@ write-name-spec =
     (λ c. search needs)
     -- returns-2
     (λ c.
-    let name = c .before .before .before .before .before .before .before .before .spelling in
-    let member = c .before .before .before .before .before .before .before .before .before .if1 in
-    placed-as (name-member _ _ _ _ (not-false _ (member .left)) (name .ensures))
-    (placed-then (c .before .before .before .before .before .before .write-string .ensures) (c .before .before .put-byte .ensures))))
+    let if1 = c .before .before .before .before .before .before .before .before .if1 in
+    let write-string = c .before .before .before .before .before .before .write-string in
+    let put-byte = c .before .before .put-byte in
+    placed-as (name-member _ _ _ (not-false _ (if1 .left)) refl) (placed-then (write-string .ensures) (put-byte .ensures))))

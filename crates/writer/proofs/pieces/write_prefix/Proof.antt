@@ -24,4 +24,7 @@ write-prefix-spec =
     -- same-length
     (λ c. search needs)
     -- returns
-    (λ c. placed-as (prefix-pieces _ _ _ _ _) (placed-then (c .before .before .before .before .before .before .write-comma .ensures) (c .before .before .write-name .ensures))))
+    (λ c.
+    let write-comma = c .before .before .before .before .before .before .write-comma in
+    let write-name = c .before .before .write-name in
+    placed-as (prefix-pieces _ _ _ _) (placed-then (write-comma .ensures) (write-name .ensures))))

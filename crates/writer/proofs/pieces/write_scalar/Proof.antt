@@ -17,7 +17,7 @@ write-scalar-spec =
     -- same-length
     (λ c. search needs)
     -- returns
-    (λ c. placed-as (scalar-string _ _ _ _ (c .before .before .before .before .if1 .taken)) (c .before .before .write-string .ensures))
+    (λ c. placed-as (scalar-string _ _ _ (c .before .before .before .before .if1 .taken)) (c .before .before .write-string .ensures))
     -- part-requires
     (λ c κs. search needs)
     -- put-part-requires
@@ -26,11 +26,19 @@ write-scalar-spec =
     (λ c. search needs)
     -- returns-2
     (λ c.
-    let part = c .before .before .before .before .part in
-    placed-as (scalar-number _ _ _ _ (c .before .before .before .before .before .before .if1 .left) (c .before .before .before .before .before .if2 .taken) ∙ sym (part .ensures)) (c .before .before .put-part .ensures))
+    let if1 = c .before .before .before .before .before .before .if1 in
+    let if2 = c .before .before .before .before .before .if2 in
+    let the-part = c .before .before .before .before .part in
+    let put-part = c .before .before .put-part in
+    let part = the-part in
+    placed-as (scalar-number _ _ _ (if1 .left) (if2 .taken) ∙ sym (part .ensures)) (put-part .ensures))
     -- write-literal-requires
     (λ c κs. search needs)
     -- same-length-3
     (λ c. search needs)
     -- returns-3
-    (λ c. placed-as (scalar-literal _ _ _ _ (c .before .before .before .before .before .if1 .left) (c .before .before .before .before .if2 .left)) (c .before .before .write-literal .ensures)))
+    (λ c.
+    let if1 = c .before .before .before .before .before .if1 in
+    let if2 = c .before .before .before .before .if2 in
+    let write-literal = c .before .before .write-literal in
+    placed-as (scalar-literal _ _ _ (if1 .left) (if2 .left)) (write-literal .ensures)))

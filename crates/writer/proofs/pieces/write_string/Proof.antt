@@ -1,4 +1,5 @@
 -- `write_string` meets its contract: its three pieces are laid down one behind another.
+use mathlib.Core.Path.{refl}
 use borrow.Author.Needs.{needs}
 use Rattle.writer.proofs.PlacedLaws.{placed-as, placed-then}
 use Rattle.writer.proofs.PieceLaws.{string-pieces}
@@ -12,8 +13,6 @@ write-string-spec =
     -- part-requires
     (λ c κs. search needs)
     -- put-byte-requires
-    (λ c κs. search needs)
-    -- form-requires
     (λ c κs. search needs)
     -- sub-put-part
     (λ c. search needs)
@@ -39,8 +38,9 @@ write-string-spec =
     (λ c. search needs)
     -- returns
     (λ c.
-    let first = c .before .before .before .before .before .before .before .before .before .before .before .put-byte in
-    let form = c .before .before .before .before .before .before .before .before .form in
-    let part = c .before .before .before .before .before .before .before .before .before .before .before .before .before .part in
-    placed-as (string-pieces _ _ _ (form .ensures) (part .ensures))
-    (placed-then (placed-then (first .ensures) (c .before .before .before .before .before .before .put-part .ensures)) (c .before .before .put-byte2 .ensures))))
+    let part = c .before .before .before .before .before .before .before .before .before .before .before .before .part in
+    let put-byte = c .before .before .before .before .before .before .before .before .before .before .put-byte in
+    let put-part = c .before .before .before .before .before .before .put-part in
+    let put-byte2 = c .before .before .put-byte2 in
+    placed-as (string-pieces _ _ refl (part .ensures))
+    (placed-then (placed-then (put-byte .ensures) (put-part .ensures)) (put-byte2 .ensures))))

@@ -2,6 +2,7 @@
 use mathlib.Core.Path.{sym}
 use borrow.Author.Needs.{needs}
 use borrow.Author.Tests.{le-leb}
+use Rattle.writer.proofs.RoomLaws.{cut-compared}
 use Rattle.writer.proofs.room.fits.Statement.{statement}
 use Rattle.writer.proofs.room.fits.Tie as tie
 
@@ -12,8 +13,8 @@ fits-spec =
     -- surely-fits-requires
     (λ c κs. search needs)
     -- returns
-    (λ c d kids w. sym (le-leb _ _ (c .before .surely-fits .ensures (c .if1 .taken) _ _ _ d kids w)))
+    (λ c. λ d kids w. sym (le-leb _ _ (c .before .surely-fits .ensures .there (c .if1 .taken) _ _ d kids w)))
     -- measure-requires
     (λ c κs. search needs)
     -- returns-2
-    (λ c d kids w. rw (c .measure .ensures .0 d kids w)))
+    (λ c. λ d kids w. cut-compared _ (c .measure .ensures .held d kids w) (c .before .before .surely-fits .ensures .little (c .before .if1 .left))))

@@ -1,18 +1,16 @@
--- `writer::room::surely_fits` meets its contract: it counts the bytes of every row of the node, and the text has no more.
-use Prim.Native.Nat.{ℕ, _≤_, _-_, max}
+-- `surely_fits` meets its contract: it counts the bytes of every row of the node, and the text has no more.
+use Prim.Native.Nat.{_≤_, _-_, max}
 use native.Mathlib.Omega.{arith}
-use mathlib.Core.Path.{_≡_}
 use borrow.Author.Needs.{needs}
-use borrow.Author.Tests.{leb-true}
-use Rattle.writer.proofs.RoomLaws.{Summed, summed-none, summed-next, summed-small, summed-all}
+use Rattle.writer.proofs.RoomLaws.{Summed, summed-none, summed-next, sure-out, sure-summed}
 use Rattle.writer.proofs.room.surely_fits.Statement.{statement}
 use Rattle.writer.proofs.room.surely_fits.Tie as tie
 
 abbrev Inv-loop : tie.InvT-loop
-Inv-loop values names at room end total₀ row₀ total row = (row ≤ max at end) × Summed values names at row total
+Inv-loop nodes at room end total₀ row₀ total row = (row ≤ max at end) × Summed nodes at row total
 
 abbrev μ-loop : tie.MeasureT-loop
-μ-loop values names at room end total₀ row₀ total row = end - row
+μ-loop nodes at room end total₀ row₀ total row = end - row
 
 pub surely-fits-spec : {M : Type 1} → statement M
 surely-fits-spec =
@@ -20,29 +18,44 @@ surely-fits-spec =
     (tie.spec
     Inv-loop
     μ-loop
-    -- end-of-requires
-    (λ c κs. search needs)
     -- returns
-    (λ c told. absurd (let z : _≡_ {A = ℕ} 0 1 = cc in omega arith))
+    (λ c. sure-out (omega arith))
+    -- add-least
+    (λ c. search needs)
+    -- mul-wide
+    (λ c. search needs)
+    -- index-1-wide
+    (λ c. search needs)
+    -- index-2-wide
+    (λ c. search needs)
+    -- wide-requires
+    (λ c κs. search needs)
+    -- add-least-2
+    (λ c. search needs)
+    -- least-requires
+    (λ c κs. search needs)
     -- loop-holds
     (λ c. (omega arith, summed-none))
     -- mul-row-bytes
     (λ c. search needs)
-    -- shared-slice-read-row-bytes
-    (λ c. search needs)
-    -- mul-row-bytes-2
-    (λ c. search needs)
-    -- shared-slice-read-row-bytes-2
+    -- shared-slice-copy-out-row-bytes
     (λ c. search needs)
     -- row-bytes-requires
     (λ c κs. search needs)
     -- add-total
-    (λ c. omega (arith, summed-small (c .before .before .before .before .loop .inv .1)))
+    (λ c.
+    let wide = c .before .before .before .before .before .wide in
+    let least = c .before .before .before .before .least in
+    let loop = c .before .before .before .loop in
+    omega (arith, loop .inv .1 .small, least .ensures, wide .ensures))
     -- add-row
     (λ c. search needs)
     -- loop-less
     (λ c. search needs)
     -- loop-again
-    (λ c. (omega arith, summed-next (c .before .before .before .before .loop .inv .1) (c .row-bytes .ensures)))
+    (λ c. (omega arith, summed-next (c .before .before .before .loop .inv .1) (c .row-bytes .ensures .0) (c .row-bytes .ensures .1)))
     -- returns-2
-    (λ c told. summed-all (c .before .loop .inv .1) (c .before .before .before .end-of .ensures) (omega arith) (omega arith) (leb-true _ _ told)))
+    (λ c.
+    let wide = c .before .before .before .wide in
+    let least = c .before .before .least in
+    sure-summed (c .before .loop .inv .1) (least .ensures) (wide .ensures .0) (omega (arith, wide .ensures)) (omega arith) (omega arith)))

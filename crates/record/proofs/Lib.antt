@@ -1,0 +1,3 @@
+-- What the proofs share, and the theorem on rows.
+pub mod InMemory
+pub mod RowsTheorem
