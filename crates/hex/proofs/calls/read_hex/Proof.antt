@@ -1,0 +1,22 @@
+use Prim.Native.Nat.{_+_, _-_, _*_, _%_, _≤_, _<_}
+use mathlib.Core.Path.{_≡_, refl, sym, ap, _∙_}
+use native.Mathlib.Omega.{arith}
+use lib.ListN.{length, drop}
+use Rattle.lexer.proofs.Auto.{auto}
+use Rattle.spec.specs.Bytes.{byte}
+use Rattle.hex.proofs.CallLaws.{refuses, answered-as, read-bytes, read-accepted, read-refused}
+use Rattle.hex.proofs.calls.read_hex.Statement.{statement}
+use Rattle.hex.proofs.calls.read_hex.Tie as tie
+
+pub read-hex-spec : {M : Type 1} → statement M
+read-hex-spec =
+    tie.close
+    (tie.spec
+    (λ c κs. search auto)
+    (λ c. search auto)
+    (λ c κs. read-bytes _ (sym (c .before .before .n .given .1) ∙ c .before .before .before .before .measure-text .ensures))
+    (λ c. search auto)
+    (λ c. answered-as (read-accepted _ _ (sym (c .before .before .before .before .before .n .given .1) ∙ c .before .before .before .before .before .before .before .measure-text .ensures)) (c .before .before .fitting-text .ensures))
+    (λ c. search auto)
+    (λ c κs. search auto)
+    (λ c. refuses _ _ (read-refused _ _ (sym (c .before .before .number .given .1) ∙ c .before .before .before .before .measure-text .ensures)) (c .refusal .ensures)))

@@ -1,0 +1,25 @@
+use Prim.Native.Nat.{_+_, _-_, _*_, _%_, _≤_}
+use mathlib.Core.Path.{_≡_, refl, sym, ap, _∙_}
+use native.Mathlib.Omega.{arith}
+use lib.ListN.{length, drop}
+use Rattle.lexer.proofs.Auto.{auto}
+use Rattle.spec.specs.Bytes.{byte}
+use Rattle.hex.specs.Reading.{hexByte}
+use Rattle.hex.proofs.digits.hex_byte.Statement.{statement}
+use Rattle.hex.proofs.digits.hex_byte.Tie as tie
+
+pub hex-byte-spec : {M : Type 1} → statement M
+unfolding hexByte byte
+hex-byte-spec =
+    tie.close
+    (tie.spec
+    (λ c. search auto)
+    (λ c κs. search auto)
+    (λ c. search auto)
+    (λ c. search auto)
+    (λ c κs. search auto)
+    (λ c κs. search auto)
+    (λ c. search auto)
+    (λ c κs. search auto)
+    (λ c. search auto)
+    (λ c. (omega (arith, c .wide2 .ensures, c .before .wide .ensures, c .before .before .hex-value2 .ensures, c .before .before .before .before .hex-value .ensures), omega arith)))

@@ -1,0 +1,18 @@
+use Prim.Native.Nat.{_+_, _-_, _*_, _%_, _≤_, _<_}
+use mathlib.Core.Path.{_≡_, refl, sym, ap, _∙_}
+use native.Mathlib.Omega.{arith}
+use lib.ListN.{length, drop}
+use Rattle.lexer.proofs.Auto.{auto}
+use Rattle.spec.specs.Bytes.{byte}
+use Rattle.hex.proofs.StepLaws.{bad-sum, end-behind, end-last, summed-room}
+use Rattle.hex.proofs.lines.end_step.Statement.{statement}
+use Rattle.hex.proofs.lines.end_step.Tie as tie
+
+pub end-step-spec : {M : Type 1} → statement M
+end-step-spec =
+    tie.close
+    (tie.spec
+    (λ c. bad-sum _ _ (c .before .before .pre .0) (c .if1 .taken))
+    (λ c κs. omega (arith, summed-room (c .before .before .pre .0)))
+    (λ c. end-behind _ _ (c .before .before .before .before .pre .0) (c .before .before .if1 .left) (c .before .before .before .before .pre .1) (omega (arith, c .before .line-length .ensures)))
+    (λ c. end-last _ _ (c .before .before .before .before .pre .0) (c .before .before .if1 .left) (c .before .before .before .before .pre .1) (omega (arith, c .before .line-length .ensures))))

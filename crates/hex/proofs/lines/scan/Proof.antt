@@ -1,0 +1,40 @@
+use Prim.Native.Nat.{_+_, _-_, _*_, _%_, _≤_, _<_}
+use mathlib.Core.Path.{_≡_, refl, sym, ap, _∙_}
+use native.Mathlib.Omega.{arith}
+use lib.ListN.{length, drop}
+use Rattle.lexer.proofs.Auto.{auto}
+use Rattle.spec.specs.Bytes.{byte}
+use Rattle.hex.specs.Steps.{ScanIs}
+use Rattle.hex.proofs.LineLaws.{bad-high, bad-low, Scanning, scanning-starts, scanning-bad, scanning-on, scanning-ends, scanning-room}
+use Rattle.hex.proofs.lines.scan.Statement.{statement}
+use Rattle.hex.proofs.lines.scan.Tie as tie
+
+abbrev Inv-loop : tie.InvT-loop
+Inv-loop t k n sum₀ at₀ i₀ sum at i = (i ≤ n) × (sum < 256) × Scanning n t k sum at i
+
+abbrev μ-loop : tie.MeasureT-loop
+μ-loop t k n sum₀ at₀ i₀ sum at i = n - i
+
+pub scan-spec : {M : Type 1} → statement M
+unfolding byte ScanIs
+scan-spec =
+    tie.close
+    (tie.spec
+    Inv-loop
+    μ-loop
+    (λ c. (omega arith, omega arith, scanning-starts _ _ _))
+    (λ c. omega (arith, scanning-room (c .before .before .loop .inv .2) (c .before .before .before .before .pre) (c .before .loop-test .taken)))
+    (λ c κs. search auto)
+    (λ c. scanning-bad (c .before .before .before .before .loop .inv .2) (c .before .before .before .loop-test .taken) (bad-high _ _ (omega (arith, c .before .hex-value .ensures))))
+    (λ c. omega (arith, scanning-room (c .before .before .before .before .loop .inv .2) (c .before .before .before .before .before .before .pre) (c .before .before .before .loop-test .taken)))
+    (λ c. omega (arith, scanning-room (c .before .before .before .before .before .loop .inv .2) (c .before .before .before .before .before .before .before .pre) (c .before .before .before .before .loop-test .taken)))
+    (λ c κs. search auto)
+    (λ c. scanning-bad (c .before .before .before .before .before .before .before .loop .inv .2) (c .before .before .before .before .before .before .loop-test .taken) (bad-low _ _ (omega (arith, c .before .hex-value2 .ensures))))
+    (λ c. search auto)
+    (λ c. search auto)
+    (λ c κs. search auto)
+    (λ c. omega (arith, scanning-room (c .before .before .before .before .before .before .before .before .loop .inv .2) (c .before .before .before .before .before .before .before .before .before .before .pre) (c .before .before .before .before .before .before .before .loop-test .taken)))
+    (λ c. search auto)
+    (λ c. search auto)
+    (λ c. (omega arith, omega (arith, c .wrapping-add-u8 .ensures), scanning-on (c .before .before .before .before .before .before .before .before .loop .inv .2) (c .before .before .before .before .before .before .before .loop-test .taken) (c .before .before .before .before .before .hex-value .ensures) (c .before .before .hex-value2 .ensures) (omega arith) (omega arith) (c .wrapping-add-u8 .ensures)))
+    (λ c. scanning-ends (c .before .loop .inv .2) (c .loop-test .left) (omega arith)))

@@ -1,0 +1,41 @@
+use Prim.Native.Nat.{_+_, _-_, _*_, _%_, _≤_, _<_}
+use mathlib.Core.Path.{_≡_, refl, sym, ap, _∙_}
+use native.Mathlib.Omega.{arith}
+use lib.ListN.{length, drop}
+use Rattle.lexer.proofs.Auto.{auto}
+use Rattle.spec.specs.Bytes.{byte}
+use Rattle.hex.proofs.ReadLaws.{Measuring, measuring-starts, measuring-on, onward-more, measured-done, measured-refused, measured-behind, measured-missing}
+use Rattle.hex.proofs.reading.measure_text.Statement.{statement}
+use Rattle.hex.proofs.reading.measure_text.Tie as tie
+
+abbrev Inv-loop : tie.InvT-loop
+Inv-loop s at₀ line₀ n₀ at line n = Measuring s at line n
+
+abbrev μ-loop : tie.MeasureT-loop
+μ-loop s at₀ line₀ n₀ at line n = length s - at
+
+pub measure-text-spec : {M : Type 1} → statement M
+measure-text-spec =
+    tie.close
+    (tie.spec
+    Inv-loop
+    μ-loop
+    (λ c. measuring-starts _)
+    (λ c. search auto)
+    (λ c. search auto)
+    (λ c. search auto)
+    (λ c κs. c .before .before .loop .inv .few)
+    (λ c. search auto)
+    (λ c. let o = onward-more (c .before .before .before .before .before .before .loop .inv) (c .before .before .before .before .before .loop-test .taken) (c .before .before .before .step-at .ensures) (c .before .more .given .1) in omega arith)
+    (λ c. omega (arith, c .before .before .before .before .before .before .loop .inv .lines))
+    (λ c. let o = onward-more (c .before .before .before .before .before .before .loop .inv) (c .before .before .before .before .before .loop-test .taken) (c .before .before .before .step-at .ensures) (c .before .more .given .1) in omega arith)
+    (λ c. let o = onward-more (c .before .before .before .before .before .before .loop .inv) (c .before .before .before .before .before .loop-test .taken) (c .before .before .before .step-at .ensures) (c .before .more .given .1) in omega arith)
+    (λ c. measuring-on (c .before .before .before .before .before .before .loop .inv) (c .before .before .before .before .before .loop-test .taken) (c .before .before .before .step-at .ensures) (c .before .more .given .1))
+    (λ c. search auto)
+    (λ c. measured-done (c .before .before .before .before .before .loop .inv) (c .before .before .before .before .loop-test .taken) (c .before .before .step-at .ensures) (c .enum-told .given .1))
+    (λ c. search auto)
+    (λ c. measured-refused (c .before .before .before .before .before .before .loop .inv) (c .before .before .before .before .before .loop-test .taken) (c .before .before .before .step-at .ensures) (c .before .number .given .1))
+    (λ c. search auto)
+    (λ c. omega (arith, c .before .before .before .before .before .loop .inv .lines))
+    (λ c. measured-behind (c .before .before .before .before .before .loop .inv) (c .before .before .before .before .loop-test .taken) (c .before .before .step-at .ensures) (c .enum-told2 .given .1))
+    (λ c. measured-missing (c .before .loop .inv) (c .loop-test .left)))

@@ -1,0 +1,38 @@
+use Prim.Native.Nat.{_+_, _-_, _*_, _%_, _≤_, _<_}
+use mathlib.Core.Path.{_≡_, refl, sym, ap, _∙_}
+use native.Mathlib.Omega.{arith}
+use lib.ListN.{length, drop}
+use Rattle.lexer.proofs.Auto.{auto}
+use Rattle.spec.specs.Bytes.{byte}
+use lib.Seq.{length-sets}
+use Rattle.hex.proofs.WritingLaws.{laid-length}
+use Rattle.hex.proofs.ReadLaws.{Pouring, pouring-starts, lent-room, pouring-last, pouring-on, pouring-missing}
+use Rattle.hex.proofs.reading.put_text.Statement.{statement}
+use Rattle.hex.proofs.reading.put_text.Tie as tie
+
+abbrev Inv-loop : tie.InvT-loop
+Inv-loop s out₀ at₀ end₀ out at end = Pouring s out₀ out at end
+
+abbrev μ-loop : tie.MeasureT-loop
+μ-loop s out₀ at₀ end₀ out at end = length s - at
+
+pub put-text-spec : {M : Type 1} → statement M
+put-text-spec =
+    tie.close
+    (tie.spec
+    Inv-loop
+    μ-loop
+    (λ c. pouring-starts _ (c .before .before .pre))
+    (λ c. search auto)
+    (λ c. search auto)
+    (λ c. search auto)
+    (λ c κs. omega (arith, lent-room (c .before .before .loop .inv) (c .before .loop-test .taken)))
+    (λ c. laid-length (c .before .before .before .before .loop .inv .laid))
+    (λ c. pouring-last (c .before .before .before .before .loop .inv) (c .before .before .before .loop-test .taken) (c .before .hex-byte .ensures .0) (c .if1 .taken))
+    (λ c κs. let p = pouring-on (c .before .before .before .before .before .loop .inv) (c .before .before .before .before .loop-test .taken) (c .before .before .hex-byte .ensures .0) (c .before .if1 .left) in (p .room, p .hex, omega (arith, p .few)))
+    (λ c κs. lent-room (c .before .before .before .before .before .before .before .before .loop .inv) (c .before .before .before .before .before .before .before .loop-test .taken))
+    (λ c. let p = pouring-on (c .before .before .before .before .before .before .before .before .before .loop .inv) (c .before .before .before .before .before .before .before .before .loop-test .taken) (c .before .before .before .before .before .before .hex-byte .ensures .0) (c .before .before .before .before .before .if1 .left) in omega (arith, p .far, c .line-length .ensures))
+    (λ c. let p = pouring-on (c .before .before .before .before .before .before .before .before .before .loop .inv) (c .before .before .before .before .before .before .before .before .loop-test .taken) (c .before .before .before .before .before .before .hex-byte .ensures .0) (c .before .before .before .before .before .if1 .left) in omega (arith, p .far, c .line-length .ensures))
+    (λ c. let p = pouring-on (c .before .before .before .before .before .before .before .before .before .loop .inv) (c .before .before .before .before .before .before .before .before .loop-test .taken) (c .before .before .before .before .before .before .hex-byte .ensures .0) (c .before .before .before .before .before .if1 .left) in rw (c .line-length .ensures) (p .next (c .before .before .before .put-data .ensures)))
+    (λ c. laid-length (c .before .loop .inv .laid))
+    (λ c. absurd (pouring-missing (c .before .loop .inv) (c .loop-test .left))))

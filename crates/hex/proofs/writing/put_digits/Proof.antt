@@ -1,0 +1,22 @@
+use Prim.Native.Nat.{_+_, _-_, _*_, _%_, _≤_}
+use mathlib.Core.Path.{_≡_, refl, sym, ap, _∙_}
+use native.Mathlib.Omega.{arith}
+use lib.ListN.{length, drop}
+use Rattle.lexer.proofs.Auto.{auto}
+use Rattle.spec.specs.Bytes.{byte}
+use Rattle.hex.proofs.WritingLaws.{digits-stored}
+use Rattle.hex.proofs.writing.put_digits.Statement.{statement}
+use Rattle.hex.proofs.writing.put_digits.Tie as tie
+
+pub put-digits-spec : {M : Type 1} → statement M
+put-digits-spec =
+    tie.close
+    (tie.spec
+    (λ c κs. search auto)
+    (λ c κs. search auto)
+    (λ c. search auto)
+    (λ c κs. search auto)
+    (λ c κs. search auto)
+    (λ c. search auto)
+    (λ c. search auto)
+    (λ c. digits-stored _ _ (c .before .before .before .before .before .before .before .before .hex-digit .ensures) (c .before .before .before .hex-digit2 .ensures) (c .before .before .before .before .before .before .before .put .ensures) (c .before .before .put2 .ensures)))

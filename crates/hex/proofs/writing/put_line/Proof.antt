@@ -1,0 +1,34 @@
+use Prim.Native.Nat.{_+_, _-_, _*_, _%_, _≤_, _<_}
+use mathlib.Core.Path.{_≡_, refl, sym, ap, _∙_}
+use native.Mathlib.Omega.{arith}
+use lib.ListN.{length, drop}
+use Rattle.lexer.proofs.Auto.{auto}
+use Rattle.spec.specs.Bytes.{byte}
+use Rattle.hex.specs.Record.{spelled, digits}
+use Rattle.hex.proofs.RecordLaws.{spelled-length}
+use Rattle.hex.proofs.WritingLaws.{line-stored}
+use Rattle.hex.proofs.writing.put_line.Statement.{statement}
+use Rattle.hex.proofs.writing.put_line.Tie as tie
+
+pub put-line-spec : {M : Type 1} → statement M
+unfolding spelled digits
+put-line-spec =
+    tie.close
+    (tie.spec
+    (λ c. search auto)
+    (λ c. search auto)
+    (λ c. search auto)
+    (λ c. search auto)
+    (λ c κs. search auto)
+    (λ c κs. search auto)
+    (λ c κs. search auto)
+    (λ c κs. search auto)
+    (λ c. search auto)
+    (λ c. omega (arith, c .before .before .before .before .before .before .before .before .before .before .before .before .pre))
+    (λ c κs. omega (arith, c .before .before .before .before .before .before .before .before .before .before .before .before .pre))
+    (λ c κs. omega (arith, c .before .before .before .before .before .before .before .before .before .before .before .before .before .before .before .before .pre, c .before .before .before .put-spelled .ensures .next-is))
+    (λ c κs. omega (arith, c .before .before .before .before .before .before .before .before .before .before .before .before .before .before .before .before .before .before .before .before .pre, c .before .before .before .before .before .before .before .put-spelled .ensures .next-is, c .before .before .before .put-spelled2 .ensures .next-is, spelled-length (c .before .before .before .before .before .before .before .before .before .before .before .before .before .before .before .before .before .before .before .before .args .bytes .now)))
+    (λ c κs. search auto)
+    (λ c. omega (arith, c .before .before .before .before .before .before .before .before .before .before .before .before .before .before .before .before .before .before .before .before .before .before .before .before .before .before .before .pre, c .before .before .before .before .before .before .before .before .before .before .before .before .before .before .put-spelled .ensures .next-is, c .before .before .before .before .before .before .before .before .before .before .put-spelled2 .ensures .next-is, c .before .before .before .before .before .before .put-digits .ensures .next-is, spelled-length (c .before .before .before .before .before .before .before .before .before .before .before .before .before .before .before .before .before .before .before .before .before .before .before .before .before .before .before .args .bytes .now)))
+    (λ c. search auto)
+    (λ c. line-stored _ _ _ _ (c .before .before .before .before .before .before .before .before .before .before .before .before .before .before .before .before .before .before .before .before .before .before .before .sum .ensures) (c .before .before .before .before .before .before .before .before .before .before .before .before .before .before .before .before .before .before .before .before .before .before .sum2 .ensures) (c .before .before .before .before .before .before .before .before .before .before .before .before .before .before .before .before .before .before .before .before .before .wrapping-sub-u8 .ensures) (omega arith) (c .before .before .before .before .before .before .before .before .before .before .before .before .before .before .before .before .before .before .before .put .ensures) (c .before .before .before .before .before .before .before .before .before .before .before .before .before .before .put-spelled .ensures) (c .before .before .before .before .before .before .before .before .before .before .put-spelled2 .ensures) (c .before .before .before .before .before .before .put-digits .ensures) (c .before .before .put2 .ensures)))
