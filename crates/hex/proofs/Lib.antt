@@ -5,4 +5,5 @@ pub mod TextLaws
 pub mod StepLaws
 pub mod ReadLaws
 pub mod CallLaws
+pub mod SpellLaws
 pub mod ClaimTheorems

@@ -42,6 +42,10 @@ pub read-line : (fuel : ℕ) (t : Bytes) (line next : ℕ) → 0 < length t →
 unfolding readFrom
 read-line fuel t line next h = rw (ne-eqb (length t) 0 (λ e. omega arith))
 
+pub read-zero : (t : Bytes) (line next : ℕ) → readFrom zero t line next ≡ refused wrong-end line
+unfolding readFrom
+read-zero t line next = refl
+
 pub read-none : (fuel : ℕ) (t : Bytes) (line next : ℕ) → length t ≡ 0 → readFrom fuel t line next ≡ refused wrong-end line
 unfolding readFrom
 read-none zero t line next e = refl
@@ -151,7 +155,7 @@ or-left : (a b : Bool) → (a || b) ≡ true → b ≡ false → a ≡ true
 or-left true b e f = refl
 or-left false b e f = absurd (true≢false (sym e ∙ f))
 
-no-ok : {number line : ℕ} {text : Bytes} → refused number line ≡ ok text → ⊥
+pub no-ok : {number line : ℕ} {text : Bytes} → refused number line ≡ ok text → ⊥
 no-ok e = let z : _≡_ {A = ℕ} 0 1 = cc in omega arith
 
 record-parts : (t : Bytes) → isRecord t ≡ true → (isLine t ≡ true) × ((isData t || isEnd t) ≡ true)

@@ -11,14 +11,7 @@ pub extern "C" fn json_patch_write_hex(text: &[u8], output: &mut [u8], answer: &
     ensures { λ r. ⌜ ExportIs (writeAnswer (now (text .entry)) (length (now (output .entry)))) (now (output .entry)) (now (output .exit)) (now (answer .exit)) r ⌝ }
 {
     let r = write_hex(text, output);
-    *answer = [
-        r.number as u64,
-        0,
-        0,
-        r.place as u64,
-        0,
-        r.length as u64,
-    ];
+    *answer = [r.number as u64, 0, 0, r.place as u64, 0, r.length as u64];
     r.number as u32
 }
 
@@ -28,13 +21,6 @@ pub extern "C" fn json_patch_read_hex(hex: &[u8], output: &mut [u8], answer: &mu
     ensures { λ r. ⌜ ExportIs (readAnswer (now (hex .entry)) (length (now (output .entry)))) (now (output .entry)) (now (output .exit)) (now (answer .exit)) r ⌝ }
 {
     let r = read_hex(hex, output);
-    *answer = [
-        r.number as u64,
-        0,
-        0,
-        r.place as u64,
-        0,
-        r.length as u64,
-    ];
+    *answer = [r.number as u64, 0, 0, r.place as u64, 0, r.length as u64];
     r.number as u32
 }

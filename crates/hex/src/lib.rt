@@ -4,12 +4,12 @@
 // begins with the written text and is else as it was. specs/Claims says what the definitions come to: reading what was written returns the
 // text, every record that is written has sum zero, and the reader accepts exactly the texts of records that follow on from address 0.
 
-pub mod answer; // what a call answers
-pub mod digits; // hexadecimal digits
+mod answer; // what a call answers
+mod digits; // hexadecimal digits
 mod writing; // a text measured and written as records
-pub mod lines; // a line read
-pub mod reading; // a text of lines measured, and its data written
-pub mod calls; // the two calls
+mod lines; // a line read
+mod reading; // a text of lines measured, and its data written
+mod calls; // the two calls
 pub mod exports; // the two calls for C
 
 pub use answer::Answer;
