@@ -1,5 +1,6 @@
-//! Finds the static library: in target/staticlib of the repository, where
-//! `rt staticlib json_patch` puts it, or in the folder that JSON_PATCH_LIB names.
+//! Finds the static libraries: in target/staticlib of the repository, where
+//! `rt staticlib json_patch` and `rt staticlib hex` put them, or in the
+//! folder that JSON_PATCH_LIB names.
 
 use std::path::PathBuf;
 use std::{env, process};
@@ -11,12 +12,14 @@ fn main() {
         None => PathBuf::from(env::var_os("CARGO_MANIFEST_DIR").unwrap_or_default())
             .join("../target/staticlib"),
     };
-    let library = folder.join("libjson_patch.a");
-    println!("cargo:rerun-if-changed={}", library.display());
-    if !library.is_file() {
-        eprintln!("no {}: run 'rt staticlib json_patch' first", library.display());
-        process::exit(1);
-    }
     println!("cargo:rustc-link-search=native={}", folder.display());
-    println!("cargo:rustc-link-lib=static=json_patch");
+    for name in ["json_patch", "hex"] {
+        let library = folder.join(format!("lib{name}.a"));
+        println!("cargo:rerun-if-changed={}", library.display());
+        if !library.is_file() {
+            eprintln!("no {}: run 'rt staticlib {name}' first", library.display());
+            process::exit(1);
+        }
+        println!("cargo:rustc-link-lib=static={name}");
+    }
 }

@@ -38,6 +38,7 @@
 #![no_std]
 #![warn(missing_docs)]
 
+pub mod hex;
 pub mod raw;
 mod refusal;
 

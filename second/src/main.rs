@@ -2,7 +2,7 @@
 
 #![forbid(unsafe_code)]
 
-use second::{cases, compare, generate, tool, vectors};
+use second::{cases, compare, generate, hex, tool, vectors};
 use std::env;
 use std::ffi::OsString;
 use std::fs;
@@ -16,6 +16,9 @@ const USAGE: &str = "usage:
   second cases
   second generate SEED COUNT
   second compare SEED COUNT -- COMMAND...
+  second hex-cases
+  second hex-answers FILE
+  second hex-generate SEED COUNT
 ";
 
 /// The line of a call whose work area is too short. This program has none, so
@@ -73,6 +76,22 @@ fn run(arguments: &[OsString]) -> Result<(), Trouble> {
             let seed = number(seed)?;
             for index in 0..number(count)? {
                 out.write_all(&generate::case(seed, index).text())?;
+            }
+        }
+        (Some("hex-cases"), []) => {
+            for vector in hex::vectors::all() {
+                out.write_all(&vector.case.file())?;
+            }
+        }
+        (Some("hex-answers"), [file]) => {
+            for case in hex::cases::parse(&fs::read(file)?).map_err(Trouble::Message)? {
+                out.write_all(&case.lines())?;
+            }
+        }
+        (Some("hex-generate"), [seed, count]) => {
+            let seed = number(seed)?;
+            for index in 0..number(count)? {
+                out.write_all(&hex::generate::case(seed, index).file())?;
             }
         }
         (Some("compare"), [seed, count, dashes, command @ ..])

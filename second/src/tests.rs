@@ -2,6 +2,7 @@
 
 mod appendix;
 mod generator;
+mod hex;
 mod parts;
 mod regions;
 mod round_trip;
