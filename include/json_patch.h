@@ -1,10 +1,20 @@
 /* A JSON Patch (RFC 6902) applied to a JSON document, in lent memory.
  *
- * One function, proved to answer as the definitions say on every input. It
- * allocates nothing, keeps no state and may be called from several threads at
- * once, each with buffers of its own. Link with target/staticlib/libjson_patch.a
- * (made by `rt staticlib json_patch`), which needs memcpy and memset and nothing
- * else; examples/apply.c is a worked example.
+ *     static json_patch_work work;
+ *     json_patch_answer answer;
+ *     json_patch_apply_with(document, document_length, patch, patch_length,
+ *                           output, sizeof output, &work, &answer);
+ *
+ * The library exports one function, json_patch_apply, proved to answer as the
+ * definitions say on every input. It allocates nothing, keeps no state and may
+ * be called from several threads at once, each with buffers of its own. The
+ * inline functions at the end of this file stand on it: one work area in place
+ * of buffers, and words for an answer. They are not part of the proof.
+ *
+ * Link with -ljson_patch (`pkg-config --cflags --libs json_patch`), or with
+ * target/staticlib/libjson_patch.a, made by `rt staticlib json_patch`. The
+ * library needs memcpy and memset and nothing else. examples/apply.c is a worked
+ * example, json_patch(3) the manual.
  *
  * C99, and C++. */
 #ifndef JSON_PATCH_H
@@ -16,6 +26,9 @@
 #ifdef __cplusplus
 extern "C" {
 #endif
+
+/* The version of this header and of its library. */
+#define JSON_PATCH_VERSION "0.1.0"
 
 /* Words of 64 bits in each of the two buffers of the work area: 49,152 bytes. */
 #define JSON_PATCH_WORK_WORDS 6144
@@ -89,6 +102,110 @@ uint32_t json_patch_apply(const uint8_t *document, size_t document_length,
                           uint64_t *values, size_t values_length,
                           uint64_t *names, size_t names_length,
                           json_patch_answer *answer);
+
+/* The work area as one object, JSON_PATCH_WORK_WORDS words in each buffer. It
+ * may hold anything before a call and is all zero after one, so it can be lent
+ * again and again. It is too large for a small stack: make it static, or lend
+ * memory that is not in use yet. */
+typedef struct json_patch_work {
+    uint64_t values[JSON_PATCH_WORK_WORDS];
+    uint64_t names[JSON_PATCH_WORK_WORDS];
+} json_patch_work;
+
+#ifdef __cplusplus
+#define JSON_PATCH_AS_(type, value) static_cast<type>(value)
+#else
+#define JSON_PATCH_AS_(type, value) ((type)(value))
+#endif
+
+/* json_patch_apply in a work area. A pointer may be null where its length is 0. */
+static inline uint32_t json_patch_apply_with(const void *document, size_t document_length,
+                                             const void *patch, size_t patch_length,
+                                             void *output, size_t output_length,
+                                             json_patch_work *work, json_patch_answer *answer) {
+    uint8_t none = 0;
+    return json_patch_apply(document_length ? JSON_PATCH_AS_(const uint8_t *, document) : &none, document_length,
+                            patch_length ? JSON_PATCH_AS_(const uint8_t *, patch) : &none, patch_length,
+                            output_length ? JSON_PATCH_AS_(uint8_t *, output) : &none, output_length,
+                            work->values, JSON_PATCH_WORK_WORDS, work->names, JSON_PATCH_WORK_WORDS, answer);
+}
+
+/* What a number means, in a few words. Never null. */
+static inline const char *json_patch_message(uint64_t number) {
+    switch (number) {
+    case JSON_PATCH_DONE: return "done";
+    case JSON_PATCH_WORK_TOO_SHORT: return "the work area is shorter than stated";
+    case JSON_PATCH_INPUT_TOO_LONG: return "the text is longer than 32,768 bytes";
+    case JSON_PATCH_NOT_JSON: return "not JSON text";
+    case JSON_PATCH_REPEATED_NAME: return "a member name is repeated in one object";
+    case JSON_PATCH_TOO_DEEP: return "more than 32 nested containers";
+    case JSON_PATCH_TOO_MANY_NODES: return "more than 2,048 values";
+    case JSON_PATCH_NUMBER_OVER_LIMIT: return "a number is over its limit";
+    case JSON_PATCH_WRONG_SHAPE: return "the patch is malformed";
+    case JSON_PATCH_TOO_MANY_OPERATIONS: return "more than 256 operations";
+    case JSON_PATCH_MALFORMED_POINTER: return "a pointer is malformed";
+    case JSON_PATCH_LOCATION_MISSING: return "the location does not exist";
+    case JSON_PATCH_NO_INDEX: return "a token is not an array index";
+    case JSON_PATCH_REMOVE_OF_ROOT: return "the root cannot be removed";
+    case JSON_PATCH_MOVE_INTO_CHILD: return "a value cannot be moved into its own child";
+    case JSON_PATCH_TEST_DIFFERS: return "the test found a difference";
+    case JSON_PATCH_OUTPUT_TOO_SHORT: return "the result is longer than the lent output";
+    default: return "unknown answer";
+    }
+}
+
+/* Lays text down at the place, as far as there is room; gives the next place. */
+static inline size_t json_patch_put_text_(char *buffer, size_t size, size_t at, const char *text) {
+    for (; *text; text++, at++)
+        if (at < size) buffer[at] = *text;
+    return at;
+}
+
+/* The same for a number, in decimal. */
+static inline size_t json_patch_put_number_(char *buffer, size_t size, size_t at, uint64_t number) {
+    char digits[21];
+    size_t first = 20;
+    digits[first] = '\0';
+    do {
+        digits[--first] = "0123456789"[number % 10];
+        number /= 10;
+    } while (number);
+    return json_patch_put_text_(buffer, size, at, digits + first);
+}
+
+/* Describes an answer in words, such as
+ *     done: 32 bytes written
+ *     refused 3: patch, byte 37: not JSON text
+ *     refused 15: operation 1: the test found a difference
+ * As snprintf: at most size bytes are laid down, the last of them a zero, and
+ * the length of the whole description is given. 128 bytes hold any. */
+static inline size_t json_patch_describe(const json_patch_answer *answer, char *buffer, size_t size) {
+    const int read = answer->number >= JSON_PATCH_NOT_JSON && answer->number <= JSON_PATCH_NUMBER_OVER_LIMIT;
+    const size_t room = size ? size - 1 : 0;
+    size_t at = 0;
+    if (answer->number == JSON_PATCH_DONE) {
+        at = json_patch_put_text_(buffer, room, at, "done: ");
+        at = json_patch_put_number_(buffer, room, at, answer->length);
+        at = json_patch_put_text_(buffer, room, at, answer->length == 1 ? " byte written" : " bytes written");
+    } else {
+        at = json_patch_put_text_(buffer, room, at, "refused ");
+        at = json_patch_put_number_(buffer, room, at, answer->number);
+        if (answer->text == JSON_PATCH_TEXT_DOCUMENT) at = json_patch_put_text_(buffer, room, at, ": document");
+        if (answer->text == JSON_PATCH_TEXT_PATCH) at = json_patch_put_text_(buffer, room, at, ": patch");
+        if (answer->text && read) {
+            at = json_patch_put_text_(buffer, room, at, ", byte ");
+            at = json_patch_put_number_(buffer, room, at, answer->place);
+        }
+        if (answer->op) {
+            at = json_patch_put_text_(buffer, room, at, ": operation ");
+            at = json_patch_put_number_(buffer, room, at, answer->op);
+        }
+        at = json_patch_put_text_(buffer, room, at, ": ");
+        at = json_patch_put_text_(buffer, room, at, json_patch_message(answer->number));
+    }
+    if (size) buffer[at < room ? at : room] = '\0';
+    return at;
+}
 
 #ifdef __cplusplus
 }

@@ -1,11 +1,13 @@
 //! Refusals.
 
+use crate::Explanation;
 use core::error::Error;
 use core::fmt;
 
 /// Why a patch was not applied, and where.
 ///
-/// It prints as the patch tool's line, with the meaning after it.
+/// It prints in words. [`line`](Refusal::line) is the patch tool's line, and
+/// [`explain`](Refusal::explain) shows where in the two texts.
 ///
 /// ```
 /// # fn main() -> Result<(), Box<dyn std::error::Error>> {
@@ -15,10 +17,8 @@ use core::fmt;
 /// let refusal = apply(br#"{"mAh":3000}"#, patch, &mut [0; 64], &mut Work::new()).unwrap_err();
 /// assert_eq!(refusal.kind(), Some(Kind::TestDiffers));
 /// assert_eq!((refusal.number, refusal.op), (15, 1));
-/// assert_eq!(
-///     refusal.to_string(),
-///     "refused 15 text 0 op 1 place 0: test found a difference"
-/// );
+/// assert_eq!(refusal.to_string(), "refused 15: operation 1: the test found a difference");
+/// assert_eq!(refusal.line().to_string(), "refused 15 text 0 op 1 place 0");
 /// # Ok(())
 /// # }
 /// ```
@@ -40,20 +40,68 @@ impl Refusal {
     pub fn kind(&self) -> Option<Kind> {
         Kind::ALL.into_iter().find(|kind| kind.number() == self.number)
     }
+
+    /// The line that the patch tool prints.
+    pub fn line(&self) -> Line {
+        Line(*self)
+    }
+
+    /// Whether `place` is an offset in one of the two texts.
+    pub fn has_place(&self) -> bool {
+        self.text != 0 && (3..=7).contains(&self.number)
+    }
+
+    /// The refusal with the operation or the place shown as it stands in the two
+    /// texts that were refused.
+    ///
+    /// ```
+    /// use json_patch::{apply, Work};
+    ///
+    /// let (document, patch) = (br#"{"a":1}"#, br#"[{"op":"remove","path":"/b"}]"#);
+    /// let refusal = apply(document, patch, &mut [0; 64], &mut Work::new()).unwrap_err();
+    /// assert_eq!(
+    ///     refusal.explain(document, patch).to_string(),
+    ///     r#"patch: operation 1, remove "/b": the location does not exist in document"#
+    /// );
+    /// ```
+    pub fn explain<'a>(&self, document: &'a [u8], patch: &'a [u8]) -> Explanation<'a> {
+        Explanation::new(*self, document, patch)
+    }
 }
 
 impl fmt::Display for Refusal {
     fn fmt(&self, f: &mut fmt::Formatter) -> fmt::Result {
-        let Refusal { number, text, op, place } = self;
-        write!(f, "refused {number} text {text} op {op} place {place}")?;
+        write!(f, "refused {}", self.number)?;
+        match self.text {
+            1 => f.write_str(": document")?,
+            2 => f.write_str(": patch")?,
+            _ => {}
+        }
+        if self.has_place() {
+            write!(f, ", byte {}", self.place)?;
+        }
+        if self.op != 0 {
+            write!(f, ": operation {}", self.op)?;
+        }
         match self.kind() {
             Some(kind) => write!(f, ": {kind}"),
-            None => Ok(()),
+            None => f.write_str(": unknown answer"),
         }
     }
 }
 
 impl Error for Refusal {}
+
+/// The line that the patch tool prints for a refusal.
+#[derive(Clone, Copy, Debug, PartialEq, Eq)]
+pub struct Line(Refusal);
+
+impl fmt::Display for Line {
+    fn fmt(&self, f: &mut fmt::Formatter) -> fmt::Result {
+        let Refusal { number, text, op, place } = self.0;
+        write!(f, "refused {number} text {text} op {op} place {place}")
+    }
+}
 
 /// The refusals, each under the name that it has in the definitions.
 #[derive(Clone, Copy, Debug, PartialEq, Eq, Hash)]
@@ -118,25 +166,25 @@ impl Kind {
         self as u32
     }
 
-    /// When it is given, in a few words.
+    /// When it is given, in a few words: those of `json_patch_message` in C.
     pub fn meaning(self) -> &'static str {
         match self {
-            Kind::WorkTooShort => "a work buffer is shorter than stated",
-            Kind::InputTooLong => "an input is too long",
+            Kind::WorkTooShort => "the work area is shorter than stated",
+            Kind::InputTooLong => "the text is longer than 32,768 bytes",
             Kind::NotJson => "not JSON text",
-            Kind::RepeatedName => "a member name repeated in one object",
-            Kind::TooDeep => "more than 32 nested",
-            Kind::TooManyNodes => "more than 2,048 nodes",
-            Kind::NumberOverLimit => "number over its limit",
-            Kind::WrongShape => "patch not of the right shape",
+            Kind::RepeatedName => "a member name is repeated in one object",
+            Kind::TooDeep => "more than 32 nested containers",
+            Kind::TooManyNodes => "more than 2,048 values",
+            Kind::NumberOverLimit => "a number is over its limit",
+            Kind::WrongShape => "the patch is malformed",
             Kind::TooManyOperations => "more than 256 operations",
-            Kind::MalformedPointer => "malformed pointer",
-            Kind::LocationMissing => "location missing",
-            Kind::NoIndex => "token is no array index",
-            Kind::RemoveOfRoot => "remove of the root",
-            Kind::MoveIntoChild => "move into its own child",
-            Kind::TestDiffers => "test found a difference",
-            Kind::OutputTooShort => "written text longer than the lent output",
+            Kind::MalformedPointer => "a pointer is malformed",
+            Kind::LocationMissing => "the location does not exist",
+            Kind::NoIndex => "a token is not an array index",
+            Kind::RemoveOfRoot => "the root cannot be removed",
+            Kind::MoveIntoChild => "a value cannot be moved into its own child",
+            Kind::TestDiffers => "the test found a difference",
+            Kind::OutputTooShort => "the result is longer than the lent output",
         }
     }
 }

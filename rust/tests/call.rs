@@ -9,9 +9,7 @@ fn line(document: &[u8], patch: &[u8]) -> String {
     let mut output = vec![0; TOOL_OUTPUT];
     match apply(document, patch, &mut output, &mut Work::new()) {
         Ok(length) => String::from_utf8_lossy(&output[..length]).into_owned(),
-        Err(Refusal { number, text, op, place }) => {
-            format!("refused {number} text {text} op {op} place {place}")
-        }
+        Err(refusal) => refusal.line().to_string(),
     }
 }
 
@@ -37,24 +35,25 @@ fn lines_of_document_01() {
 }
 
 #[test]
-fn refusals_print_their_line_and_their_meaning() {
-    let refusal = Refusal { number: 4, text: 1, op: 0, place: 9 };
+fn refusals_print_in_words_and_as_their_line() {
+    let words = |number, text, op, place| Refusal { number, text, op, place }.to_string();
     assert_eq!(
-        refusal.to_string(),
-        "refused 4 text 1 op 0 place 9: a member name repeated in one object"
+        words(4, 1, 0, 9),
+        "refused 4: document, byte 9: a member name is repeated in one object"
     );
+    assert_eq!(words(2, 2, 0, 0), "refused 2: patch: the text is longer than 32,768 bytes");
+    assert_eq!(words(6, 0, 3, 0), "refused 6: operation 3: more than 2,048 values");
     for (index, kind) in Kind::ALL.into_iter().enumerate() {
         let refusal = Refusal { number: kind.number(), text: 0, op: 0, place: 0 };
         assert_eq!(kind.number() as usize, index + 1);
         assert_eq!(refusal.kind(), Some(kind));
-        assert_eq!(
-            refusal.to_string(),
-            format!("refused {} text 0 op 0 place 0: {kind}", kind.number())
-        );
+        assert_eq!(refusal.to_string(), format!("refused {}: {kind}", kind.number()));
+        let line = format!("refused {} text 0 op 0 place 0", kind.number());
+        assert_eq!(refusal.line().to_string(), line);
     }
     let none = Refusal { number: 17, text: 0, op: 0, place: 0 };
     assert_eq!(none.kind(), None);
-    assert_eq!(none.to_string(), "refused 17 text 0 op 0 place 0");
+    assert_eq!(none.to_string(), "refused 17: unknown answer");
 }
 
 #[test]

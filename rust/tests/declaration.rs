@@ -1,6 +1,7 @@
 //! The declaration here, the C header and the library's source say the same, as
 //! far as their texts can be compared: the parameters' number, order, names and
-//! types, the answer's fields, the refusals' names and numbers, the limits.
+//! types, the answer's fields, the refusals' names, numbers and words, the
+//! limits, the version. So does the manual.
 
 use json_patch::Kind;
 use std::collections::BTreeMap;
@@ -221,7 +222,7 @@ fn refusals_have_the_numbers_and_names_of_the_definitions() {
 fn limits_are_those_of_the_definitions() {
     let limits = defined("crates/spec/specs/Limits.antt");
     assert_eq!(limits.len(), 7);
-    let here: BTreeMap<String, u64> = file("rust/src/lib.rs")
+    let here: BTreeMap<String, u64> = (file("rust/src/lib.rs") + &file("rust/src/raw.rs"))
         .lines()
         .filter_map(|line| line.strip_prefix("pub const ")?.split_once(": usize = "))
         .filter_map(|(name, value)| Some((name.to_string(), number(value.strip_suffix(';')?)?)))
@@ -232,4 +233,52 @@ fn limits_are_those_of_the_definitions() {
         assert_eq!(here.get(&name), Some(&value), "{name}");
     }
     assert_eq!(header.get("TOOL_OUTPUT"), here.get("TOOL_OUTPUT"));
+}
+
+#[test]
+fn refusals_have_the_same_words_in_c() {
+    let header = header();
+    let messages = between(&header, "*json_patch_message(uint64_t number) {", "default:");
+    let words: Vec<(&str, &str)> = messages
+        .lines()
+        .filter_map(|line| line.trim().strip_prefix("case JSON_PATCH_")?.split_once(": return \""))
+        .map(|(name, rest)| (name, rest.strip_suffix("\";").expect("a string")))
+        .collect();
+    assert_eq!(words[0], ("DONE", "done"));
+    let names: Vec<String> =
+        Kind::ALL.into_iter().map(|kind| constant(&format!("{kind:?}"))).collect();
+    let here: Vec<(&str, &str)> =
+        names.iter().zip(Kind::ALL).map(|(name, kind)| (&name[..], kind.meaning())).collect();
+    assert_eq!(words[1..], here);
+}
+
+#[test]
+fn the_version_is_that_of_the_header() {
+    let header = header();
+    let version = between(&header, "#define JSON_PATCH_VERSION \"", "\"");
+    assert_eq!(version, env!("CARGO_PKG_VERSION"));
+}
+
+#[test]
+fn the_manual_has_the_headers_struct_prototypes_and_numbers() {
+    let (header, manual) = (header(), file("man/json_patch.3"));
+    let begin = "typedef struct json_patch_answer {";
+    let body = between(&header, begin, "} json_patch_answer;");
+    assert!(manual.contains(&format!("{begin}{body}}} json_patch_answer;")));
+    for (name, number) in &in_header()[0] {
+        assert!(manual.contains(&format!("\nJSON_PATCH_{name}|{number}\n")), "{name}");
+    }
+    // Without the marks of the manual, and with one blank for many.
+    let plain = |text: &str| text.split_whitespace().collect::<Vec<_>>().join(" ");
+    let mut synopsis = between(&manual, ".SH SYNOPSIS", ".SH DESCRIPTION").to_string();
+    for (mark, with) in [("\n.BI", "\n"), ("\"", " "), (" ,", ","), (" )", ")")] {
+        synopsis = synopsis.replace(mark, with);
+    }
+    let synopsis = plain(&synopsis).replace("* ", "*").replace(" ,", ",");
+    for function in ["apply", "apply_with", "message", "describe"] {
+        let begin = format!("json_patch_{function}(");
+        let code = &header[header.find("extern \"C\"").expect("declarations")..];
+        let wanted = format!("{begin}{})", plain(between(code, &begin, ")")));
+        assert!(synopsis.contains(&wanted), "{wanted}\n{synopsis}");
+    }
 }

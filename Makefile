@@ -1,0 +1,135 @@
+# The library and the command json-patch: built, checked, installed.
+#
+#   make                  the proved static library, the shared library, the command
+#   make check            everything that is tested outside the gate
+#   make install          PREFIX=/usr/local DESTDIR=
+#   make uninstall        the same
+#   make clean            what make has made; proofs stay
+#
+# Needs rt (the Rattle toolchain), a C compiler, cargo (Rust 1.82 or later) and
+# GNU make; for 'make check' also a C++ compiler, pkg-config and python3.
+
+PREFIX ?= /usr/local
+DESTDIR ?=
+BINDIR ?= $(PREFIX)/bin
+LIBDIR ?= $(PREFIX)/lib
+INCLUDEDIR ?= $(PREFIX)/include
+MANDIR ?= $(PREFIX)/share/man
+DOCDIR ?= $(PREFIX)/share/doc/json-patch
+BASHDIR ?= $(PREFIX)/share/bash-completion/completions
+ZSHDIR ?= $(PREFIX)/share/zsh/site-functions
+FISHDIR ?= $(PREFIX)/share/fish/vendor_completions.d
+# Where Python looks below PREFIX, if it looks there at all.
+PYTHONDIR ?= $(or $(shell $(PYTHON) python/where.py $(PREFIX) 2>/dev/null),$(LIBDIR)/python3/dist-packages)
+
+CC ?= cc
+CARGO ?= cargo
+PYTHON ?= python3
+INSTALL ?= install
+CARGO_FLAGS ?= --offline --locked
+
+VERSION := $(shell sed -n 's/.*JSON_PATCH_VERSION "\(.*\)"/\1/p' include/json_patch.h)
+# What the shared library's users are bound to: raise it whenever an exported
+# function or a struct of the header changes after a release.
+ABI := 0
+
+# The folder of the static library, if it is not the one that rt makes here.
+ifdef JSON_PATCH_LIB
+prebuilt := yes
+endif
+override JSON_PATCH_LIB := $(abspath $(or $(JSON_PATCH_LIB),target/staticlib))
+export JSON_PATCH_LIB
+
+out := target/make
+static := $(JSON_PATCH_LIB)/libjson_patch.a
+shared := libjson_patch.so.$(VERSION)
+soname := libjson_patch.so.$(ABI)
+command := $(out)/json-patch
+completions := $(out)/json-patch.bash $(out)/_json-patch $(out)/json-patch.fish
+
+proved := crates.txt $(shell find crates -path '*/must-fail' -prune -o -name '*.rt' -print -o -name '*.antt' -print)
+rust := $(shell find rust/src rust/cli/src -name '*.rs') rust/build.rs rust/Cargo.toml rust/Cargo.lock rust/cli/Cargo.toml
+
+all: $(static) $(out)/$(soname) $(command) $(completions)
+
+ifndef prebuilt
+$(static): $(proved)
+	@command -v rt >/dev/null || { echo "no rt: the Rattle toolchain proves and makes $@" >&2; exit 1; }
+	rt staticlib json_patch
+	@touch $@
+endif
+
+# The shared library is the proved archive, linked whole.
+$(out)/$(shared): $(static)
+	@mkdir -p $(out)
+	$(CC) -shared $(LDFLAGS) -Wl,-soname,$(soname) -Wl,-z,defs -Wl,-z,relro -Wl,-z,now \
+		-Wl,--whole-archive $(static) -Wl,--no-whole-archive -o $@
+
+$(out)/$(soname): $(out)/$(shared)
+	ln -sf $(shared) $@
+
+$(command): $(rust) $(static)
+	@mkdir -p $(out)
+	$(CARGO) build --release $(CARGO_FLAGS) --manifest-path rust/Cargo.toml --package json-patch-cli --target-dir rust/target
+	cp rust/target/release/json-patch $@
+
+$(out)/json-patch.bash: $(command)
+	$(command) completion bash >$@
+$(out)/_json-patch: $(command)
+	$(command) completion zsh >$@
+$(out)/json-patch.fish: $(command)
+	$(command) completion fish >$@
+
+check: all
+	@echo "== the C example, under both sanitizers"
+	examples/run.sh
+	@echo "== the header: C and C++, both sanitizers"
+	tests/header.sh
+	@echo "== Rust: the library, its documented examples, the command line"
+	$(CARGO) test $(CARGO_FLAGS) --workspace --manifest-path rust/Cargo.toml --target-dir rust/target
+	@echo "== Python"
+	cd python && JSON_PATCH_LIBRARY=$(CURDIR)/$(out)/$(soname) PYTHONDONTWRITEBYTECODE=1 \
+		$(PYTHON) -W error -m unittest discover -s tests
+	@echo "== installed, used and removed"
+	MAKE="$(MAKE)" CC="$(CC)" PYTHON="$(PYTHON)" tests/installed.sh
+	@echo "check: all passed"
+
+install: all
+	$(INSTALL) -d $(DESTDIR)$(BINDIR) $(DESTDIR)$(INCLUDEDIR) $(DESTDIR)$(LIBDIR)/pkgconfig \
+		$(DESTDIR)$(MANDIR)/man1 $(DESTDIR)$(MANDIR)/man3 $(DESTDIR)$(DOCDIR) $(DESTDIR)$(BASHDIR) \
+		$(DESTDIR)$(ZSHDIR) $(DESTDIR)$(FISHDIR) $(DESTDIR)$(PYTHONDIR)/json_patch
+	$(INSTALL) -m 755 $(command) $(DESTDIR)$(BINDIR)/json-patch
+	$(INSTALL) -m 644 include/json_patch.h $(DESTDIR)$(INCLUDEDIR)/json_patch.h
+	$(INSTALL) -m 644 $(static) $(DESTDIR)$(LIBDIR)/libjson_patch.a
+	$(INSTALL) -m 644 $(out)/$(shared) $(DESTDIR)$(LIBDIR)/$(shared)
+	ln -sf $(shared) $(DESTDIR)$(LIBDIR)/$(soname)
+	ln -sf $(soname) $(DESTDIR)$(LIBDIR)/libjson_patch.so
+	sed -e 's|@PREFIX@|$(PREFIX)|' -e 's|@LIBDIR@|$(LIBDIR)|' -e 's|@INCLUDEDIR@|$(INCLUDEDIR)|' \
+		-e 's|@VERSION@|$(VERSION)|' json_patch.pc.in >$(DESTDIR)$(LIBDIR)/pkgconfig/json_patch.pc
+	chmod 644 $(DESTDIR)$(LIBDIR)/pkgconfig/json_patch.pc
+	$(INSTALL) -m 644 man/json-patch.1 $(DESTDIR)$(MANDIR)/man1/json-patch.1
+	$(INSTALL) -m 644 man/json_patch.3 $(DESTDIR)$(MANDIR)/man3/json_patch.3
+	$(INSTALL) -m 644 LICENSE $(DESTDIR)$(DOCDIR)/LICENSE
+	$(INSTALL) -m 644 $(out)/json-patch.bash $(DESTDIR)$(BASHDIR)/json-patch
+	$(INSTALL) -m 644 $(out)/_json-patch $(DESTDIR)$(ZSHDIR)/_json-patch
+	$(INSTALL) -m 644 $(out)/json-patch.fish $(DESTDIR)$(FISHDIR)/json-patch.fish
+	$(INSTALL) -m 644 python/json_patch/__init__.py $(DESTDIR)$(PYTHONDIR)/json_patch/__init__.py
+	$(INSTALL) -m 644 python/json_patch/py.typed $(DESTDIR)$(PYTHONDIR)/json_patch/py.typed
+	@if [ -z "$(DESTDIR)" ] && [ "$$(id -u)" = 0 ] && command -v ldconfig >/dev/null; then ldconfig; fi
+
+uninstall:
+	rm -f $(DESTDIR)$(BINDIR)/json-patch $(DESTDIR)$(INCLUDEDIR)/json_patch.h \
+		$(DESTDIR)$(LIBDIR)/libjson_patch.a $(DESTDIR)$(LIBDIR)/libjson_patch.so \
+		$(DESTDIR)$(LIBDIR)/$(soname) $(DESTDIR)$(LIBDIR)/$(shared) \
+		$(DESTDIR)$(LIBDIR)/pkgconfig/json_patch.pc \
+		$(DESTDIR)$(MANDIR)/man1/json-patch.1 $(DESTDIR)$(MANDIR)/man3/json_patch.3 \
+		$(DESTDIR)$(DOCDIR)/LICENSE $(DESTDIR)$(BASHDIR)/json-patch $(DESTDIR)$(ZSHDIR)/_json-patch \
+		$(DESTDIR)$(FISHDIR)/json-patch.fish
+	rm -rf $(DESTDIR)$(PYTHONDIR)/json_patch
+	-rmdir $(DESTDIR)$(DOCDIR) 2>/dev/null
+
+clean:
+	rm -rf $(out) target/examples rust/target
+
+.PHONY: all check install uninstall clean
+.DELETE_ON_ERROR:

@@ -1,0 +1,270 @@
+"""A proved JSON Patch (RFC 6902): bytes in, bytes out.
+
+How it differs from the package ``jsonpatch``:
+
+* Numbers are exact. ``jsonpatch`` works on what ``json.loads`` makes of a text:
+  1.10 is written back as 1.1, and a test takes 9007199254740993.0 for
+  9007199254740992.0, and 1 for true. Here digits stay as they are written, and a
+  test compares exact values.
+* There are limits: texts of 32,768 bytes, 32 nested containers, 2,048 values,
+  256 operations, numbers of 128 bytes. What is over one of them is refused, and
+  so are a repeated member name, NaN and all else that RFC 8259 does not have.
+* A refusal is an exception with the number of the refusal, the operation and
+  the place: `Refusal`.
+* It only applies patches. ``jsonpatch`` also makes them from two documents.
+
+The work is done by a shared library in which every function is proved to meet
+its contract; this module calls it by ctypes and is not part of the proof. It
+needs Python 3.7 or later and no other package.
+
+>>> document = b'{"mAh": 3000, "cut": [4.2, 3.0]}'
+>>> patch = b'[{"op": "add", "path": "/cut/-", "value": 2.80}]'
+>>> apply(document, patch)
+b'{"mAh":3000,"cut":[4.2,3.0,2.80]}'
+
+>>> try:
+...     apply(document, b'[{"op": "test", "path": "/mAh", "value": 3001}]')
+... except Refusal as refusal:
+...     print(refusal)
+...     print(refusal.number.name, int(refusal.number), refusal.op)
+patch: operation 1, test "/mAh": the test found a difference
+TEST_DIFFERS 15 1
+
+The library is looked for at $JSON_PATCH_LIBRARY, beside this package as
+``make`` and ``make install`` lay it down, and where the system's loader looks.
+"""
+
+from __future__ import annotations
+
+import ctypes
+import enum
+import json
+import os
+import threading
+from pathlib import Path
+from typing import Any, List, Tuple, Union
+
+__all__ = ["Kind", "Refusal", "apply", "MAX_BYTES", "OUTPUT", "__version__"]
+__version__ = "0.1.0"
+
+Bytes = Union[bytes, bytearray, memoryview]
+
+MAX_BYTES = 32_768
+"""The longest document, and the longest patch, in bytes."""
+
+OUTPUT = 65_536
+"""The room for a result, in bytes, where none is given."""
+
+_SONAME = "libjson_patch.so.0"
+
+# All that this module knows of the work area.
+_WORD = ctypes.c_uint64
+_WORDS = 6_144
+
+
+class _Work(ctypes.Structure):
+    """The work area: it is all zero between calls."""
+
+    _fields_ = [("values", _WORD * _WORDS), ("names", _WORD * _WORDS)]
+
+    types = [ctypes.POINTER(_WORD), ctypes.c_size_t] * 2
+
+    def lent(self) -> Tuple[Any, ...]:
+        """What is passed to the library, in the order of `types`."""
+        return (self.values, _WORDS, self.names, _WORDS)
+
+
+class _Answer(ctypes.Structure):
+    """The answer, as in json_patch.h."""
+
+    _fields_ = [(name, ctypes.c_uint64) for name in ("number", "text", "op", "place", "length")]
+
+
+class Kind(enum.IntEnum):
+    """The numbers of the refusals, under their names in json_patch.h."""
+
+    WORK_TOO_SHORT = 1
+    INPUT_TOO_LONG = 2
+    NOT_JSON = 3
+    REPEATED_NAME = 4
+    TOO_DEEP = 5
+    TOO_MANY_NODES = 6
+    NUMBER_OVER_LIMIT = 7
+    WRONG_SHAPE = 8
+    TOO_MANY_OPERATIONS = 9
+    MALFORMED_POINTER = 10
+    LOCATION_MISSING = 11
+    NO_INDEX = 12
+    REMOVE_OF_ROOT = 13
+    MOVE_INTO_CHILD = 14
+    TEST_DIFFERS = 15
+    OUTPUT_TOO_SHORT = 16
+
+    @property
+    def meaning(self) -> str:
+        """When it is given, in a few words."""
+        return _MEANINGS[self]
+
+
+_MEANINGS = {
+    Kind.WORK_TOO_SHORT: "the work area is shorter than stated",
+    Kind.INPUT_TOO_LONG: "the text is longer than 32,768 bytes",
+    Kind.NOT_JSON: "not JSON text",
+    Kind.REPEATED_NAME: "a member name is repeated in one object",
+    Kind.TOO_DEEP: "more than 32 nested containers",
+    Kind.TOO_MANY_NODES: "more than 2,048 values",
+    Kind.NUMBER_OVER_LIMIT: "a number is over its limit",
+    Kind.WRONG_SHAPE: "the patch is malformed",
+    Kind.TOO_MANY_OPERATIONS: "more than 256 operations",
+    Kind.MALFORMED_POINTER: "a pointer is malformed",
+    Kind.LOCATION_MISSING: "the location does not exist",
+    Kind.NO_INDEX: "a token is not an array index",
+    Kind.REMOVE_OF_ROOT: "the root cannot be removed",
+    Kind.MOVE_INTO_CHILD: "a value cannot be moved into its own child",
+    Kind.TEST_DIFFERS: "the test found a difference",
+    Kind.OUTPUT_TOO_SHORT: "the result is longer than the lent output",
+}
+
+
+class Refusal(ValueError):
+    """Why a patch was not applied, and where.
+
+    It prints in words. `line` is what the patch tool prints.
+    """
+
+    number: Kind
+    """The number of the refusal."""
+    text: int
+    """1 for the document, 2 for the patch, else 0."""
+    op: int
+    """The operation, counted from 1, else 0."""
+    place: int
+    """The offset of a byte in that text, else 0."""
+    message: str
+    """The refusal in words."""
+
+    def __init__(self, number: int, text: int, op: int, place: int, message: str) -> None:
+        super().__init__(number, text, op, place, message)
+        self.number = Kind(number)
+        self.text = text
+        self.op = op
+        self.place = place
+        self.message = message
+
+    def __str__(self) -> str:
+        return self.message
+
+    @property
+    def line(self) -> str:
+        """The line that the patch tool prints."""
+        return f"refused {int(self.number)} text {self.text} op {self.op} place {self.place}"
+
+
+def apply(document: Bytes, patch: Bytes, *, room: int = OUTPUT) -> bytes:
+    """Applies the patch to the document and returns the result, compact.
+
+    Raises `Refusal` where the patch cannot be applied. `room` is the length that
+    a result may have; one that is longer is refused with 16.
+
+    >>> apply(b'[1, 2, 3]', b'[{"op": "move", "from": "/0", "path": "/2"}]')
+    b'[2,3,1]'
+    >>> apply(b'[1,]', b'[]')
+    Traceback (most recent call last):
+    ...
+    json_patch.Refusal: document:1:4: not JSON text
+    """
+    texts = _octets(document, "document"), _octets(patch, "patch")
+    if room < 0:
+        raise ValueError("room is less than 0")
+    answer = _Answer()
+    output = ctypes.create_string_buffer(max(room, 1))
+    _apply(
+        texts[0], len(texts[0]), texts[1], len(texts[1]), output, room, *_work().lent(), answer
+    )
+    if answer.number == 0:
+        return ctypes.string_at(output, answer.length)
+    fields = (answer.number, answer.text, answer.op, answer.place)
+    raise Refusal(*fields, _words(*fields, *texts))
+
+
+def _octets(text: Bytes, name: str) -> bytes:
+    """A text as bytes."""
+    if isinstance(text, str):
+        raise TypeError(f"the {name} is a str: encode it as UTF-8 first")
+    if not isinstance(text, (bytes, bytearray, memoryview)):
+        raise TypeError(f"the {name} is not bytes but {type(text).__name__}")
+    return bytes(text)
+
+
+def _words(number: int, text: int, op: int, place: int, document: bytes, patch: bytes) -> str:
+    """A refusal in words, with the operation or the place in the two texts."""
+    kind = Kind(number)
+    name, octets = ("document", document) if text == 1 else ("patch", patch)
+    if text and Kind.NOT_JSON <= kind <= Kind.NUMBER_OVER_LIMIT:
+        line = octets.count(b"\n", 0, place) + 1
+        start = octets.rfind(b"\n", 0, place) + 1
+        column = sum(byte & 0xC0 != 0x80 for byte in octets[start:place]) + 1
+        return f"{name}:{line}:{column}: {kind.meaning}"
+    if op:
+        return f"patch: operation {op}{_operation(patch, op)}: {kind.meaning}"
+    return f"{name}: {kind.meaning}"
+
+
+def _operation(patch: bytes, op: int) -> str:
+    """An operation's name and pointers, as far as it has them."""
+    operation = json.loads(patch)[op - 1]
+    if not isinstance(operation, dict) or not isinstance(operation.get("op"), str):
+        return ""
+    words: List[str] = [f", {_shown(operation['op'])[1:-1]}"]
+    path, origin = operation.get("path"), operation.get("from")
+    if operation["op"] in ("move", "copy") and isinstance(origin, str):
+        words += [f"from {_shown(origin)}", "to"]
+    if isinstance(path, str):
+        words.append(_shown(path))
+    return " ".join(words)
+
+
+def _shown(text: str) -> str:
+    """A string as JSON has it, cut where it is long."""
+    if len(text) > 60:
+        text = text[:59] + "…"
+    return json.dumps(text, ensure_ascii=not text.isprintable())
+
+
+_local = threading.local()
+
+
+def _work() -> _Work:
+    """The work area of this thread."""
+    try:
+        return _local.work
+    except AttributeError:
+        _local.work = _Work()
+        return _local.work
+
+
+def _library() -> ctypes.CDLL:
+    """The shared library."""
+    named = os.environ.get("JSON_PATCH_LIBRARY")
+    if named:
+        return ctypes.CDLL(named)
+    _, modules, above, prefix, *_ = [*Path(__file__).resolve().parents, *[Path("/")] * 4]
+    # PREFIX/lib/python3.11/site-packages/json_patch, or python/json_patch of a clone.
+    installed = modules.name.endswith("-packages") and above.name.startswith("python")
+    cloned = modules.name == "python" and (above / "include" / "json_patch.h").is_file()
+    beside = prefix / _SONAME if installed else above / "target" / "make" / _SONAME
+    if (installed or cloned) and beside.is_file():
+        return ctypes.CDLL(str(beside))
+    try:
+        return ctypes.CDLL(_SONAME)
+    except OSError as error:
+        raise ImportError(f"no {_SONAME}: run 'make install', or set JSON_PATCH_LIBRARY") from error
+
+
+_apply = _library().json_patch_apply
+_apply.restype = ctypes.c_uint32
+_apply.argtypes = [
+    *[ctypes.c_char_p, ctypes.c_size_t] * 3,
+    *_Work.types,
+    ctypes.POINTER(_Answer),
+]

@@ -1,0 +1,175 @@
+"""The module json_patch: its documented examples, every field of a refusal, the
+committed cases, and that it says what the header says."""
+
+import ctypes
+import doctest
+import pickle
+import re
+import threading
+import unittest
+from pathlib import Path
+
+import json_patch
+from json_patch import Kind, Refusal, apply
+
+ROOT = Path(__file__).resolve().parents[2]
+
+
+def refused(document, patch, **options):
+    """The refusal of a call."""
+    try:
+        result = apply(document, patch, **options)
+    except Refusal as refusal:
+        return refusal
+    raise AssertionError(f"not refused: {result!r}")
+
+
+class Calls(unittest.TestCase):
+    def test_documented_examples(self):
+        results = doctest.testmod(json_patch)
+        self.assertGreaterEqual(results.attempted, 5)
+        self.assertEqual(results.failed, 0)
+
+    def test_numbers_are_exact(self):
+        self.assertEqual(apply(b"[1.10,1E400]", b"[]"), b"[1.10,1E400]")
+        patch = b'[{"op":"test","path":"","value":9007199254740992.0}]'
+        self.assertEqual(refused(b"9007199254740993.0", patch).number, Kind.TEST_DIFFERS)
+        patch = b'[{"op":"test","path":"","value":true}]'
+        self.assertEqual(refused(b"1", patch).number, Kind.TEST_DIFFERS)
+
+    def test_any_bytes_are_taken(self):
+        for text in (bytearray(b"[ ]"), memoryview(b"[ ]"), memoryview(b"x[ ]")[1:], b"[ ]"):
+            self.assertEqual(apply(text, b"[]"), b"[]")
+            self.assertEqual(apply(b"{}", text), b"{}")
+        self.assertEqual(refused(b"[\0]", b"[]").place, 1)
+        self.assertEqual(refused(b"", b"[]").message, "document:1:1: not JSON text")
+
+    def test_text_that_is_not_bytes_is_a_type_error(self):
+        with self.assertRaisesRegex(TypeError, "document is a str: encode it"):
+            apply("{}", b"[]")
+        with self.assertRaisesRegex(TypeError, "patch is not bytes but list"):
+            apply(b"{}", [])
+
+    def test_room(self):
+        self.assertEqual(apply(b"[1]", b"[]", room=3), b"[1]")
+        self.assertEqual(refused(b"[1]", b"[]", room=2).number, Kind.OUTPUT_TOO_SHORT)
+        self.assertEqual(refused(b"[1]", b"[]", room=0).number, Kind.OUTPUT_TOO_SHORT)
+        with self.assertRaises(ValueError):
+            apply(b"[1]", b"[]", room=-1)
+        text = b'"' + 30_000 * b"x" + b'"'
+        copies = b",".join(b'{"op":"copy","from":"/0","path":"/-"}' for _ in range(5))
+        self.assertEqual(refused(b"[" + text + b"]", b"[" + copies + b"]").number, 16)
+        self.assertEqual(len(apply(b"[" + text + b"]", b"[" + copies + b"]", room=1 << 20)), 180_019)
+
+    def test_threads(self):
+        results = {}
+
+        def work(number):
+            for _ in range(300):
+                patch = b'[{"op":"add","path":"/-","value":%d}]' % number
+                results[number] = apply(b"[]", patch)
+
+        threads = [threading.Thread(target=work, args=(number,)) for number in range(6)]
+        for thread in threads:
+            thread.start()
+        for thread in threads:
+            thread.join()
+        self.assertEqual(results, {number: b"[%d]" % number for number in range(6)})
+
+
+class Refusals(unittest.TestCase):
+    def test_fields(self):
+        refusal = refused(b'{"a":1,\n "a":2}', b"[]")
+        fields = (refusal.number, refusal.text, refusal.op, refusal.place)
+        self.assertEqual(fields, (Kind.REPEATED_NAME, 1, 0, 11))
+        self.assertEqual(refusal.line, "refused 4 text 1 op 0 place 11")
+        self.assertEqual(str(refusal), "document:2:4: a member name is repeated in one object")
+        self.assertIsInstance(refusal, ValueError)
+
+    def test_words(self):
+        def said(patch, words, document=b'{"a":[1]}'):
+            self.assertEqual(str(refused(document, patch)), words)
+
+        said(b"[1,]", "patch:1:4: not JSON text")
+        said(b"7", "patch: the patch is malformed")
+        said(b"[7]", "patch: operation 1: the patch is malformed")
+        said(b"[{}]", "patch: operation 1: the patch is malformed")
+        said(b'[{"op":"x"}]', "patch: operation 1, x: the patch is malformed")
+        said(
+            b'[{"op":"remove","path":"/a/0"},{"op":"remove","path":"/a/0"}]',
+            'patch: operation 2, remove "/a/0": the location does not exist',
+        )
+        said(
+            b'[{"op":"move","from":"/a","path":"/a/0"}]',
+            'patch: operation 1, move from "/a" to "/a/0": a value cannot be moved into its own child',
+        )
+        said(
+            b'[{"op":"remove","path":"/\\u001b[31m\xe2\x80\xae"}]',
+            'patch: operation 1, remove "/\\u001b[31m\\u202e": the location does not exist',
+        )
+        long = json_patch.MAX_BYTES + 1
+        said(long * b" ", "patch: the text is longer than 32,768 bytes")
+        said(b"[]", "document: the text is longer than 32,768 bytes", long * b" ")
+
+    def test_a_refusal_can_be_pickled(self):
+        refusal = refused(b"[1,]", b"[]")
+        again = pickle.loads(pickle.dumps(refusal))
+        self.assertEqual((again.args, str(again)), (refusal.args, str(refusal)))
+
+
+class Agreement(unittest.TestCase):
+    header = (ROOT / "include" / "json_patch.h").read_text()
+
+    def defined(self, name):
+        return int(re.search(rf"#define JSON_PATCH_{name} (\d+)", self.header)[1])
+
+    def test_the_header_has_the_same_numbers_and_words(self):
+        names = dict(re.findall(r"^    JSON_PATCH_(\w+) = (\d+)", self.header, re.M))
+        self.assertEqual(names.pop("DONE"), "0")
+        self.assertEqual({name: int(number) for name, number in names.items()},
+                         {kind.name: int(kind) for kind in Kind})
+        words = dict(re.findall(r'case JSON_PATCH_(\w+): return "(.*)";', self.header))
+        self.assertEqual(words.pop("DONE"), "done")
+        self.assertEqual(words, {kind.name: kind.meaning for kind in Kind})
+
+    def test_the_header_has_the_same_limits(self):
+        self.assertEqual(self.defined("MAX_BYTES"), json_patch.MAX_BYTES)
+        self.assertEqual(self.defined("TOOL_OUTPUT"), json_patch.OUTPUT)
+        self.assertEqual(self.defined("WORK_WORDS"), json_patch._WORDS)
+        self.assertIn(f'#define JSON_PATCH_VERSION "{json_patch.__version__}"', self.header)
+
+    def test_the_header_has_the_same_structs(self):
+        types = {"uint64_t": ctypes.c_uint64, "uint32_t": ctypes.c_uint32, "uint16_t": ctypes.c_uint16}
+        for name, here in (("answer", json_patch._Answer), ("work", json_patch._Work)):
+            body = re.search(rf"typedef struct json_patch_{name} {{(.*?)}}", self.header, re.S)[1]
+            fields = []
+            for kind, field, length in re.findall(r"(\w+) (\w+)(?:\[JSON_PATCH_(\w+)\])?;", body):
+                size = ctypes.sizeof(types[kind])
+                fields.append((field, size * self.defined(length) if length else size))
+            self.assertTrue(fields)
+            self.assertEqual(fields, [(field, ctypes.sizeof(kind)) for field, kind in here._fields_])
+
+    def test_the_committed_cases(self):
+        folder = ROOT / "crates" / "vectors"
+        cases = (folder / "data" / "cases").read_bytes()
+        lines = iter((folder / "stdout").read_bytes().split(b"\n"))
+        at = count = 0
+        while at < len(cases):
+            end = cases.index(b"\n", at)
+            _, name, *numbers = cases[at:end].split(b" ")
+            room, first, second = map(int, numbers)
+            document = cases[end + 1 : end + 1 + first]
+            patch = cases[end + 2 + first : end + 2 + first + second]
+            at = end + first + second + 3
+            try:
+                line = apply(document, patch, room=room)
+            except Refusal as refusal:
+                line = refusal.line.encode()
+                self.assertTrue(refusal.message.startswith(("document:", "patch:")))
+            self.assertEqual(name + b": " + line, next(lines))
+            count += 1
+        self.assertGreater(count, 1700)
+
+
+if __name__ == "__main__":
+    unittest.main()

@@ -1,0 +1,65 @@
+//! `json-patch apply`.
+
+use crate::arguments::{wrong, Arguments};
+use crate::command::{Command, Opt, Status, PORCELAIN, QUIET};
+use crate::files::{deliver, Target};
+use crate::patches::Run;
+use crate::report;
+use crate::trouble::Trouble;
+
+/// The command.
+pub const COMMAND: Command = Command {
+    name: "apply",
+    operands: "DOCUMENT PATCH...",
+    summary: "apply patches to a document",
+    details: "\
+Applies each JSON Patch to the text that the one before left, and writes the
+result to standard output. Either all patches are applied or none is. A file
+that is written appears whole or not at all; its permissions stay, and a
+symbolic link is followed. The name - is standard input.",
+    options: &[
+        Opt {
+            short: Some('o'),
+            long: "output",
+            value: Some("FILE"),
+            summary: "write the result to FILE",
+        },
+        Opt {
+            short: Some('i'),
+            long: "in-place",
+            value: None,
+            summary: "write the result to DOCUMENT",
+        },
+        PORCELAIN,
+        QUIET,
+    ],
+    example: "\
+$ cat pack.json
+{\"mAh\":3000,\"cut\":[4.2,3.0]}
+$ cat fix.json
+[{\"op\":\"test\",\"path\":\"/mAh\",\"value\":3e3},
+ {\"op\":\"add\",\"path\":\"/cut/-\",\"value\":2.8}]
+$ json-patch apply pack.json fix.json
+{\"mAh\":3000,\"cut\":[4.2,3.0,2.8]}",
+    words: &[],
+    run,
+};
+
+fn run(arguments: &Arguments) -> Result<Status, Trouble> {
+    let run = Run::read(&COMMAND, arguments)?;
+    let target = match (arguments.has("in-place"), arguments.value("output")) {
+        (true, Some(_)) => {
+            return Err(wrong(&COMMAND, "--in-place and --output exclude each other"));
+        }
+        (true, None) if run.document.name == "-" => {
+            return Err(wrong(&COMMAND, "--in-place takes a file, not standard input"));
+        }
+        (true, None) => Target::File(&run.document.name),
+        (false, Some(name)) if name != "-" => Target::File(name),
+        (false, _) => Target::Standard,
+    };
+    match run.result() {
+        Ok(text) => deliver(text, target).map(|()| Status::Done),
+        Err(refused) => Ok(report::refusal(arguments, &run, &refused)),
+    }
+}

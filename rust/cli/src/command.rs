@@ -1,0 +1,62 @@
+//! What a subcommand is.
+
+use crate::arguments::Arguments;
+use crate::trouble::Trouble;
+
+/// A subcommand: what it is called, what it takes, and what it does. Its help
+/// and its completions are made of this.
+pub struct Command {
+    /// The word that it is called by.
+    pub name: &'static str,
+    /// What stands behind the options, as the help shows it.
+    pub operands: &'static str,
+    /// What it does, in one line.
+    pub summary: &'static str,
+    /// What a user should know, in paragraphs.
+    pub details: &'static str,
+    /// Its options, `--help` not among them.
+    pub options: &'static [Opt],
+    /// A worked example.
+    pub example: &'static str,
+    /// The words that an operand can be, where it is no file.
+    pub words: &'static [&'static str],
+    /// Runs it.
+    pub run: fn(&Arguments) -> Result<Status, Trouble>,
+}
+
+/// An option.
+pub struct Opt {
+    /// Its letter, where it has one.
+    pub short: Option<char>,
+    /// Its name.
+    pub long: &'static str,
+    /// What it takes, where it takes something.
+    pub value: Option<&'static str>,
+    /// What it does, in one line.
+    pub summary: &'static str,
+}
+
+/// How a command ended where there was no trouble.
+#[derive(Clone, Copy, Debug, PartialEq, Eq)]
+pub enum Status {
+    /// Done: exit status 0.
+    Done,
+    /// The patch was refused: exit status 1.
+    Refused,
+}
+
+/// `--quiet`, of every command that can refuse.
+pub const QUIET: Opt = Opt {
+    short: Some('q'),
+    long: "quiet",
+    value: None,
+    summary: "say nothing of a refusal; the exit status tells",
+};
+
+/// `--porcelain`, of every command that can refuse.
+pub const PORCELAIN: Opt = Opt {
+    short: None,
+    long: "porcelain",
+    value: None,
+    summary: "say a refusal in one fixed line, for programs",
+};

@@ -1,0 +1,73 @@
+//! Patches applied to a document, one after another.
+
+use crate::arguments::{wrong, Arguments};
+use crate::command::Command;
+use crate::files::{Name, Text};
+use crate::trouble::Trouble;
+use json_patch::{apply, Refusal, Work, TOOL_OUTPUT};
+
+/// A document, and the patches for it.
+pub struct Run {
+    /// The document.
+    pub document: Text,
+    /// The patches, at least one.
+    pub patches: Vec<Text>,
+}
+
+/// The patch that was refused, and where.
+pub struct Refused {
+    /// The refusal.
+    pub refusal: Refusal,
+    /// The patch that was refused, counted from 0.
+    pub index: usize,
+    /// The text that the patches before it left.
+    pub document: Vec<u8>,
+}
+
+impl Run {
+    /// Reads the document and every patch that a command was given.
+    pub fn read(command: &Command, arguments: &Arguments) -> Result<Self, Trouble> {
+        let [document, patches @ ..] = &arguments.operands[..] else {
+            return Err(wrong(command, "no document and no patch are given"));
+        };
+        if patches.is_empty() {
+            return Err(wrong(command, "no patch is given"));
+        }
+        if arguments.operands.iter().filter(|name| *name == "-").count() > 1 {
+            return Err(wrong(command, "standard input can be read only once"));
+        }
+        let document = Text::read(document)?;
+        let patches = patches.iter().map(|name| Text::read(name)).collect::<Result<_, _>>()?;
+        Ok(Run { document, patches })
+    }
+
+    /// The text that the last patch leaves, or the first refusal.
+    pub fn result(&self) -> Result<Vec<u8>, Refused> {
+        let mut text = self.document.bytes.clone();
+        for (index, patch) in self.patches.iter().enumerate() {
+            text = match applied(&text, &patch.bytes) {
+                Ok(next) => next,
+                Err(refusal) => return Err(Refused { refusal, index, document: text }),
+            };
+        }
+        Ok(text)
+    }
+
+    /// What the patch with this index is applied to, in words.
+    pub fn document_at(&self, index: usize) -> String {
+        let name = Name(&self.document.name);
+        match index {
+            0 => name.to_string(),
+            1 => format!("{name} after 1 patch"),
+            _ => format!("{name} after {index} patches"),
+        }
+    }
+}
+
+/// One patch applied to a text, with as much output as the patch tool lends.
+pub fn applied(document: &[u8], patch: &[u8]) -> Result<Vec<u8>, Refusal> {
+    let mut output = vec![0; TOOL_OUTPUT];
+    let length = apply(document, patch, &mut output, &mut Work::new())?;
+    output.truncate(length);
+    Ok(output)
+}

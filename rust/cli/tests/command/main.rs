@@ -1,0 +1,9 @@
+//! The command as a person uses it: every subcommand, every exit status, and
+//! whatever can be wrong with a file.
+
+mod files;
+mod replacing;
+mod statuses;
+mod support;
+mod usage;
+mod words;

@@ -1,0 +1,114 @@
+//! What a person reads.
+
+use crate::support::{left_out, program, Folder, Ran};
+use std::process::Command;
+
+#[test]
+fn a_document_that_is_not_json() {
+    let folder = Folder::with_files();
+    folder.write("pack.json", "{\n  \"mAh\": 3000,\n  \"cut\": [4.2, 3.0,]\n}\n");
+    folder.run(["apply", "pack.json", "fix.json"]).refused(
+        "json-patch: pack.json:3:20: not JSON text: unexpected ']'\n  \
+           3 |   \"cut\": [4.2, 3.0,]\n    \
+             |                    ^\n  \
+         hint: no comma stands before a closing bracket\n",
+    );
+}
+
+#[test]
+fn an_operation_that_does_not_fit() {
+    let folder = Folder::with_files();
+    let said = |patch: &str, words: &str| {
+        folder.write("x.json", patch);
+        let words = format!("json-patch: x.json: {words}\n");
+        folder.run(["apply", "pack.json", "x.json"]).refused(&words);
+        folder.run(["check", "pack.json", "x.json"]).refused(&words);
+    };
+    said(
+        r#"[{"op":"replace","path":"/cutoff","value":4.15}]"#,
+        r#"operation 1, replace "/cutoff": the location does not exist in pack.json"#,
+    );
+    said(
+        r#"[{"op":"remove","path":"/cut/0"},{"op":"add","path":"/cut/x","value":1}]"#,
+        r#"operation 2, add "/cut/x": a token is not an array index"#,
+    );
+    said(
+        r#"[{"op":"move","from":"/cut","path":"/cut/0"}]"#,
+        r#"operation 1, move from "/cut" to "/cut/0": a value cannot be moved into its own child"#,
+    );
+    said(
+        r#"{"mAh":3001}"#,
+        "the patch is malformed: it is not an array of operations\n  \
+         hint: an object is no JSON Patch; a JSON Merge Patch would be one",
+    );
+    let long = format!(
+        r#"[{{"op":"add","path":"/a","value":"{}"}},{}{{"op":"copy","from":"/a","path":"/b"}}]"#,
+        "x".repeat(30_000),
+        r#"{"op":"copy","from":"/a","path":"/c"},"#
+    );
+    said(&long, "the result is longer than the lent output\n  at most 65,536 bytes are written");
+}
+
+#[test]
+fn a_test_shows_what_it_found() {
+    let folder = Folder::with_files();
+    let said = |patch: &str, words: &str| {
+        folder.write("x.json", patch);
+        let error = folder.run(["apply", "pack.json", "x.json"]).error;
+        assert_eq!(error.lines().nth(1), Some(words), "{error}");
+    };
+    // What the operations before it left, at the pointer as it is written.
+    said(
+        r#"[{"op":"add","path":"/a~1b","value":{ "c" : [ 1 ] }},
+            {"op":"remove","path":"/mAh"},
+            { "from" : 7, "value": {"c":[ 2 ]}, "p\u0061th":"\/a~1b" , "op":"test"}]"#,
+        r#"  found {"c":[1]} in pack.json, expected {"c":[2]}"#,
+    );
+    said(
+        r#"[{"op":"test","path":"","value":null}]"#,
+        r#"  found {"mAh":3000,"cut":[4.2,3.0]} in pack.json, expected null"#,
+    );
+    let long = format!(r#"[{{"op":"test","path":"/mAh","value":"{}"}}]"#, "y".repeat(100));
+    said(&long, &format!("  found 3000 in pack.json, expected \"{}…", "y".repeat(59)));
+}
+
+#[test]
+fn nothing_in_a_text_reaches_a_terminal_as_a_command() {
+    let folder = Folder::with_files();
+    folder.write("pack.json", b"[\"\x1b[31m\x9b\xe2\x80\xae\"");
+    let ran = folder.run(["apply", "pack.json", "fix.json"]);
+    assert_eq!(ran.status, 1);
+    let bad = |c: char| (c.is_control() && c != '\n') || c == '\u{202e}';
+    assert!(!ran.error.contains(bad), "{:?}", ran.error);
+    folder.write("x.json", "[{\"op\":\"remove\",\"path\":\"/\u{9b}31m\u{202e}\"}]");
+    folder.write("pack.json", "{}");
+    let ran = folder.run(["apply", "pack.json", "x.json"]);
+    assert!(ran.error.contains("remove \"/\u{fffd}31m\u{fffd}\""), "{:?}", ran.error);
+}
+
+/// Standard error of a refusal, on a terminal.
+fn on_a_terminal(folder: &Folder, variables: &[(&str, &str)]) -> Option<String> {
+    program("script")?;
+    let line = format!("{} apply pack.json other.json", crate::support::COMMAND);
+    let mut command = Command::new("script");
+    command.args(["-qec", &line, "/dev/null"]).current_dir(&folder.0);
+    command.env_remove("NO_COLOR").env("TERM", "xterm").envs(variables.iter().copied());
+    Some(Ran::of(&mut command).output)
+}
+
+#[test]
+fn colours_only_on_a_terminal_and_not_with_no_color() {
+    let folder = Folder::with_files();
+    let plain = folder.run(["apply", "pack.json", "other.json"]).error;
+    assert!(!plain.contains('\x1b'));
+    let Some(coloured) = on_a_terminal(&folder, &[]) else {
+        return left_out("colours", "no program 'script' to make a terminal");
+    };
+    assert!(coloured.contains("\x1b[1;31mthe test found a difference\x1b[0m"), "{coloured:?}");
+    for variables in [[("NO_COLOR", "1")], [("TERM", "dumb")]] {
+        let said = on_a_terminal(&folder, &variables).unwrap_or_default();
+        assert_eq!(said.replace("\r\n", "\n"), plain);
+    }
+    let empty = on_a_terminal(&folder, &[("NO_COLOR", "")]).unwrap_or_default();
+    assert_eq!(empty, coloured, "an empty NO_COLOR is none");
+}

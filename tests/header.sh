@@ -1,0 +1,38 @@
+#!/bin/sh
+# Compiles tests/header.c with every compiler that is here, as C99, C11, C++11
+# and C++17, with many warnings as errors and under both sanitizers, and runs it.
+#   JSON_PATCH_LIB=DIR   where libjson_patch.a is, if not in target/staticlib
+set -eu
+here=$(cd "$(dirname "$0")" && pwd)
+root=$(dirname "$here")
+library=${JSON_PATCH_LIB:-$root/target/staticlib}/libjson_patch.a
+out=$root/target/make/header
+mkdir -p "$out"
+warnings="-Wall -Wextra -Wpedantic -Werror -Wshadow -Wconversion -Wsign-conversion -Wcast-qual -Wundef"
+sanitizers="-O1 -g -fsanitize=address,undefined -fno-sanitize-recover=all"
+try() { # NAME COMPILER..
+    name=$1
+    shift
+    "$@" $warnings $sanitizers -I"$root/include" -c "$here/header.c" -o "$out/$name.o"
+    "$1" $sanitizers "$out/$name.o" "$library" -o "$out/$name"
+    printf '%s: ' "$name"
+    "$out/$name"
+}
+for compiler in gcc clang; do
+    if ! command -v $compiler >/dev/null; then
+        echo "left out: no $compiler"
+        continue
+    fi
+    for standard in c99 c11; do
+        try $compiler-$standard $compiler -std=$standard -Wstrict-prototypes
+    done
+done
+for compiler in g++ clang++; do
+    if ! command -v $compiler >/dev/null; then
+        echo "left out: no $compiler"
+        continue
+    fi
+    for standard in c++11 c++17; do
+        try $compiler-$standard $compiler -x c++ -std=$standard -Wold-style-cast
+    done
+done
