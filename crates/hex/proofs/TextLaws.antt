@@ -37,11 +37,11 @@ unfolding hexOf
 printing-starts text out = record { fuel = length text; enough = omega arith; laid = laid-starts 0 (recordsFrom (length text) text 0 ++ endLine) out }
 
 module _ {text before out : Bytes} {end at : ℕ} (p : Printing text before out end at) where
-  pub printing-room : at < length text → end + 2 * length (take 16 (drop at text)) + 12 < suc (length (hexOf text))
+  pub printing-room : at < length text → end + 2 * length (take 16 (drop at text)) + 12 ≤ length (hexOf text)
   printing-room h = go (p .fuel) (p .enough) (p .laid)
     where
       go : (fuel : ℕ) → length text ≤ fuel + at → Laid 0 (hexOf text) (recordsFrom fuel text at ++ endLine) before out end →
-          end + 2 * length (take 16 (drop at text)) + 12 < suc (length (hexOf text))
+          end + 2 * length (take 16 (drop at text)) + 12 ≤ length (hexOf text)
       go zero l q = absurd (omega arith)
       go (suc fuel) l q =
           let d = take 16 (drop at text) in

@@ -33,19 +33,19 @@ pub fn put(out: &mut [u8], at: usize, b: u8)
     }
 }
 
-// A byte's digits from a place on; the answer is the place after them.
+// A byte's digits from a place on, where there is room for them; the answer is the place after them.
 fn put_digits(out: &mut [u8], at: usize, b: u8) -> usize
-    requires { ⌜ at + 2 < 0x1_0000_0000_0000_0000 ⌝ }
+    requires { ⌜ at + 2 ≤ length (now out) ⌝ }
     ensures { λ r. ⌜ Stored (digits b) at (now (out .entry)) (now (out .exit)) r ⌝ }
 {
-    put(out, at, hex_digit(b / 16));
-    put(out, at + 1, hex_digit(b % 16));
+    out[at] = hex_digit(b / 16);
+    out[at + 1] = hex_digit(b % 16);
     at + 2
 }
 
 // The digits of bytes.
 fn put_spelled(bytes: &[u8], out: &mut [u8], at: usize) -> usize
-    requires { ⌜ at + 2 * length (now bytes) < 0x1_0000_0000_0000_0000 ⌝ }
+    requires { ⌜ at + 2 * length (now bytes) ≤ length (now out) ⌝ }
     ensures { λ r. ⌜ Stored (spelled (now (bytes .entry))) at (now (out .entry)) (now (out .exit)) r ⌝ }
 {
     let mut end = at;
@@ -59,7 +59,7 @@ fn put_spelled(bytes: &[u8], out: &mut [u8], at: usize) -> usize
 
 // The line of a record.
 fn put_line(kind: u8, address: usize, bytes: &[u8], out: &mut [u8], at: usize) -> usize
-    requires { ⌜ (address < maxText) × (length (now bytes) < 256) × (at + 2 * length (now bytes) + 12 < 0x1_0000_0000_0000_0000) ⌝ }
+    requires { ⌜ (address < maxText) × (length (now bytes) < 256) × (at + 2 * length (now bytes) + 12 ≤ length (now out)) ⌝ }
     ensures { λ r. ⌜ Stored (lineOf (recordBytes kind address (now (bytes .entry)))) at (now (out .entry)) (now (out .exit)) r ⌝ }
 {
     let head = [

@@ -1,9 +1,10 @@
-use Prim.Native.Nat.{_+_, _-_, _*_, _%_, _≤_}
+use Prim.Native.Nat.{_+_, _-_, _*_, _%_, _≤_, _<_}
 use mathlib.Core.Path.{_≡_, refl, sym, ap, _∙_}
 use native.Mathlib.Omega.{arith}
 use lib.ListN.{length, drop}
 use Rattle.lexer.proofs.Auto.{auto}
 use Rattle.spec.specs.Bytes.{byte}
+use lib.ListN.{length-set}
 use Rattle.hex.proofs.WritingLaws.{digits-stored}
 use Rattle.hex.proofs.writing.put_digits.Statement.{statement}
 use Rattle.hex.proofs.writing.put_digits.Tie as tie
@@ -13,10 +14,10 @@ put-digits-spec =
     tie.close
     (tie.spec
     (λ c κs. search auto)
-    (λ c κs. search auto)
     (λ c. search auto)
     (λ c κs. search auto)
-    (λ c κs. search auto)
     (λ c. search auto)
+    (λ c. simp length-set (omega arith))
     (λ c. search auto)
-    (λ c. digits-stored _ _ (c .before .before .before .before .before .before .before .before .hex-digit .ensures) (c .before .before .before .hex-digit2 .ensures) (c .before .before .before .before .before .before .before .put .ensures) (c .before .before .put2 .ensures)))
+    (λ c. simp length-set)
+    (λ c. digits-stored _ _ (c .before .hex-digit .ensures) (c .hex-digit2 .ensures) refl refl))

@@ -25,7 +25,7 @@ put-spelled-spec =
     μ-loop
     (λ c. (omega arith, omega arith, laid-starts _ _ _))
     (λ c. search auto)
-    (λ c κs. omega arith)
+    (λ c κs. omega (arith, laid-length (c .before .before .before .loop .inv .2)))
     (λ c. search auto)
     (λ c. search auto)
     (λ c. (omega arith, omega (arith, c .before .before .put-digits .ensures .next-is), laid-on (c .before .before .before .before .before .before .loop .inv .2) _ (spelled-here _ (c .before .before .before .before .before .before .loop .i) (omega arith)) (c .before .before .put-digits .ensures)))
