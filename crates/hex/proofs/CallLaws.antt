@@ -38,7 +38,8 @@ module _ (room : ℕ) (t : Bytes) where
   unfolding fitting
   fitting-whole h = rw (le-leb (length t) room h)
 
-pub succeeds : {a : Spec.Answer} {t before after : Bytes} {n : ℕ} {r : Answer} → a ≡ fitting (length before) t → length t ≤ length before → LaidDown t before after n → SuccessIs n r →
+pub succeeds : {a : Spec.Answer} {t before after : Bytes} {n : ℕ} {r : Answer} → a ≡ fitting (length before) t → length t ≤ length before →
+    LaidDown t before after n → SuccessIs n r →
     Answered a before after r
 succeeds {t = t} {before} e h d (n, p, l) =
     answered-as (e ∙ fitting-whole (length before) t h)
@@ -75,6 +76,7 @@ pub read-accepted : (s : Bytes) (room : ℕ) {n : ℕ} → Measure.Bytes n ≡ m
 unfolding readAnswer outcomeAnswer textOf
 read-accepted s room e = rw (by-bytes (readText s) e .1)
 
-pub read-refused : (s : Bytes) (room : ℕ) {number line : ℕ} → Measure.Refused number line ≡ measured 0 (readText s) → readAnswer s room ≡ Spec.refusal number line
+pub read-refused : (s : Bytes) (room : ℕ) {number line : ℕ} → Measure.Refused number line ≡ measured 0 (readText s) →
+    readAnswer s room ≡ Spec.refusal number line
 unfolding readAnswer outcomeAnswer
 read-refused s room e = rw (by-refusal (readText s) e)

@@ -13,8 +13,11 @@ use lib.Dec.{leb, eqb}
 use Rattle.spec.specs.Outcome.{Outcome, ok, refused, _>>=_, if_then_else_}
 use Rattle.spec.specs.Bytes.{Bytes, byte, ascii}
 use Rattle.spec.specs.Refusal.{done}
-use Rattle.hex.specs.Record.{maxText, line-feed, data-type, end-type, total, body, check, recordBytes, upperHex, digits, spelled, lineOf, recordsFrom, endLine, hexOf}
-use Rattle.hex.specs.Reading.{hexByte, bytesAt, allHex, count, addressOf, typeOf, dataOf, recordEnd, ending, lineLength, isLine, isData, isEnd, isRecord, hasSum, isNext, bytesOf, precede, byType, readLine, readFrom, readText, not-a-record, wrong-sum, wrong-address, wrong-end}
+use Rattle.hex.specs.Record.{maxText, line-feed, data-type, end-type, total, body, check, recordBytes, upperHex, digits, spelled, lineOf, recordsFrom}
+use Rattle.hex.specs.Record.{endLine, hexOf}
+use Rattle.hex.specs.Reading.{hexByte, bytesAt, allHex, count, addressOf, typeOf, dataOf, recordEnd, ending, lineLength, isLine, isData, isEnd}
+use Rattle.hex.specs.Reading.{isRecord, hasSum, isNext, bytesOf, precede, byType, readLine, readFrom, readText, not-a-record, wrong-sum}
+use Rattle.hex.specs.Reading.{wrong-address, wrong-end}
 use Rattle.hex.specs.Answer as Spec
 use Rattle.hex.specs.Answer.{fitting, writeAnswer, outcomeAnswer, readAnswer}
 use Rattle.hex.specs.Claims as Claims
@@ -23,7 +26,8 @@ use Rattle.hex.proofs.RecordLaws.{from-here, total-append, check-zero, 
 use Rattle.hex.proofs.LineLaws.{parts, line-is, line-room, line-within}
 use Rattle.hex.proofs.ReadLaws.{First, last, more, first, no-ok, read-line, read-zero, read-none, data-length, data-counted, end-counted}
 use Rattle.hex.proofs.CallLaws.{fitting-whole}
-use Rattle.hex.proofs.SpellLaws.{spells-length, read-bytes, read-hex, bytes-prefix, bytes-last, spells-read, hex-small, all-at, spells-upper, octets-append, octets-take, octets-drop, ending-read, ending-is}
+use Rattle.hex.proofs.SpellLaws.{spells-length, read-bytes, read-hex, bytes-prefix, bytes-last, spells-read, hex-small, all-at, spells-upper}
+use Rattle.hex.proofs.SpellLaws.{octets-append, octets-take, octets-drop, ending-read, ending-is}
 
 -- ---- sums
 
@@ -126,12 +130,14 @@ all-read {next} {t} (Claims.more {behind = behind} {text} d some few l hs) fuel 
         let short : length behind ≤ fuel = omega (arith, length-drop (lineLength t) t, ap length (f .behind-is), line-within t (f .line)) in
         read-line fuel t line next (omega (arith, line-room t (f .line)))
         ∙ ap (readLine t line next)
-        (ap (λ u. readFrom fuel u (line + 1) (next + count t)) (f .behind-is) ∙ ap (λ n. readFrom fuel behind (line + 1) (next + n)) (f .count-is) ∙ ih fuel (line + 1) short)
+        (ap (λ u. readFrom fuel u (line + 1) (next + count t)) (f .behind-is) ∙ ap (λ n. readFrom fuel behind (line + 1) (next + n))
+        (f .count-is) ∙ ih fuel (line + 1) short)
         ∙ data-read f some few line text
 
 -- ---- and nothing else
 
-module _ (t : Bytes) (kind address : ℕ) (d : Bytes) (l : isLine t ≡ true) (sum : hasSum t ≡ true) (c : count t ≡ length d) (k : typeOf t ≡ kind) (a : addressOf t ≡ address) (b : dataOf t ≡ d) where
+module _ (t : Bytes) (kind address : ℕ) (d : Bytes) (l : isLine t ≡ true) (sum : hasSum t ≡ true) (c : count t ≡ length d) (k : typeOf t ≡ kind)
+    (a : addressOf t ≡ address) (b : dataOf t ≡ d) where
   hex : allHex (count t + 5) t 1 ≡ true
   hex = parts t l .hex
 
@@ -145,7 +151,8 @@ module _ (t : Bytes) (kind address : ℕ) (d : Bytes) (l : isLine t ≡ true) (s
       let three : hexByte t 3 ≡ address / 256 = omega arith in
       let five : hexByte t 5 ≡ address % 256 = omega arith in
       let many : hexByte t 1 + 5 ≡ suc (suc (suc (suc (suc (hexByte t 1))))) = omega arith in
-      let behind : bytesAt (suc (hexByte t 1)) t 9 ≡ d ++ hexByte t (9 + 2 * hexByte t 1) ∷ [] = bytes-last (hexByte t 1) t 9 ∙ ap (λ u. u ++ hexByte t (9 + 2 * hexByte t 1) ∷ []) b in
+      let behind : bytesAt (suc (hexByte t 1)) t 9 ≡ d ++ hexByte t (9 + 2 * hexByte t 1) ∷ [] = bytes-last (hexByte t 1) t 9 ∙ ap (λ u. u ++ hexByte t
+      (9 + 2 * hexByte t 1) ∷ []) b in
       ap (λ n. bytesAt n t 1) many ∙ cc
 
   final-is : final ≡ check (body kind address d)
@@ -198,9 +205,11 @@ by-first fuel t line next text (more behind rest f l s x a m r z) ih =
     let back = line-back t data-type next (dataOf t) l s (sym (data-length t)) (e .0) a refl in
     let same : behind ≡ fuel = omega arith in
     let there : readFrom fuel (drop (lineLength t) t) (line + 1) (next + length (dataOf t)) ≡ ok rest =
-    ap (λ n. readFrom fuel (drop (lineLength t) t) (line + 1) (next + n)) (data-length t) ∙ ap (λ n. readFrom n (drop (lineLength t) t) (line + 1) (next + count t)) (sym same) ∙ r in
+    ap (λ n. readFrom fuel (drop (lineLength t) t) (line + 1) (next + n)) (data-length t) ∙ ap (λ n. readFrom n (drop (lineLength t) t) (line + 1)
+    (next + count t)) (sym same) ∙ r in
     subst (HexText next t) (sym z)
-    (Claims.more (dataOf t) (omega (arith, data-length t)) (omega (arith, data-length t)) back (ih (drop (lineLength t) t) (line + 1) (next + length (dataOf t)) rest there))
+    (Claims.more (dataOf t) (omega (arith, data-length t)) (omega (arith, data-length t)) back (ih (drop (lineLength t) t) (line + 1) (next + length
+    (dataOf t)) rest there))
 
 only-read : (fuel : ℕ) → Reads fuel
 only-read zero t line next text e = absurd (no-ok (sym (read-zero t line next) ∙ e))
@@ -231,7 +240,8 @@ unfolding readLine byType
 safe-line t line next p =
     either (isRecord t)
     (either (hasSum t)
-    (either (isEnd t) (either (leb (length t) (lineLength t)) fine (numbered wrong-end (omega arith))) (either (isNext t next) (safe-precede (dataOf t) p) (numbered wrong-address (omega arith))))
+    (either (isEnd t) (either (leb (length t) (lineLength t)) fine (numbered wrong-end (omega arith))) (either (isNext t next) (safe-precede (dataOf t) p)
+    (numbered wrong-address (omega arith))))
     (numbered wrong-sum (omega arith)))
     (numbered not-a-record (omega arith))
 
@@ -267,7 +277,8 @@ octets-record : (kind address : ℕ) {d : Bytes} → kind < 256 → address < 65
 unfolding recordBytes body check
 octets-record kind address {d} k a n o =
     let c : ℕ = check (body kind address d) in
-    octet (length d) n (octet (address / 256) (omega arith) (octet (address % 256) (omega arith) (octet kind k (octets-append o (octet c (omega arith) Claims.none)))))
+    octet (length d) n (octet (address / 256) (omega arith) (octet (address % 256) (omega arith) (octet kind k (octets-append o (octet c
+    (omega arith) Claims.none)))))
 
 line-written : (kind address : ℕ) (d behind : Bytes) → kind < 256 → address < 65_536 → length d < 256 → Octets d →
     Line (lineOf (recordBytes kind address d) ++ behind) (recordBytes kind address d) behind
@@ -317,7 +328,8 @@ module _ (text : Bytes) (o : Octets text) (few : length text ≤ maxText) where
           let short : length d ≤ 16 = omega (arith, length-take 16 (drop at text)) in
           let some : 1 ≤ length d = omega (arith, length-take 16 (drop at text), length-drop at text) in
           let fits : at + length d ≤ maxText = omega (arith, length-take 16 (drop at text), length-drop at text) in
-          let whole : recordsFrom (suc fuel) text at ++ endLine ≡ line ++ behind = ap (λ s. s ++ endLine) (records-here fuel text at l) ∙ append-assoc line (recordsFrom fuel text (at + 16)) endLine in
+          let whole : recordsFrom (suc fuel) text at ++ endLine ≡ line ++ behind = ap (λ s. s ++ endLine) (records-here fuel text at l) ∙ append-assoc line
+          (recordsFrom fuel text (at + 16)) endLine in
           let written = line-written data-type at d behind (omega arith) (omega arith) (omega arith) (octets-take 16 (octets-drop at o)) in
           subst (HexText at (recordsFrom (suc fuel) text at ++ endLine)) (take-append-drop 16 (drop at text))
           (subst (λ t. HexText at t (d ++ drop 16 (drop at text))) (sym whole)

@@ -85,7 +85,11 @@ ending-room t k h l =
         (if a then 0 else if b then 1 else if c then 2 else 3) < 3 → k + (if a then 0 else if b then 1 else if c then 2 else 3) ≤ length t
     go true b c p q r l = omega arith
     go false true c p q r l = omega (arith, leb-false (length t) k p)
-    go false false true p q r l = omega (arith, here t (k + 1) line-feed (eqb-true (byte t (k + 1)) line-feed (and-both (eqb (byte t k) carriage-return) (eqb (byte t (k + 1)) line-feed) r .1)) (omega arith))
+    go false false true p q r l = omega (
+      arith,
+      here t (k + 1) line-feed (eqb-true (byte t (k + 1)) line-feed (and-both (eqb (byte t k) carriage-return)
+          (eqb (byte t (k + 1)) line-feed) r .1)) (omega arith),
+    )
     go false false false p q r l = absurd (omega arith)
 
 pub line-within : (t : Bytes) → isLine t ≡ true → (11 ≤ lineLength t) × (lineLength t ≤ length t)

@@ -14,7 +14,8 @@ use Rattle.text.specs.Written.{Stored, LaidDown}
 use Rattle.text.proofs.StoreLaws.{front}
 use Rattle.lexer.proofs.Tests.{and-both}
 use Rattle.hex.specs.Record.{total, maxText}
-use Rattle.hex.specs.Reading.{hexByte, bytesAt, allHex, count, addressOf, typeOf, dataOf, lineLength, isLine, isData, isEnd, isRecord, hasSum, isNext, bytesOf, precede, byType, readLine, readFrom, readText, wrong-sum, not-a-record, wrong-address, wrong-end}
+use Rattle.hex.specs.Reading.{hexByte, bytesAt, allHex, count, addressOf, typeOf, dataOf, lineLength, isLine, isData, isEnd, isRecord, hasSum, isNext}
+use Rattle.hex.specs.Reading.{bytesOf, precede, byType, readLine, readFrom, readText, wrong-sum, not-a-record, wrong-address, wrong-end}
 use Rattle.hex.specs.Steps.{stepped, Onward, StepIs, measured, Accepted, textOf}
 use Rattle.hex.specs.declared.lines.Step.{Step}
 use Rattle.hex.specs.declared.lines.Step.the-variants as Step
@@ -102,11 +103,13 @@ module _ {s : Bytes} {at line n : ℕ} (m : Measuring s at line n) (h : at < len
 
   pub measuring-on : {k width : ℕ} → r ≡ Step.More k width → Measuring s (at + width) (line + 1) (n + k)
   unfolding Onward stepped
-  measuring-on {k} {width} e = go (rw e at here) (onward-more e) (line-here .reads ∙ ap (λ r. measured n (stepped (drop at s) line (readFrom (line-here .behind-fuel) (drop (lineLength (drop at s)) (drop at s)) (line + 1) (n + count (drop at s))) r)) e)
+  measuring-on {k} {width} e = go (rw e at here) (onward-more e) (line-here .reads ∙ ap (λ r. measured n (stepped (drop at s) line (readFrom
+      (line-here .behind-fuel) (drop (lineLength (drop at s)) (drop at s)) (line + 1) (n + count (drop at s))) r)) e)
     where
       go : StepIs (drop at s) n (Step.More k width) → (11 ≤ width) × (at + width ≤ length s) × (n + k ≤ maxText) →
           measured 0 (readText s) ≡
-          measured n (precede (dataOf (drop at s)) (readFrom (line-here .behind-fuel) (drop (lineLength (drop at s)) (drop at s)) (line + 1) (n + count (drop at s)))) →
+          measured n (precede (dataOf (drop at s)) (readFrom (line-here .behind-fuel) (drop (lineLength (drop at s)) (drop at s)) (line + 1) (n + count
+          (drop at s)))) →
           Measuring s (at + width) (line + 1) (n + k)
       go g b q =
           let w : lineLength (drop at s) ≡ width = sym (g .onward .1) in
@@ -122,10 +125,12 @@ module _ {s : Bytes} {at line n : ℕ} (m : Measuring s at line n) (h : at < len
           }
 
   as-step : {r' : Step} → r ≡ r' → measured 0 (readText s) ≡
-      measured n (stepped (drop at s) line (readFrom (line-here .behind-fuel) (drop (lineLength (drop at s)) (drop at s)) (line + 1) (n + count (drop at s))) r')
+      measured n (stepped (drop at s) line (readFrom (line-here .behind-fuel) (drop (lineLength (drop at s)) (drop at s)) (line + 1) (n + count
+      (drop at s))) r')
   as-step e =
       line-here .reads ∙
-      ap (λ r. measured n (stepped (drop at s) line (readFrom (line-here .behind-fuel) (drop (lineLength (drop at s)) (drop at s)) (line + 1) (n + count (drop at s))) r)) e
+      ap (λ r. measured n (stepped (drop at s) line (readFrom (line-here .behind-fuel) (drop (lineLength (drop at s)) (drop at s)) (line + 1) (n + count
+      (drop at s))) r)) e
 
   pub measured-done : r ≡ Step.Done → Measure.Bytes n ≡ measured 0 (readText s)
   unfolding stepped measured
@@ -178,7 +183,8 @@ first (suc fuel) t line next text h e =
     go : (a b c d f : Bool) (o : Outcome Bytes) → isRecord t ≡ a → hasSum t ≡ b → isEnd t ≡ c → leb (length t) (lineLength t) ≡ d → isNext t next ≡ f →
         readFrom fuel (drop (lineLength t) t) (line + 1) (next + count t) ≡ o →
         (if a then
-        (if b then (if c then (if d then ok [] else refused wrong-end (line + 1)) else (if f then precede (dataOf t) o else refused wrong-address line)) else refused wrong-sum line)
+        (if b then (if c then (if d then ok [] else refused wrong-end (line + 1)) else (if f then precede
+        (dataOf t) o else refused wrong-address line)) else refused wrong-sum line)
         else refused not-a-record line)
         ≡ ok text →
         First (suc fuel) t line next text
@@ -292,7 +298,8 @@ module _ {s before out : Bytes} {at end : ℕ} (p : Pouring s before out at end)
         line = p .line + 1;
         enough = omega (arith, p .enough, f, lies .0);
         rest = rest;
-        reads = ap (λ u. readFrom behind u (p .line + 1) end') (sym (drop-drop (lineLength t) at s)) ∙ ap (λ e. readFrom behind (drop (lineLength t) t) (p .line + 1) e) (sym on) ∙ r;
+        reads = ap (λ u. readFrom behind u (p .line + 1) end') (sym (drop-drop (lineLength t) at s)) ∙ ap (λ e. readFrom behind (drop (lineLength t) t)
+            (p .line + 1) e) (sym on) ∙ r;
         laid = laid-on (p .laid) (dataOf t) y st;
       }
 

@@ -73,9 +73,14 @@ module _ (s : Bytes) (at : ℕ) where
 -- ---- a line, piece by piece
 
 pub line-pieces : (kind address : ℕ) (d : Bytes) → lineOf (recordBytes kind address d) ≡
-    (code ":" ∷ []) ++ (spelled (length d ∷ address / 256 ∷ address % 256 ∷ kind ∷ []) ++ (spelled d ++ (digits (check (body kind address d)) ++ line-feed ∷ [])))
+    (code ":" ∷ []) ++ (spelled (length d ∷ address / 256 ∷ address % 256 ∷ kind ∷ []) ++ (spelled d ++ (digits (check
+    (body kind address d)) ++ line-feed ∷ [])))
 unfolding lineOf recordBytes body spelled digits
-line-pieces kind address d = rw (spelled-append d (check (body kind address d) ∷ []), append-assoc (spelled d) (spelled (check (body kind address d) ∷ [])) (line-feed ∷ []))
+line-pieces kind address d = rw (
+  spelled-append d (check (body kind address d) ∷ []),
+  append-assoc (spelled d) (spelled (check (body kind address d) ∷ []))
+      (line-feed ∷ []),
+)
 
 pub line-length : (kind address : ℕ) (d : Bytes) → length (lineOf (recordBytes kind address d)) ≡ 2 * length d + 12
 unfolding lineOf recordBytes body
@@ -96,7 +101,15 @@ records-length (suc fuel) text at h = go (decLt at (length text)) (records-lengt
     go (yes l) ih =
         let d = take 16 (drop at text) in
         rw (lt-ltb at (length text) l)
-        (omega (arith, length-append (lineOf (recordBytes data-type at d)) (recordsFrom fuel text (at + 16)), line-length data-type at d, length-take 16 (drop at text), length-drop at text, ih))
+        (omega (
+          arith,
+          length-append (lineOf (recordBytes data-type at d)) (recordsFrom fuel text (at + 16)),
+          line-length data-type at d,
+          length-take 16
+              (drop at text),
+          length-drop at text,
+          ih,
+        ))
     go (no l) ih = rw (le-ltb at (length text) (omega arith)) (omega arith)
 
 pub hex-length : (text : Bytes) → length (hexOf text) ≡ (length text + 15) / 16 * 12 + 2 * length text + 12

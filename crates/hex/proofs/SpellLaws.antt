@@ -124,7 +124,12 @@ upper-value n h = go (decLt n 10)
     go : Dec (n < 10) → hexValue (upperHex n) ≡ n
     go (yes l) = rw (lt-ltb n 10 l, between-within (code "0") (code "9") (code "0" + n) (omega arith) (omega arith)) (omega arith)
     go (no l) =
-        rw (le-ltb n 10 (omega arith), above-within (code "0") (code "9") (code "A" + (n - 10)) (omega arith), between-within (code "A") (code "F") (code "A" + (n - 10)) (omega arith) (omega arith))
+        rw (
+          le-ltb n 10 (omega arith),
+          above-within (code "0") (code "9") (code "A" + (n - 10)) (omega arith),
+          between-within (code "A") (code "F")
+              (code "A" + (n - 10)) (omega arith) (omega arith),
+        )
         (omega arith)
 
 pub spells-upper : {r : Bytes} → Octets r → Spells (spelled r) r

@@ -11,7 +11,8 @@ use lib.Dec.{leb, ltb, eqb}
 use Rattle.spec.specs.Outcome.{Outcome, ok, refused, if_then_else_}
 use Rattle.spec.specs.Bytes.{Bytes, byte}
 use Rattle.hex.specs.Record.{total, maxText}
-use Rattle.hex.specs.Reading.{hexByte, count, addressOf, typeOf, dataOf, recordEnd, ending, lineLength, isLine, isData, isEnd, isRecord, hasSum, isNext, bytesOf, precede, byType, readLine, not-a-record, wrong-sum, wrong-address, wrong-end}
+use Rattle.hex.specs.Reading.{hexByte, count, addressOf, typeOf, dataOf, recordEnd, ending, lineLength, isLine, isData, isEnd, isRecord, hasSum}
+use Rattle.hex.specs.Reading.{isNext, bytesOf, precede, byType, readLine, not-a-record, wrong-sum, wrong-address, wrong-end}
 use Rattle.hex.specs.Steps.{LineIs, FormIs, Summed, stepped, Onward, StepIs}
 use Rattle.hex.specs.declared.lines.Scanned.{Scanned}
 use Rattle.hex.specs.declared.lines.Scanned.the-variants as Scanned

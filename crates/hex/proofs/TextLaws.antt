@@ -14,7 +14,8 @@ use Rattle.hex.proofs.RecordLaws.{line-length, records-here, records-en
 use Rattle.hex.proofs.WritingLaws.{Laid, laid-starts, laid-on, laid-ends, laid-bound}
 
 -- the bytes of the record at a place
-pub cut : (text : Bytes) (at stop : ℕ) → stop ≤ length text → stop ≤ at + 16 → (stop < at + 16 → stop ≡ length text) → take (stop - at) (drop at text) ≡ take 16 (drop at text)
+pub cut : (text : Bytes) (at stop : ℕ) → stop ≤ length text → stop ≤ at + 16 → (stop < at + 16 → stop ≡ length text) →
+    take (stop - at) (drop at text) ≡ take 16 (drop at text)
 cut text at stop in-text short last = go (decLt stop (at + 16))
   where
     go : Dec (stop < at + 16) → take (stop - at) (drop at text) ≡ take 16 (drop at text)
@@ -25,7 +26,11 @@ cut text at stop in-text short last = go (decLt stop (at + 16))
 
 -- nothing is left behind the end
 pub none-left : (text : Bytes) → take (length text - length text) (drop (length text) text) ≡ []
-none-left text = take-all (length text - length text) (drop (length text) text) (omega (arith, length-drop (length text) text)) ∙ drop-of-length-le text {i = length text} (omega arith)
+none-left text = take-all (length text - length text) (drop (length text) text) (omega (
+  arith,
+  length-drop
+      (length text) text,
+)) ∙ drop-of-length-le text {i = length text} (omega arith)
 
 pub record Printing (text before out : Bytes) (end at : ℕ) : Type 0 where
   pub fuel : ℕ
@@ -46,13 +51,23 @@ module _ {text before out : Bytes} {end at : ℕ} (p : Printing text before out 
       go (suc fuel) l q =
           let d = take 16 (drop at text) in
           let rest = recordsFrom fuel text (at + 16) in
-          omega (arith, laid-bound q, ap (λ s. length (s ++ endLine)) (records-here fuel text at h), length-append (lineOf (recordBytes data-type at d) ++ rest) endLine, length-append (lineOf (recordBytes data-type at d)) rest, line-length data-type at d)
+          omega (
+            arith,
+            laid-bound q,
+            ap (λ s. length (s ++ endLine)) (records-here fuel text at h),
+            length-append (lineOf
+                (recordBytes data-type at d) ++ rest) endLine,
+            length-append (lineOf (recordBytes data-type at d)) rest,
+            line-length data-type at d,
+          )
 
-  pub printing-on : {d out' : Bytes} {next : ℕ} → at < length text → d ≡ take 16 (drop at text) → Stored (lineOf (recordBytes data-type at d)) end out out' next →
+  pub printing-on : {d out' : Bytes} {next : ℕ} → at < length text → d ≡ take 16 (drop at text) →
+      Stored (lineOf (recordBytes data-type at d)) end out out' next →
       Printing text before out' next (at + 16)
   printing-on {d} {out'} {next} h e r = go (p .fuel) (p .enough) (p .laid)
     where
-      go : (fuel : ℕ) → length text ≤ fuel + at → Laid 0 (hexOf text) (recordsFrom fuel text at ++ endLine) before out end → Printing text before out' next (at + 16)
+      go : (fuel : ℕ) → length text ≤ fuel + at → Laid 0 (hexOf text) (recordsFrom fuel text at ++ endLine) before out end →
+          Printing text before out' next (at + 16)
       go zero l q = absurd (omega arith)
       go (suc fuel) l q =
           let line = lineOf (recordBytes data-type at (take 16 (drop at text))) in
@@ -71,6 +86,7 @@ module _ {text before out : Bytes} {end at : ℕ} (p : Printing text before out 
     unfolding endLine
     printing-last-room = omega (arith, laid-bound last-laid, line-length end-type 0 [])
 
-    pub printing-last : {d out' : Bytes} {next : ℕ} → d ≡ [] → Stored (lineOf (recordBytes end-type 0 d)) end out out' next → LaidDown (hexOf text) before out' next
+    pub printing-last : {d out' : Bytes} {next : ℕ} → d ≡ [] → Stored (lineOf (recordBytes end-type 0 d)) end out out' next →
+        LaidDown (hexOf text) before out' next
     unfolding endLine
     printing-last e r = front (laid-ends (laid-on last-laid (lineOf (recordBytes end-type 0 [])) {left = []} (sym (append-nil _)) (rw e at r)) refl)

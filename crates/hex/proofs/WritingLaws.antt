@@ -76,7 +76,8 @@ last-byte kind address d {x} {y} {z} e f g h = check-only (body kind address d) 
 
 pub line-stored : (kind address : ℕ) (d : Bytes) (at : ℕ) {x y z a b e : ℕ} {o p q r s u : Bytes} →
     x ≡ (0 + total (length d ∷ address / 256 ∷ address % 256 ∷ kind ∷ [])) % 256 → y ≡ (x + total d) % 256 → (z + y) % 256 ≡ 0 → z < 256 →
-    p ≡ set o at (code ":") → Stored (spelled (length d ∷ address / 256 ∷ address % 256 ∷ kind ∷ [])) (at + 1) p q a → Stored (spelled d) a q r b → Stored (digits z) b r s e →
+    p ≡ set o at (code ":") → Stored (spelled (length d ∷ address / 256 ∷ address % 256 ∷ kind ∷ [])) (at + 1) p q a → Stored (spelled d) a q r b → Stored
+    (digits z) b r s e →
     u ≡ set s e line-feed → Stored (lineOf (recordBytes kind address d)) at o u (e + 1)
 unfolding head
 line-stored kind address d at {z = z} {e = e} {o = o} {r = r} {s} i j k l first second third fourth fifth =
@@ -110,12 +111,14 @@ module _ {n : ℕ} {t : Bytes} {at : ℕ} {before out : Bytes} {k end i : ℕ} (
       go zero c e = absurd (omega arith)
       go (suc m) c e = hex-both t k (all-first m t k e .0)
 
-  pub filling-on : {high low b : ℕ} {out' : Bytes} → i < n → high ≡ hexValue (byte t k) → low ≡ hexValue (byte t (k + 1)) → b ≡ high * 16 + low → out' ≡ set out end b →
+  pub filling-on : {high low b : ℕ} {out' : Bytes} → i < n → high ≡ hexValue (byte t k) → low ≡ hexValue (byte t (k + 1)) → b ≡ high * 16 + low →
+      out' ≡ set out end b →
       Filling n t at before out' (k + 2) (end + 1) (i + 1)
   unfolding bytesAt hexByte
   filling-on {high} {low} {b} {out'} h x y z w = go (f .left) (f .count-is) (f .hex) (f .laid)
     where
-      go : (left : ℕ) → n ≡ i + left → allHex left t k ≡ true → Laid at (bytesAt n t 9) (bytesAt left t k) before out end → Filling n t at before out' (k + 2) (end + 1) (i + 1)
+      go : (left : ℕ) → n ≡ i + left → allHex left t k ≡ true → Laid at (bytesAt n t 9) (bytesAt left t k) before out end →
+          Filling n t at before out' (k + 2) (end + 1) (i + 1)
       go zero c e l = absurd (omega arith)
       go (suc m) c e l =
           let same : b ≡ hexValue (byte t k) * 16 + hexValue (byte t (k + 1)) = omega arith in

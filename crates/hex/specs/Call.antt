@@ -5,7 +5,9 @@ use mathlib.Core.List.{[], _∷_, _++_}
 use lib.ListN.{length, drop}
 use Rattle.spec.specs.Bytes.{Bytes}
 use Rattle.hex.specs.Answer as Spec
-use Rattle.hex.specs.Answer.{writeAnswer, readAnswer}
+use Rattle.hex.specs.Answer.{fitting, writeAnswer, readAnswer}
+use Rattle.hex.specs.Reading.{readText}
+use Rattle.hex.specs.Steps.{textOf}
 use Rattle.hex.specs.declared.answer.Answer.{Answer}
 
 -- the call's answer is this one, and the output, as it was before and as it is after, has the written text in front
@@ -27,6 +29,17 @@ pub record ExportIs (a : Spec.Answer) (before after fields : Bytes) (number : �
   pub answers : Answered a before after answer
   pub fields-are : fields ≡ answer .number ∷ 0 ∷ 0 ∷ answer .place ∷ 0 ∷ answer .length ∷ []
   pub number-is : number ≡ answer .number
+
+abbrev pub WritesC : Bytes → Bytes → Bytes → Bytes → ℕ → Type 0
+WritesC text before after fields number = ExportIs (writeAnswer text (length before)) before after fields number
+
+abbrev pub ReadsC : Bytes → Bytes → Bytes → Bytes → ℕ → Type 0
+ReadsC s before after fields number = ExportIs (readAnswer s (length before)) before after fields number
+
+-- ---- the data of a text that is read, where the output has room
+
+abbrev pub FittingIs : Bytes → Bytes → Bytes → Answer → Type 0
+FittingIs s before after r = Answered (fitting (length before) (textOf (readText s))) before after r
 
 -- ---- the two kinds of answers
 

@@ -1,13 +1,15 @@
 -- What the code answers on the way.
-use Prim.Native.Nat.{ℕ, _+_, _*_, _%_, _≤_}
+use Prim.Native.Nat.{ℕ, _+_, _*_, _%_, _≤_, _<_}
 use mathlib.Core.Path.{_≡_}
 use mathlib.Core.Bool.{true, false}
 use mathlib.Core.List.{[]}
 use lib.ListN.{length}
 use Rattle.spec.specs.Outcome.{Outcome, ok, refused}
 use Rattle.spec.specs.Bytes.{Bytes}
-use Rattle.hex.specs.Record.{maxText, total}
-use Rattle.hex.specs.Reading.{bytesAt, allHex, count, dataOf, bytesOf, recordEnd, ending, lineLength, isLine, isData, isEnd, isRecord, precede, readLine, readText, wrong-end}
+use Rattle.text.specs.Written.{Stored}
+use Rattle.hex.specs.Record.{maxText, total, recordBytes, lineOf}
+use Rattle.hex.specs.Reading.{bytesAt, allHex, count, dataOf, bytesOf, recordEnd, ending, lineLength, isLine, isData, isEnd, isRecord, precede}
+use Rattle.hex.specs.Reading.{readLine, readText, wrong-end}
 use Rattle.hex.specs.declared.lines.Scanned.{Scanned}
 use Rattle.hex.specs.declared.lines.Scanned.the-variants as Scanned
 use Rattle.hex.specs.declared.lines.Form.{Form}
@@ -16,6 +18,14 @@ use Rattle.hex.specs.declared.lines.Step.{Step}
 use Rattle.hex.specs.declared.lines.Step.the-variants as Step
 use Rattle.hex.specs.declared.reading.Measure.{Measure}
 use Rattle.hex.specs.declared.reading.Measure.the-variants as Measure
+
+-- a line of n bytes of data fits behind a place, and its address is one of a text
+abbrev pub Fits : ℕ → ℕ → ℕ → ℕ → Type 0
+Fits address n at room = (address < maxText) × (n < 256) × (at + 2 * n + 12 ≤ room)
+
+-- the line of a record, stored
+abbrev pub LineStored : ℕ → ℕ → Bytes → ℕ → Bytes → Bytes → ℕ → Type 0
+LineStored kind address d at before after next = Stored (lineOf (recordBytes kind address d)) at before after next
 
 -- n bytes in digits, and their sum
 unfoldable pub ScanIs : ℕ → Bytes → ℕ → Scanned → Type 0

@@ -1,12 +1,9 @@
 // The two calls.
 ghost use mathlib.Core.Path.{_≡_};
-ghost use Prim.Native.Nat.{_≤_};
 ghost use lib.ListN.{length};
-ghost use Rattle.hex.specs.Record.{maxText, hexOf};
-ghost use Rattle.hex.specs.Answer.{fitting};
 ghost use Rattle.hex.specs.Reading.{readText};
 ghost use Rattle.hex.specs.Steps.{Accepted, textOf};
-ghost use Rattle.hex.specs.Call.{Answered, WriteIs, ReadIs};
+ghost use Rattle.hex.specs.Call.{WriteIs, ReadIs, FittingIs};
 use crate::answer::Answer;
 use crate::answer::refusal;
 use crate::answer::success;
@@ -35,7 +32,7 @@ pub fn write_hex(text: &[u8], output: &mut [u8]) -> Answer
 // The data of a text that is read, of which there are `n` bytes, or 16.
 fn fitting_text(s: &[u8], n: usize, output: &mut [u8]) -> Answer
     requires { ⌜ Accepted (now s) × (n ≡ length (textOf (readText (now s)))) ⌝ }
-    ensures { λ r. ⌜ Answered (fitting (length (now (output .entry))) (textOf (readText (now (s .entry))))) (now (output .entry)) (now (output .exit)) r ⌝ }
+    ensures { λ r. ⌜ FittingIs (now (s .entry)) (now (output .entry)) (now (output .exit)) r ⌝ }
 {
     if output.len() < n {
         return refusal(16, 0);
@@ -43,8 +40,8 @@ fn fitting_text(s: &[u8], n: usize, output: &mut [u8]) -> Answer
     success(put_text(s, output))
 }
 
-// The text of Intel HEX is written to the output, or the call is refused, with the line as the place: 21 anything after the end record; 18 not a
-// record; 19 wrong sum; 20 wrong address; 21 no end record; then 16.
+// The text of Intel HEX is written to the output, or the call is refused, with the line as the place: 21 anything after
+// the end record; 18 not a record; 19 wrong sum; 20 wrong address; 21 no end record; then 16.
 pub fn read_hex(hex: &[u8], output: &mut [u8]) -> Answer
     ensures { λ r. ⌜ ReadIs (now (hex .entry)) (now (output .entry)) (now (output .exit)) r ⌝ }
 {

@@ -3,7 +3,8 @@ ghost use mathlib.Core.Path.{_≡_};
 ghost use Prim.Native.Nat.{_+_, _*_, _%_, _<_, _≤_};
 ghost use lib.ListN.{length, set};
 ghost use Rattle.text.specs.Written.{Stored, LaidDown};
-ghost use Rattle.hex.specs.Record.{total, digits, spelled, recordBytes, lineOf, hexOf, maxText};
+ghost use Rattle.hex.specs.Record.{total, digits, spelled, hexOf, maxText};
+ghost use Rattle.hex.specs.Steps.{Fits, LineStored};
 use crate::digits::hex_digit;
 use std::num::wrapping_add_u8;
 use std::num::wrapping_sub_u8;
@@ -59,8 +60,8 @@ fn put_spelled(bytes: &[u8], out: &mut [u8], at: usize) -> usize
 
 // The line of a record.
 fn put_line(kind: u8, address: usize, bytes: &[u8], out: &mut [u8], at: usize) -> usize
-    requires { ⌜ (address < maxText) × (length (now bytes) < 256) × (at + 2 * length (now bytes) + 12 ≤ length (now out)) ⌝ }
-    ensures { λ r. ⌜ Stored (lineOf (recordBytes kind address (now (bytes .entry)))) at (now (out .entry)) (now (out .exit)) r ⌝ }
+    requires { ⌜ Fits address (length (now bytes)) at (length (now out)) ⌝ }
+    ensures { λ r. ⌜ LineStored kind address (now (bytes .entry)) at (now (out .entry)) (now (out .exit)) r ⌝ }
 {
     let head = [
         bytes.len() as u8,

@@ -17,4 +17,7 @@ fitting-text-spec =
     (λ c κs. c .before .before .before .before .pre .0)
     (λ c κs. search auto)
     (λ c. search auto)
-    (λ c. succeeds refl (omega (arith, c .before .before .before .before .before .before .before .before .pre .1)) (c .before .before .before .put-text .ensures) (c .success .ensures)))
+    (λ c.
+    let h3 = c .before .before .before in
+    let h8 = h3 .before .before .before .before .before in
+    succeeds refl (omega (arith, h8 .pre .1)) (h3 .put-text .ensures) (c .success .ensures)))

@@ -16,7 +16,14 @@ read-hex-spec =
     (λ c. search auto)
     (λ c κs. read-bytes _ (sym (c .before .before .n .given .1) ∙ c .before .before .before .before .measure-text .ensures))
     (λ c. search auto)
-    (λ c. answered-as (read-accepted _ _ (sym (c .before .before .before .before .before .n .given .1) ∙ c .before .before .before .before .before .before .before .measure-text .ensures)) (c .before .before .fitting-text .ensures))
+    (λ c.
+    let h2 = c .before .before in
+    let h5 = h2 .before .before .before in
+    let h7 = h5 .before .before in
+    answered-as (read-accepted _ _ (sym (h5 .n .given .1) ∙ h7 .measure-text .ensures)) (h2 .fitting-text .ensures))
     (λ c. search auto)
     (λ c κs. search auto)
-    (λ c. refuses _ _ (read-refused _ _ (sym (c .before .before .number .given .1) ∙ c .before .before .before .before .measure-text .ensures)) (c .refusal .ensures)))
+    (λ c.
+    let h2 = c .before .before in
+    let h4 = h2 .before .before in
+    refuses _ _ (read-refused _ _ (sym (h2 .number .given .1) ∙ h4 .measure-text .ensures)) (c .refusal .ensures)))

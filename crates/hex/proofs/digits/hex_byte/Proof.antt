@@ -22,4 +22,7 @@ hex-byte-spec =
     (λ c. search auto)
     (λ c κs. search auto)
     (λ c. search auto)
-    (λ c. (omega (arith, c .wide2 .ensures, c .before .wide .ensures, c .before .before .hex-value2 .ensures, c .before .before .before .before .hex-value .ensures), omega arith)))
+    (λ c.
+    let h2 = c .before .before in
+    let h4 = h2 .before .before in
+    (omega (arith, c .wide2 .ensures, c .before .wide .ensures, h2 .hex-value2 .ensures, h4 .hex-value .ensures), omega arith)))

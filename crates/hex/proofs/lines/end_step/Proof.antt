@@ -14,5 +14,11 @@ end-step-spec =
     (tie.spec
     (λ c. bad-sum _ _ (c .before .before .pre .0) (c .if1 .taken))
     (λ c κs. omega (arith, summed-room (c .before .before .pre .0)))
-    (λ c. end-behind _ _ (c .before .before .before .before .pre .0) (c .before .before .if1 .left) (c .before .before .before .before .pre .1) (omega (arith, c .before .line-length .ensures)))
-    (λ c. end-last _ _ (c .before .before .before .before .pre .0) (c .before .before .if1 .left) (c .before .before .before .before .pre .1) (omega (arith, c .before .line-length .ensures))))
+    (λ c.
+    let h2 = c .before .before in
+    let h4 = h2 .before .before in
+    end-behind _ _ (h4 .pre .0) (h2 .if1 .left) (h4 .pre .1) (omega (arith, c .before .line-length .ensures)))
+    (λ c.
+    let h2 = c .before .before in
+    let h4 = h2 .before .before in
+    end-last _ _ (h4 .pre .0) (h2 .if1 .left) (h4 .pre .1) (omega (arith, c .before .line-length .ensures))))

@@ -16,13 +16,37 @@ form-of-spec =
     (tie.spec
     (λ c κs. search auto)
     (λ c κs. search auto)
-    (λ c. no-data _ (sym (c .before .before .before .hex-byte .ensures .0) ∙ c .before .if1 .taken) (sym (c .before .before .hex-byte2 .ensures .0) ∙ c .if2 .taken))
-    (λ c. data-form _ (sym (c .before .before .before .hex-byte .ensures .0) ∙ c .before .if1 .taken) (λ e. c .if2 .left (c .before .before .hex-byte2 .ensures .0 ∙ e)))
-    (λ c. other-type _ (λ e. c .before .if1 .left (c .before .before .before .hex-byte .ensures .0 ∙ e)) (λ e. c .if3 .taken (c .before .before .before .hex-byte .ensures .0 ∙ e)))
-    (λ c. end-count _ (λ e. c .before .before .if1 .left (c .before .before .before .before .hex-byte .ensures .0 ∙ e)) (λ e. c .if4 .taken (c .before .before .before .hex-byte2 .ensures .0 ∙ e)))
+    (λ c.
+    let h2 = c .before .before in
+    let h3 = h2 .before in
+    no-data _ (sym (h3 .hex-byte .ensures .0) ∙ c .before .if1 .taken) (sym (h2 .hex-byte2 .ensures .0) ∙ c .if2 .taken))
+    (λ c.
+    let h2 = c .before .before in
+    let h3 = h2 .before in
+    data-form _ (sym (h3 .hex-byte .ensures .0) ∙ c .before .if1 .taken) (λ e. c .if2 .left (h2 .hex-byte2 .ensures .0 ∙ e)))
+    (λ c.
+    let h3 = c .before .before .before in
+    other-type _ (λ e. c .before .if1 .left (h3 .hex-byte .ensures .0 ∙ e)) (λ e. c .if3 .taken (h3 .hex-byte .ensures .0 ∙ e)))
+    (λ c.
+    let h2 = c .before .before in
+    let h3 = h2 .before in
+    let h4 = h3 .before in
+    end-count _ (λ e. h2 .if1 .left (h4 .hex-byte .ensures .0 ∙ e)) (λ e. c .if4 .taken (h3 .hex-byte2 .ensures .0 ∙ e)))
     (λ c κs. search auto)
     (λ c. omega arith)
     (λ c κs. search auto)
     (λ c. omega arith)
-    (λ c. end-address _ (λ e. c .before .before .before .before .before .if1 .left (c .before .before .before .before .before .before .before .hex-byte .ensures .0 ∙ e)) (λ e. c .if5 .taken (omega (arith, e, c .before .hex-byte4 .ensures .0, c .before .before .hex-byte3 .ensures .0))))
-    (λ c. end-form _ (sym (c .before .before .before .before .before .before .before .hex-byte .ensures .0) ∙ c .before .before .before .before .if3 .left) (sym (c .before .before .before .before .before .before .hex-byte2 .ensures .0) ∙ c .before .before .before .if4 .left) (omega (arith, c .if5 .left, c .before .hex-byte4 .ensures .0, c .before .before .hex-byte3 .ensures .0))))
+    (λ c.
+    let h2 = c .before .before in
+    let h5 = h2 .before .before .before in
+    let h7 = h5 .before .before in
+    end-address _ (λ e. h5 .if1 .left (h7 .hex-byte .ensures .0 ∙ e))
+    (λ e. c .if5 .taken (omega (arith, e, c .before .hex-byte4 .ensures .0, h2 .hex-byte3 .ensures .0))))
+    (λ c.
+    let h2 = c .before .before in
+    let h3 = h2 .before in
+    let h4 = h3 .before in
+    let h6 = h4 .before .before in
+    let h7 = h6 .before in
+    end-form _ (sym (h7 .hex-byte .ensures .0) ∙ h4 .if3 .left) (sym (h6 .hex-byte2 .ensures .0) ∙ h3 .if4 .left)
+    (omega (arith, c .if5 .left, c .before .hex-byte4 .ensures .0, h2 .hex-byte3 .ensures .0))))

@@ -25,4 +25,9 @@ line-sum-spec =
     (λ c. no-ending _ (c .before .ending .ensures .0) (omega (arith, c .before .before .before .hex-byte .ensures .0)) (c .if4 .taken))
     (λ c. omega arith)
     (λ c κs. omega arith)
-    (λ c. line-summed _ _ (c .before .before .before .before .hex-byte .ensures .0) (c .before .before .before .before .before .if2 .left) (c .before .before .ending .ensures .0) (omega (arith, c .before .before .before .before .hex-byte .ensures .0)) (omega arith) (c .scan .ensures)))
+    (λ c.
+    let h2 = c .before .before in
+    let h4 = h2 .before .before in
+    let h5 = h4 .before in
+    line-summed _ _ (h4 .hex-byte .ensures .0) (h5 .if2 .left) (h2 .ending .ensures .0) (omega (arith, h4 .hex-byte .ensures .0)) (omega arith)
+    (c .scan .ensures)))

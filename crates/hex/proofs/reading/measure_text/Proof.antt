@@ -4,7 +4,8 @@ use native.Mathlib.Omega.{arith}
 use lib.ListN.{length, drop}
 use Rattle.lexer.proofs.Auto.{auto}
 use Rattle.spec.specs.Bytes.{byte}
-use Rattle.hex.proofs.ReadLaws.{Measuring, measuring-starts, measuring-on, onward-more, measured-done, measured-refused, measured-behind, measured-missing}
+use Rattle.hex.proofs.ReadLaws.{Measuring, measuring-starts, measuring-on, onward-more, measured-done, measured-refused, measured-behind}
+use Rattle.hex.proofs.ReadLaws.{measured-missing}
 use Rattle.hex.proofs.reading.measure_text.Statement.{statement}
 use Rattle.hex.proofs.reading.measure_text.Tie as tie
 
@@ -26,16 +27,44 @@ measure-text-spec =
     (λ c. search auto)
     (λ c κs. c .before .before .loop .inv .few)
     (λ c. search auto)
-    (λ c. let o = onward-more (c .before .before .before .before .before .before .loop .inv) (c .before .before .before .before .before .loop-test .taken) (c .before .before .before .step-at .ensures) (c .before .more .given .1) in omega arith)
+    (λ c.
+    let h3 = c .before .before .before in
+    let h5 = h3 .before .before in
+    let h6 = h5 .before in
+    let o = onward-more (h6 .loop .inv) (h5 .loop-test .taken) (h3 .step-at .ensures) (c .before .more .given .1) in omega arith)
     (λ c. omega (arith, c .before .before .before .before .before .before .loop .inv .lines))
-    (λ c. let o = onward-more (c .before .before .before .before .before .before .loop .inv) (c .before .before .before .before .before .loop-test .taken) (c .before .before .before .step-at .ensures) (c .before .more .given .1) in omega arith)
-    (λ c. let o = onward-more (c .before .before .before .before .before .before .loop .inv) (c .before .before .before .before .before .loop-test .taken) (c .before .before .before .step-at .ensures) (c .before .more .given .1) in omega arith)
-    (λ c. measuring-on (c .before .before .before .before .before .before .loop .inv) (c .before .before .before .before .before .loop-test .taken) (c .before .before .before .step-at .ensures) (c .before .more .given .1))
+    (λ c.
+    let h3 = c .before .before .before in
+    let h5 = h3 .before .before in
+    let h6 = h5 .before in
+    let o = onward-more (h6 .loop .inv) (h5 .loop-test .taken) (h3 .step-at .ensures) (c .before .more .given .1) in omega arith)
+    (λ c.
+    let h3 = c .before .before .before in
+    let h5 = h3 .before .before in
+    let h6 = h5 .before in
+    let o = onward-more (h6 .loop .inv) (h5 .loop-test .taken) (h3 .step-at .ensures) (c .before .more .given .1) in omega arith)
+    (λ c.
+    let h3 = c .before .before .before in
+    let h5 = h3 .before .before in
+    let h6 = h5 .before in
+    measuring-on (h6 .loop .inv) (h5 .loop-test .taken) (h3 .step-at .ensures) (c .before .more .given .1))
     (λ c. search auto)
-    (λ c. measured-done (c .before .before .before .before .before .loop .inv) (c .before .before .before .before .loop-test .taken) (c .before .before .step-at .ensures) (c .enum-told .given .1))
+    (λ c.
+    let h2 = c .before .before in
+    let h4 = h2 .before .before in
+    let h5 = h4 .before in
+    measured-done (h5 .loop .inv) (h4 .loop-test .taken) (h2 .step-at .ensures) (c .enum-told .given .1))
     (λ c. search auto)
-    (λ c. measured-refused (c .before .before .before .before .before .before .loop .inv) (c .before .before .before .before .before .loop-test .taken) (c .before .before .before .step-at .ensures) (c .before .number .given .1))
+    (λ c.
+    let h3 = c .before .before .before in
+    let h5 = h3 .before .before in
+    let h6 = h5 .before in
+    measured-refused (h6 .loop .inv) (h5 .loop-test .taken) (h3 .step-at .ensures) (c .before .number .given .1))
     (λ c. search auto)
     (λ c. omega (arith, c .before .before .before .before .before .loop .inv .lines))
-    (λ c. measured-behind (c .before .before .before .before .before .loop .inv) (c .before .before .before .before .loop-test .taken) (c .before .before .step-at .ensures) (c .enum-told2 .given .1))
+    (λ c.
+    let h2 = c .before .before in
+    let h4 = h2 .before .before in
+    let h5 = h4 .before in
+    measured-behind (h5 .loop .inv) (h4 .loop-test .taken) (h2 .step-at .ensures) (c .enum-told2 .given .1))
     (λ c. measured-missing (c .before .loop .inv) (c .loop-test .left)))

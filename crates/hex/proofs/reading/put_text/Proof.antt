@@ -28,11 +28,38 @@ put-text-spec =
     (λ c. search auto)
     (λ c κs. omega (arith, lent-room (c .before .before .loop .inv) (c .before .loop-test .taken)))
     (λ c. laid-length (c .before .before .before .before .loop .inv .laid))
-    (λ c. pouring-last (c .before .before .before .before .loop .inv) (c .before .before .before .loop-test .taken) (c .before .hex-byte .ensures .0) (c .if1 .taken))
-    (λ c κs. let p = pouring-on (c .before .before .before .before .before .loop .inv) (c .before .before .before .before .loop-test .taken) (c .before .before .hex-byte .ensures .0) (c .before .if1 .left) in (p .room, p .hex, omega (arith, p .few)))
-    (λ c κs. lent-room (c .before .before .before .before .before .before .before .before .loop .inv) (c .before .before .before .before .before .before .before .loop-test .taken))
-    (λ c. let p = pouring-on (c .before .before .before .before .before .before .before .before .before .loop .inv) (c .before .before .before .before .before .before .before .before .loop-test .taken) (c .before .before .before .before .before .before .hex-byte .ensures .0) (c .before .before .before .before .before .if1 .left) in omega (arith, p .far, c .line-length .ensures))
-    (λ c. let p = pouring-on (c .before .before .before .before .before .before .before .before .before .loop .inv) (c .before .before .before .before .before .before .before .before .loop-test .taken) (c .before .before .before .before .before .before .hex-byte .ensures .0) (c .before .before .before .before .before .if1 .left) in omega (arith, p .far, c .line-length .ensures))
-    (λ c. let p = pouring-on (c .before .before .before .before .before .before .before .before .before .loop .inv) (c .before .before .before .before .before .before .before .before .loop-test .taken) (c .before .before .before .before .before .before .hex-byte .ensures .0) (c .before .before .before .before .before .if1 .left) in rw (c .line-length .ensures) (p .next (c .before .before .before .put-data .ensures)))
+    (λ c.
+    let h3 = c .before .before .before in
+    let h4 = h3 .before in
+    pouring-last (h4 .loop .inv) (h3 .loop-test .taken) (c .before .hex-byte .ensures .0) (c .if1 .taken))
+    (λ c κs.
+    let h2 = c .before .before in
+    let h4 = h2 .before .before in
+    let h5 = h4 .before in
+    let p = pouring-on (h5 .loop .inv) (h4 .loop-test .taken) (h2 .hex-byte .ensures .0) (c .before .if1 .left) in (p .room, p .hex, omega (arith, p .few)))
+    (λ c κs.
+    let h7 = c .before .before .before .before .before .before .before in
+    let h8 = h7 .before in
+    lent-room (h8 .loop .inv) (h7 .loop-test .taken))
+    (λ c.
+    let h5 = c .before .before .before .before .before in
+    let h6 = h5 .before in
+    let h8 = h6 .before .before in
+    let h9 = h8 .before in
+    let p = pouring-on (h9 .loop .inv) (h8 .loop-test .taken) (h6 .hex-byte .ensures .0) (h5 .if1 .left) in omega (arith, p .far, c .line-length .ensures))
+    (λ c.
+    let h5 = c .before .before .before .before .before in
+    let h6 = h5 .before in
+    let h8 = h6 .before .before in
+    let h9 = h8 .before in
+    let p = pouring-on (h9 .loop .inv) (h8 .loop-test .taken) (h6 .hex-byte .ensures .0) (h5 .if1 .left) in omega (arith, p .far, c .line-length .ensures))
+    (λ c.
+    let h3 = c .before .before .before in
+    let h5 = h3 .before .before in
+    let h6 = h5 .before in
+    let h8 = h6 .before .before in
+    let h9 = h8 .before in
+    let p = pouring-on (h9 .loop .inv) (h8 .loop-test .taken) (h6 .hex-byte .ensures .0) (h5 .if1 .left) in rw (c .line-length .ensures)
+    (p .next (h3 .put-data .ensures)))
     (λ c. laid-length (c .before .loop .inv .laid))
     (λ c. absurd (pouring-missing (c .before .loop .inv) (c .loop-test .left))))

@@ -31,8 +31,23 @@ put-hex-spec =
     let l = c .before .before .before .before .loop in
     let text = c .before .before .before .before .before .before .before .args .text .now in
     let r = c .before .before .record-end in
-    let same = cut text (l .at) (r .result) (omega (arith, r .ensures)) (r .ensures .2) (r .ensures .3) in
-    (omega (arith, c .before .before .before .before .before .before .before .pre), omega (arith, ap length same, length-take 16 (drop (l .at) text)), omega (arith, ap length same, printing-room (l .inv .2) (omega arith), laid-length (l .inv .2 .laid), c .before .before .before .before .before .before .before .pre)))
+    let same = cut text (l .at) (r .result) (omega (arith, r .ensures)) (r .ensures .2) (r .ensures .3) in (
+      omega (arith, c .before .before .before .before .before .before .before .pre),
+      omega (
+        arith,
+        ap length same,
+        length-take 16 (drop
+            (l .at) text),
+      ),
+      omega (
+        arith,
+        ap length same,
+        printing-room (l .inv .2) (omega arith),
+        laid-length
+            (l .inv .2 .laid),
+        c .before .before .before .before .before .before .before .pre,
+      ),
+    ))
     (λ c. omega (arith, c .before .before .before .before .before .before .before .before .before .before .pre))
     (λ c. search auto)
     (λ c.
@@ -45,7 +60,21 @@ put-hex-spec =
     (λ c. search auto)
     (λ c. search auto)
     (λ c κs.
-    let none = none-left (c .before .before .before .before .before .before .args .text .now) in
-    (omega arith, omega (arith, ap length none), omega (arith, ap length none, printing-last-room (c .before .before .before .loop .inv .2) (omega arith), laid-length (c .before .before .before .loop .inv .2 .laid), c .before .before .before .before .before .before .pre)))
+    let none = none-left (c .before .before .before .before .before .before .args .text .now) in (
+      omega arith,
+      omega (arith, ap length none),
+      omega (
+        arith,
+        ap length none,
+        printing-last-room (c .before .before .before .loop .inv .2)
+            (omega arith),
+        laid-length (c .before .before .before .loop .inv .2 .laid),
+        c .before .before .before .before .before .before .pre,
+      ),
+    ))
     (λ c. stored-length (c .before .before .put-line2 .ensures) ∙ laid-length (c .before .before .before .before .before .before .loop .inv .2 .laid))
-    (λ c. printing-last (c .before .before .before .before .before .before .loop .inv .2) (omega arith) (none-left (c .before .before .before .before .before .before .before .before .before .args .text .now)) (c .before .before .put-line2 .ensures)))
+    (λ c.
+    let h2 = c .before .before in
+    let h6 = h2 .before .before .before .before in
+    let h9 = h6 .before .before .before in
+    printing-last (h6 .loop .inv .2) (omega arith) (none-left (h9 .args .text .now)) (h2 .put-line2 .ensures)))

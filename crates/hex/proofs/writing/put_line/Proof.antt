@@ -25,15 +25,59 @@ put-line-spec =
     (λ c κs. search auto)
     (λ c. search auto)
     (λ c. omega (arith, c .before .before .before .before .before .before .before .before .before .before .before .before .pre))
-    (λ c κs. omega (arith, c .before .before .before .before .before .before .before .before .before .before .before .before .pre, simp length-set at (ap length (c .before .before .before .before .put .ensures))))
+    (λ c κs.
+    let h4 = c .before .before .before .before in
+    let h12 = h4 .before .before .before .before .before .before .before .before in
+    omega (arith, h12 .pre, simp length-set at (ap length (h4 .put .ensures))))
     (λ c κs.
     let one = c .before .before .before .put-spelled .ensures in
-    omega (arith, c .before .before .before .before .before .before .before .before .before .before .before .before .before .before .before .before .pre, one .next-is, stored-length one, simp length-set at (ap length (c .before .before .before .before .before .before .before .before .put .ensures))))
+    omega (
+      arith,
+      c .before .before .before .before .before .before .before .before .before .before .before .before .before .before .before .before .pre,
+      one .next-is,
+      stored-length one,
+      simp length-set at (ap length (c .before .before .before .before .before .before .before .before .put .ensures)),
+    ))
     (λ c κs.
     let one = c .before .before .before .before .before .before .before .put-spelled .ensures in
     let two = c .before .before .before .put-spelled2 .ensures in
-    omega (arith, c .before .before .before .before .before .before .before .before .before .before .before .before .before .before .before .before .before .before .before .before .pre, one .next-is, two .next-is, spelled-length (c .before .before .before .before .before .before .before .before .before .before .before .before .before .before .before .before .before .before .before .before .args .bytes .now), stored-length one, stored-length two, simp length-set at (ap length (c .before .before .before .before .before .before .before .before .before .before .before .before .put .ensures))))
+    let here = c .before .before .before .before .before .before .before .before .before .before .before .before in
+    let start = here .before .before .before .before .before .before .before .before in
+    omega (
+      arith,
+      start .pre,
+      one .next-is,
+      two .next-is,
+      spelled-length (start .args .bytes .now),
+      stored-length one,
+      stored-length two,
+      simp length-set at (ap length (here .put .ensures)),
+    ))
     (λ c κs. search auto)
-    (λ c. omega (arith, c .before .before .before .before .before .before .before .before .before .before .before .before .before .before .before .before .before .before .before .before .before .before .before .before .before .before .before .pre, c .before .before .before .before .before .before .before .before .before .before .before .before .before .before .before .before .before .before .before .before .before .before .before .before .before .before .before .good, c .before .before .before .before .before .before .before .before .before .before .before .before .before .before .put-spelled .ensures .next-is, c .before .before .before .before .before .before .before .before .before .before .put-spelled2 .ensures .next-is, c .before .before .before .before .before .before .put-digits .ensures .next-is, spelled-length (c .before .before .before .before .before .before .before .before .before .before .before .before .before .before .before .before .before .before .before .before .before .before .before .before .before .before .before .args .bytes .now)))
+    (λ c.
+    let h6 = c .before .before .before .before .before .before in
+    let h10 = h6 .before .before .before .before in
+    let h14 = h10 .before .before .before .before in
+    let h27 = h14 .before .before .before .before .before .before .before .before .before .before .before .before .before in
+    omega (
+      arith,
+      h27 .pre,
+      h27 .good,
+      h14 .put-spelled .ensures .next-is,
+      h10 .put-spelled2 .ensures .next-is,
+      h6 .put-digits .ensures .next-is,
+      spelled-length
+          (h27 .args .bytes .now),
+    ))
     (λ c. search auto)
-    (λ c. line-stored _ _ _ _ (c .before .before .before .before .before .before .before .before .before .before .before .before .before .before .before .before .before .before .before .before .before .before .before .sum .ensures) (c .before .before .before .before .before .before .before .before .before .before .before .before .before .before .before .before .before .before .before .before .before .before .sum2 .ensures) (c .before .before .before .before .before .before .before .before .before .before .before .before .before .before .before .before .before .before .before .before .before .wrapping-sub-u8 .ensures) (omega arith) (c .before .before .before .before .before .before .before .before .before .before .before .before .before .before .before .before .before .before .before .put .ensures) (c .before .before .before .before .before .before .before .before .before .before .before .before .before .before .put-spelled .ensures) (c .before .before .before .before .before .before .before .before .before .before .put-spelled2 .ensures) (c .before .before .before .before .before .before .put-digits .ensures) (c .before .before .put2 .ensures)))
+    (λ c.
+    let h2 = c .before .before in
+    let h6 = h2 .before .before .before .before in
+    let h10 = h6 .before .before .before .before in
+    let h14 = h10 .before .before .before .before in
+    let h19 = h14 .before .before .before .before .before in
+    let h21 = h19 .before .before in
+    let h22 = h21 .before in
+    let h23 = h22 .before in
+    line-stored _ _ _ _ (h23 .sum .ensures) (h22 .sum2 .ensures) (h21 .wrapping-sub-u8 .ensures) (omega arith) (h19 .put .ensures) (h14 .put-spelled .ensures)
+    (h10 .put-spelled2 .ensures) (h6 .put-digits .ensures) (h2 .put2 .ensures)))

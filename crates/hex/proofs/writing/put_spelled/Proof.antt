@@ -28,6 +28,13 @@ put-spelled-spec =
     (λ c κs. omega (arith, laid-length (c .before .before .before .loop .inv .2)))
     (λ c. search auto)
     (λ c. search auto)
-    (λ c. (omega arith, omega (arith, c .before .before .put-digits .ensures .next-is), laid-on (c .before .before .before .before .before .before .loop .inv .2) _ (spelled-here _ (c .before .before .before .before .before .before .loop .i) (omega arith)) (c .before .before .put-digits .ensures)))
+    (λ c.
+    let h2 = c .before .before in
+    let h6 = h2 .before .before .before .before in (
+      omega arith,
+      omega (arith, h2 .put-digits .ensures .next-is),
+      laid-on (h6 .loop .inv .2) _ (spelled-here _ (h6 .loop .i) (omega arith))
+          (h2 .put-digits .ensures),
+    ))
     (λ c. laid-length (c .before .loop .inv .2))
     (λ c. laid-ends (c .before .loop .inv .2) (spelled-end _ (c .before .loop .i) (c .loop-test .left))))

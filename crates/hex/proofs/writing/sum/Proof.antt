@@ -27,5 +27,17 @@ sum-spec =
     (λ c κs. search auto)
     (λ c. search auto)
     (λ c. search auto)
-    (λ c. (omega arith, omega (arith, c .wrapping-add-u8 .ensures), omega (arith, total-here (c .before .before .before .before .before .args .bytes .now) (c .before .before .before .loop .i) (omega arith), c .before .before .before .loop .inv .2, c .wrapping-add-u8 .ensures)))
+    (λ c.
+    let h3 = c .before .before .before in
+    let h5 = h3 .before .before in (
+      omega arith,
+      omega (arith, c .wrapping-add-u8 .ensures),
+      omega (
+        arith,
+        total-here (h5 .args .bytes .now) (h3 .loop .i)
+            (omega arith),
+        h3 .loop .inv .2,
+        c .wrapping-add-u8 .ensures,
+      ),
+    ))
     (λ c. omega (arith, total-end (c .before .before .before .args .bytes .now) (c .before .loop .i) (omega arith), c .before .loop .inv .2)))
