@@ -33,7 +33,7 @@ VERSION := $(shell sed -n 's/.*JSON_PATCH_VERSION "\(.*\)"/\1/p' include/json_pa
 # function or a struct of the header changes after a release.
 ABI := 0
 
-# The folder of the static library, if it is not the one that rt makes here.
+# The folder of the static libraries, if it is not the one that rt makes here.
 ifdef JSON_PATCH_LIB
 prebuilt := yes
 endif
@@ -42,6 +42,7 @@ export JSON_PATCH_LIB
 
 out := target/make
 static := $(JSON_PATCH_LIB)/libjson_patch.a
+hex := $(JSON_PATCH_LIB)/libhex.a
 shared := libjson_patch.so.$(VERSION)
 soname := libjson_patch.so.$(ABI)
 command := $(out)/json-patch
@@ -50,25 +51,29 @@ completions := $(out)/json-patch.bash $(out)/_json-patch $(out)/json-patch.fish
 proved := crates.txt $(shell find crates -path '*/must-fail' -prune -o -name '*.rt' -print -o -name '*.antt' -print)
 rust := $(shell find rust/src rust/cli/src -name '*.rs') rust/build.rs rust/Cargo.toml rust/Cargo.lock rust/cli/Cargo.toml
 
-all: $(static) $(out)/$(soname) $(command) $(completions)
+all: $(static) $(hex) $(out)/$(soname) $(command) $(completions)
 
 ifndef prebuilt
 $(static): $(proved)
 	@command -v rt >/dev/null || { echo "no rt: the Rattle toolchain proves and makes $@" >&2; exit 1; }
 	rt staticlib json_patch
 	@touch $@
+
+$(hex): $(proved)
+	rt staticlib hex
+	@touch $@
 endif
 
-# The shared library is the proved archive, linked whole.
-$(out)/$(shared): $(static)
+# The shared library is the proved archives, linked whole.
+$(out)/$(shared): $(static) $(hex)
 	@mkdir -p $(out)
 	$(CC) -shared $(LDFLAGS) -Wl,-soname,$(soname) -Wl,-z,defs -Wl,-z,relro -Wl,-z,now \
-		-Wl,--whole-archive $(static) -Wl,--no-whole-archive -o $@
+		-Wl,--whole-archive $(static) $(hex) -Wl,--no-whole-archive -o $@
 
 $(out)/$(soname): $(out)/$(shared)
 	ln -sf $(shared) $@
 
-$(command): $(rust) $(static)
+$(command): $(rust) $(static) $(hex)
 	@mkdir -p $(out)
 	$(CARGO) build --release $(CARGO_FLAGS) --manifest-path rust/Cargo.toml --package json-patch-cli --target-dir rust/target
 	cp rust/target/release/json-patch $@
@@ -99,8 +104,8 @@ install: all
 		$(DESTDIR)$(MANDIR)/man1 $(DESTDIR)$(MANDIR)/man3 $(DESTDIR)$(DOCDIR) $(DESTDIR)$(BASHDIR) \
 		$(DESTDIR)$(ZSHDIR) $(DESTDIR)$(FISHDIR) $(DESTDIR)$(PYTHONDIR)/json_patch
 	$(INSTALL) -m 755 $(command) $(DESTDIR)$(BINDIR)/json-patch
-	$(INSTALL) -m 644 include/json_patch.h $(DESTDIR)$(INCLUDEDIR)/json_patch.h
-	$(INSTALL) -m 644 $(static) $(DESTDIR)$(LIBDIR)/libjson_patch.a
+	$(INSTALL) -m 644 include/json_patch.h include/json_patch_hex.h $(DESTDIR)$(INCLUDEDIR)
+	$(INSTALL) -m 644 $(static) $(hex) $(DESTDIR)$(LIBDIR)
 	$(INSTALL) -m 644 $(out)/$(shared) $(DESTDIR)$(LIBDIR)/$(shared)
 	ln -sf $(shared) $(DESTDIR)$(LIBDIR)/$(soname)
 	ln -sf $(soname) $(DESTDIR)$(LIBDIR)/libjson_patch.so
@@ -119,6 +124,7 @@ install: all
 
 uninstall:
 	rm -f $(DESTDIR)$(BINDIR)/json-patch $(DESTDIR)$(INCLUDEDIR)/json_patch.h \
+		$(DESTDIR)$(INCLUDEDIR)/json_patch_hex.h $(DESTDIR)$(LIBDIR)/libhex.a \
 		$(DESTDIR)$(LIBDIR)/libjson_patch.a $(DESTDIR)$(LIBDIR)/libjson_patch.so \
 		$(DESTDIR)$(LIBDIR)/$(soname) $(DESTDIR)$(LIBDIR)/$(shared) \
 		$(DESTDIR)$(LIBDIR)/pkgconfig/json_patch.pc \
