@@ -1,12 +1,11 @@
 -- Laws of answers.
 use Prim.Native.Nat.{ℕ, _≤_, _<_}
-use mathlib.Core.Path.{_≡_, refl, sym, ap, subst, _∙_}
-use mathlib.Core.List.{[], _∷_, _++_}
+use mathlib.Core.Path.{_≡_, refl, sym, subst, _∙_}
 use native.Mathlib.Omega.{arith}
 use native.Mathlib.Nat.{zero-add}
 use borrow.Author.Tests.{le-leb, lt-leb}
-use lib.ListN.{length, drop}
-use Rattle.spec.specs.Outcome.{Outcome, ok, refused, if_then_else_}
+use lib.ListN.{length}
+use Rattle.spec.specs.Outcome.{Outcome, ok, refused}
 use Rattle.spec.specs.Refusal.{input-too-long, output-too-short}
 use Rattle.spec.specs.Bytes.{Bytes}
 use Rattle.text.specs.Written.{LaidDown}

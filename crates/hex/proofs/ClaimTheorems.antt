@@ -1,18 +1,17 @@
 -- The claims of specs/Claims, proved.
-use Prim.Native.Nat.{ℕ, zero, suc, _+_, _-_, _*_, _/_, _%_, _≤_, _<_}
+use Prim.Native.Nat.{ℕ, zero, suc, _+_, _*_, _/_, _%_, _≤_, _<_}
 use Prim.Native.Char.{code}
 use mathlib.Core.Path.{_≡_, refl, sym, ap, subst, _∙_}
-use mathlib.Core.Bool.{Bool, true, false, true≢false, _&&_, _||_, or-true, and-false}
+use mathlib.Core.Bool.{Bool, true, false, or-true}
 use mathlib.Core.List.{[], _∷_, _++_, append-nil, append-assoc}
 use native.Mathlib.Omega.{arith}
 use native.Mathlib.Decide.{decLt, ℕ-discrete}
-use borrow.Author.Tests.{eq-eqb, ne-eqb, eqb-true, le-leb, leb-true, leb-false}
+use borrow.Author.Tests.{eq-eqb, ne-eqb, eqb-true, le-leb, leb-true}
 use lib.ListN.{length, take, drop, length-append, length-take, length-drop, take-append-drop, drop-of-length-le}
 use lib.Seq.{drop-drop}
 use lib.Dec.{leb, eqb}
 use Rattle.spec.specs.Outcome.{Outcome, ok, refused, _>>=_, if_then_else_}
 use Rattle.spec.specs.Bytes.{Bytes, byte, ascii}
-use Rattle.spec.specs.Refusal.{done}
 use Rattle.hex.specs.Record.{maxText, line-feed, data-type, end-type, total, body, check, recordBytes, upperHex, digits, spelled, lineOf, recordsFrom}
 use Rattle.hex.specs.Record.{endLine, hexOf}
 use Rattle.hex.specs.Reading.{hexByte, bytesAt, allHex, count, addressOf, typeOf, dataOf, recordEnd, ending, lineLength, isLine, isData, isEnd}

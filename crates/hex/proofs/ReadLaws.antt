@@ -1,11 +1,11 @@
 -- The lines of a text, one after another.
-use Prim.Native.Nat.{ℕ, zero, suc, _+_, _-_, _*_, _%_, _≤_, _<_}
+use Prim.Native.Nat.{ℕ, zero, suc, _+_, _-_, _*_, _≤_, _<_}
 use mathlib.Core.Path.{_≡_, refl, sym, ap, subst, _∙_}
 use mathlib.Core.Bool.{Bool, true, false, _&&_, _||_, true≢false}
-use mathlib.Core.List.{[], _∷_, _++_}
+use mathlib.Core.List.{[], _++_}
 use native.Mathlib.Omega.{arith}
 use borrow.Author.Tests.{eq-eqb, ne-eqb, eqb-true, leb-true}
-use lib.ListN.{length, take, drop, length-append, length-drop, drop-of-length-le}
+use lib.ListN.{length, take, drop, length-append, length-drop}
 use lib.Seq.{take-all, drop-drop}
 use lib.Dec.{leb, eqb}
 use Rattle.spec.specs.Outcome.{Outcome, ok, refused, _>>=_, if_then_else_}
@@ -13,16 +13,16 @@ use Rattle.spec.specs.Bytes.{Bytes}
 use Rattle.text.specs.Written.{Stored, LaidDown}
 use Rattle.text.proofs.StoreLaws.{front}
 use Rattle.lexer.proofs.Tests.{and-both}
-use Rattle.hex.specs.Record.{total, maxText}
+use Rattle.hex.specs.Record.{maxText}
 use Rattle.hex.specs.Reading.{hexByte, bytesAt, allHex, count, addressOf, typeOf, dataOf, lineLength, isLine, isData, isEnd, isRecord, hasSum, isNext}
-use Rattle.hex.specs.Reading.{bytesOf, precede, byType, readLine, readFrom, readText, wrong-sum, not-a-record, wrong-address, wrong-end}
+use Rattle.hex.specs.Reading.{precede, byType, readLine, readFrom, readText, wrong-sum, not-a-record, wrong-address, wrong-end}
 use Rattle.hex.specs.Steps.{stepped, Onward, StepIs, measured, Accepted, textOf}
 use Rattle.hex.specs.declared.lines.Step.{Step}
 use Rattle.hex.specs.declared.lines.Step.the-variants as Step
 use Rattle.hex.specs.declared.reading.Measure.{Measure}
 use Rattle.hex.specs.declared.reading.Measure.the-variants as Measure
 use Rattle.hex.proofs.LineLaws.{all-first, line-room, line-within, parts}
-use Rattle.hex.proofs.WritingLaws.{Laid, laid-starts, laid-on, laid-ends, laid-length}
+use Rattle.hex.proofs.WritingLaws.{Laid, laid-starts, laid-on, laid-ends}
 
 -- what is lent of a text from a place on
 pub rest-is : (s : Bytes) (at : ℕ) → take (length s - at) (drop at s) ≡ drop at s

@@ -1,27 +1,26 @@
 -- Digits that spell bytes, without a place: what the reader finds in a line, and what a line is by what the reader found.
 use Prim.Native.Nat.{ℕ, zero, suc, _+_, _-_, _*_, _/_, _%_, _≤_, _<_}
 use Prim.Native.Char.{code}
-use mathlib.Core.Path.{_≡_, refl, sym, ap, subst, _∙_}
+use mathlib.Core.Path.{_≡_, refl, ap, subst, _∙_}
 use mathlib.Core.Bool.{Bool, true, false, _&&_}
-use mathlib.Core.List.{[], _∷_, _++_, append-nil, append-assoc}
+use mathlib.Core.List.{[], _∷_, _++_}
 use native.Mathlib.Omega.{arith}
 use native.Mathlib.Decide.{decLt}
-use native.Mathlib.Numerals.{add-one}
-use borrow.Author.Tests.{eq-eqb, ne-eqb, eqb-true, le-leb, lt-leb, leb-true, leb-false, lt-ltb, le-ltb}
-use lib.ListN.{length, take, drop, getD, length-append, length-take, length-drop, drop-of-length-le, take-append-drop}
-use lib.Seq.{drop-cons, drop-drop, drop-append-add, getD-append-add, getD-append-seam}
-use lib.Dec.{leb, ltb, eqb}
+use borrow.Author.Tests.{eq-eqb, eqb-true, le-leb, lt-leb, leb-true, leb-false, lt-ltb, le-ltb}
+use lib.ListN.{length, take, drop, getD, length-append, drop-of-length-le}
+use lib.Seq.{drop-append-add, getD-append-add, getD-append-seam}
+use lib.Dec.{leb, eqb}
 use Rattle.spec.specs.Outcome.{if_then_else_}
-use Rattle.spec.specs.Bytes.{Bytes, byte, within}
+use Rattle.spec.specs.Bytes.{Bytes, byte}
 use Rattle.spec.specs.Strings.{hexValue}
-use Rattle.lexer.proofs.Tests.{between-within, above-within, below-within, and-both}
+use Rattle.lexer.proofs.Tests.{between-within, above-within, and-both}
 use Rattle.lexer.proofs.ByteLaws.{here}
 use Rattle.hex.specs.Record.{line-feed, carriage-return, upperHex, digits, spelled}
 use Rattle.hex.specs.Reading.{hexByte, isHexByte, bytesAt, allHex, ending}
 use Rattle.hex.specs.Claims.{Octets, Spells, Ending, lf, crlf, missing}
 use Rattle.hex.specs.Claims as Claims
 use Rattle.hex.proofs.RecordLaws.{from-here}
-use Rattle.hex.proofs.LineLaws.{hex-both, hex-inside, all-first, both-hex}
+use Rattle.hex.proofs.LineLaws.{hex-both, hex-inside, all-first}
 
 -- ---- a byte in front moves every place by one
 

@@ -1,18 +1,14 @@
 -- What reading a line comes to, by the tests on the line.
-use Prim.Native.Nat.{ℕ, zero, suc, _+_, _-_, _*_, _%_, _≤_, _<_}
-use mathlib.Core.Path.{_≡_, refl, sym, ap, _∙_}
-use mathlib.Core.Bool.{Bool, true, false, _&&_, _||_, true≢false, and-false, or-true}
-use mathlib.Core.List.{[], _∷_, _++_}
+use Prim.Native.Nat.{ℕ, _+_, _*_, _%_, _≤_, _<_}
+use mathlib.Core.Path.{_≡_, sym, ap, _∙_}
+use mathlib.Core.Bool.{true, false, and-false, or-true}
 use native.Mathlib.Omega.{arith}
-use native.Mathlib.Nat.{add-zero}
-use borrow.Author.Tests.{eq-eqb, ne-eqb, eqb-true, le-leb, lt-leb, leb-true, leb-false, lt-ltb, le-ltb, ltb-true}
+use borrow.Author.Tests.{eq-eqb, ne-eqb, le-leb, lt-leb}
 use lib.ListN.{length}
-use lib.Dec.{leb, ltb, eqb}
-use Rattle.spec.specs.Outcome.{Outcome, ok, refused, if_then_else_}
-use Rattle.spec.specs.Bytes.{Bytes, byte}
+use Rattle.spec.specs.Bytes.{Bytes}
 use Rattle.hex.specs.Record.{total, maxText}
-use Rattle.hex.specs.Reading.{hexByte, count, addressOf, typeOf, dataOf, recordEnd, ending, lineLength, isLine, isData, isEnd, isRecord, hasSum}
-use Rattle.hex.specs.Reading.{isNext, bytesOf, precede, byType, readLine, not-a-record, wrong-sum, wrong-address, wrong-end}
+use Rattle.hex.specs.Reading.{hexByte, count, addressOf, typeOf, recordEnd, ending, lineLength, isData, isEnd, isRecord, hasSum}
+use Rattle.hex.specs.Reading.{isNext, bytesOf, byType, readLine, not-a-record}
 use Rattle.hex.specs.Steps.{LineIs, FormIs, Summed, stepped, Onward, StepIs}
 use Rattle.hex.specs.declared.lines.Scanned.{Scanned}
 use Rattle.hex.specs.declared.lines.Scanned.the-variants as Scanned

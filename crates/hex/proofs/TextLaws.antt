@@ -1,14 +1,14 @@
 -- A text laid down as records, one after another.
-use Prim.Native.Nat.{ℕ, zero, suc, _+_, _-_, _*_, _%_, _≤_, _<_}
+use Prim.Native.Nat.{ℕ, zero, suc, _+_, _-_, _*_, _≤_, _<_}
 use mathlib.Core.Path.{_≡_, refl, sym, ap, subst, _∙_}
-use mathlib.Core.List.{[], _∷_, _++_, append-assoc, append-nil}
+use mathlib.Core.List.{[], _++_, append-assoc, append-nil}
 use native.Mathlib.Omega.{arith}
 use native.Mathlib.Decide.{decLt}
-use lib.ListN.{length, take, drop, length-append, length-take, length-drop, drop-of-length-le}
+use lib.ListN.{length, take, drop, length-append, length-drop, drop-of-length-le}
 use lib.Seq.{take-all}
 use Rattle.spec.specs.Bytes.{Bytes}
 use Rattle.text.specs.Written.{Stored, LaidDown}
-use Rattle.text.proofs.StoreLaws.{front, stored-as}
+use Rattle.text.proofs.StoreLaws.{front}
 use Rattle.hex.specs.Record.{data-type, end-type, recordBytes, lineOf, recordsFrom, endLine, hexOf}
 use Rattle.hex.proofs.RecordLaws.{line-length, records-here, records-end}
 use Rattle.hex.proofs.WritingLaws.{Laid, laid-starts, laid-on, laid-ends, laid-bound}

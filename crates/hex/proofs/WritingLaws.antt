@@ -1,15 +1,15 @@
 -- Texts laid down piece by piece.
-use Prim.Native.Nat.{ℕ, zero, suc, _+_, _-_, _*_, _/_, _%_, _≤_, _<_}
+use Prim.Native.Nat.{ℕ, zero, suc, _+_, _*_, _/_, _%_, _≤_, _<_}
 use Prim.Native.Char.{code}
 use mathlib.Core.Path.{_≡_, refl, sym, ap, _∙_}
-use mathlib.Core.Bool.{true, false}
+use mathlib.Core.Bool.{true}
 use mathlib.Core.List.{[], _∷_, _++_, append-nil, append-assoc}
 use native.Mathlib.Omega.{arith}
-use lib.ListN.{length, take, drop, set, length-set, length-append}
+use lib.ListN.{length, set, length-append}
 use lib.Seq.{sets, length-sets}
 use Rattle.spec.specs.Bytes.{Bytes, byte}
-use Rattle.text.specs.Written.{Stored, LaidDown}
-use Rattle.text.proofs.StoreLaws.{stores-on, stored, front}
+use Rattle.text.specs.Written.{Stored}
+use Rattle.text.proofs.StoreLaws.{stores-on}
 use Rattle.spec.specs.Strings.{hexValue}
 use Rattle.hex.specs.Record.{total, body, check, upperHex, digits, spelled, lineOf, recordBytes, line-feed}
 use Rattle.hex.specs.Reading.{hexByte, bytesAt, allHex}

@@ -8,7 +8,7 @@ use Rattle.spec.specs.Outcome.{Outcome, ok, refused}
 use Rattle.spec.specs.Bytes.{Bytes}
 use Rattle.text.specs.Written.{Stored}
 use Rattle.hex.specs.Record.{maxText, total, recordBytes, lineOf}
-use Rattle.hex.specs.Reading.{bytesAt, allHex, count, dataOf, bytesOf, recordEnd, ending, lineLength, isLine, isData, isEnd, isRecord, precede}
+use Rattle.hex.specs.Reading.{bytesAt, allHex, count, dataOf, bytesOf, lineLength, isLine, isData, isEnd, isRecord, precede}
 use Rattle.hex.specs.Reading.{readLine, readText, wrong-end}
 use Rattle.hex.specs.declared.lines.Scanned.{Scanned}
 use Rattle.hex.specs.declared.lines.Scanned.the-variants as Scanned

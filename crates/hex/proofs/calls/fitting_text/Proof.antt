@@ -1,9 +1,6 @@
-use Prim.Native.Nat.{_+_, _-_, _*_, _%_, _≤_, _<_}
-use mathlib.Core.Path.{_≡_, refl, sym, ap, _∙_}
+use mathlib.Core.Path.{refl}
 use native.Mathlib.Omega.{arith}
-use lib.ListN.{length, drop}
 use Rattle.lexer.proofs.Auto.{auto}
-use Rattle.spec.specs.Bytes.{byte}
 use Rattle.hex.proofs.CallLaws.{refuses, succeeds, fitting-short}
 use Rattle.hex.proofs.calls.fitting_text.Statement.{statement}
 use Rattle.hex.proofs.calls.fitting_text.Tie as tie

@@ -1,9 +1,5 @@
-use Prim.Native.Nat.{_+_, _-_, _*_, _%_, _≤_, _<_}
-use mathlib.Core.Path.{_≡_, refl, sym, ap, _∙_}
-use native.Mathlib.Omega.{arith}
-use lib.ListN.{length, drop}
+use mathlib.Core.Path.{sym, _∙_}
 use Rattle.lexer.proofs.Auto.{auto}
-use Rattle.spec.specs.Bytes.{byte}
 use Rattle.hex.proofs.CallLaws.{refuses, answered-as, read-bytes, read-accepted, read-refused}
 use Rattle.hex.proofs.calls.read_hex.Statement.{statement}
 use Rattle.hex.proofs.calls.read_hex.Tie as tie

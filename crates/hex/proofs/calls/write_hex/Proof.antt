@@ -1,9 +1,6 @@
-use Prim.Native.Nat.{_+_, _-_, _*_, _%_, _≤_, _<_}
-use mathlib.Core.Path.{_≡_, refl, sym, ap, _∙_}
+use mathlib.Core.Path.{_∙_}
 use native.Mathlib.Omega.{arith}
-use lib.ListN.{length, drop}
 use Rattle.lexer.proofs.Auto.{auto}
-use Rattle.spec.specs.Bytes.{byte}
 use Rattle.hex.proofs.CallLaws.{refuses, succeeds, write-long, write-fits, fitting-short}
 use Rattle.hex.proofs.calls.write_hex.Statement.{statement}
 use Rattle.hex.proofs.calls.write_hex.Tie as tie

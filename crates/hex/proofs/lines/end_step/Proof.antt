@@ -1,9 +1,4 @@
-use Prim.Native.Nat.{_+_, _-_, _*_, _%_, _≤_, _<_}
-use mathlib.Core.Path.{_≡_, refl, sym, ap, _∙_}
 use native.Mathlib.Omega.{arith}
-use lib.ListN.{length, drop}
-use Rattle.lexer.proofs.Auto.{auto}
-use Rattle.spec.specs.Bytes.{byte}
 use Rattle.hex.proofs.StepLaws.{bad-sum, end-behind, end-last, summed-room}
 use Rattle.hex.proofs.lines.end_step.Statement.{statement}
 use Rattle.hex.proofs.lines.end_step.Tie as tie

@@ -1,11 +1,8 @@
-use Prim.Native.Nat.{_+_, _-_, _*_, _%_, _≤_}
-use mathlib.Core.Path.{_≡_, refl, sym, ap, _∙_}
+use mathlib.Core.Path.{sym, _∙_}
 use native.Mathlib.Omega.{arith}
-use lib.ListN.{length, drop}
 use Rattle.lexer.proofs.Auto.{auto}
 use Rattle.spec.specs.Bytes.{byte}
 use borrow.Author.Tests.{eq-eqb, ne-eqb, le-leb, lt-leb}
-use mathlib.Core.Bool.{and-false}
 use Rattle.hex.specs.Reading.{ending}
 use Rattle.hex.proofs.lines.ending.Statement.{statement}
 use Rattle.hex.proofs.lines.ending.Tie as tie

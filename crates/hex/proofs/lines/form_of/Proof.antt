@@ -1,9 +1,6 @@
-use Prim.Native.Nat.{_+_, _-_, _*_, _%_, _≤_, _<_}
-use mathlib.Core.Path.{_≡_, refl, sym, ap, _∙_}
+use mathlib.Core.Path.{sym, _∙_}
 use native.Mathlib.Omega.{arith}
-use lib.ListN.{length, drop}
 use Rattle.lexer.proofs.Auto.{auto}
-use Rattle.spec.specs.Bytes.{byte}
 use Rattle.hex.specs.Reading.{count, addressOf, typeOf}
 use Rattle.hex.proofs.StepLaws.{data-form, no-data, other-type, end-count, end-address, end-form}
 use Rattle.hex.proofs.lines.form_of.Statement.{statement}

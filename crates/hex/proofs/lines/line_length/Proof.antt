@@ -1,10 +1,6 @@
-use Prim.Native.Nat.{_+_, _-_, _*_, _%_, _≤_}
-use mathlib.Core.Path.{_≡_, refl, sym, ap, _∙_}
 use native.Mathlib.Omega.{arith}
-use lib.ListN.{length, drop}
 use Rattle.lexer.proofs.Auto.{auto}
-use Rattle.spec.specs.Bytes.{byte}
-use Rattle.hex.specs.Reading.{count, recordEnd, ending, lineLength}
+use Rattle.hex.specs.Reading.{ending}
 use Rattle.hex.proofs.StepLaws.{length-is}
 use Rattle.hex.proofs.lines.line_length.Statement.{statement}
 use Rattle.hex.proofs.lines.line_length.Tie as tie

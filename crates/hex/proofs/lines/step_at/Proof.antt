@@ -1,9 +1,4 @@
-use Prim.Native.Nat.{_+_, _-_, _*_, _%_, _≤_, _<_}
-use mathlib.Core.Path.{_≡_, refl, sym, ap, _∙_}
-use native.Mathlib.Omega.{arith}
-use lib.ListN.{length, drop}
 use Rattle.lexer.proofs.Auto.{auto}
-use Rattle.spec.specs.Bytes.{byte}
 use mathlib.Core.Path.{subst}
 use Rattle.hex.specs.Steps.{LineIs, FormIs}
 use Rattle.hex.proofs.StepLaws.{bad-line, bad-form, data-summed, end-summed, eleven}

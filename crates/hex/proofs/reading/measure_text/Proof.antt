@@ -1,9 +1,7 @@
-use Prim.Native.Nat.{_+_, _-_, _*_, _%_, _≤_, _<_}
-use mathlib.Core.Path.{_≡_, refl, sym, ap, _∙_}
+use Prim.Native.Nat.{_-_}
 use native.Mathlib.Omega.{arith}
-use lib.ListN.{length, drop}
+use lib.ListN.{length}
 use Rattle.lexer.proofs.Auto.{auto}
-use Rattle.spec.specs.Bytes.{byte}
 use Rattle.hex.proofs.ReadLaws.{Measuring, measuring-starts, measuring-on, onward-more, measured-done, measured-refused, measured-behind}
 use Rattle.hex.proofs.ReadLaws.{measured-missing}
 use Rattle.hex.proofs.reading.measure_text.Statement.{statement}

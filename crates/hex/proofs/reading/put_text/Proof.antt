@@ -1,10 +1,7 @@
-use Prim.Native.Nat.{_+_, _-_, _*_, _%_, _≤_, _<_}
-use mathlib.Core.Path.{_≡_, refl, sym, ap, _∙_}
+use Prim.Native.Nat.{_-_}
 use native.Mathlib.Omega.{arith}
-use lib.ListN.{length, drop}
+use lib.ListN.{length}
 use Rattle.lexer.proofs.Auto.{auto}
-use Rattle.spec.specs.Bytes.{byte}
-use lib.Seq.{length-sets}
 use Rattle.hex.proofs.WritingLaws.{laid-length}
 use Rattle.hex.proofs.ReadLaws.{Pouring, pouring-starts, lent-room, pouring-last, pouring-on, pouring-missing}
 use Rattle.hex.proofs.reading.put_text.Statement.{statement}

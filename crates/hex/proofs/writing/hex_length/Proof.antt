@@ -1,9 +1,5 @@
-use Prim.Native.Nat.{_+_, _-_, _*_, _%_, _≤_}
-use mathlib.Core.Path.{_≡_, refl, sym, ap, _∙_}
 use native.Mathlib.Omega.{arith}
-use lib.ListN.{length, drop}
 use Rattle.lexer.proofs.Auto.{auto}
-use Rattle.spec.specs.Bytes.{byte}
 use Rattle.hex.proofs.RecordLaws.{hex-length}
 use Rattle.hex.proofs.writing.hex_length.Statement.{statement}
 use Rattle.hex.proofs.writing.hex_length.Tie as tie

@@ -1,9 +1,6 @@
-use Prim.Native.Nat.{_+_, _-_, _*_, _%_, _≤_, _<_}
-use mathlib.Core.Path.{_≡_, refl, sym, ap, _∙_}
+use mathlib.Core.Path.{refl}
 use native.Mathlib.Omega.{arith}
-use lib.ListN.{length, drop}
 use Rattle.lexer.proofs.Auto.{auto}
-use Rattle.spec.specs.Bytes.{byte}
 use lib.ListN.{length-set}
 use Rattle.hex.proofs.WritingLaws.{digits-stored}
 use Rattle.hex.proofs.writing.put_digits.Statement.{statement}

@@ -1,10 +1,9 @@
-use Prim.Native.Nat.{_+_, _-_, _*_, _%_, _≤_, _<_}
-use mathlib.Core.Path.{_≡_, refl, sym, ap, _∙_}
+use Prim.Native.Nat.{_+_, _-_, _≤_}
+use mathlib.Core.Path.{_≡_, refl, ap, _∙_}
 use native.Mathlib.Omega.{arith}
 use lib.ListN.{length, drop}
 use Rattle.lexer.proofs.Auto.{auto}
-use Rattle.spec.specs.Bytes.{byte}
-use lib.ListN.{take, length-take}
+use lib.ListN.{length-take}
 use Rattle.hex.proofs.WritingLaws.{laid-length, stored-length}
 use Rattle.hex.proofs.TextLaws.{Printing, printing-starts, printing-room, printing-on, printing-last, printing-last-room, cut, none-left}
 use Rattle.hex.proofs.writing.put_hex.Statement.{statement}

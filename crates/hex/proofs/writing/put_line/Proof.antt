@@ -1,9 +1,7 @@
-use Prim.Native.Nat.{_+_, _-_, _*_, _%_, _≤_, _<_}
-use mathlib.Core.Path.{_≡_, refl, sym, ap, _∙_}
+use mathlib.Core.Path.{ap}
 use native.Mathlib.Omega.{arith}
-use lib.ListN.{length, drop, length-set}
+use lib.ListN.{length, length-set}
 use Rattle.lexer.proofs.Auto.{auto}
-use Rattle.spec.specs.Bytes.{byte}
 use Rattle.hex.specs.Record.{spelled, digits}
 use Rattle.hex.proofs.RecordLaws.{spelled-length}
 use Rattle.hex.proofs.WritingLaws.{line-stored, stored-length}

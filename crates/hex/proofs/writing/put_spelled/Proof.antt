@@ -1,12 +1,12 @@
-use Prim.Native.Nat.{_+_, _-_, _*_, _%_, _≤_}
-use mathlib.Core.Path.{_≡_, refl, sym, ap, _∙_}
+use Prim.Native.Nat.{_+_, _-_, _*_, _≤_}
+use mathlib.Core.Path.{_≡_}
 use native.Mathlib.Omega.{arith}
 use lib.ListN.{length, drop}
 use Rattle.lexer.proofs.Auto.{auto}
 use Rattle.spec.specs.Bytes.{byte}
 use Rattle.hex.specs.Record.{digits, spelled}
-use Rattle.hex.proofs.RecordLaws.{spelled-here, spelled-end, spelled-length}
-use Rattle.hex.proofs.WritingLaws.{Laid, laid-starts, laid-length, laid-bound, laid-on, laid-ends}
+use Rattle.hex.proofs.RecordLaws.{spelled-here, spelled-end}
+use Rattle.hex.proofs.WritingLaws.{Laid, laid-starts, laid-length, laid-on, laid-ends}
 use Rattle.hex.proofs.writing.put_spelled.Statement.{statement}
 use Rattle.hex.proofs.writing.put_spelled.Tie as tie
 
