@@ -1,6 +1,6 @@
 //! Finds the static libraries: in target/staticlib of the repository, where
-//! `rt staticlib json_patch` and `rt staticlib fragment` put them, or in the
-//! folder that JSON_PATCH_LIB names.
+//! `rt staticlib NAME` puts that of crate NAME, or in the folder that
+//! JSON_PATCH_LIB names.
 
 use std::path::PathBuf;
 use std::{env, process};
@@ -13,7 +13,7 @@ fn main() {
             .join("../target/staticlib"),
     };
     println!("cargo:rustc-link-search=native={}", folder.display());
-    for name in ["json_patch", "fragment"] {
+    for name in ["json_patch", "fragment", "hex"] {
         let library = folder.join(format!("lib{name}.a"));
         println!("cargo:rerun-if-changed={}", library.display());
         if !library.is_file() {

@@ -41,6 +41,7 @@
 #![warn(missing_docs)]
 
 mod explain;
+pub mod hex;
 mod json;
 pub mod link;
 mod place;

@@ -132,11 +132,13 @@ fn tests(random: &mut Random) -> Texts {
 /// Objects of many members, tested in another order, sometimes after a move; now
 /// and then with a name repeated.
 fn crowds(random: &mut Random) -> Texts {
-    const ENDS: &[(&str, &str)] = &[("", ""), ("m", ""), ("", "mAh"), ("a-long-beginning-", "-end")];
+    const ENDS: &[(&str, &str)] =
+        &[("", ""), ("m", ""), ("", "mAh"), ("a-long-beginning-", "-end")];
     let mut members = Vec::new();
     let (before, after) = random.pick(ENDS);
     for at in 0..random.between(30, 250) {
-        let value = if random.chance(5) { tree(random, 12, 3) } else { Value::Number(at.to_string()) };
+        let value =
+            if random.chance(5) { tree(random, 12, 3) } else { Value::Number(at.to_string()) };
         members.push(Member { name: format!("{before}{at}{after}"), value });
     }
     random.shuffle(&mut members);
@@ -153,7 +155,8 @@ fn crowds(random: &mut Random) -> Texts {
         path = "/b".to_string();
     }
     for _ in 0..random.between(1, 3) {
-        let value = if random.chance(75) { equal_to(random, &crowd) } else { nearly(random, &crowd) };
+        let value =
+            if random.chance(75) { equal_to(random, &crowd) } else { nearly(random, &crowd) };
         drafts.push(Draft { op: "test", path: path.clone(), from: None, value: Some(value) });
     }
     let document = Value::Object(vec![Member { name: "a".to_string(), value: crowd }]);

@@ -13,6 +13,7 @@ pub mod cases;
 pub mod compare;
 pub mod cursor;
 pub mod generate;
+pub mod hex;
 pub mod limits;
 pub mod links;
 mod number;

@@ -2,7 +2,7 @@
 
 #![forbid(unsafe_code)]
 
-use second::{cases, compare, generate, links, tool, vectors};
+use second::{cases, compare, generate, hex, links, tool, vectors};
 use std::env;
 use std::ffi::OsString;
 use std::fs;
@@ -19,6 +19,9 @@ const USAGE: &str = "usage:
   second link-cases
   second link-answers FILE
   second link-generate SEED COUNT
+  second hex-cases
+  second hex-answers FILE
+  second hex-generate SEED COUNT
 ";
 
 /// The line of a call whose work area is too short. This program has none, so
@@ -92,6 +95,22 @@ fn run(arguments: &[OsString]) -> Result<(), Trouble> {
             let seed = number(seed)?;
             for index in 0..number(count)? {
                 out.write_all(&links::generate::case(seed, index).file())?;
+            }
+        }
+        (Some("hex-cases"), []) => {
+            for vector in hex::vectors::all() {
+                out.write_all(&vector.case.file())?;
+            }
+        }
+        (Some("hex-answers"), [file]) => {
+            for case in hex::cases::parse(&fs::read(file)?).map_err(Trouble::Message)? {
+                out.write_all(&case.lines())?;
+            }
+        }
+        (Some("hex-generate"), [seed, count]) => {
+            let seed = number(seed)?;
+            for index in 0..number(count)? {
+                out.write_all(&hex::generate::case(seed, index).file())?;
             }
         }
         (Some("compare"), [seed, count, dashes, command @ ..])

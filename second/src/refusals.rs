@@ -31,5 +31,13 @@ pub const INTO_OWN_CHILD: u32 = 14;
 pub const DIFFERENT: u32 = 15;
 /// The written text is longer than the output.
 pub const NO_ROOM: u32 = 16;
+/// No record of Intel HEX: document 02, T-07.
+pub const NO_RECORD: u32 = 18;
+/// A record with a wrong sum.
+pub const WRONG_SUM: u32 = 19;
+/// A record whose address is not the next.
+pub const WRONG_ADDRESS: u32 = 20;
+/// No end record, or anything after it.
+pub const BAD_END: u32 = 21;
 /// A link that is none: document 02, T-14.
 pub const BAD_LINK: u32 = 22;

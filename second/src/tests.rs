@@ -2,8 +2,9 @@
 
 mod appendix;
 mod generator;
-mod pairs;
+mod hex;
 mod links;
+mod pairs;
 mod parts;
 mod regions;
 mod round_trip;

@@ -3,8 +3,7 @@
 use super::{reads, refused, refused_op, vector, Vector};
 
 /// Names as people write them; names that are long and alike at both ends.
-const STYLES: &[(&str, &str, &str)] =
-    &[("short", "m", ""), ("alike", "alike-", "-too")];
+const STYLES: &[(&str, &str, &str)] = &[("short", "m", ""), ("alike", "alike-", "-too")];
 
 pub fn vectors() -> Vec<Vector> {
     STYLES.iter().flat_map(|(style, before, after)| styled(style, before, after)).collect()

@@ -1,0 +1,9 @@
+pub mod RecordLaws
+pub mod LineLaws
+pub mod WritingLaws
+pub mod TextLaws
+pub mod StepLaws
+pub mod ReadLaws
+pub mod CallLaws
+pub mod SpellLaws
+pub mod ClaimTheorems

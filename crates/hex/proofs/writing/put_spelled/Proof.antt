@@ -1,0 +1,40 @@
+use Prim.Native.Nat.{_+_, _-_, _*_, _≤_}
+use mathlib.Core.Path.{_≡_}
+use native.Mathlib.Omega.{arith}
+use lib.ListN.{length, drop}
+use Rattle.lexer.proofs.Auto.{auto}
+use Rattle.spec.specs.Bytes.{byte}
+use Rattle.hex.specs.Record.{digits, spelled}
+use Rattle.hex.proofs.RecordLaws.{spelled-here, spelled-end}
+use Rattle.hex.proofs.WritingLaws.{Laid, laid-starts, laid-length, laid-on, laid-ends}
+use Rattle.hex.proofs.writing.put_spelled.Statement.{statement}
+use Rattle.hex.proofs.writing.put_spelled.Tie as tie
+
+abbrev Inv-loop : tie.InvT-loop
+Inv-loop bytes out₀ at end₀ i₀ out end i = (i ≤ length bytes) × (end ≡ at + 2 * i) × Laid at (spelled bytes) (spelled (drop i bytes)) out₀ out end
+
+abbrev μ-loop : tie.MeasureT-loop
+μ-loop bytes out₀ at end₀ i₀ out end i = length bytes - i
+
+pub put-spelled-spec : {M : Type 1} → statement M
+unfolding byte digits
+put-spelled-spec =
+    tie.close
+    (tie.spec
+    Inv-loop
+    μ-loop
+    (λ c. (omega arith, omega arith, laid-starts _ _ _))
+    (λ c. search auto)
+    (λ c κs. omega (arith, laid-length (c .before .before .before .loop .inv .2)))
+    (λ c. search auto)
+    (λ c. search auto)
+    (λ c.
+    let h2 = c .before .before in
+    let h6 = h2 .before .before .before .before in (
+      omega arith,
+      omega (arith, h2 .put-digits .ensures .next-is),
+      laid-on (h6 .loop .inv .2) _ (spelled-here _ (h6 .loop .i) (omega arith))
+          (h2 .put-digits .ensures),
+    ))
+    (λ c. laid-length (c .before .loop .inv .2))
+    (λ c. laid-ends (c .before .loop .inv .2) (spelled-end _ (c .before .loop .i) (c .loop-test .left))))

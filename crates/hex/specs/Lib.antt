@@ -1,0 +1,6 @@
+pub mod Record
+pub mod Reading
+pub mod Answer
+pub mod Claims
+pub mod Steps
+pub mod Call
