@@ -30,9 +30,9 @@ const MAX_NUMBER: usize = 128;
 
 const MAX_EXPONENT: usize = 9_999;
 
-// A number's text in normal form: whether it is below zero; where its significant digits begin, and how many they are,
-// without zeros at either end and with the point between them not counted; and the power of ten of the last of them. A
-// zero has no significant digits, the power 0 and no sign.
+// A number's text in normal form: whether it is below zero; where its significant digits begin, and how many they
+// are, without zeros at either end and with the point between them not counted; and the power of ten of the last of
+// them. A zero has no significant digits, the power 0 and no sign.
 pub struct Normal {
     pub negative: bool,
     pub first: usize,
@@ -100,7 +100,8 @@ fn minus_at(t: &[u8], at: usize) -> bool
     false
 }
 
-// Whether a number with `count` significant digits is below zero. Document 02, T-04: a zero is not, even with a minus.
+// Whether a number with `count` significant digits is below zero. Document 02, T-04: a zero is not, even with a
+// minus.
 fn below_zero(minus: bool, count: usize) -> bool
     ensures { λ r. ⌜ r ≡ (minus && ltb 0 count) ⌝ }
 {
@@ -118,7 +119,8 @@ fn signed(negative: bool, size: usize) -> i32
     size as i32
 }
 
-// The power of ten of the last of `count` significant digits, after which `dropped` zeros stood. The digits after the point lower it.
+// The power of ten of the last of `count` significant digits, after which `dropped` zeros stood. The digits after the
+// point lower it.
 fn power(count: usize, exponent: i32, fraction: usize, dropped: usize) -> i32
     requires { ⌜ (natAbs exponent ≤ maxExponent) × ((fraction ≤ maxNumber) × (dropped ≤ maxNumber)) ⌝ }
     ensures { λ r. ⌜ r ≡ (if eqb count 0 then pos 0 else ((exponent -ℤ pos fraction) +ℤ pos dropped)) ⌝ }
@@ -159,7 +161,8 @@ fn same_power(a: i32, b: i32) -> bool
     a == b
 }
 
-// Whether two texts have the same digits, so many of each, from a place of each on. Neither text ends before that, so no index is tested.
+// Whether two texts have the same digits, so many of each, from a place of each on. Neither text ends before that, so
+// no index is tested.
 fn same_digits(a: &[u8], first: usize, b: &[u8], other: usize, count: usize) -> bool
     requires { ⌜ (count ≤ length (mantissaOf (drop first (now a)))) × (count ≤ length (mantissaOf (drop other (now b)))) ⌝ }
     ensures { λ r. ⌜ r ≡ sameText (take count (mantissaOf (drop first (now (a .entry))))) (take count (mantissaOf (drop other (now (b .entry))))) ⌝ }

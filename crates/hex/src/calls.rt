@@ -40,8 +40,8 @@ fn fitting_text(s: &[u8], n: usize, output: &mut [u8]) -> Answer
     success(put_text(s, output))
 }
 
-// The text of Intel HEX is written to the output, or the call is refused, with the line as the place: 21 anything after
-// the end record; 18 not a record; 19 wrong sum; 20 wrong address; 21 no end record; then 16.
+// The text of Intel HEX is written to the output, or the call is refused, with the line as the place: 21 anything
+// after the end record; 18 not a record; 19 wrong sum; 20 wrong address; 21 no end record; then 16.
 pub fn read_hex(hex: &[u8], output: &mut [u8]) -> Answer
     ensures { λ r. ⌜ ReadIs (now (hex .entry)) (now (output .entry)) (now (output .exit)) r ⌝ }
 {

@@ -125,8 +125,8 @@ pub fn line_length(t: &[u8]) -> usize
     end + ending(t, end)
 }
 
-// What reading a line comes to: data, so many bytes, and the line's length; the end of all; a refusal; or the end with
-// a line behind it.
+// What reading a line comes to: data, so many bytes, and the line's length; the end of all; a refusal; or the end
+// with a line behind it.
 pub enum Step {
     More(usize, usize),
     Done,

@@ -1,5 +1,5 @@
-// The bits of a name, one after another: those of its hash; those of another hash of its characters, of those from the
-// second on, and so on; and ones behind the last.
+// The bits of a name, one after another: those of its hash; those of another hash of its characters, of those from
+// the second on, and so on; and ones behind the last.
 ghost use mathlib.Core.Path.{_≡_};
 ghost use Rattle.tape.specs.Lent.{lent};
 ghost use Rattle.index.specs.Bits.{otherMix, otherHash, hashBits, refill, streamOf};

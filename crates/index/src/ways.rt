@@ -73,8 +73,8 @@ fn descend<'a>(
     }
 }
 
-// A member of the object in the row `object` is entered: its row, and its name. The answer is whether a row on its path
-// has the name. After false, no row that the path led to has it.
+// A member of the object in the row `object` is entered: its row, and its name. The answer is whether a row on its
+// path has the name. After false, no row that the path led to has it.
 pub fn enter<'a>(
     texts: Texts<'a>,
     nodes: &[Node],
@@ -102,8 +102,8 @@ pub fn enter<'a>(
     ending.same
 }
 
-// Where the path of a name ends, by its hash alone; SLOTS where a row on it has this hash too, or the hash has no bits
-// left.
+// Where the path of a name ends, by its hash alone; SLOTS where a row on it has this hash too, or the hash has no
+// bits left.
 fn descend_by_hash(
     nodes: &[Node],
     index: &[u16],

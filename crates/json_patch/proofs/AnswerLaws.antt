@@ -15,10 +15,12 @@ use Rattle.json_patch.specs.Call.{Answered, SuccessIs, RefusalIs}
 use Rattle.json_patch.specs.declared.answer.Answer.{Answer}
 
 -- ---- a refusal leaves the output as it was; a success has the text in front
-pub answered-refusal : {number text op place : ℕ} {out : Bytes} {r : Answer} → RefusalIs number text op place r → Answered (Spec.refusal number text op place) out out r
+pub answered-refusal : {number text op place : ℕ} {out : Bytes} {r : Answer} → RefusalIs number text op place r → Answered (Spec.refusal number text op place)
+    out out r
 answered-refusal (n, t, o, p, l) = record { number = n; text = t; op = o; place = p; written = l; output = refl }
 
-pub answered-success : {t before after : Bytes} {r : Answer} → SuccessIs (length t) r → after ≡ t ++ drop (length t) before → Answered (Spec.success t) before after r
+pub answered-success : {t before after : Bytes} {r : Answer} → SuccessIs (length t) r → after ≡ t ++ drop (length t) before → Answered (Spec.success t)
+    before after r
 answered-success (n, t, o, p, l) whole = record { number = n; text = t; op = o; place = p; written = l; output = whole }
 
 -- an answer by another name

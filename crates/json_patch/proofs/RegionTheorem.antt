@@ -11,7 +11,11 @@ use Rattle.json_patch.specs.declared.answer.Answer.{Answer}
 -- an answer of the definitions, as the call gives it
 module _ {a : Spec.Answer} {before after : Bytes} {r : Answer} (is : Answered a before after r) where
   refuses : {number op : ℕ} → a ≡ Spec.refusal number 0 op 0 → Refuses number op before after r
-  refuses e = let n = subst (λ b. Answered b before after r) e is in record { answers = (n .number, n .text, n .op, n .place, n .written); unchanged = n .output }
+  refuses e = let n = subst (λ b. Answered b before after r) e is in record {
+    answers =
+        (n .number, n .text, n .op, n .place, n .written);
+    unchanged = n .output;
+  }
 
   writes : {text : Bytes} → a ≡ Spec.success text → Writes text before after r
   writes e = let n = subst (λ b. Answered b before after r) e is in record { answers = (n .number, n .text, n .op, n .place, n .written); laid = n .output }

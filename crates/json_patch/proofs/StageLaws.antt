@@ -130,7 +130,8 @@ module _ {T : Texts} {w w' : Work} {told : Read} (long : workNodes ≤ length (w
   document-unread {number = number} {place} t is = rw (document-as-read ∙ text-refusal (reads .text) t) (answered-refusal (is number place t))
 
   -- the document is read: then the patch
-  module _ {next : Cursor} {used : ℕ} (t : told ≡ Read.Value next used) (same : length (w' .nodes) ≡ length (w .nodes)) (same-index : length (w' .index) ≡ length (w .index))
+  module _ {next : Cursor} {used : ℕ} (t : told ≡ Read.Value next used) (same : length (w' .nodes) ≡ length (w .nodes))
+      (same-index : length (w' .index) ≡ length (w .index))
       {w'' : Work} {told-patch : Read} (reads-patch : Texts.PatchIs T w' w'' told-patch) where
     patch-as-read : read (T .patch) ≡ reading w' (T .patch)
     patch-as-read = read-into w' (T .patch) (omega arith) (omega arith) small
@@ -151,4 +152,5 @@ module _ {T : Texts} {w w' : Work} {told : Read} (long : workNodes ≤ length (w
         let d = document-held rooted few (read-depth (T .document) v (document-as-read ∙ reads-as)) (omega arith) in
         let proper = read-proper (T .patch) p (patch-as-read ∙ patch-as) .0 in
         rw (document-as-read ∙ reads-as, patch-as-read ∙ patch-as)
-        (runs v p (document-kept changed-patch (omega arith) d) (patch-held rooted-patch few-nodes proper) (record { document = omega arith; patch = omega arith }))
+        (runs v p (document-kept changed-patch (omega arith) d) (patch-held rooted-patch few-nodes proper)
+        (record { document = omega arith; patch = omega arith }))

@@ -6,9 +6,9 @@ use spec::refusal;
 ghost use Rattle.json_patch.specs.Call.{SuccessIs, RefusalIs};
 ghost use Rattle.json_patch.specs.Stages.{UnreadIs, MisshapenIs, StoppedIs};
 
-// The number is 0 where the patch was applied, and that of the refusal otherwise. `text` is 1 for the document and 2 for
-// the patch, `op` counts the operations from 1, and `place` is a byte offset. What a refusal does not set is 0, and so is
-// `length` after a refusal.
+// The number is 0 where the patch was applied, and that of the refusal otherwise. `text` is 1 for the document and 2
+// for the patch, `op` counts the operations from 1, and `place` is a byte offset. What a refusal does not set is 0,
+// and so is `length` after a refusal.
 pub struct Answer {
     pub number: u8,
     pub text: u8,

@@ -3,8 +3,8 @@ use crate::call::apply;
 use tape::layout::Node;
 ghost use Rattle.json_patch.specs.Call.{given, memoryBefore, memoryAfter, ExportIs};
 
-// As `apply`. The answer's fields are laid down in `answer`, in the order of the header's struct; the number is returned
-// too.
+// As `apply`. The answer's fields are laid down in `answer`, in the order of the header's struct; the number is
+// returned too.
 #[no_mangle]
 pub extern "C" fn json_patch_apply<'a>(
     document: &'a [u8],

@@ -1,4 +1,5 @@
-// Strings: RFC 8259, section 7. A name is read as any other string is, and what makes two names quick to compare is kept on the way.
+// Strings: RFC 8259, section 7. A name is read as any other string is, and what makes two names quick to compare is
+// kept on the way.
 ghost use mathlib.Core.Path.{_≡_};
 ghost use Prim.Native.Nat.{_+_};
 ghost use mathlib.Core.Bool.{false, _&&_, not};
@@ -16,8 +17,8 @@ use crate::cursor::peek;
 use crate::hash::mix;
 use crate::verbatim::verbatim_end;
 
-// A name's cursor after it, the hash of its characters, and whether it is plain: written with no escape; or the place of a refusal, whose
-// number is 3.
+// A name's cursor after it, the hash of its characters, and whether it is plain: written with no escape; or the place
+// of a refusal, whose number is 3.
 pub enum Name {
     Read {
         next: Cursor,
@@ -33,7 +34,8 @@ pub enum Quoted {
     Refused(usize),
 }
 
-// Whether a byte is a whole character of its string, as most bytes of most strings are: asked first, it keeps a loop over them quick.
+// Whether a byte is a whole character of its string, as most bytes of most strings are: asked first, it keeps a loop
+// over them quick.
 pub fn stands_for_itself(b: u8) -> bool
     ensures { λ r. ⌜ r ≡ standsForItself b ⌝ }
 {
@@ -73,8 +75,8 @@ fn still_plain(plain: bool, b: u8) -> bool
     plain
 }
 
-// The characters from a place to the closing quotation mark, by tables; those before `first` are known to be written with no escape. Once the
-// string is not plain, an escape that is written as it is read is passed with the others.
+// The characters from a place to the closing quotation mark, by tables; those before `first` are known to be written
+// with no escape. Once the string is not plain, an escape that is written as it is read is passed with the others.
 fn mixed_characters(s: &[u8], start: usize, first: usize) -> Quoted
     requires { ⌜ Verbatim false (now s) start first ⌝ }
     ensures { λ r. ⌜ quotedOutcome r ≡ plainOf (now (s .entry)) start (characters (length (now (s .entry))) (now (s .entry)) start) ⌝ }
@@ -98,7 +100,8 @@ fn mixed_characters(s: &[u8], start: usize, first: usize) -> Quoted
     }
 }
 
-// The characters from a place to the closing quotation mark. Most strings have only bytes that stand for themselves, and need no tables.
+// The characters from a place to the closing quotation mark. Most strings have only bytes that stand for themselves,
+// and need no tables.
 fn characters(s: &[u8], start: usize) -> Quoted
     ensures { λ r. ⌜ quotedOutcome r ≡ plainOf (now (s .entry)) start (characters (length (now (s .entry))) (now (s .entry)) start) ⌝ }
 {

@@ -1,5 +1,5 @@
-// Characters that stand in a text as they are written, passed by tables. The processor foresees badly of what kind the next character is, so that
-// here every byte, be it a character or a part of one, takes the same few steps.
+// Characters that stand in a text as they are written, passed by tables. The processor foresees badly of what kind
+// the next character is, so that here every byte, be it a character or a part of one, takes the same few steps.
 ghost use mathlib.Core.Path.{_≡_};
 ghost use Prim.Native.Nat.{_<_};
 ghost use lib.Dec.{eqb};
@@ -7,17 +7,19 @@ ghost use Rattle.spec.specs.Outcome.{if_then_else_};
 ghost use Rattle.lexer.specs.Verbatim.{VerbatimTo};
 ghost use Rattle.lexer.specs.States.{look, Tables, limit};
 
-// Where a byte leads is a state, and its number how far a word of STEPS is shifted. 0 is between characters; 6, 12 and 18 have one, two and three
-// bytes of a character to come; 24, 30, 36 and 42 stand after E0, ED, F0 and F4; 48 after a backslash; 63 is the end.
+// Where a byte leads is a state, and its number how far a word of STEPS is shifted. 0 is between characters; 6, 12
+// and 18 have one, two and three bytes of a character to come; 24, 30, 36 and 42 stand after E0, ED, F0 and F4; 48
+// after a backslash; 63 is the end.
 const BETWEEN: u64 = 0;
 
 const ESCAPE: u64 = 48;
 
 const END: u64 = 63;
 
-// The class of each byte, sixteen to a row, beside table 3-7 of the Unicode standard. A byte that stands for itself is a point, or a colon where
-// it is a letter of an escape that is written as it is read; the quotation mark and the backslash are ' and /. Later bytes of characters are 8,
-// 9 and A, up to BF. First ones are 2, 3 and 4 by the number of bytes, but for E0, ED, F0 and F4: E, -, F and L. All others are 0.
+// The class of each byte, sixteen to a row, beside table 3-7 of the Unicode standard. A byte that stands for itself
+// is a point, or a colon where it is a letter of an escape that is written as it is read; the quotation mark and the
+// backslash are ' and /. Later bytes of characters are 8, 9 and A, up to BF. First ones are 2, 3 and 4 by the number
+// of bytes, but for E0, ED, F0 and F4: E, -, F and L. All others are 0.
 const CLASSES: [u8; 256] = *b"\
     0000000000000000\
     0000000000000000\
@@ -36,8 +38,8 @@ const CLASSES: [u8; 256] = *b"\
     E333333333333-33\
     F444L00000000000";
 
-// For each class, by the last four bits of its letter, the next state of each state, of two octal digits: from the right those of 0, 6, 12 and
-// so on.
+// For each class, by the last four bits of its letter, the next state of each state, of two octal digits: from the
+// right those of 0, 6, 12 and so on.
 const STEPS: [u64; 16] = [
     0o77_77_77_77_77_77_77_77_77, // 0
     0o77_77_14_77_06_14_06_00_77, // A
@@ -80,7 +82,8 @@ fn limit(escapes: bool) -> u64
     if escapes { END } else { ESCAPE }
 }
 
-// The end of the characters from a place on that are written as they stand, with or without escapes among them, by tables that are lent.
+// The end of the characters from a place on that are written as they stand, with or without escapes among them, by
+// tables that are lent.
 fn passed_end(
     s: &[u8],
     start: usize,
@@ -106,8 +109,9 @@ fn passed_end(
     end
 }
 
-// The end of the characters from a place on that are written byte for byte as they are read, with or without escapes among them. A constant table is
-// laid out on the stack wherever it is used: here alone, and in no function that calls itself.
+// The end of the characters from a place on that are written byte for byte as they are read, with or without escapes
+// among them. A constant table is laid out on the stack wherever it is used: here alone, and in no function that
+// calls itself.
 pub fn verbatim_end(s: &[u8], start: usize, escapes: bool) -> usize
     ensures { λ r. ⌜ VerbatimTo escapes (now (s .entry)) start r ⌝ }
 {

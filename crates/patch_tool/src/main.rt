@@ -1,4 +1,5 @@
-// The patch tool: two file names, a document and a patch. It prints the patched document, or the refusal on one line, or `unreadable`.
+// The patch tool: two file names, a document and a patch. It prints the patched document, or the refusal on one line,
+// or `unreadable`.
 use index;
 use libc::STDOUT_FILENO;
 use tape::layout;

@@ -1,4 +1,5 @@
-// Whether a pointer's tokens begin another's. Tokens are compared by what they say, never by how they are written: `/a` does not begin `/ab`.
+// Whether a pointer's tokens begin another's. Tokens are compared by what they say, never by how they are written:
+// `/a` does not begin `/ab`.
 ghost use mathlib.Core.Path.{_≡_};
 ghost use Rattle.spec.specs.Value.{sameText};
 ghost use Rattle.spec.specs.Pointer.{tokens};

@@ -31,7 +31,8 @@ pub fn first(part: &[u8]) -> First
     First::Malformed
 }
 
-// Whether a byte is a whole character, and no slash, as most bytes of most tokens are. Asked first, it keeps the loop below quick.
+// Whether a byte is a whole character, and no slash, as most bytes of most tokens are. Asked first, it keeps the loop
+// below quick.
 fn continues(b: u8) -> bool
     ensures { λ r. ⌜ r ≡ continues b ⌝ }
 {

@@ -31,8 +31,8 @@ pub struct Container {
     pub end: usize,
 }
 
-// Whether an object has a member of this name already; the next member is entered in the index under the name. Where no
-// row on the name's search path has it, no member has it. Otherwise the members are searched.
+// Whether an object has a member of this name already; the next member is entered in the index under the name. Where
+// no row on the name's search path has it, no member has it. Otherwise the members are searched.
 fn repeated(
     s: &[u8],
     nodes: &[Node],

@@ -23,8 +23,8 @@ use tape::layout::Texts;
 // The names of a text of at most so many bytes are looked up quickly in an index that is not empty.
 const FEW_BYTES: usize = 512;
 
-// The index is made empty before a text of this length is read. It need not be empty to be right, only to be quick; for
-// a short text it is left as it is.
+// The index is made empty before a text of this length is read. It need not be empty to be right, only to be quick;
+// for a short text it is left as it is.
 fn empty_index(index: &mut [u16], length: usize)
     ensures { λ _. ⌜ SameBeyond (now (index .entry)) (now (index .exit)) ⌝ }
 {
@@ -89,8 +89,8 @@ fn refusal_before(s: &[u8], nodes: &[Node], index: &[u16]) -> u8
     refusal::DONE
 }
 
-// The document is read into the rows from DOCUMENT on. Where the table or the index is too short, or the text too long,
-// nothing changes.
+// The document is read into the rows from DOCUMENT on. Where the table or the index is too short, or the text too
+// long, nothing changes.
 pub fn read_document<'a>(texts: Texts<'a>, nodes: &mut [Node], index: &mut [u16]) -> Read
     ensures { λ r. ⌜ DocumentIs (lent texts) (workBefore nodes index) (workAfter nodes index) r ⌝ }
 {

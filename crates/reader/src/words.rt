@@ -60,8 +60,8 @@ fn string_form(plain: bool) -> u16
     }
 }
 
-// The spelling of a string whose characters begin at `start` and end before its closing quotation mark, behind which is
-// `next`.
+// The spelling of a string whose characters begin at `start` and end before its closing quotation mark, behind which
+// is `next`.
 pub fn spell_string(plain: bool, source: u16, start: usize, next: usize) -> Spelling
     requires { ⌜ (start < next) × (next < values) ⌝ }
     ensures { λ r. ⌜ r ≡ stringSpelling plain source start next ⌝ }

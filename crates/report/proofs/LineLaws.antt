@@ -40,7 +40,8 @@ placed-past bytes before at h = record { next-is = omega arith; after-is = sym (
 -- ---- the refusal's line
 module _ (number text op place : ℕ) where
   pub refusal-pieces : refusalLine number text op place ≡
-      (((ascii "refused " ++ decimal number) ++ (ascii " text " ++ decimal text)) ++ ((ascii " op " ++ decimal op) ++ (ascii " place " ++ decimal place))) ++ newline
+      (((ascii "refused " ++ decimal number) ++ (ascii " text " ++ decimal text)) ++ ((ascii " op " ++ decimal op) ++ (ascii " place " ++ decimal place)))
+      ++ newline
   unfolding refusalLine
   refusal-pieces = simp append-assoc
 
@@ -71,7 +72,8 @@ module _ (a : Answer) where
   ending-refused h = rw (ne-eqb (a .number) 0 h)
 
 -- ---- the line behind what the call has written in the part of it that was lent
-module _ {A : Spec.Answer} {r : Answer} {part : Bytes} (line : Bytes) (room : ℕ) (h : Answered A (take room line) part r) (same : length part ≡ length (take room line)) (fits : room ≤ length line) where
+module _ {A : Spec.Answer} {r : Answer} {part : Bytes} (line : Bytes) (room : ℕ) (h : Answered A (take room line) part r)
+    (same : length part ≡ length (take room line)) (fits : room ≤ length line) where
   written-inside : length (A .written) ≤ room
   written-inside =
       omega (arith, ap length (h .output), length-append (A .written) (drop (length (A .written)) (take room line)), length-take-le room line fits)
@@ -85,7 +87,8 @@ module _ {A : Spec.Answer} {r : Answer} {part : Bytes} (line : Bytes) (room : �
         after-is =
             ap (λ l. l ++ drop room line) (h .output)
             ∙ append-assoc (A .written) (drop (length (A .written)) (take room line)) (drop room line)
-            ∙ ap (λ l. A .written ++ l) (sym (drop-append-le (length (A .written)) (take room line) (drop room line) lent) ∙ ap (drop (length (A .written))) (take-append-drop room line))
+            ∙ ap (λ l. A .written ++ l) (sym (drop-append-le (length (A .written)) (take room line) (drop room line) lent) ∙ ap (drop (length (A .written)))
+            (take-append-drop room line))
             ∙ sym (laid-down (A .written) line (omega arith));
       }
 

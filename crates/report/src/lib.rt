@@ -1,8 +1,9 @@
-// The line that the patch tool prints: document 01, "Examples on each side". `run` makes it of a document and a patch, `report` of an answer of
-// the call.
+// The line that the patch tool prints: document 01, "Examples on each side". `run` makes it of a document and a
+// patch, `report` of an answer of the call.
 //
-// What is proved: the bytes laid down are those of the definition `lineOf` (specs/Line), of the answer that the definition `answer` of crate `spec`
-// gives, as many as there is room for; behind them the buffer is as it was. Where it has 80 bytes or more, there is room for every line.
+// What is proved: the bytes laid down are those of the definition `lineOf` (specs/Line), of the answer that the
+// definition `answer` of crate `spec` gives, as many as there is room for; behind them the buffer is as it was. Where
+// it has 80 bytes or more, there is room for every line.
 mod pieces; // the pieces of the line
 
 use json_patch::Answer;
@@ -15,8 +16,8 @@ ghost use Rattle.json_patch.specs.Call.{given, memoryBefore, memoryAfter};
 ghost use Rattle.writer.specs.Writing.{Placed};
 ghost use Rattle.report.specs.Report.{ending, RunIs};
 
-// What ends the line is laid down behind the text that the call has left in the first `length` bytes of the output: a newline, or, since a refusal
-// leaves no text, all of the refusal's line. The answer is the length of the line.
+// What ends the line is laid down behind the text that the call has left in the first `length` bytes of the output: a
+// newline, or, since a refusal leaves no text, all of the refusal's line. The answer is the length of the line.
 pub fn report(answer: Answer, output: &mut [u8]) -> usize
     ensures { λ r. ⌜ Placed (ending answer) (answer .length) (now (output .entry)) (now (output .exit)) r ⌝ }
 {
@@ -35,8 +36,8 @@ fn but_one(length: usize) -> usize
     if length == 0 { 0 } else { length - 1 }
 }
 
-// The patch is applied to the document, with all of `line` but its last byte lent as output, and the line laid down in
-// `line`. The answer is its length. `nodes` and `index` are the work area, as `apply` takes it.
+// The patch is applied to the document, with all of `line` but its last byte lent as output, and the line laid down
+// in `line`. The answer is its length. `nodes` and `index` are the work area, as `apply` takes it.
 pub fn run<'a>(
     document: &'a [u8],
     patch: &'a [u8],

@@ -1,5 +1,5 @@
-// The pieces of the line, each laid down at the front of `out`, which is the rest of the output: as many bytes as there is room for. The answer
-// is how many.
+// The pieces of the line, each laid down at the front of `out`, which is the rest of the output: as many bytes as
+// there is room for. The answer is how many.
 ghost use mathlib.Core.Path.{_≡_};
 ghost use mathlib.Core.List.{_++_};
 ghost use Prim.Native.Nat.{min};

@@ -1,11 +1,11 @@
-// The shape of a patch: document 01, "Patch shape". Nothing is stored: a member of an operation is found again when it
-// runs.
+// The shape of a patch: document 01, "Patch shape". Nothing is stored: a member of an operation is found again when
+// it runs.
 //
 // What is proved: of a patch that the table holds, `shape_of` answers as the definitions do, with the number of the
 // refusal and the operation.
 //
-// What a caller should know: every public function is total and changes nothing. Its contract also says what it answers
-// of a table that holds no tree, and what is free there.
+// What a caller should know: every public function is total and changes nothing. Its contract also says what it
+// answers of a table that holds no tree, and what is free there.
 
 mod kinds; // the kinds of operations, by their names
 mod members; // a member of an operation, by its name

@@ -43,7 +43,8 @@ text-short : (form : ℕ) (s : Bytes) → length (textOf form s) ≤ length s
 unfolding textOf textFrom decodeFrom
 text-short form s = go (eqb form 1) (eqb form 2) (eqb form 3) (decodeLoop (length s) s 0) (decode-short (length s) s 0)
   where
-    go : (one two three : Bool) (t : Text) → length t ≤ length s → length (if one then t else if two then t else if three then unescapeToken t else []) ≤ length s
+    go : (one two three : Bool) (t : Text) → length t ≤ length s → length (if one then t else if two then t else if three then unescapeToken t else [])
+        ≤ length s
     go true two three t h = h
     go false true three t h = h
     go false false true t h = omega (arith, unescape-short t)

@@ -115,9 +115,11 @@ module _ {w : Table} {start end : ℕ} {f : Forest Cell} {name : Text} {row : �
 
     pub seek-found : true ≡ sameText (nameText (w .texts) (nameOf (getD (w .nodes) row []))) name → Found (w .texts) start f name (At row)
     seek-found t =
-        found (s .k) row (find-map (entryOf (w .texts)) name f ∙ position-found (named (w .texts) name) blank (s .k) f there (test-here true t) (s .passed)) there (s .place)
+        found (s .k) row (find-map (entryOf (w .texts)) name f ∙ position-found (named (w .texts) name) blank (s .k) f there (test-here true t) (s .passed))
+        there (s .place)
 
-    pub seek-next : (next : ℕ) → next ≡ row + 1 + spanOf (getD (w .nodes) row []) → false ≡ sameText (nameText (w .texts) (nameOf (getD (w .nodes) row []))) name
+    pub seek-next : (next : ℕ) → next ≡ row + 1 + spanOf (getD (w .nodes) row []) → false ≡ sameText (nameText (w .texts) (nameOf (getD (w .nodes) row [])))
+        name
         → Seeking (w .texts) start f name next
     seek-next next n t =
         record {
@@ -152,7 +154,8 @@ module _ (nodes : List Row) (row : ℕ) where
   unfolding rowBehind
   row-behind none = go (ltb (kindOf here-row) arrayKind) refl
     where
-      go : (b : Bool) → ltb (kindOf here-row) arrayKind ≡ b → row + 1 + (if ltb (kindOf here-row) arrayKind then 0 else spanOf here-row) ≡ row + 1 + spanOf here-row
+      go : (b : Bool) → ltb (kindOf here-row) arrayKind ≡ b → row + 1 + (if ltb (kindOf here-row) arrayKind then 0 else spanOf here-row)
+          ≡ row + 1 + spanOf here-row
       go true e = rw (e, none (ltb-true (kindOf here-row) arrayKind e))
       go false e = rw e
 
@@ -173,7 +176,8 @@ abbrev pub Passed : List Row → ℕ → (Name → Bool) → ℕ → ℕ → Typ
 Passed nodes stop test start row = (r : Member) → Sought nodes stop test row r → Sought nodes stop test start r
 
 module _ {nodes : List Row} {stop : ℕ} {test : Name → Bool} {start row : ℕ} (so-far : Passed nodes stop test start row) where
-  pub pass : (next : ℕ) {own : Name} → row < stop → false ≡ test own → own ≡ nameOf (getD nodes row []) → next ≡ rowBehind nodes row → Passed nodes stop test start next
+  pub pass : (next : ℕ) {own : Name} → row < stop → false ≡ test own → own ≡ nameOf (getD nodes row [])
+      → next ≡ rowBehind nodes row → Passed nodes stop test start next
   pass next l t e f r s = so-far r (sought-next l (t ∙ ap test e) (subst (λ n. Sought nodes stop test n r) f s))
 
   pub meet : {own : Name} → row < stop → true ≡ test own → own ≡ nameOf (getD nodes row []) → Sought nodes stop test start (At row)
@@ -190,17 +194,20 @@ module _ (T : Texts) (name : Name) {nodes : List Row} {stop start : ℕ} where
   pass-quiet {row} (suc n) l q so-far =
       let before = pass-quiet n (omega arith) (λ i o. q i (omega arith)) so-far in
       let quiet = q n (omega arith) in
-      pass before (row + suc n) (omega arith) (other-named T _ _ _ (quiet .other)) refl (omega (arith, row-behind nodes (row + n) (λ h. quiet .leaf), quiet .leaf))
+      pass before (row + suc n) (omega arith) (other-named T _ _ _ (quiet .other)) refl
+      (omega (arith, row-behind nodes (row + n) (λ h. quiet .leaf), quiet .leaf))
 
 -- the row is one of those that were asked for
-sought-between : {nodes : List Row} {stop : ℕ} {test : Name → Bool} (start end : ℕ) {row : ℕ} {r : Member} → Sought nodes stop test row r → stop ≡ limitOf nodes end → start ≤ row
+sought-between : {nodes : List Row} {stop : ℕ} {test : Name → Bool} (start end : ℕ)
+    {row : ℕ} {r : Member} → Sought nodes stop test row r → stop ≡ limitOf nodes end → start ≤ row
     → Between start end nodes r
 sought-between start end (sought-here l t) e h = (h, omega arith, omega arith)
 sought-between {nodes} start end (sought-next {row} l t s) e h = sought-between start end s e (omega (arith, behind-later nodes row))
 sought-between start end (sought-over l) e h = tt
 
 -- where the records hold a forest, it is the row of the first tree that has the name
-module _ {w : Table} {start end stop : ℕ} {f : Forest Cell} {name : Text} {test : Name → Bool} (a : RowsHeld w start end f) (stops : stop ≡ limitOf (w .nodes) end)
+module _ {w : Table} {start end stop : ℕ} {f : Forest Cell} {name : Text} {test : Name → Bool} (a : RowsHeld w start end f)
+    (stops : stop ≡ limitOf (w .nodes) end)
     (same : (n : Name) → Hashed (w .texts) n → test n ≡ sameText (nameText (w .texts) n) name) where
   sought-found : {row : ℕ} {r : Member} → Sought (w .nodes) stop test row r → Seeking (w .texts) start f name row → Found (w .texts) start f name r
   sought-found (sought-here l t) s = seek-found a s (omega arith) (t ∙ same _ (seek-hashed a s (omega arith)))
@@ -208,7 +215,8 @@ module _ {w : Table} {start end stop : ℕ} {f : Forest Cell} {name : Text} {tes
       sought-found rest (seek-next a s (omega arith) _ (row-behind (w .nodes) row (seek-scalar a s (omega arith))) (t ∙ same _ (seek-hashed a s (omega arith))))
   sought-found (sought-over l) s = seek-over a s stop stops l
 
-pub finds : {w : Table} {start end : ℕ} {name : Name} {r : Member} (stop : ℕ) → stop ≡ limitOf (w .nodes) end → Sought (w .nodes) stop (λ n. sameName (w .texts) n name) start r → FindIs w start end name r
+pub finds : {w : Table} {start end : ℕ} {name : Name} {r : Member} (stop : ℕ) → stop ≡ limitOf (w .nodes) end → Sought (w .nodes) stop
+    (λ n. sameName (w .texts) n name) start r → FindIs w start end name r
 finds {w} {start} {end} {name} {r} stop e s =
     record {
       rows = subst (λ n. Sought (w .nodes) n (λ n. sameName (w .texts) n name) start r) e s;
@@ -220,7 +228,8 @@ pub finds-ascii : {w : Table} {start end h : ℕ} {name : Text} {r : Member} (st
     → Sought (w .nodes) stop (λ n. isNamed (w .texts) n h name) start r → FindAsciiIs w start end name r
 finds-ascii {w} {start} {end} {h} {name} {r} stop e g s =
     record {
-      rows = subst (λ n. Sought (w .nodes) n (λ n. isNamed (w .texts) n (shortHash (hash name)) name) start r) e (subst (λ k. Sought (w .nodes) stop (λ n. isNamed (w .texts) n k name) start r) g s);
+      rows = subst (λ n. Sought (w .nodes) n (λ n. isNamed (w .texts) n (shortHash (hash name)) name) start r) e
+          (subst (λ k. Sought (w .nodes) stop (λ n. isNamed (w .texts) n k name) start r) g s);
       place = sought-between start end s e (omega arith);
       held = λ f a. sought-found a e (λ n i. named-hashed (w .texts) n _ _ i g) s seeking-all;
     }

@@ -47,7 +47,8 @@ pub fn same_spelling<'a>(texts: Texts<'a>, a: Spelling, b: Spelling) -> bool
     same_text(long(a.form), s, long(b.form), t)
 }
 
-// Whether a spelling says the text that is given by its bytes, each of which is a character. It says no more characters than it has bytes.
+// Whether a spelling says the text that is given by its bytes, each of which is a character. It says no more
+// characters than it has bytes.
 pub fn spells<'a>(texts: Texts<'a>, spelling: Spelling, text: &[u8]) -> bool
     ensures { λ r. ⌜ r ≡ sameText (spelled (lent texts) spelling) (now (text .entry)) ⌝ }
 {

@@ -26,10 +26,13 @@ module _ {A W : Type 0} (w : A → Forest A → W) where
       → tape w (left ⧺ new ⧺ right) ≡ replaced (tape w f) (size left) (size old) (tape w new)
   unfolding replaced
   tape-exchange left old new right f e =
-      let three : (g : Forest A) → tape w (left ⧺ g ⧺ right) ≡ tape w left ++ (tape w g ++ tape w right) = λ g. rw (tape-⧺ w left (g ⧺ right), tape-⧺ w g right) in
-      let front : take (size left) (tape w f) ≡ tape w left = rw (e, three old) (take-at (tape w left) (tape w old ++ tape w right) (size left) (length-tape w left)) in
+      let three : (g : Forest A) → tape w (left ⧺ g ⧺ right) ≡ tape w left ++ (tape w g ++ tape w right) = λ g. rw
+      (tape-⧺ w left (g ⧺ right), tape-⧺ w g right) in
+      let front : take (size left) (tape w f) ≡ tape w left = rw (e, three old)
+      (take-at (tape w left) (tape w old ++ tape w right) (size left) (length-tape w left)) in
       let back : drop (size left + size old) (tape w f) ≡ tape w right =
-      rw (← drop-drop, e, three old, drop-at (tape w left) (tape w old ++ tape w right) (size left) (length-tape w left)) (drop-at (tape w old) (tape w right) (size old) (length-tape w old)) in
+      rw (← drop-drop, e, three old, drop-at (tape w left) (tape w old ++ tape w right) (size left) (length-tape w left))
+      (drop-at (tape w old) (tape w right) (size old) (length-tape w old)) in
       rw (three new, front, back) (sym (append-assoc (tape w left) (tape w new) (tape w right)))
 
 -- ---- the words in use
@@ -87,7 +90,8 @@ module _ {A W : Type 0} {w : A → Forest A → W} {xs : List W} {used : ℕ} {f
       record {
         is =
             let in-use : row + removed ≤ used = omega (arith, laid-length l) in
-            let within : replaced (front ++ (tape w f ++ back)) row removed (take n (drop source xs)) ≡ front ++ (replaced (tape w f) place removed (take n (drop source xs)) ++ back) =
+            let within : replaced (front ++ (tape w f ++ back)) row removed (take n (drop source xs)) ≡ front ++
+            (replaced (tape w f) place removed (take n (drop source xs)) ++ back) =
             replaced-within front (tape w f) back row place removed (take n (drop source xs)) e (omega (arith, length-tape w f)) in
             take-spliced xs used row removed source n in-use room ∙ ap (λ ys. replaced ys row removed (take n (drop source xs))) (l .is) ∙ within ∙ rw new;
       }
@@ -95,7 +99,8 @@ module _ {A W : Type 0} {w : A → Forest A → W} {xs : List W} {used : ℕ} {f
 -- ---- down to the k-th child, and up again with another in its place; t is any tree
 module _ {A W : Type 0} {w : A → Forest A → W} {xs : List W} {used : ℕ} {front : List W} where
   pub laid-child : {a : A} {kids rest : Forest A} {back : List W} (t : Tree A) (k : ℕ) → k < count kids → Laid w xs used front (tree a kids rest) back
-      → Laid w xs used ((front ++ (w a kids ∷ [])) ++ tape w (before k kids)) (tree (nth t k kids .root) (nth t k kids .kids) (from (suc k) kids)) (tape w rest ++ back)
+      → Laid w xs used ((front ++ (w a kids ∷ [])) ++ tape w (before k kids)) (tree (nth t k kids .root) (nth t k kids .kids) (from (suc k) kids))
+      (tape w rest ++ back)
   unfolding _⧺_
   laid-child {kids = kids} t k h l = rw (from-nth t k kids h) at (laid-from k (laid-kids l))
 
@@ -130,6 +135,7 @@ module _ {xs : List Row} {used : ℕ} {front : List Row} {c : Cell} {rest : Fore
 
   -- the same where one child was changed, as a walk comes up from it
   pub laid-span-child : (k : ℕ) (b : Tree Cell) (row span : ℕ) → row ≡ length front → span ≡ size (replaceAt k b kids) → span < values
-      → Laid rowOf xs used ((front ++ (rowOf c kids ∷ [])) ++ tape rowOf (before k kids)) (tree (b .root) (b .kids) (from (suc k) kids)) (tape rowOf rest ++ back)
+      → Laid rowOf xs used ((front ++ (rowOf c kids ∷ [])) ++ tape rowOf (before k kids)) (tree (b .root) (b .kids) (from (suc k) kids))
+      (tape rowOf rest ++ back)
       → Laid rowOf (set xs row (withSpan (getD xs row []) (span % values))) used front (tree c (replaceAt k b kids) rest) back
   laid-span-child k b row span e n h l = laid-span row span e n h (laid-put b k kids l)

@@ -183,7 +183,8 @@ module _ {W : Type 0} (xs : List W) (used at removed source n : ℕ) where
 
 -- ---- only words in the scratch rows change
 -- others are copied there
-pub scratched-moved : {W : Type 0} {xs ys : List W} (start n : ℕ) → ys ≡ moved xs scratchRow start n → scratchRow + n ≤ rows → rows ≤ length xs → start + n ≤ length xs → Scratched xs ys
+pub scratched-moved : {W : Type 0} {xs ys : List W} (start n : ℕ)
+    → ys ≡ moved xs scratchRow start n → scratchRow + n ≤ rows → rows ≤ length xs → start + n ≤ length xs → Scratched xs ys
 unfolding copied
 scratched-moved {W} {xs} start n is few long there =
     let target : scratchRow + n ≤ length xs = omega arith in

@@ -69,7 +69,14 @@ pub record Undecided (xs : List Row) (row end m : ℕ) (kids : Forest Cell) : Ty
 pub undecided-all : {xs : List Row} {at : ℕ} {c : Cell} {kids : Forest Cell} (m : ℕ) → Node xs at c kids
     → Undecided xs (at + 1) (at + 1 + size kids) m kids
 undecided-all {kids = kids} m node =
-    record { rest = kids; after = tape rowOf (node .rest) ++ node .held .after; left = left-all (node .held .rows); formed = formed-kids (node .held .formed); same = refl }
+    record {
+      rest = kids;
+      after = tape rowOf (node .rest) ++ node .held .after;
+      left = left-all (node .held .rows);
+      formed = formed-kids
+          (node .held .formed);
+      same = refl;
+    }
 
 module _ {xs : List Row} {row end m : ℕ} {kids : Forest Cell} (u : Undecided xs row end m kids) where
   pub undecided-none : end ≤ row → leb (deep kids) m ≡ true
@@ -79,7 +86,8 @@ module _ {xs : List Row} {row end m : ℕ} {kids : Forest Cell} (u : Undecided x
   module _ (more : row < end) where
     -- the first that is left
     first : {C : Type 0}
-        → ((c : Cell) (ks rest : Forest Cell) → leb (deep kids) m ≡ leb (level c (deep ks)) m && leb (deep rest) m → Node xs row c ks → Left rowOf xs row end (tree c ks rest) (u .after) → Formed rest → C)
+        → ((c : Cell) (ks rest : Forest Cell) → leb (deep kids) m ≡ leb (level c (deep ks)) m && leb (deep rest) m → Node xs row c ks → Left rowOf xs row end
+        (tree c ks rest) (u .after) → Formed rest → C)
         → C
     first then-it =
         left-first (u .left) more λ c ks rest e l.

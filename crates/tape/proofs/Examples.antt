@@ -64,7 +64,8 @@ formed-one = formed-tree scalar formed-none formed-none
 
 formed : Formed (tree array kids none)
 unfolding size
-formed = formed-tree (container kids (omega arith)) (formed-tree scalar formed-none (formed-tree (container one (omega arith)) formed-one formed-one)) formed-none
+formed = formed-tree (container kids (omega arith)) (formed-tree scalar formed-none (formed-tree (container one (omega arith)) formed-one formed-one))
+    formed-none
 
 -- the second row holds the array
 pub node : Node column 1 array kids

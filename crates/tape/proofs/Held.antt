@@ -66,5 +66,6 @@ module _ {xs : List Row} where
       first-tree f (omega (arith, r .ends)) (λ c kids rest e. then-it c kids rest e (subst (Remaining xs row end) e r))
 
 -- ---- what is held where words in use are laid
-pub held-laid : {xs : List Row} {used : ℕ} {front back : List Row} {f : Forest Cell} (at : ℕ) → at ≡ length front → Laid rowOf xs used front f back → Formed f → Held xs at f
+pub held-laid : {xs : List Row} {used : ℕ} {front back : List Row} {f : Forest Cell} (at : ℕ)
+    → at ≡ length front → Laid rowOf xs used front f back → Formed f → Held xs at f
 held-laid {xs} {used} {front} {back} at e l o = record { after = back ++ drop used xs; rows = rw e (laid-holds l); formed = o }

@@ -27,7 +27,8 @@ module _ {W : Type 0} (xs : List W) (to start : ℕ) where
 
   -- four words stored that were all loaded before
   pub copied-four : (z : W) → to + 4 ≤ length xs → start + 4 ≤ length xs
-      → set (set (set (set xs to (getD xs start z)) (to + 1) (getD xs (start + 1) z)) (to + 2) (getD xs (start + 2) z)) (to + 3) (getD xs (start + 3) z) ≡ copied xs to start 4
+      → set (set (set (set xs to (getD xs start z)) (to + 1) (getD xs (start + 1) z)) (to + 2) (getD xs (start + 2) z)) (to + 3) (getD xs (start + 3) z)
+      ≡ copied xs to start 4
   unfolding copied replaced
   copied-four z h k =
       let t1 : to + 1 ≡ suc to = omega arith in
@@ -72,8 +73,10 @@ module _ {W : Type 0} (xs : List W) (to start m n : ℕ) where
       let more : List W = take n (drop (start + m) xs) in
       let zs : List W = replaced xs (to + m) n more in
       let few : start + m - start ≡ m = omega arith in
-      let words : (ys : List W) → take m (drop start ys) ≡ drop start (take (start + m) ys) = λ ys. sym (drop-take start (start + m) ys ∙ ap (λ c. take c (drop start ys)) few) in
-      let same : take m (drop start zs) ≡ new = words zs ∙ ap (drop start) (take-replaced xs (to + m) n more (omega arith) (start + m) (omega arith)) ∙ sym (words xs) in
+      let words : (ys : List W) → take m (drop start ys) ≡ drop start (take (start + m) ys) = λ ys. sym
+      (drop-take start (start + m) ys ∙ ap (λ c. take c (drop start ys)) few) in
+      let same : take m (drop start zs) ≡ new = words zs ∙ ap (drop start) (take-replaced xs (to + m) n more (omega arith) (start + m) (omega arith)) ∙ sym
+      (words xs) in
       rw (same, words-further) (replaced-before xs to m n new more (omega arith))
 
 -- the words from the i-th on are copied, and then the m words before them, from the j-th on
@@ -135,4 +138,5 @@ module _ {W : Type 0} (xs : List W) (used at removed source n : ℕ) (in-use : a
       let after : at + n + t ≡ usedAfter used removed n = omega arith in
       let left : used - (at + removed) ≡ t = omega arith in
       let kept : drop (at + removed) (take used xs) ≡ tail = rw (drop-take (at + removed) used xs, left) in
-      rw (first, second, front, behind, rest, spliced-in xs used at removed source n in-use room, kept, take-take at used xs (omega arith), after) (simp append-assoc)
+      rw (first, second, front, behind, rest, spliced-in xs used at removed source n in-use room, kept, take-take at used xs (omega arith), after)
+      (simp append-assoc)

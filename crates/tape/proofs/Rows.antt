@@ -88,7 +88,12 @@ node-child {kids = kids} t k node l =
     record {
       rest = from (suc k) kids;
       held =
-          record { after = tape rowOf (node .rest) ++ node .held .after; rows = holds-child (node .held .rows) t k l; formed = formed-child t k l (formed-kids (node .held .formed)) };
+          record {
+            after = tape rowOf (node .rest) ++ node .held .after;
+            rows = holds-child (node .held .rows) t k l;
+            formed = formed-child t k l
+                (formed-kids (node .held .formed));
+          };
     }
 
 -- ---- a loop that counts a node's children: the first k are passed, and the next one, or the end, is in a row
@@ -164,7 +169,8 @@ module _ {xs : List Row} {at k : ℕ} where
 
   module _ {end : ℕ} (ends : end ≡ endOf xs at) {m row : ℕ} (s : Steps xs end (at + 1) m row) where
     pub child-found : m ≡ k → row < end → at < row → ChildIs xs at k (At row)
-    child-found e l b = child-is (child-at (subst (λ n. Steps xs (endOf xs at) (at + 1) n row) e (subst (λ n. Steps xs n (at + 1) m row) ends s)) (omega arith)) (b, omega arith)
+    child-found e l b = child-is (child-at (subst (λ n. Steps xs (endOf xs at) (at + 1) n row) e (subst (λ n. Steps xs n (at + 1) m row) ends s))
+        (omega arith)) (b, omega arith)
 
     pub child-none : end ≤ row → m ≤ k → ChildIs xs at k (Fewer m)
     child-none l few = child-is (child-fewer (subst (λ n. Steps xs n (at + 1) m row) ends s) (omega arith) few) few
@@ -174,7 +180,12 @@ module _ {xs : List Row} {at k : ℕ} where
 
 module _ {xs : List Row} {at : ℕ} where
   arity-is : {m : ℕ} → ArityRows xs at m → m ≤ length xs → ArityIs xs at m
-  arity-is rows few = record { rows = rows; few = few; held = λ c kids node. passed-all (steps-passed node (rows .steps)) (omega (arith, end-here node, rows .all)) }
+  arity-is rows few = record {
+    rows = rows;
+    few = few;
+    held = λ c kids node. passed-all (steps-passed node (rows .steps))
+        (omega (arith, end-here node, rows .all));
+  }
 
   pub arity-counted : {end m row : ℕ} → end ≡ endOf xs at → Steps xs end (at + 1) m row → end ≤ row → m ≤ length xs → ArityIs xs at m
   arity-counted {m = m} {row} ends s l few =

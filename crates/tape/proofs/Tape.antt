@@ -71,7 +71,8 @@ module _ {A W : Type 0} {w : A → Forest A → W} {xs : List W} {at : ℕ} wher
             rw (← drop-drop, cut) (drop-at (tape w (before k f)) (tape w (from k f) ++ after) (size (before k f)) (length-tape w (before k f)));
       }
 
-module _ {A W : Type 0} {w : A → Forest A → W} {xs : List W} {at : ℕ} {a : A} {kids rest : Forest A} {after : List W} (h : Holds w xs at (tree a kids rest) after) where
+module _ {A W : Type 0} {w : A → Forest A → W} {xs : List W} {at : ℕ} {a : A} {kids rest : Forest A} {after : List W}
+    (h : Holds w xs at (tree a kids rest) after) where
   pub holds-front : (z : W) → Front z xs at (w a kids) (tape w kids ++ (tape w rest ++ after))
   unfolding tape
   holds-front z = front-at z xs at (w a kids) (tape w kids ++ (tape w rest ++ after)) (rw (append-assoc (tape w kids) (tape w rest) after) at (h .is))

@@ -1,4 +1,5 @@
-// A node's fields, taken apart and put together. Each function is total: a field that is too large loses its upper bits.
+// A node's fields, taken apart and put together. Each function is total: a field that is too large loses its upper
+// bits.
 use crate::layout::FORMS;
 use crate::layout::HASH;
 use crate::layout::KINDS;

@@ -45,8 +45,8 @@ pub const ARRAY: u16 = 5;
 
 pub const OBJECT: u16 = 6;
 
-// How a text is read where it stands: not at all, for it is empty; a JSON string without escapes, and with them; a pointer's token inside a
-// JSON string; a number.
+// How a text is read where it stands: not at all, for it is empty; a JSON string without escapes, and with them; a
+// pointer's token inside a JSON string; a number.
 pub const NO_TEXT: u16 = 0;
 
 pub const PLAIN_STRING: u16 = 1;

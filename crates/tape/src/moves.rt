@@ -98,7 +98,8 @@ pub fn slide(nodes: &mut [Node], to: usize, start: usize, count: usize)
     }
 }
 
-// In the first `used` nodes, `removed` nodes at `at` are replaced by `count` nodes from `source`, which lies behind all that are in use before and after.
+// In the first `used` nodes, `removed` nodes at `at` are replaced by `count` nodes from `source`, which lies behind
+// all that are in use before and after.
 pub fn splice(
     nodes: &mut [Node],
     used: usize,

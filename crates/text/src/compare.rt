@@ -38,7 +38,8 @@ fn ended(form: u64, s: &[u8], at: usize) -> bool
     true
 }
 
-// How many bytes two parts begin with that are the same and letters by themselves. Passed at once, they need one test each, and not two.
+// How many bytes two parts begin with that are the same and letters by themselves. Passed at once, they need one test
+// each, and not two.
 fn common(form: u64, a: &[u8], other: u64, b: &[u8]) -> usize
     ensures { λ r. ⌜ Common form (now (a .entry)) other (now (b .entry)) r ⌝ }
 {
@@ -110,8 +111,8 @@ pub fn same_text(form: u64, a: &[u8], other: u64, b: &[u8]) -> bool
     same_letters(form, a, other, b)
 }
 
-// Whether a part says a text whose code points are the bytes of `constant`: a word of ASCII, as `op`. Read as a string without escapes,
-// `constant` has each letter where the word has it.
+// Whether a part says a text whose code points are the bytes of `constant`: a word of ASCII, as `op`. Read as a
+// string without escapes, `constant` has each letter where the word has it.
 pub fn same_ascii(form: u64, a: &[u8], constant: &[u8]) -> bool
     ensures { λ r. ⌜ r ≡ sameText (textOf form (now (a .entry))) (now (constant .entry)) ⌝ }
 {

@@ -150,7 +150,8 @@ fn put_bytes(out: &mut [u8], at: usize, s: &[u8]) -> usize
     at + s.len()
 }
 
-// A string's text at the front of the output: a run of characters that are written as they are read, then one that may not be, and so on.
+// A string's text at the front of the output: a run of characters that are written as they are read, then one that
+// may not be, and so on.
 fn write_string(s: &[u8], out: &mut [u8]) -> usize
     ensures { λ r. ⌜ LaidDown (writeCharacters (textOf 2 (now (s .entry)))) (now (out .entry)) (now (out .exit)) r ⌝ }
 {
@@ -167,7 +168,8 @@ fn write_string(s: &[u8], out: &mut [u8]) -> usize
     }
 }
 
-// A part written at the front of `out`, which is the rest of the output; the answer is the number of its bytes, as `written_length` has it.
+// A part written at the front of `out`, which is the rest of the output; the answer is the number of its bytes, as
+// `written_length` has it.
 pub fn write_text(form: u64, s: &[u8], out: &mut [u8]) -> usize
     ensures { λ r. ⌜ LaidDown (written form (now (s .entry))) (now (out .entry)) (now (out .exit)) r ⌝ }
 {

@@ -1,4 +1,5 @@
-// A case in the file of cases: `case NAME ROOM DOCLEN PATCHLEN`, a newline, DOCLEN bytes of document, a newline, PATCHLEN bytes of patch, a newline.
+// A case in the file of cases: `case NAME ROOM DOCLEN PATCHLEN`, a newline, DOCLEN bytes of document, a newline,
+// PATCHLEN bytes of patch, a newline.
 use check::same;
 ghost use lib.ListN.{length};
 ghost use Rattle.vectors.specs.Places.{Met, Behind, Numbered, Measured, TakenIs, Standing};

@@ -1,5 +1,6 @@
-// Every committed case, run through the library. For each a line: its name, and what the patch tool would print if it lent as many bytes of output
-// as the case says. The stored output is what the second program answers, so that each run holds the two to each other.
+// Every committed case, run through the library. For each a line: its name, and what the patch tool would print if it
+// lent as many bytes of output as the case says. The stored output is what the second program answers, so that each
+// run holds the two to each other.
 mod cases; // a case in the file of cases
 mod checks; // whether a buffer holds one and the same everywhere
 mod lines; // what is printed
@@ -53,8 +54,8 @@ fn lend<'a>(
     apply(document, patch, &mut output[..room], nodes, index)
 }
 
-// The case's line, with another text in it where there is not as much room, or where the call has not left the memory as it must. Before the
-// call the work area holds rubbish.
+// The case's line, with another text in it where there is not as much room, or where the call has not left the memory
+// as it must. Before the call the work area holds rubbish.
 fn run_case<'a>(name: &'a [u8], room: usize, document: &'a [u8], patch: &'a [u8], rubbish: u16) {
     say(name);
     say(b": ");
@@ -90,7 +91,8 @@ fn part<'a>(file: &'a [u8], p: Part) -> &'a [u8]
     &file[start..end]
 }
 
-// The case that begins at a place, and the place behind it. What the work area holds before the call differs from case to case.
+// The case that begins at a place, and the place behind it. What the work area holds before the call differs from
+// case to case.
 fn run_at(file: &[u8], at: usize) -> Place
     ensures { λ r. ⌜ Behind (length (now (file .entry))) at r ⌝ }
 {
@@ -149,7 +151,8 @@ fn read_file(buf: &mut [u8]) -> Contents
     r
 }
 
-// The call with a node table that is a record too short, which no case can say: 1, before anything else, and the output untouched.
+// The call with a node table that is a record too short, which no case can say: 1, before anything else, and the
+// output untouched.
 fn run_short() {
     let mut output = [UNWRITTEN; 80];
     let node = [1u16; 8];

@@ -43,7 +43,8 @@ fn walk_from<'a>(
     }
 }
 
-// From the node in the row `start`, along the pointer that `path` spells. A text that is no pointer is refused with 10.
+// From the node in the row `start`, along the pointer that `path` spells. A text that is no pointer is refused with
+// 10.
 pub fn walk<'a>(texts: Texts<'a>, nodes: &[Node], start: usize, path: Spelling) -> Child
     ensures { λ r. ⌜ WalkIs (before texts nodes) start path r ⌝ }
 {

@@ -35,8 +35,8 @@ fn surely_fits(nodes: &[Node], at: usize, room: usize) -> bool
     total <= room
 }
 
-// Whether the text of the tree in the row `at`, which nests at most `levels` containers, has at most `room` bytes. The
-// text is measured only where that is not sure.
+// Whether the text of the tree in the row `at`, which nests at most `levels` containers, has at most `room` bytes.
+// The text is measured only where that is not sure.
 pub fn fits<'a>(texts: Texts<'a>, nodes: &[Node], at: usize, levels: u32, room: usize) -> bool
     ensures { λ r. ⌜ FitsIs (before texts nodes) at levels room r ⌝ }
 {

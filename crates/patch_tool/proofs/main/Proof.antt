@@ -50,13 +50,17 @@ returns-3 : tie.Need-returns-3
 returns-3 c = search needs
 
 array-share-prefix-document : tie.Need-array-share-prefix-document
-array-share-prefix-document c = bytes-within (c .before .before .before .before .before .before .before .before .before .before .read-file .last .1 .0) (c .before .before .before .before .before .before .before .d .given .1) (c .before .before .before .before .before .before .before .before .before .before .read-file .ensures)
+array-share-prefix-document c = bytes-within (c .before .before .before .before .before .before .before .before .before .before .read-file .last .1 .0)
+    (c .before .before .before .before .before .before .before .d .given .1)
+    (c .before .before .before .before .before .before .before .before .before .before .read-file .ensures)
 
 slice-aggregate-run : tie.Need-slice-aggregate-run
-slice-aggregate-run c = bytes-counted _ (c .before .before .before .before .before .before .before .before .d .given .1) (c .before .before .before .before .before .before .before .before .before .before .before .read-file .ensures)
+slice-aggregate-run c = bytes-counted _ (c .before .before .before .before .before .before .before .before .d .given .1)
+    (c .before .before .before .before .before .before .before .before .before .before .before .read-file .ensures)
 
 array-share-prefix-patch : tie.Need-array-share-prefix-patch
-array-share-prefix-patch c = bytes-within (c .before .before .before .before .before .read-file2 .last .1 .0) (c .before .before .p .given .1) (c .before .before .before .before .before .read-file2 .ensures)
+array-share-prefix-patch c = bytes-within (c .before .before .before .before .before .read-file2 .last .1 .0) (c .before .before .p .given .1)
+    (c .before .before .before .before .before .read-file2 .ensures)
 
 slice-aggregate-run-2 : tie.Need-slice-aggregate-run-2
 slice-aggregate-run-2 c = bytes-counted _ (c .before .before .before .p .given .1) (c .before .before .before .before .before .before .read-file2 .ensures)

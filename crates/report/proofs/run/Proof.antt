@@ -16,7 +16,8 @@ run-spec =
     -- slice-relend-prefix-apply
     (λ c. search needs)
     -- slice-aggregate-apply
-    (λ c. sym (length-take-le (c .before .but-one .result) (c .before .before .before .before .before .before .args .line .now) (omega (arith, c .before .but-one .ensures))))
+    (λ c. sym (length-take-le (c .before .but-one .result) (c .before .before .before .before .before .before .args .line .now)
+    (omega (arith, c .before .but-one .ensures))))
     -- apply-requires
     (λ c κs. search needs)
     -- report-requires
@@ -31,4 +32,11 @@ run-spec =
     (λ c.
     let call = c .before .before .before .before .before .before .before .before .before .apply in
     let ok = call .ok in
-    run-is _ _ (c .before .before .before .before .before .before .before .before .before .before .before .before .before .but-one .ensures) (call .ensures) (call .kept .1 .1 .0) (c .before .before .report .ensures) (record { number = omega (arith, ok); text = omega (arith, ok); op = omega (arith, ok); place = omega (arith, ok) })))
+    run-is _ _ (c .before .before .before .before .before .before .before .before .before .before .before .before .before .but-one .ensures) (call .ensures)
+    (call .kept .1 .1 .0) (c .before .before .report .ensures) (record {
+      number = omega (arith, ok);
+      text = omega (arith, ok);
+      op = omega
+          (arith, ok);
+      place = omega (arith, ok);
+    })))

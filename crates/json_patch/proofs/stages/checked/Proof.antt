@@ -36,8 +36,12 @@ checked-spec =
     (λ c. search needs)
     -- returns-3
     (λ c h i.
-    answered-as (answer-read _ _ _ (work-suffices _ h i) (omega (arith, c .before .before .before .before .before .before .before .before .before .before .if1 .left)) (omega (arith, c .before .before .before .before .before .before .before .before .before .if2 .left)))
-    (document-unread h i (omega (arith, c .before .before .before .before .before .before .before .before .before .before .if1 .left)) (omega (arith, c .before .before .before .before .before .before .before .before .before .if2 .left)) (c .before .before .before .before .before .before .read-document .ensures) (c .before .enum-told .given .1) (c .unread .ensures)))
+    answered-as (answer-read _ _ _ (work-suffices _ h i)
+    (omega (arith, c .before .before .before .before .before .before .before .before .before .before .if1 .left))
+    (omega (arith, c .before .before .before .before .before .before .before .before .before .if2 .left)))
+    (document-unread h i (omega (arith, c .before .before .before .before .before .before .before .before .before .before .if1 .left))
+    (omega (arith, c .before .before .before .before .before .before .before .before .before .if2 .left))
+    (c .before .before .before .before .before .before .read-document .ensures) (c .before .enum-told .given .1) (c .unread .ensures)))
     -- read-patch-requires
     (λ c κs. search needs)
     -- enum-told-2
@@ -52,9 +56,12 @@ checked-spec =
     (λ c. search needs)
     -- returns-4
     (λ c h i.
-    answered-as (answer-read _ _ _ (work-suffices _ h i) (omega (arith, c .before .before .before .before .before .before .before .before .before .before .before .before .before .before .before .before .before .before .before .if1 .left)) (omega (arith, c .before .before .before .before .before .before .before .before .before .before .before .before .before .before .before .before .before .before .if2 .left)))
+    answered-as (answer-read _ _ _ (work-suffices _ h i)
+    (omega (arith, c .before .before .before .before .before .before .before .before .before .before .before .before .before .before .before .before .before .before .before .if1 .left)) (omega (arith, c .before .before .before .before .before .before .before .before .before .before .before .before .before .before .before .before .before .before .if2 .left)))
     (patch-unread h i (omega (arith, c .before .before .before .before .before .before .before .before .before .before .before .before .before .before .before .before .before .before .before .if1 .left)) (omega (arith, c .before .before .before .before .before .before .before .before .before .before .before .before .before .before .before .before .before .before .if2 .left)) (c .before .before .before .before .before .before .before .before .before .before .before .before .before .before .before .read-document .ensures) (c .before .before .before .before .before .before .before .before .before .before .document .given .1)
-    (c .before .before .before .before .before .before .before .before .before .before .before .before .before .before .before .read-document .kept .1 .0) (c .before .before .before .before .before .before .before .before .before .before .before .before .before .before .before .read-document .kept .1 .1 .0) (c .before .before .before .before .before .before .read-patch .ensures) (c .before .enum-told3 .given .1) (c .unread2 .ensures)))
+    (c .before .before .before .before .before .before .before .before .before .before .before .before .before .before .before .read-document .kept .1 .0)
+    (c .before .before .before .before .before .before .before .before .before .before .before .before .before .before .before .read-document .kept .1 .1 .0)
+    (c .before .before .before .before .before .before .read-patch .ensures) (c .before .enum-told3 .given .1) (c .unread2 .ensures)))
     -- run-patch-requires
     (λ c κs. search needs)
     -- same-length-5
@@ -65,7 +72,8 @@ checked-spec =
     (λ c. search needs)
     -- returns-5
     (λ c h i.
-    answered-as (answer-read _ _ _ (work-suffices _ h i) (omega (arith, c .before .before .before .before .before .before .before .before .before .before .before .before .before .before .before .before .before .before .before .before .before .before .before .before .before .before .before .if1 .left)) (omega (arith, c .before .before .before .before .before .before .before .before .before .before .before .before .before .before .before .before .before .before .before .before .before .before .before .before .before .before .if2 .left)))
+    answered-as (answer-read _ _ _ (work-suffices _ h i)
+    (omega (arith, c .before .before .before .before .before .before .before .before .before .before .before .before .before .before .before .before .before .before .before .before .before .before .before .before .before .before .before .if1 .left)) (omega (arith, c .before .before .before .before .before .before .before .before .before .before .before .before .before .before .before .before .before .before .before .before .before .before .before .before .before .before .if2 .left)))
     (patch-read h i (omega (arith, c .before .before .before .before .before .before .before .before .before .before .before .before .before .before .before .before .before .before .before .before .before .before .before .before .before .before .before .if1 .left)) (omega (arith, c .before .before .before .before .before .before .before .before .before .before .before .before .before .before .before .before .before .before .before .before .before .before .before .before .before .before .if2 .left)) (c .before .before .before .before .before .before .before .before .before .before .before .before .before .before .before .before .before .before .before .before .before .before .before .read-document .ensures) (c .before .before .before .before .before .before .before .before .before .before .before .before .before .before .before .before .before .before .document .given .1)
     (c .before .before .before .before .before .before .before .before .before .before .before .before .before .before .before .before .before .before .before .before .before .before .before .read-document .kept .1 .0) (c .before .before .before .before .before .before .before .before .before .before .before .before .before .before .before .before .before .before .before .before .before .before .before .read-document .kept .1 .1 .0) (c .before .before .before .before .before .before .before .before .before .before .before .before .before .before .read-patch .ensures) (c .before .before .before .before .before .before .before .before .before .enum-told2 .given .1) (c .before .before .before .before .before .before .before .before .before .before .before .before .before .before .read-patch .kept .1 .0)
     (c .before .before .before .before .before .run-patch .ensures))))

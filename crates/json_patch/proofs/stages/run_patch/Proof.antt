@@ -35,7 +35,9 @@ run-patch-spec =
     (λ c. search needs)
     -- returns-2
     (λ c.
-    patch-stopped (c .before .before .before .before .before .before .before .before .before .before .before .shape-of .ensures) (c .before .before .before .before .before .before .before .before .before .enum-told .given .1) (c .before .before .before .before .before .before .run .ensures) (c .before .enum-told4 .given .1) (c .stopped .ensures))
+    patch-stopped (c .before .before .before .before .before .before .before .before .before .before .before .shape-of .ensures)
+    (c .before .before .before .before .before .before .before .before .before .enum-told .given .1)
+    (c .before .before .before .before .before .before .run .ensures) (c .before .enum-told4 .given .1) (c .stopped .ensures))
     -- write-out-requires
     (λ c κs. search needs)
     -- same-length-4
@@ -46,4 +48,7 @@ run-patch-spec =
     (λ c. search needs)
     -- returns-3
     (λ c.
-    patch-done (c .before .before .before .before .before .before .before .before .before .before .before .before .before .before .before .shape-of .ensures) (c .before .before .before .before .before .before .before .before .before .before .before .before .before .enum-told .given .1) (c .before .before .before .before .before .before .before .before .before .before .run .ensures) (c .before .before .before .before .before .enum-told3 .given .1) (c .before .before .write-out .ensures)))
+    patch-done (c .before .before .before .before .before .before .before .before .before .before .before .before .before .before .before .shape-of .ensures)
+    (c .before .before .before .before .before .before .before .before .before .before .before .before .before .enum-told .given .1)
+    (c .before .before .before .before .before .before .before .before .before .before .run .ensures)
+    (c .before .before .before .before .before .enum-told3 .given .1) (c .before .before .write-out .ensures)))

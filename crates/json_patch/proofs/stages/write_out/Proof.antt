@@ -23,4 +23,5 @@ write-out-spec =
     -- same-length
     (λ c. search needs)
     -- returns-2
-    (λ c used v d. text-written d _ (c .before .before .before .before .before .before .fits2 .ensures) (not-false _ (c .before .before .before .before .before .if1 .left)) (c .before .before .before .write .ensures) (c .success .ensures)))
+    (λ c used v d. text-written d _ (c .before .before .before .before .before .before .fits2 .ensures)
+    (not-false _ (c .before .before .before .before .before .if1 .left)) (c .before .before .before .write .ensures) (c .success .ensures)))

@@ -48,7 +48,8 @@ find-spec =
     -- returns
     (λ c.
     finds _ (c .before .before .before .before .before .before .before .before .limit .ensures)
-    (meet (c .before .before .before .before .before .before .before .loop .inv .1) (omega arith) (sym (c .if2 .taken) ∙ c .before .same-name .ensures) (c .before .before .name-of .ensures)))
+    (meet (c .before .before .before .before .before .before .before .loop .inv .1) (omega arith) (sym (c .if2 .taken) ∙ c .before .same-name .ensures)
+    (c .before .before .name-of .ensures)))
     -- mul-kind-in
     (λ c. search needs)
     -- index-1-kind-in
@@ -64,8 +65,11 @@ find-spec =
     -- loop-again-2
     (λ c. (
       omega arith,
-      pass (c .before .before .before .before .before .before .before .before .before .before .loop .inv .1) _ (omega arith) (sym (c .before .before .before .if2 .left) ∙ c .before .before .before .before .same-name .ensures) (c .before .before .before .before .before .name-of .ensures)
-          (behind-scalar _ (c .before .before .before .before .before .before .before .before .before .before .loop .row) (omega (arith, c .before .kind-in .ensures))),
+      pass (c .before .before .before .before .before .before .before .before .before .before .loop .inv .1) _ (omega arith)
+          (sym (c .before .before .before .if2 .left) ∙ c .before .before .before .before .same-name .ensures)
+          (c .before .before .before .before .before .name-of .ensures)
+          (behind-scalar _ (c .before .before .before .before .before .before .before .before .before .before .loop .row)
+          (omega (arith, c .before .kind-in .ensures))),
     ))
     -- add-row-3
     (λ c. search needs)
@@ -84,8 +88,17 @@ find-spec =
     -- loop-again-3
     (λ c. (
       omega arith,
-      pass (c .before .before .before .before .before .before .before .before .before .before .before .before .loop .inv .1) _ (omega arith) (sym (c .before .before .before .before .before .if2 .left) ∙ c .before .before .before .before .before .before .same-name .ensures) (c .before .before .before .before .before .before .before .name-of .ensures)
-          (omega (arith, c .wide .ensures, behind-container (c .before .before .before .before .before .before .before .before .before .before .before .before .before .before .args .nodes .now) (c .before .before .before .before .before .before .before .before .before .before .before .before .loop .row) (omega (arith, c .before .before .before .kind-in .ensures)))),
+      pass (c .before .before .before .before .before .before .before .before .before .before .before .before .loop .inv .1) _ (omega arith)
+          (sym (c .before .before .before .before .before .if2 .left) ∙ c .before .before .before .before .before .before .same-name .ensures)
+          (c .before .before .before .before .before .before .before .name-of .ensures)
+          (omega (
+            arith,
+            c .wide .ensures,
+            behind-container
+                (c .before .before .before .before .before .before .before .before .before .before .before .before .before .before .args .nodes .now)
+                (c .before .before .before .before .before .before .before .before .before .before .before .before .loop .row)
+                (omega (arith, c .before .before .before .kind-in .ensures)),
+          )),
     ))
     -- returns-2
     (λ c. finds _ (c .before .before .limit .ensures) (over (c .before .loop .inv .1) (omega arith))))

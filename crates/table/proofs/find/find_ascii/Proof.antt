@@ -40,8 +40,11 @@ find-ascii-spec =
     (λ c κs. search needs)
     -- returns
     (λ c.
-    finds-ascii _ (c .before .before .before .before .before .before .limit .ensures) (c .before .before .before .before .before .before .before .short .ensures ∙ ap shortHash (c .before .before .before .before .before .before .before .before .hash-ascii .ensures))
-    (meet (c .before .before .before .before .before .loop .inv .1) (omega arith) (sym (c .if1 .taken) ∙ c .before .is-named .ensures) (c .before .before .name-of .ensures)))
+    finds-ascii _ (c .before .before .before .before .before .before .limit .ensures)
+    (c .before .before .before .before .before .before .before .short .ensures ∙ ap shortHash
+    (c .before .before .before .before .before .before .before .before .hash-ascii .ensures))
+    (meet (c .before .before .before .before .before .loop .inv .1) (omega arith) (sym (c .if1 .taken) ∙ c .before .is-named .ensures)
+    (c .before .before .name-of .ensures)))
     -- mul-kind-in
     (λ c. search needs)
     -- index-1-kind-in
@@ -57,7 +60,9 @@ find-ascii-spec =
     -- loop-again
     (λ c. (
       omega arith,
-      pass (c .before .before .before .before .before .before .before .before .loop .inv .1) _ (omega arith) (sym (c .before .before .before .if1 .left) ∙ c .before .before .before .before .is-named .ensures) (c .before .before .before .before .before .name-of .ensures)
+      pass (c .before .before .before .before .before .before .before .before .loop .inv .1) _ (omega arith)
+          (sym (c .before .before .before .if1 .left) ∙ c .before .before .before .before .is-named .ensures)
+          (c .before .before .before .before .before .name-of .ensures)
           (behind-scalar _ (c .before .before .before .before .before .before .before .before .loop .row) (omega (arith, c .before .kind-in .ensures))),
     ))
     -- add-row-2
@@ -77,8 +82,18 @@ find-ascii-spec =
     -- loop-again-2
     (λ c. (
       omega arith,
-      pass (c .before .before .before .before .before .before .before .before .before .before .loop .inv .1) _ (omega arith) (sym (c .before .before .before .before .before .if1 .left) ∙ c .before .before .before .before .before .before .is-named .ensures) (c .before .before .before .before .before .before .before .name-of .ensures)
-          (omega (arith, c .wide .ensures, behind-container (c .before .before .before .before .before .before .before .before .before .before .before .before .before .before .before .args .nodes .now) (c .before .before .before .before .before .before .before .before .before .before .loop .row) (omega (arith, c .before .before .before .kind-in .ensures)))),
+      pass (c .before .before .before .before .before .before .before .before .before .before .loop .inv .1) _ (omega arith)
+          (sym (c .before .before .before .before .before .if1 .left) ∙ c .before .before .before .before .before .before .is-named .ensures)
+          (c .before .before .before .before .before .before .before .name-of .ensures)
+          (omega (
+            arith,
+            c .wide .ensures,
+            behind-container
+                (c .before .before .before .before .before .before .before .before .before .before .before .before .before .before .before .args .nodes .now)
+                (c .before .before .before .before .before .before .before .before .before .before .loop .row)
+                (omega (arith, c .before .before .before .kind-in .ensures)),
+          )),
     ))
     -- returns-2
-    (λ c. finds-ascii _ (c .before .before .limit .ensures) (c .before .before .before .short .ensures ∙ ap shortHash (c .before .before .before .before .hash-ascii .ensures)) (over (c .before .loop .inv .1) (omega arith))))
+    (λ c. finds-ascii _ (c .before .before .limit .ensures) (c .before .before .before .short .ensures ∙ ap shortHash
+    (c .before .before .before .before .hash-ascii .ensures)) (over (c .before .loop .inv .1) (omega arith))))

@@ -11,7 +11,8 @@ use Rattle.lexer.specs.Hash.{mix, hashFrom, hash}
 use Rattle.table.proofs.find.hash_ascii.Statement.{statement}
 use Rattle.table.proofs.find.hash_ascii.Tie as tie
 
-hash-step : (name : Text) (h i : ℕ) {m : ℕ} → i < length name → m ≡ mix h (getD name i 0) → hashFrom h (drop i name) ≡ hash name → hashFrom m (drop (i + 1) name) ≡ hash name
+hash-step : (name : Text) (h i : ℕ) {m : ℕ} → i < length name → m ≡ mix h (getD name i 0) → hashFrom h (drop i name) ≡ hash name → hashFrom m
+    (drop (i + 1) name) ≡ hash name
 unfolding hashFrom
 hash-step name h i inside e so-far = rw (e, add-one) (rw (drop-cons name i 0 inside) at so-far)
 

@@ -15,4 +15,5 @@ is-named-spec =
     -- spells-requires
     (λ c κs. search needs)
     -- returns-2
-    (λ c. hash-named (both (c .before .before .before .before .args .texts)) (c .before .before .before .before .args .own) _ _ (omega (arith, c .before .if1 .left)) (c .spells .ensures)))
+    (λ c. hash-named (both (c .before .before .before .before .args .texts)) (c .before .before .before .before .args .own) _ _
+    (omega (arith, c .before .if1 .left)) (c .spells .ensures)))

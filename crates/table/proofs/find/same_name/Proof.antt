@@ -15,4 +15,5 @@ same-name-spec =
     -- same-spelling-requires
     (λ c κs. search needs)
     -- returns-2
-    (λ c. hash-named (both (c .before .before .before .before .args .texts)) (c .before .before .before .before .args .a) _ _ (omega (arith, c .before .if1 .left)) (c .same-spelling .ensures)))
+    (λ c. hash-named (both (c .before .before .before .before .args .texts)) (c .before .before .before .before .args .a) _ _
+    (omega (arith, c .before .if1 .left)) (c .same-spelling .ensures)))

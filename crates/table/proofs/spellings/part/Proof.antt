@@ -26,7 +26,8 @@ part-spec =
     (λ c.
     let h = c .before .before in
     let a = h .before .before .before .args in
-    part-past (both (a .texts)) (a .spelling) (h .before .wide .result) (h .wide2 .result) (h .before .before .text-of .result .now) (h .before .before .text-of .ensures) (h .before .wide .ensures .0) (h .wide2 .ensures .0) (omega arith))
+    part-past (both (a .texts)) (a .spelling) (h .before .wide .result) (h .wide2 .result) (h .before .before .text-of .result .now)
+    (h .before .before .text-of .ensures) (h .before .wide .ensures .0) (h .wide2 .ensures .0) (omega arith))
     -- sub-if2
     (λ c. search needs)
     -- sub-result-2
@@ -39,7 +40,8 @@ part-spec =
     (λ c.
     let h = c .before .before .before in
     let a = h .before .before .before .args in
-    part-cut (both (a .texts)) (a .spelling) (h .before .wide .result) (h .wide2 .result) (h .before .before .text-of .result .now) (h .before .before .text-of .ensures) (h .before .wide .ensures .0) (h .wide2 .ensures .0) (omega arith))
+    part-cut (both (a .texts)) (a .spelling) (h .before .wide .result) (h .wide2 .result) (h .before .before .text-of .result .now)
+    (h .before .before .text-of .ensures) (h .before .wide .ensures .0) (h .wide2 .ensures .0) (omega arith))
     -- add-end
     (λ c. search needs)
     -- sub-result-3
@@ -52,4 +54,5 @@ part-spec =
     (λ c.
     let h = c .before .before .before in
     let a = h .before .before .before .args in
-    part-whole (both (a .texts)) (a .spelling) (h .before .wide .result) (h .wide2 .result) (h .before .before .text-of .result .now) (h .before .before .text-of .ensures) (h .before .wide .ensures .0) (h .wide2 .ensures .0)))
+    part-whole (both (a .texts)) (a .spelling) (h .before .wide .result) (h .wide2 .result) (h .before .before .text-of .result .now)
+    (h .before .before .text-of .ensures) (h .before .wide .ensures .0) (h .wide2 .ensures .0)))

@@ -25,4 +25,5 @@ spells-spec =
     -- same-ascii-requires
     (λ c κs. search needs)
     -- returns-2
-    (λ c. c .same-ascii .ensures ∙ ap (λ t. sameText t (c .before .before .before .before .before .before .args .text .now)) (ap₂ textOf (c .before .long .ensures) (c .before .before .part .ensures))))
+    (λ c. c .same-ascii .ensures ∙ ap (λ t. sameText t (c .before .before .before .before .before .before .args .text .now))
+    (ap₂ textOf (c .before .long .ensures) (c .before .before .part .ensures))))

@@ -56,4 +56,5 @@ clear-spec =
     (λ c.
     let a = c .before .before .before .before .args in
     let e : c .before .loop .i ≡ a .count = omega arith in
-    c .before .loop .inv .2 ∙ ap (λ n. replaced (a .nodes .now) (a .start) n (replicate n noNode)) e ∙ sym (filled-in (a .nodes .now) noNode (a .start) (a .count) (omega arith))))
+    c .before .loop .inv .2 ∙ ap (λ n. replaced (a .nodes .now) (a .start) n (replicate n noNode)) e ∙ sym
+    (filled-in (a .nodes .now) noNode (a .start) (a .count) (omega arith))))

@@ -47,7 +47,8 @@ shift-down-spec =
     let l = c .before .before .loop in (
       omega arith,
       simp length-set (l .inv .1),
-      copied-one (l .nodes) (a .to + l .i) (a .start + l .i) [] (omega arith) (omega arith) ∙ ap (λ xs. copied xs (a .to + l .i) (a .start + l .i) 1) (l .inv .2)
+      copied-one (l .nodes) (a .to + l .i) (a .start + l .i) [] (omega arith) (omega arith) ∙ ap (λ xs. copied xs (a .to + l .i) (a .start + l .i) 1)
+          (l .inv .2)
           ∙ copied-further (a .nodes .now) (a .to) (a .start) (l .i) 1 (omega arith) (omega arith),
     ))
     -- same-length

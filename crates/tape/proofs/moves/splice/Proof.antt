@@ -42,4 +42,5 @@ splice-spec =
     (λ c.
     let a = c .before .before .before .before .before .before .before .before .before .before .before .before .args in
     c .before .slide2 .ensures ∙ ap (λ m. moved m (a .at) (a .source) (a .count)) (c .before .before .before .before .slide .ensures)
-    ∙ two-moves (a .nodes .now) (a .used) (a .at) (a .removed) (a .source) (a .count) (omega arith) (record { before = omega arith; after = omega arith; there = omega arith })))
+    ∙ two-moves (a .nodes .now) (a .used) (a .at) (a .removed) (a .source) (a .count) (omega arith)
+    (record { before = omega arith; after = omega arith; there = omega arith })))

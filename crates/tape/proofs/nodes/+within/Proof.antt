@@ -70,14 +70,18 @@ pub +within-spec : {M : Type 1} → statement M
     -- returns-4
     (λ c.
     let l = c .before .before .before .loop in
-    within-deep _ (omega arith) (omega arith) _ _ (c .before .before .before .before .end-of .ensures) (l .inv .1) (omega arith) _ (not-true _ (c .if4 .taken)) (c .before .within .ensures))
+    within-deep _ (omega arith) (omega arith) _ _ (c .before .before .before .before .end-of .ensures) (l .inv .1) (omega arith) _
+    (not-true _ (c .if4 .taken)) (c .before .within .ensures))
     -- end-of-requires-2
     (λ c κs. search needs)
     -- loop-less
     (λ c. search needs)
     -- loop-again
     (λ c.
-    let l = c .before .before .before .before .loop in
-    (omega arith, judging-next _ _ _ _ _ _ (c .before .before .before .before .before .end-of .ensures) (omega arith) (c .end-of2 .ensures) _ (not-false _ (c .before .if4 .left)) (c .before .before .within .ensures) (l .inv .1)))
+    let l = c .before .before .before .before .loop in (
+      omega arith,
+      judging-next _ _ _ _ _ _ (c .before .before .before .before .before .end-of .ensures) (omega arith) (c .end-of2 .ensures) _
+          (not-false _ (c .before .if4 .left)) (c .before .before .within .ensures) (l .inv .1),
+    ))
     -- returns-5
     (λ c. within-all _ (omega arith) (omega arith) _ _ (c .before .before .end-of .ensures) (c .before .loop .inv .1) (omega arith))
