@@ -31,7 +31,7 @@ extern "C" {
 #endif
 
 /* The version of this header and of its library. */
-#define JSON_PATCH_VERSION "0.1.0"
+#define JSON_PATCH_VERSION "0.2.0"
 
 /* The work area: records of 16 bytes, and entries of 2. 114,688 bytes in all. */
 #define JSON_PATCH_WORK_NODES 6144

@@ -45,7 +45,7 @@ from pathlib import Path
 from typing import Any, List, Tuple, Union
 
 __all__ = ["Kind", "Refusal", "apply", "MAX_BYTES", "OUTPUT", "__version__"]
-__version__ = "0.1.0"
+__version__ = "0.2.0"
 
 Bytes = Union[bytes, bytearray, memoryview]
 
