@@ -1,7 +1,7 @@
 //! `json-patch apply`.
 
 use crate::arguments::{wrong, Arguments};
-use crate::command::{Command, Opt, Status, PORCELAIN, QUIET};
+use crate::command::{Command, Opt, Status, Takes, OUTPUT, PORCELAIN, QUIET};
 use crate::files::{deliver, Target};
 use crate::patches::Run;
 use crate::report;
@@ -18,12 +18,7 @@ result to standard output. Either all patches are applied or none is. A file
 that is written appears whole or not at all; its permissions stay, and a
 symbolic link is followed. The name - is standard input.",
     options: &[
-        Opt {
-            short: Some('o'),
-            long: "output",
-            value: Some("FILE"),
-            summary: "write the result to FILE",
-        },
+        OUTPUT,
         Opt {
             short: Some('i'),
             long: "in-place",
@@ -41,7 +36,7 @@ $ cat fix.json
  {\"op\":\"add\",\"path\":\"/cut/-\",\"value\":2.8}]
 $ json-patch apply pack.json fix.json
 {\"mAh\":3000,\"cut\":[4.2,3.0,2.8]}",
-    words: &[],
+    takes: Takes::Files,
     run,
 };
 
@@ -55,8 +50,7 @@ fn run(arguments: &Arguments) -> Result<Status, Trouble> {
             return Err(wrong(&COMMAND, "--in-place takes a file, not standard input"));
         }
         (true, None) => Target::File(&run.document.name),
-        (false, Some(name)) if name != "-" => Target::File(name),
-        (false, _) => Target::Standard,
+        (false, output) => Target::of(output),
     };
     match run.result() {
         Ok(text) => deliver(text, target).map(|()| Status::Done),

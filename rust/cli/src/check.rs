@@ -1,7 +1,7 @@
 //! `json-patch check`.
 
 use crate::arguments::Arguments;
-use crate::command::{Command, Status, PORCELAIN, QUIET};
+use crate::command::{Command, Status, Takes, PORCELAIN, QUIET};
 use crate::files::{print, Name};
 use crate::patches::Run;
 use crate::report;
@@ -21,7 +21,7 @@ The name - is standard input.",
     example: "\
 $ json-patch check pack.json fix.json
 fix.json: 2 operations apply to pack.json",
-    words: &[],
+    takes: Takes::Files,
     run,
 };
 

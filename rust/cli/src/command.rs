@@ -18,10 +18,20 @@ pub struct Command {
     pub options: &'static [Opt],
     /// A worked example.
     pub example: &'static str,
-    /// The words that an operand can be, where it is no file.
-    pub words: &'static [&'static str],
+    /// What its operands are, for completions.
+    pub takes: Takes,
     /// Runs it.
     pub run: fn(&Arguments) -> Result<Status, Trouble>,
+}
+
+/// What operands are.
+pub enum Takes {
+    /// Files.
+    Files,
+    /// One of these words.
+    Words(&'static [&'static str]),
+    /// A text that the user writes.
+    Text,
 }
 
 /// An option.
@@ -41,9 +51,17 @@ pub struct Opt {
 pub enum Status {
     /// Done: exit status 0.
     Done,
-    /// The patch was refused: exit status 1.
+    /// The patch, or what was given in place of one, was refused: exit status 1.
     Refused,
 }
+
+/// `--output`, of every command that writes a result.
+pub const OUTPUT: Opt = Opt {
+    short: Some('o'),
+    long: "output",
+    value: Some("FILE"),
+    summary: "write the result to FILE",
+};
 
 /// `--quiet`, of every command that can refuse.
 pub const QUIET: Opt = Opt {

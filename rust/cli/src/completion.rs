@@ -2,7 +2,7 @@
 //! commands.
 
 use crate::arguments::{wrong, Arguments};
-use crate::command::{Command, Opt, Status};
+use crate::command::{Command, Opt, Status, Takes};
 use crate::files::{self, Name};
 use crate::trouble::Trouble;
 use crate::COMMANDS;
@@ -18,7 +18,7 @@ Prints what the shell reads to complete commands, options and file names.
 'make install' puts them where the shells look for them.",
     options: &[],
     example: "$ . <(json-patch completion bash)",
-    words: &["bash", "zsh", "fish"],
+    takes: Takes::Words(&["bash", "zsh", "fish"]),
     run,
 };
 
@@ -54,20 +54,23 @@ fn bash() -> String {
         words.extend(["-h".to_string(), "--help".to_string()]);
         let taken = command.options.iter().filter(|option| option.value.is_some());
         values.extend(taken.flat_map(forms));
-        let _ = writeln!(
-            cases,
-            "        {}) options='{}' words='{}' ;;",
-            command.name,
-            words.join(" "),
-            command.words.join(" ")
-        );
+        let operands = match command.takes {
+            Takes::Files => "files=yes".to_string(),
+            Takes::Words(words) => format!("words='{}'", words.join(" ")),
+            Takes::Text => String::new(),
+        };
+        let line = format!("{}) options='{}' {operands}", command.name, words.join(" "));
+        let _ = writeln!(cases, "        {} ;;", line.trim_end());
     }
+    values.sort();
+    values.dedup();
     let values = values.join(" | ");
     let all = commands();
     format!(
         r#"# Completions of json-patch for bash.
 _json_patch() {{
-    local word=${{COMP_WORDS[COMP_CWORD]}} before=${{COMP_WORDS[COMP_CWORD - 1]}} options='' words=''
+    local word=${{COMP_WORDS[COMP_CWORD]}} before=${{COMP_WORDS[COMP_CWORD - 1]}}
+    local options='' words='' files=''
     COMPREPLY=()
     if ((COMP_CWORD == 1)); then
         mapfile -t COMPREPLY < <(compgen -W '{all} -h --help -V --version' -- "$word")
@@ -77,7 +80,7 @@ _json_patch() {{
         help) words='{all}' ;;
 {cases}    esac
     case $before in
-        {values}) options='' words='' ;;
+        {values}) options='' words='' files=yes ;;
         *) if [[ $word == -?* ]]; then
             mapfile -t COMPREPLY < <(compgen -W "$options" -- "$word")
             return
@@ -85,7 +88,7 @@ _json_patch() {{
     esac
     if [[ $words ]]; then
         mapfile -t COMPREPLY < <(compgen -W "$words" -- "$word")
-    else
+    elif [[ $files ]]; then
         compopt -o filenames 2>/dev/null
         mapfile -t COMPREPLY < <(compgen -f -- "$word")
     fi
@@ -114,9 +117,10 @@ fn zsh() -> String {
                     writeln!(cases, "                        '{form}{equals}[{about}]{takes}' \\");
             }
         }
-        let operand = match command.words {
-            [] => "'*:file:_files'".to_string(),
-            words => format!("'1:word:({})'", words.join(" ")),
+        let operand = match command.takes {
+            Takes::Files => "'*:file:_files'".to_string(),
+            Takes::Words(words) => format!("'1:word:({})'", words.join(" ")),
+            Takes::Text => format!("'1:{}: '", command.operands),
         };
         let help = "'(- *)'{-h,--help}'[show this help]'";
         let _ = writeln!(
@@ -179,9 +183,11 @@ fn fish() -> String {
             let _ = writeln!(text, "{line}{short} -l {long}{takes} -d '{about}'");
         }
         let _ = writeln!(text, "{line} -s h -l help -d 'show this help'");
-        if !command.words.is_empty() {
-            let _ = writeln!(text, "{line} -f -a '{}'", command.words.join(" "));
-        }
+        let _ = match command.takes {
+            Takes::Files => Ok(()),
+            Takes::Words(words) => writeln!(text, "{line} -f -a '{}'", words.join(" ")),
+            Takes::Text => writeln!(text, "{line} -f"),
+        };
     }
     text
 }

@@ -44,16 +44,20 @@ impl fmt::Display for Name<'_> {
 pub struct Text {
     /// The file's name, as it was given.
     pub name: OsString,
-    /// At most one byte more than the library takes.
+    /// As much of it as was asked for.
     pub bytes: Vec<u8>,
 }
 
 impl Text {
-    /// Reads a file, or standard input for `-`: as much as tells whether it is
-    /// too long.
+    /// Reads a document or a patch: as much as tells whether it is too long.
     pub fn read(name: &OsStr) -> Result<Self, Trouble> {
+        Text::read_at_most(name, MAX_BYTES + 1)
+    }
+
+    /// Reads a file, or standard input for `-`, up to so many bytes.
+    pub fn read_at_most(name: &OsStr, most: usize) -> Result<Self, Trouble> {
         let mut bytes = Vec::new();
-        let most = MAX_BYTES as u64 + 1;
+        let most = most as u64;
         let read = match name.as_encoded_bytes() {
             b"-" => io::stdin().lock().take(most).read_to_end(&mut bytes),
             _ => File::open(name).and_then(|file| file.take(most).read_to_end(&mut bytes)),
@@ -74,16 +78,31 @@ pub enum Target<'a> {
     File(&'a OsStr),
 }
 
+impl<'a> Target<'a> {
+    /// What `--output` was given; nothing and `-` are standard output.
+    pub fn of(output: Option<&'a OsStr>) -> Self {
+        match output {
+            Some(name) if name != "-" => Target::File(name),
+            _ => Target::Standard,
+        }
+    }
+}
+
 /// Writes a result and the newline behind it. A text of just the length that can
 /// be read again gets no newline, which would make it too long.
 pub fn deliver(mut text: Vec<u8>, target: Target) -> Result<(), Trouble> {
     if text.len() != MAX_BYTES {
         text.push(b'\n');
     }
+    put(&text, target)
+}
+
+/// Writes bytes as they are.
+pub fn put(bytes: &[u8], target: Target) -> Result<(), Trouble> {
     match target {
-        Target::Standard => print(&text),
+        Target::Standard => print(bytes),
         Target::File(name) => {
-            replace(Path::new(name), &text).map_err(|reason| Trouble::file(name, reason))
+            replace(Path::new(name), bytes).map_err(|reason| Trouble::file(name, reason))
         }
     }
 }

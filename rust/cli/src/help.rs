@@ -18,9 +18,10 @@ pub fn overview() -> String {
     }
     format!(
         "\
-Usage: json-patch COMMAND [OPTION]... [FILE]...
+Usage: json-patch COMMAND [OPTION]... [OPERAND]...
 
-JSON Patch (RFC 6902), applied by a library that is proved.
+JSON Patch (RFC 6902), applied by a library that is proved; pointers as web
+links, and texts as Intel HEX.
 
 Commands:
 {commands}  {:<12} show the help of a command
@@ -29,7 +30,7 @@ Options:
   -h, --help     show this help
   -V, --version  show the version
 
-Exit status: 0 done, 1 the patch was refused, 2 trouble.
+Exit status: 0 done, 1 refused, 2 trouble.
 
 Example:
   json-patch apply pack.json fix.json
@@ -61,7 +62,7 @@ Usage: json-patch {name} [OPTION]... {operands}
 Options:
 {options}{:<width$}  show this help
 
-Exit status: 0 done, 1 the patch was refused, 2 trouble.
+Exit status: 0 done, 1 refused, 2 trouble.
 
 Example:
   {example}

@@ -1,4 +1,5 @@
-//! The command `json-patch`: patches applied to files.
+//! The command `json-patch`: patches applied to files, pointers as web links,
+//! texts as Intel HEX.
 //!
 //! The work is the library's. This crate reads files, writes the result so that
 //! it appears whole or not at all, and puts refusals into words. A subcommand is
@@ -12,10 +13,14 @@ mod completion;
 mod files;
 mod found;
 mod help;
+mod hex;
+mod link;
 mod patches;
+mod pointer;
 mod replace;
 mod report;
 mod trouble;
+mod unhex;
 
 use command::{Command, Status};
 use std::env;
@@ -24,7 +29,15 @@ use std::process::ExitCode;
 use trouble::Trouble;
 
 /// The subcommands, in the order in which they are listed.
-pub const COMMANDS: &[&Command] = &[&apply::COMMAND, &check::COMMAND, &completion::COMMAND];
+pub const COMMANDS: &[&Command] = &[
+    &apply::COMMAND,
+    &check::COMMAND,
+    &link::COMMAND,
+    &pointer::COMMAND,
+    &hex::COMMAND,
+    &unhex::COMMAND,
+    &completion::COMMAND,
+];
 
 fn main() -> ExitCode {
     let words: Vec<OsString> = env::args_os().skip(1).collect();

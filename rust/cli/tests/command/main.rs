@@ -2,6 +2,8 @@
 //! whatever can be wrong with a file.
 
 mod files;
+mod hex;
+mod links;
 mod replacing;
 mod statuses;
 mod support;

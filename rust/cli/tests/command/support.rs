@@ -158,3 +158,45 @@ pub fn file_of_root(name: &str) -> String {
     let path = Path::new(ROOT).join(name);
     fs::read_to_string(&path).unwrap_or_else(|error| panic!("{}: {error}", path.display()))
 }
+
+/// A committed text, and what the second program expects of both calls on it.
+pub struct Case {
+    pub name: String,
+    pub text: Vec<u8>,
+    pub written: Vec<u8>,
+    pub read: Vec<u8>,
+}
+
+/// The committed texts of a crate whose program puts each to two calls: `case NAME
+/// ROOM LENGTH` and the text; in the output `NAME written: ANSWER` and `NAME read:
+/// ANSWER`.
+pub fn committed(folder: &str) -> Vec<Case> {
+    let folder = Path::new(ROOT).join(folder);
+    let file = fs::read(folder.join("data/cases")).expect("the cases");
+    let answers = fs::read(folder.join("stdout")).expect("the answers");
+    let (mut rest, mut cases) = (&file[..], Vec::new());
+    while !rest.is_empty() {
+        let end = rest.iter().position(|&byte| byte == b'\n').expect("a line");
+        let title = std::str::from_utf8(&rest[..end]).expect("text");
+        let words: Vec<&str> = title.split(' ').collect();
+        let ["case", name, _, length] = words[..] else { panic!("{title}") };
+        let length: usize = length.parse().expect("a number");
+        cases.push((name.to_string(), rest[end + 1..][..length].to_vec()));
+        rest = &rest[end + length + 2..];
+    }
+    // Each answer stands between its title, at the beginning of a line, and the next.
+    let answers = [&b"\n"[..], &answers].concat();
+    let (mut rest, mut parts) = (&answers[..], Vec::new());
+    for (name, _) in &cases {
+        for title in [format!("\n{name} written: "), format!("\n{name} read: ")] {
+            let at = rest.windows(title.len()).position(|window| window == title.as_bytes());
+            let at = at.unwrap_or_else(|| panic!("no answer for {name}"));
+            parts.push(rest[..at].to_vec());
+            rest = &rest[at + title.len()..];
+        }
+    }
+    parts.push(rest.strip_suffix(b"\n").expect("a line's end").to_vec());
+    let pairs = parts[1..].chunks(2).map(|pair| (pair[0].clone(), pair[1].clone()));
+    let whole = cases.into_iter().zip(pairs);
+    whole.map(|((name, text), (written, read))| Case { name, text, written, read }).collect()
+}

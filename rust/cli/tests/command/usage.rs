@@ -3,7 +3,7 @@
 use crate::support::{file_of_root, left_out, program, words, Folder, Ran, COMMAND};
 use std::process::Command;
 
-const COMMANDS: [&str; 3] = ["apply", "check", "completion"];
+const COMMANDS: [&str; 7] = ["apply", "check", "link", "pointer", "hex", "unhex", "completion"];
 
 /// The help of a subcommand.
 fn help(name: &str) -> String {
@@ -44,11 +44,11 @@ fn every_command_has_help_with_an_example() {
     assert!(overview.output.contains("\nExample:\n"));
 }
 
-/// Runs what the examples of apply and check show, and compares what they print.
+/// Runs what the examples show, and compares what they print.
 #[test]
 fn examples_do_what_they_show() {
     let folder = Folder::new();
-    for name in ["apply", "check"] {
+    for name in COMMANDS.into_iter().filter(|&name| name != "completion") {
         let text = help(name);
         let example = text.split("Example:\n").nth(1).expect("an example").replace("\n  ", "\n");
         let steps = example.trim_start().trim_end_matches('\n').split("$ ").skip(1);
@@ -59,7 +59,7 @@ fn examples_do_what_they_show() {
             match line.split_once(' ').expect("a command") {
                 ("cat", file) => folder.write(file, output),
                 ("json-patch", rest) => {
-                    folder.run(words(rest)).done(&output);
+                    folder.run(words(&rest.replace('\'', ""))).done(&output);
                     ran += 1;
                 }
                 other => panic!("{other:?}"),
@@ -151,6 +151,12 @@ fn bash_completes() {
     assert_eq!(offered(&folder, &["apply", "-o", "p"]), ["pack.json"]);
     assert_eq!(offered(&folder, &["completion", "b"]), ["bash"]);
     assert_eq!(offered(&folder, &["help", "ch"]), ["check"]);
+    assert_eq!(offered(&folder, &["help", "p"]), ["pointer"]);
+    assert_eq!(offered(&folder, &["hex", "p"]), ["pack.json"]);
+    assert_eq!(offered(&folder, &["unhex", "--output", "p"]), ["pack.json"]);
+    // A pointer is no file.
+    assert_eq!(offered(&folder, &["link", "p"]), [""; 0]);
+    assert_eq!(offered(&folder, &["pointer", "--q"]), ["--quiet"]);
 }
 
 #[test]
