@@ -78,6 +78,12 @@ fn the_version_is_that_of_the_package() {
     let header = file_of_root("include/json_patch.h");
     let version = concat!("#define JSON_PATCH_VERSION \"", env!("CARGO_PKG_VERSION"), "\"");
     assert!(header.contains(version));
+    let title = concat!("Version ", env!("CARGO_PKG_VERSION"));
+    assert!(file_of_root("README.md").contains(title), "README.md");
+    let latest = file_of_root("CHANGELOG.md");
+    let latest = latest.lines().find(|line| line.starts_with("## [")).expect("a version");
+    let version = concat!("## [", env!("CARGO_PKG_VERSION"), "]");
+    assert!(latest.starts_with(version), "{latest}");
 }
 
 #[test]

@@ -88,8 +88,13 @@ fn nothing_in_a_text_reaches_a_terminal_as_a_command() {
 
 /// Standard error of a refusal, on a terminal.
 fn on_a_terminal(folder: &Folder, variables: &[(&str, &str)]) -> Option<String> {
+    said_on_a_terminal(folder, variables, "apply pack.json other.json")
+}
+
+/// What a command says on a terminal.
+fn said_on_a_terminal(folder: &Folder, variables: &[(&str, &str)], words: &str) -> Option<String> {
     program("script")?;
-    let line = format!("{} apply pack.json other.json", crate::support::COMMAND);
+    let line = format!("{} {words}", crate::support::COMMAND);
     let mut command = Command::new("script");
     command.args(["-qec", &line, "/dev/null"]).current_dir(&folder.0);
     command.env_remove("NO_COLOR").env("TERM", "xterm").envs(variables.iter().copied());
@@ -111,4 +116,31 @@ fn colours_only_on_a_terminal_and_not_with_no_color() {
     }
     let empty = on_a_terminal(&folder, &[("NO_COLOR", "")]).unwrap_or_default();
     assert_eq!(empty, coloured, "an empty NO_COLOR is none");
+}
+
+#[test]
+fn links_and_intel_hex_are_refused_in_the_same_colours() {
+    let folder = Folder::new();
+    folder.write("x.hex", ":020000040800F2\n");
+    for (words, coloured) in [
+        (
+            "unhex x.hex",
+            "json-patch: \x1b[1mx.hex:1:\x1b[0m \x1b[1;31mnot a record\x1b[0m\n  \
+               1 | :020000040800F2\n  \
+             \x1b[1;36mhint:\x1b[0m only records of types 00 and 01 are read\n",
+        ),
+        (
+            "link a",
+            "json-patch: \x1b[1m\"a\":\x1b[0m \x1b[1;31mmalformed pointer\x1b[0m\n  \
+             \x1b[1;36mhint:\x1b[0m a pointer is empty or begins with '/'\n",
+        ),
+    ] {
+        let Some(said) = said_on_a_terminal(&folder, &[], words) else {
+            return left_out("colours", "no program 'script' to make a terminal");
+        };
+        assert_eq!(said.replace("\r\n", "\n"), coloured);
+        let plain = folder.run(words.split(' ')).error;
+        let said = said_on_a_terminal(&folder, &[("NO_COLOR", "1")], words).unwrap_or_default();
+        assert_eq!(said.replace("\r\n", "\n"), plain);
+    }
 }
