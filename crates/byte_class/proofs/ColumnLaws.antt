@@ -12,10 +12,12 @@ use lib.Seq.{getD-set-same, getD-set-other}
 use Rattle.spec.specs.Outcome.{if_then_else_}
 use Rattle.spec.specs.Bytes.{within}
 use Rattle.byte_class.specs.Class.{Follows, ClassRule}
-use Rattle.byte_class.specs.Column.{from-80, from-90, first-E0, first-ED, first-F0, first-F4, kept-escape, continued, lettered, columnOf, ColumnRule, Laid}
+use Rattle.byte_class.specs.Column.{from-80, from-90, first-E0, first-ED, first-F0, first-F4, kept-escape}
+use Rattle.byte_class.specs.Column.{continued, lettered, columnOf, ColumnRule, Laid}
 
 -- one entry
-pub follows-set : {rule : ℕ → ℕ} {table : List ℕ} (i v : ℕ) → i < 256 → Follows rule table → Follows (λ b. if eqb b i then v else rule b) (set table i v)
+pub follows-set : {rule : ℕ → ℕ} {table : List ℕ} (i v : ℕ) → i < 256 → Follows rule table →
+    Follows (λ b. if eqb b i then v else rule b) (set table i v)
 follows-set {rule} {table} i v h f = record { counted = length-set table i v ∙ f .counted; each = λ b l. go b l (eqb b i) refl }
   where
     go : (b : ℕ) → b < 256 → (t : Bool) → eqb b i ≡ t → getD (set table i v) b 0 ≡ (if t then v else rule b)

@@ -10,7 +10,8 @@ use Rattle.spec.specs.Outcome.{Outcome, ok, refused, if_then_else_}
 use Rattle.spec.specs.Refusal.{not-json}
 use Rattle.spec.specs.Bytes.{Bytes, byte, within}
 use Rattle.spec.specs.Strings.{escape, multibyte, character}
-use Rattle.byte_class.specs.Class.{Class, quote, backslash, control, other-ascii, continuation, first-of-two, first-of-three, first-of-four, never, classOf, symbol}
+use Rattle.byte_class.specs.Class.{Class, classOf, symbol}
+use Rattle.byte_class.specs.Class.{quote, backslash, control, other-ascii, continuation, first-of-two, first-of-three, first-of-four, never}
 use Rattle.lexer.specs.Names.{standsForItself}
 use Rattle.lexer.specs.ByClass.{secondLeast, secondMost, byClass, CharactersByClass, ItselfByClass}
 use Rattle.lexer.proofs.Tests.{within-bounds, between-within, below-within, above-within}

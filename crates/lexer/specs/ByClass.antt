@@ -6,7 +6,8 @@ use Rattle.spec.specs.Outcome.{Outcome, ok, refused, if_then_else_}
 use Rattle.spec.specs.Refusal.{not-json}
 use Rattle.spec.specs.Bytes.{Bytes, byte}
 use Rattle.spec.specs.Strings.{escape, tail, character}
-use Rattle.byte_class.specs.Class.{Class, quote, backslash, control, other-ascii, continuation, first-of-two, first-of-three, first-of-four, never, classOf, symbol}
+use Rattle.byte_class.specs.Class.{Class, classOf, symbol}
+use Rattle.byte_class.specs.Class.{quote, backslash, control, other-ascii, continuation, first-of-two, first-of-three, first-of-four, never}
 use Rattle.lexer.specs.Names.{standsForItself}
 
 -- the bounds of the second byte, given the first: RFC 3629, section 4

@@ -89,8 +89,8 @@ fn passed_end(
 }
 
 // The end of the characters from a place on that are written byte for byte as they are read, with or without escapes
-// among them. A constant table is laid out on the stack wherever it is used: here alone, and in no function that
-// calls itself.
+// among them. The tables are constants, and laid out on the stack wherever they are used: here alone, and in no
+// function that calls itself.
 pub fn verbatim_end(s: &[u8], start: usize, escapes: bool) -> usize
     ensures { λ r. ⌜ VerbatimTo escapes (now (s .entry)) start r ⌝ }
 {
