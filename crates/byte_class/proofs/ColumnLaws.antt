@@ -13,7 +13,8 @@ use Rattle.spec.specs.Outcome.{if_then_else_}
 use Rattle.spec.specs.Bytes.{within}
 use Rattle.byte_class.specs.Class.{Follows, ClassRule}
 use Rattle.byte_class.specs.Column.{from-80, from-90, first-E0, first-ED, first-F0, first-F4, kept-escape}
-use Rattle.byte_class.specs.Column.{continued, lettered, columnOf, ColumnRule, Laid}
+use Rattle.byte_class.specs.Column.{continued, lettered, columnOf, ColumnRule}
+use Rattle.byte_class.specs.Laying.{Laid}
 
 -- one entry
 pub follows-set : {rule : ℕ → ℕ} {table : List ℕ} (i v : ℕ) → i < 256 → Follows rule table →

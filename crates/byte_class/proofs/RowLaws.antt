@@ -1,5 +1,5 @@
 -- Rows of sixteen laid down one after another.
-use Prim.Native.Nat.{ℕ, _+_, _*_, _/_, _%_, _≤_, _<_}
+use Prim.Native.Nat.{ℕ, _+_, _*_, _/_, _%_, _<_}
 use mathlib.Core.Path.{_≡_, refl, _∙_, subst, sym}
 use mathlib.Core.Bool.{Bool, true, false}
 use mathlib.Core.List.{List, []}
@@ -8,7 +8,7 @@ use borrow.Author.Tests.{eqb-true, eqb-false}
 use lib.Dec.{eqb}
 use lib.ListN.{length, getD, set, length-set}
 use lib.Seq.{getD-set-same, getD-set-other}
-use Rattle.byte_class.specs.Class.{entry, Filled}
+use Rattle.byte_class.specs.Laying.{entry, Filled}
 
 pub none-filled : (rows : List (List ℕ)) (table : List ℕ) → length table ≡ 256 → Filled rows 0 table
 none-filled rows table e = record { counted = e; filled = λ b h. absurd (omega arith) }

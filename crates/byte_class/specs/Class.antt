@@ -1,9 +1,9 @@
 -- The classes of bytes in a JSON string: which bytes may stand there, start an escape or continue a character. RFC 8259, section 7, says it
 -- of ASCII; RFC 3629, section 4, of the bytes of a character beyond ASCII.
-use Prim.Native.Nat.{ℕ, _/_, _%_, _<_}
+use Prim.Native.Nat.{ℕ, _<_}
 use Prim.Native.Char.{code}
 use mathlib.Core.Path.{_≡_}
-use mathlib.Core.List.{List, []}
+use mathlib.Core.List.{List}
 use lib.ListN.{length, getD}
 use lib.Dec.{eqb}
 use Rattle.spec.specs.Outcome.{if_then_else_}
@@ -20,7 +20,7 @@ pub data Class : Type 0 where
   first-of-four : Class
   never : Class
 
--- control is below 20 hex; never are C0, C1 and all from F5 on
+-- a byte's class: control is below 20 hex, never are C0, C1 and all from F5 on
 unfoldable pub classOf : ℕ → Class
 classOf b =
     if eqb b (code "\"") then quote else
@@ -52,12 +52,3 @@ pub record Follows (rule : ℕ → ℕ) (table : List ℕ) : Type 0 where
 -- The class rule: each byte has its class.
 abbrev pub ClassRule : List ℕ → Type 0
 ClassRule = Follows (λ b. symbol (classOf b))
-
--- a byte's entry in a table of sixteen to a row
-unfoldable pub entry : List (List ℕ) → ℕ → ℕ
-entry rows b = getD (getD rows (b / 16) []) (b % 16) 0
-
--- 256 entries, of which the first so many are those of the rows, one after another
-pub record Filled (rows : List (List ℕ)) (n : ℕ) (table : List ℕ) : Type 0 where
-  pub counted : length table ≡ 256
-  pub filled : (b : ℕ) → b < n → getD table b 0 ≡ entry rows b

@@ -1,10 +1,8 @@
 -- What needs more than a class, where a string is read byte by byte, from state to state, by a table of steps: each byte's column in that
 -- table. It is the symbol of the byte's class but for what is named here.
-use Prim.Native.Nat.{ℕ, _≤_, _<_}
+use Prim.Native.Nat.{ℕ}
 use Prim.Native.Char.{code}
-use mathlib.Core.Path.{_≡_}
 use mathlib.Core.List.{List}
-use lib.ListN.{length, getD}
 use lib.Dec.{eqb}
 use Rattle.spec.specs.Outcome.{if_then_else_}
 use Rattle.spec.specs.Bytes.{within}
@@ -59,10 +57,3 @@ columnOf b =
 
 abbrev pub ColumnRule : List ℕ → Type 0
 ColumnRule = Follows columnOf
-
--- A value is laid down from one place to before another, and nothing else changes.
-pub record Laid (low high v : ℕ) (before after : List ℕ) : Type 0 where
-  pub counted : length after ≡ length before
-  pub under : (b : ℕ) → b < low → getD after b 0 ≡ getD before b 0
-  pub inside : (b : ℕ) → low ≤ b → b < high → getD after b 0 ≡ v
-  pub over : (b : ℕ) → high ≤ b → getD after b 0 ≡ getD before b 0

@@ -1,7 +1,8 @@
 // The class of each byte in a string: which bytes may stand there, start an escape or continue a character. RFC 8259,
 // section 7, has the quotation mark, the backslash and the controls; RFC 3629, section 4, the bytes beyond ASCII.
 ghost use Prim.Native.Nat.{_+_, _*_, _<_};
-ghost use Rattle.byte_class.specs.Class.{ClassRule, Filled};
+ghost use Rattle.byte_class.specs.Class.{ClassRule};
+ghost use Rattle.byte_class.specs.Laying.{Filled};
 
 // The table, sixteen bytes to a row. The classes and their symbols:
 //

@@ -4,7 +4,8 @@
 ghost use Prim.Native.Nat.{_≤_};
 ghost use mathlib.Core.Path.{_≡_};
 ghost use lib.ListN.{length};
-ghost use Rattle.byte_class.specs.Column.{ColumnRule, Laid};
+ghost use Rattle.byte_class.specs.Column.{ColumnRule};
+ghost use Rattle.byte_class.specs.Laying.{Laid};
 use crate::class_table::classes;
 
 // The columns that are no class's: numbers that are the last four bits of no symbol.

@@ -2,7 +2,7 @@ use borrow.Author.Needs.{needs}
 use Prim.Native.Nat.{_*_, _-_, _≤_}
 use mathlib.Core.Path.{refl}
 use native.Mathlib.Omega.{arith}
-use Rattle.byte_class.specs.Class.{Filled}
+use Rattle.byte_class.specs.Laying.{Filled}
 use Rattle.byte_class.proofs.RowLaws.{none-filled, filled-as}
 use Rattle.byte_class.proofs.class_table.flat.Statement.{statement}
 use Rattle.byte_class.proofs.class_table.flat.Tie as tie

@@ -1,8 +1,7 @@
 use borrow.Author.Needs.{needs}
-use Prim.Native.Nat.{_+_, _*_, _-_, _≤_, _<_}
-use mathlib.Core.Path.{_∙_, sym}
+use Prim.Native.Nat.{_+_, _*_, _-_, _≤_}
 use native.Mathlib.Omega.{arith}
-use Rattle.byte_class.specs.Class.{Filled}
+use Rattle.byte_class.specs.Laying.{Filled}
 use Rattle.byte_class.proofs.RowLaws.{filled-as, filled-next}
 use Rattle.byte_class.proofs.class_table.put_row.Statement.{statement}
 use Rattle.byte_class.proofs.class_table.put_row.Tie as tie

@@ -1,7 +1,7 @@
 use borrow.Author.Needs.{needs}
 use Prim.Native.Nat.{_-_, _≤_}
 use native.Mathlib.Omega.{arith}
-use Rattle.byte_class.specs.Column.{Laid}
+use Rattle.byte_class.specs.Laying.{Laid}
 use Rattle.byte_class.proofs.ColumnLaws.{none-laid, laid-next, laid-to}
 use Rattle.byte_class.proofs.column_table.lay.Statement.{statement}
 use Rattle.byte_class.proofs.column_table.lay.Tie as tie
