@@ -1,6 +1,7 @@
 // What needs more than a class, in one place. A string is passed byte by byte by a table of steps (crate `lexer`,
 // STEPS), in which each byte has a column. That is its class, but for three things that no class says: which second
-// bytes follow E0, ED, F0 and F4, which bytes these are, and which letters make an escape that is written as it is read.
+// bytes follow E0, ED, F0 and F4; which bytes these four are; which letters make an escape that is written as it is
+// read.
 ghost use Prim.Native.Nat.{_≤_};
 ghost use mathlib.Core.Path.{_≡_};
 ghost use lib.ListN.{length};
