@@ -13,3 +13,4 @@ pub mod NumberLoop
 pub mod NumberLaws
 pub mod BlankLaws
 pub mod Auto
+pub mod ClassLaws

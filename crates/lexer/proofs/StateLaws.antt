@@ -203,8 +203,8 @@ module _ (escapes : Bool) (s : Bytes) (start : ℕ) where
   stepped p (after t q i) = letter p t q i
 
   -- as right tables have it
-  next-told : {classes steps : List ℕ} → Tables classes steps → (b : ℕ) → b < 256 → {end at state : ℕ} (m : Midst escapes s end at state) →
-      look classes steps state b ≡ next m b
+  next-told : {columns steps : List ℕ} → Tables columns steps → (b : ℕ) → b < 256 → {end at state : ℕ} (m : Midst escapes s end at state) →
+      look columns steps state b ≡ next m b
   unfolding next
   next-told t b h (between e) = t .between b h
   next-told t b h (inside bits a l e) = t .inside a b h
@@ -219,12 +219,12 @@ module _ (escapes : Bool) (s : Bytes) (start : ℕ) where
 
 -- ---- the loop's turns, by right tables
 
-pub look-small : (classes steps : List ℕ) (state b : ℕ) → look classes steps state b < 64
+pub look-small : (columns steps : List ℕ) (state b : ℕ) → look columns steps state b < 64
 unfolding look
-look-small classes steps state b = omega arith
+look-small columns steps state b = omega arith
 
 module _ {escapes : Bool} {s : Bytes} {start end at state : ℕ} (g : Going escapes s start end at state) where
-  module _ {classes steps : List ℕ} (t : Tables classes steps) (small : byte s at < 256) {r : ℕ} (e : r ≡ look classes steps state (byte s at)) where
+  module _ {columns steps : List ℕ} (t : Tables columns steps) (small : byte s at < 256) {r : ℕ} (e : r ≡ look columns steps state (byte s at)) where
     told : r ≡ next escapes s start (g .midst) (byte s at)
     told = e ∙ next-told escapes s start t (byte s at) small (g .midst)
 

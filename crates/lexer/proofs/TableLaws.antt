@@ -1,37 +1,20 @@
--- A rule of a table, proved at all of its entries by one test that is computed; and the rule of the tables by which characters are passed.
-use mathlib.Core.Path.{_≡_, refl, _∙_, subst, sym}
+-- The tables by which characters are passed: the columns follow their rule, and of that rule the steps are right at every byte, by one test
+-- that is computed.
+use mathlib.Core.Path.{_≡_, refl}
 use mathlib.Core.Bool.{Bool, true, _&&_}
 use mathlib.Core.List.{List, [], _∷_}
-use Prim.Native.Nat.{ℕ, zero, suc, _+_, _/_, _%_, _^_, _<_}
-use native.Mathlib.Nat.{add-zero, zero-add, add-suc, suc-add, le-of-suc-le-suc, not-suc-le-zero}
+use Prim.Native.Nat.{ℕ, zero, suc, _/_, _%_, _^_, _<_}
 use borrow.Author.Tests.{eqb-true}
 use lib.Dec.{eqb}
-use lib.ListN.{length, getD}
+use lib.ListN.{getD}
 use Rattle.spec.specs.Bytes.{within}
+use Rattle.byte_class.specs.Class.{classOf, symbol}
+use Rattle.byte_class.specs.Column.{continued, lettered, columnOf, ColumnRule}
+use Rattle.byte_class.proofs.TableLaws.{below, below-each}
 use Rattle.lexer.specs.Names.{standsForItself}
 use Rattle.lexer.specs.Verbatim.{keptEscape}
 use Rattle.lexer.specs.States.{Awaits, one, two, three, after-E0, after-ED, after-F0, after-F4, first, begins, later, escaped, look, Tables}
 use Rattle.lexer.proofs.Tests.{and-both}
-
--- ---- any table
-
--- the test f passes at each entry of the list and its place, counted from i
-unfoldable every : (ℕ → ℕ → Bool) → ℕ → List ℕ → Bool
-every f i [] = true
-every f i (x ∷ xs) = f i x && every f (suc i) xs
-
-from : (f : ℕ → ℕ → Bool) (xs : List ℕ) (i : ℕ) → every f i xs ≡ true → (k : ℕ) → k < length xs → f (i + k) (getD xs k 0) ≡ true
-unfolding every
-from f [] i t k h = absurd (not-suc-le-zero h)
-from f (x ∷ xs) i t zero h = subst (λ (m : ℕ). f m x ≡ true) (sym (add-zero i)) (and-both (f i x) (every f (suc i) xs) t .0)
-from f (x ∷ xs) i t (suc k) h =
-    subst (λ (m : ℕ). f m (getD xs k 0) ≡ true) (suc-add i k ∙ sym (add-suc i k))
-    (from f xs (suc i) (and-both (f i x) (every f (suc i) xs) t .1) k (le-of-suc-le-suc h))
-
-everywhere : (f : ℕ → ℕ → Bool) (xs : List ℕ) → every f 0 xs ≡ true → (k : ℕ) → k < length xs → f k (getD xs k 0) ≡ true
-everywhere f xs t k h = subst (λ (m : ℕ). f m (getD xs k 0) ≡ true) (zero-add k) (from f xs 0 t k h)
-
--- ---- the tables of steps
 
 unfoldable all : List Bool → Bool
 all [] = true
@@ -43,10 +26,10 @@ each [] e k = refl
 each (t ∷ ts) e zero = and-both t (all ts) e .0
 each (t ∷ ts) e (suc k) = each ts (and-both t (all ts) e .1) k
 
--- at a byte, with its class x, the step of each state
-module _ (steps : List ℕ) (b x : ℕ) where
+-- at a byte, the step of each state
+module _ (steps : List ℕ) (b : ℕ) where
   unfoldable leads : ℕ → ℕ → Bool
-  leads state next = eqb (getD steps (x % 16) 0 / 2 ^ state % 64) next
+  leads state next = eqb (getD steps (columnOf b % 16) 0 / 2 ^ state % 64) next
 
   unfoldable rules : List Bool
   rules =
@@ -61,21 +44,21 @@ module _ (steps : List ℕ) (b x : ℕ) where
       ∷ leads 48 (escaped b)
       ∷ []
 
-unfoldable pub tested : List ℕ → List ℕ → Bool
-unfolding every all rules leads begins standsForItself within first later escaped keptEscape
-tested classes steps = every (λ b x. all (rules steps b x)) 0 classes
+unfoldable pub tested : List ℕ → Bool
+unfolding below all rules leads columnOf lettered continued classOf symbol begins standsForItself within first later escaped keptEscape
+tested steps = below (λ b. all (rules steps b)) 256
 
-module _ (classes steps : List ℕ) (long : length classes ≡ 256) (t : tested classes steps ≡ true) (b : ℕ) (h : b < 256) where
-  rule : (k : ℕ) → getD (rules steps b (getD classes b 0)) k true ≡ true
+module _ (columns steps : List ℕ) (f : ColumnRule columns) (t : tested steps ≡ true) (b : ℕ) (h : b < 256) where
+  rule : (k : ℕ) → getD (rules steps b) k true ≡ true
   unfolding tested
-  rule = each (rules steps b (getD classes b 0)) (everywhere (λ b x. all (rules steps b x)) classes t b (rw long h))
+  rule = each (rules steps b) (below-each (λ b. all (rules steps b)) 256 t b h)
 
   abbrev Step : ℕ → ℕ → Type 0
-  Step state next = look classes steps state b ≡ next
+  Step state next = look columns steps state b ≡ next
 
-  is : (state next : ℕ) → leads steps b (getD classes b 0) state next ≡ true → Step state next
+  is : (state next : ℕ) → leads steps b state next ≡ true → Step state next
   unfolding look leads
-  is state next e = eqb-true _ _ e
+  is state next e = rw (f .each b h) (eqb-true _ _ e)
 
   step-between : Step 0 (begins b)
   unfolding rules
@@ -95,10 +78,10 @@ module _ (classes steps : List ℕ) (long : length classes ≡ 256) (t : tested 
   unfolding rules
   step-after = is 48 _ (rule 8)
 
-pub tables : (classes steps : List ℕ) → length classes ≡ 256 → tested classes steps ≡ true → Tables classes steps
-tables classes steps long t =
+pub tables : {columns : List ℕ} (steps : List ℕ) → ColumnRule columns → tested steps ≡ true → Tables columns steps
+tables {columns} steps f t =
     record {
-      between = step-between classes steps long t;
-      inside = λ a b h. step-inside classes steps long t b h a;
-      after = step-after classes steps long t;
+      between = step-between columns steps f t;
+      inside = λ a b h. step-inside columns steps f t b h a;
+      after = step-after columns steps f t;
     }

@@ -3,3 +3,4 @@ pub mod Hash
 pub mod Names
 pub mod Verbatim
 pub mod States
+pub mod ByClass

@@ -53,12 +53,13 @@ escaped b = if keptEscape b then 0 else 63
 unfoldable pub limit : Bool → ℕ
 limit escapes = if escapes then 63 else 48
 
--- What two tables say that the state after a byte is: the first gives the byte's class, and the second, of that class, six bits for each state.
+-- What two tables say that the state after a byte is: the first gives the byte's column, and the second, of that column, six bits for each
+-- state.
 unfoldable pub look : List ℕ → List ℕ → ℕ → ℕ → ℕ
-look classes steps state b = getD steps (getD classes b 0 % 16) 0 / 2 ^ state % 64
+look columns steps state b = getD steps (getD columns b 0 % 16) 0 / 2 ^ state % 64
 
 -- they are right
-pub record Tables (classes steps : List ℕ) : Type 0 where
-  pub between : (b : ℕ) → b < 256 → look classes steps 0 b ≡ begins b
-  pub inside : {state more low high : ℕ} → Awaits state more low high → (b : ℕ) → b < 256 → look classes steps state b ≡ later more low high b
-  pub after : (b : ℕ) → b < 256 → look classes steps 48 b ≡ escaped b
+pub record Tables (columns steps : List ℕ) : Type 0 where
+  pub between : (b : ℕ) → b < 256 → look columns steps 0 b ≡ begins b
+  pub inside : {state more low high : ℕ} → Awaits state more low high → (b : ℕ) → b < 256 → look columns steps state b ≡ later more low high b
+  pub after : (b : ℕ) → b < 256 → look columns steps 48 b ≡ escaped b

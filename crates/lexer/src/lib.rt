@@ -1,7 +1,8 @@
 // The lexical layer of JSON text: blanks, literals, numbers, characters, strings and names, each read at a cursor
 // that moves on by value. Every public function is total: a cursor may stand anywhere, past the end of the text too.
 // Each contract is an equation with a definition of crate `spec`; specs/Answers.antt says what outcome each answer
-// stands for. That of `verbatim_end` is a relation, in specs/Verbatim.antt.
+// stands for. That of `verbatim_end` is a relation, in specs/Verbatim.antt. The classes of bytes in strings are in
+// crate `byte_class`; specs/ByClass.antt says what a character is by them.
 
 pub mod cursor; // a place in a text, what reading there answers, and the byte there
 pub mod blanks; // Cursor::blanks

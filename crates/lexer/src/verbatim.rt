@@ -6,6 +6,7 @@ ghost use lib.Dec.{eqb};
 ghost use Rattle.spec.specs.Outcome.{if_then_else_};
 ghost use Rattle.lexer.specs.Verbatim.{VerbatimTo};
 ghost use Rattle.lexer.specs.States.{look, Tables, limit};
+use byte_class::columns;
 
 // Where a byte leads is a state, and its number how far a word of STEPS is shifted. 0 is between characters; 6, 12
 // and 18 have one, two and three bytes of a character to come; 24, 30, 36 and 42 stand after E0, ED, F0 and F4; 48
@@ -16,56 +17,34 @@ const ESCAPE: u64 = 48;
 
 const END: u64 = 63;
 
-// The class of each byte, sixteen to a row, beside table 3-7 of the Unicode standard. A byte that stands for itself
-// is a point, or a colon where it is a letter of an escape that is written as it is read; the quotation mark and the
-// backslash are ' and /. Later bytes of characters are 8, 9 and A, up to BF. First ones are 2, 3 and 4 by the number
-// of bytes, but for E0, ED, F0 and F4: E, -, F and L. All others are 0.
-const CLASSES: [u8; 256] = *b"\
-    0000000000000000\
-    0000000000000000\
-    ..'.............\
-    ................\
-    ................\
-    ............/...\
-    ..:...:.......:.\
-    ..:.:...........\
-    8888888888888888\
-    9999999999999999\
-    AAAAAAAAAAAAAAAA\
-    AAAAAAAAAAAAAAAA\
-    0022222222222222\
-    2222222222222222\
-    E333333333333-33\
-    F444L00000000000";
-
-// For each class, by the last four bits of its letter, the next state of each state, of two octal digits: from the
-// right those of 0, 6, 12 and so on.
+// For each column, by its last four bits, the next state of each state, of two octal digits: from the right those of
+// 0, 6, 12 and so on. The columns are the classes of crate `byte_class`, with seven more that need more than a class.
 const STEPS: [u64; 16] = [
-    0o77_77_77_77_77_77_77_77_77, // 0
-    0o77_77_14_77_06_14_06_00_77, // A
-    0o77_77_77_77_77_77_77_77_06, // 2
-    0o77_77_77_77_77_77_77_77_14, // 3
-    0o77_77_77_77_77_77_77_77_22, // 4
-    0o77_77_77_77_77_77_77_77_30, // E
-    0o77_77_77_77_77_77_77_77_44, // F
-    0o00_77_77_77_77_77_77_77_77, // '
-    0o77_14_77_06_77_14_06_00_77, // 8
-    0o77_77_14_06_77_14_06_00_77, // 9
-    0o00_77_77_77_77_77_77_77_00, // :
-    0o77_77_77_77_77_77_77_77_77, //
-    0o77_77_77_77_77_77_77_77_52, // L
-    0o77_77_77_77_77_77_77_77_36, // -
-    0o77_77_77_77_77_77_77_77_00, // .
-    0o00_77_77_77_77_77_77_77_60, // /
+    0o77_77_77_77_77_77_77_77_77, // control
+    0o00_77_77_77_77_77_77_77_77, // quote
+    0o77_77_77_77_77_77_77_77_06, // first of two
+    0o77_77_77_77_77_77_77_77_14, // first of three
+    0o77_77_77_77_77_77_77_77_22, // first of four
+    0o00_77_77_77_77_77_77_77_60, // backslash
+    0o77_14_77_06_77_14_06_00_77, // continuation, 80 to 8F
+    0o77_77_14_06_77_14_06_00_77, // continuation, 90 to 9F
+    0o77_77_77_77_77_77_77_77_77, // never
+    0o77_77_77_77_77_77_77_77_30, // E0
+    0o77_77_77_77_77_77_77_77_36, // ED
+    0o77_77_77_77_77_77_77_77_44, // F0
+    0o77_77_77_77_77_77_77_77_52, // F4
+    0o77_77_14_77_06_14_06_00_77, // continuation, A0 to BF
+    0o77_77_77_77_77_77_77_77_00, // other ASCII
+    0o00_77_77_77_77_77_77_77_00, // b, f, n, r and t
 ];
 
 // The state after a byte.
-fn next_state(state: u64, b: u8, classes: &[u8; 256], steps: &[u64; 16]) -> u64
+fn next_state(state: u64, b: u8, columns: &[u8; 256], steps: &[u64; 16]) -> u64
     requires { ⌜ state < 64 ⌝ }
-    ensures { λ r. ⌜ r ≡ look (now (classes .entry)) (now (steps .entry)) state b ⌝ }
+    ensures { λ r. ⌜ r ≡ look (now (columns .entry)) (now (steps .entry)) state b ⌝ }
 {
-    let class = classes[b as usize] % 16;
-    (steps[class as usize] >> state) % 64
+    let column = columns[b as usize] % 16;
+    (steps[column as usize] >> state) % 64
 }
 
 // The end of the whole characters before a place, given their end before the byte that led there.
@@ -88,10 +67,10 @@ fn passed_end(
     s: &[u8],
     start: usize,
     escapes: bool,
-    classes: &[u8; 256],
+    columns: &[u8; 256],
     steps: &[u64; 16],
 ) -> usize
-    requires { ⌜ Tables (now classes) (now steps) ⌝ }
+    requires { ⌜ Tables (now columns) (now steps) ⌝ }
     ensures { λ r. ⌜ VerbatimTo escapes (now (s .entry)) start r ⌝ }
 {
     let limit = limit(escapes);
@@ -99,7 +78,7 @@ fn passed_end(
     let mut end = start;
     let mut state = BETWEEN;
     while at < s.len() {
-        state = next_state(state, s[at], classes, steps);
+        state = next_state(state, s[at], columns, steps);
         if limit <= state {
             return end;
         }
@@ -110,10 +89,11 @@ fn passed_end(
 }
 
 // The end of the characters from a place on that are written byte for byte as they are read, with or without escapes
-// among them. A constant table is laid out on the stack wherever it is used: here alone, and in no function that
-// calls itself.
+// among them. The tables are constants, and laid out on the stack wherever they are used: here alone, and in no
+// function that calls itself.
 pub fn verbatim_end(s: &[u8], start: usize, escapes: bool) -> usize
     ensures { λ r. ⌜ VerbatimTo escapes (now (s .entry)) start r ⌝ }
 {
-    passed_end(s, start, escapes, &CLASSES, &STEPS)
+    let columns = columns();
+    passed_end(s, start, escapes, &columns, &STEPS)
 }

@@ -9,10 +9,10 @@ use Rattle.lexer.proofs.verbatim.passed_end.Tie as tie
 
 -- the state says what the bytes before the place are, and the tables are shifted by it
 abbrev Inv-loop : tie.InvT-loop
-Inv-loop s start escapes classes steps limit at₀ end₀ state₀ at end state = (state < 64) × Going escapes s start end at state
+Inv-loop s start escapes columns steps limit at₀ end₀ state₀ at end state = (state < 64) × Going escapes s start end at state
 
 abbrev μ-loop : tie.MeasureT-loop
-μ-loop s start escapes classes steps limit at₀ end₀ state₀ at end state = length s - at
+μ-loop s start escapes columns steps limit at₀ end₀ state₀ at end state = length s - at
 
 pub passed-end-spec : {M : Type 1} → statement M
 unfolding byte
@@ -48,7 +48,7 @@ passed-end-spec =
     let loop = step .before .before .before in
     let start = loop .before .before .before in
     let e = step .next-state .ensures in (
-      omega (arith, look-small (start .args .classes .now) (start .args .steps .now) (loop .loop .state) (byte (start .args .s .now) (loop .loop .at))),
+      omega (arith, look-small (start .args .columns .now) (start .args .steps .now) (loop .loop .state) (byte (start .args .s .now) (loop .loop .at))),
       rw (c .whole-end .ensures) (turn (loop .loop .inv .1) (start .pre) (omega (arith, step .before .shared-slice-known2 .given (loop .loop .at))) e (omega (arith, loop .before .limit .ensures))),
     ))
     -- returns-2

@@ -6,4 +6,5 @@ use Rattle.lexer.proofs.verbatim.verbatim_end.Tie as tie
 
 pub verbatim-end-spec : {M : Type 1} → statement M
 unfolding tested
-verbatim-end-spec = tie.close (tie.spec (λ c κs. tables _ _ refl refl) (λ c. search needs))
+verbatim-end-spec =
+    tie.close (tie.spec (λ c κs. search needs) (λ c κs. tables _ (c .before .before .columns .ensures) refl) (λ c. search needs))
