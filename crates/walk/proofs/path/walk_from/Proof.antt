@@ -47,15 +47,13 @@ walk-from-spec =
     (at-step .step .ensures) _ (at-child .child .given .1) _ (c .enum-told .given .1))
     -- add-walked
     (λ c.
-    let at-t = c .before in
-    let at-child = at-t .before .before .before in
-    let at-step = at-child .before .before in
-    let at-token-name = at-step .before in
-    let at-token = at-token-name .before in
-    let at-loop = at-token .before in
-    let at-part = at-loop .before in
-    let less = walking-count (at-loop .loop .inv) _ (at-part .part .ensures) (at-token .token .ensures) (at-token-name .token-name .ensures) _
-    (at-step .step .ensures) _ (at-child .child .given .1) _ _ (at-t .t .given .1) in
+    let less = walking-count
+    (c .before .before .before .before .before .before .before .before .before .loop .inv) _
+    (c .before .before .before .before .before .before .before .before .before .before .part .ensures)
+    (c .before .before .before .before .before .before .before .before .token .ensures)
+    (c .before .before .before .before .before .before .before .token-name .ensures) _
+    (c .before .before .before .before .before .before .step .ensures) _
+    (c .before .before .before .before .child .given .1) _ _ (c .before .t .given .1) in
     search needs)
     -- loop-less
     (λ c.
