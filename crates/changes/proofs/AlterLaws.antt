@@ -306,7 +306,9 @@ module _ {w : Table} {p : Parent} {path : Spelling} {at : ℕ} {name : Name} {en
     at-child {q} g =
         let one-more : maxDepth - 1 - lower ≡ walkedTo p + 1 = omega arith in
         subst (λ m. (y : Site w (p .used) inner m) → Alters (walkedTo p + 1) y nodes' path next change q) (sym lower-is)
-        λ y. subst (λ n. Alters n y nodes' path next change q) one-more (subst (λ a. Alters (maxDepth - 1 - lower) y nodes' path next change a) g (alters .held y))
+        λ y.
+        subst (λ n. Alters n y nodes' path next change q) one-more
+        (subst (λ a. Alters (maxDepth - 1 - lower) y nodes' path next change a) g (alters .held y))
 
     pub alter-done : p .used ≤ maxNodes → p .row < p .used → (now : ℕ) → r ≡ Done now → {ended : List Row} → ended ≡ resized nodes' (p .row) (p .used) now
         → AlterIs w ended p path at change (Done now)

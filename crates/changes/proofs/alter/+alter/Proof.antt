@@ -119,8 +119,8 @@ pub +alter-spec : {M : Type 1} → statement M
     let at-part = at-token .before in
     let at-pre = at-part .before .before .before in
     let read = token-read _ (at-part .part .ensures) (at-token .token .ensures) (at-token-name .token-name .ensures) in
-    alter-not _ read (at-t .t .given .1) _ refl _ (at-step .step .ensures) _ (at-child .child .given .1) _ (omega (arith, at-if2 .if2 .left)) (at-pre .pre .1 .1) _
-    (at-alter .alter .ensures) _ _
+    alter-not _ read (at-t .t .given .1) _ refl _ (at-step .step .ensures) _ (at-child .child .given .1) _ (omega (arith, at-if2 .if2 .left))
+    (at-pre .pre .1 .1) _ (at-alter .alter .ensures) _ _
     (c .enum-told2 .given .1))
     -- resize-requires
     (λ c κs.
@@ -144,8 +144,8 @@ pub +alter-spec : {M : Type 1} → statement M
     let at-if1 = at-part .before in
     let at-pre = at-if1 .before .before in
     let read = token-read _ (at-part .part .ensures) (at-token .token .ensures) (at-token-name .token-name .ensures) in
-    alter-done _ read (at-t .t .given .1) _ refl _ (at-step .step .ensures) _ (at-child .child .given .1) _ (omega (arith, at-if2 .if2 .left)) (at-pre .pre .1 .1) _
-    (at-alter .alter .ensures) (at-pre .pre .1 .0) (omega (arith, at-if1 .if1 .left)) _
+    alter-done _ read (at-t .t .given .1) _ refl _ (at-step .step .ensures) _ (at-child .child .given .1) _ (omega (arith, at-if2 .if2 .left))
+    (at-pre .pre .1 .1) _ (at-alter .alter .ensures) (at-pre .pre .1 .0) (omega (arith, at-if1 .if1 .left)) _
     (at-r .r .given .1) (at-resize .resize .ensures))
     -- enum-known-n
     (λ c. search needs)
