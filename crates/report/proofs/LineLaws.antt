@@ -22,7 +22,7 @@ use Rattle.json_patch.specs.Call.{Memory, Answered, ApplyIs, lentOf, wiped}
 use Rattle.json_patch.specs.declared.answer.Answer.{Answer}
 use Rattle.json_patch.proofs.AnswerLaws.{answered-as}
 use Rattle.report.specs.Line.{decimal, newline, lastField, refusalLine, lineOf}
-use Rattle.report.specs.Report.{ending, lentTo, lineLimit, RunIs}
+use Rattle.report.specs.Report.{refusalOf, ending, lentTo, lineLimit, RunIs}
 use Rattle.report.proofs.DecimalLaws.{decimal-short}
 
 -- a text of form 1 is laid down as it stands
@@ -57,7 +57,7 @@ pub record Fits (r : Answer) : Type 0 where
   pub place : r .place < 0x1_0000_0000_0000_0000
   pub pointer : r .pointer < 256
 
-refusal-short : {r : Answer} → Fits r → length (refusalLine (r .number) (r .text) (r .op) (r .place) (r .pointer)) ≤ lineLimit
+refusal-short : {r : Answer} → Fits r → length (refusalOf r) ≤ lineLimit
 unfolding refusalLine lastField ascii
 refusal-short {r} fit =
     let a = decimal-short 2 (r .number) (omega arith) in
@@ -73,7 +73,7 @@ module _ (a : Answer) where
   unfolding ending
   ending-done e = rw (eq-eqb (a .number) 0 e)
 
-  pub ending-refused : (a .number ≡ 0 → ⊥) → ending a ≡ refusalLine (a .number) (a .text) (a .op) (a .place) (a .pointer)
+  pub ending-refused : (a .number ≡ 0 → ⊥) → ending a ≡ refusalOf a
   unfolding ending
   ending-refused h = rw (ne-eqb (a .number) 0 h)
 
@@ -104,7 +104,7 @@ module _ {A : Spec.Answer} {r : Answer} {before after : Bytes} (h : Answered A b
   unfolding lineOf
   line-done e = rw (eq-eqb (A .number) 0 e)
 
-  line-refused : (A .number ≡ 0 → ⊥) → lineOf A ≡ refusalLine (r .number) (r .text) (r .op) (r .place) (r .pointer)
+  line-refused : (A .number ≡ 0 → ⊥) → lineOf A ≡ refusalOf r
   unfolding lineOf
   line-refused e = rw (ne-eqb (A .number) 0 e, h .number, h .text, h .op, h .place, h .pointer)
 

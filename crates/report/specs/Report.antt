@@ -15,9 +15,13 @@ use Rattle.json_patch.specs.Call.{Memory, wiped}
 use Rattle.json_patch.specs.declared.answer.Answer.{Answer}
 use Rattle.report.specs.Line.{newline, refusalLine, lineOf}
 
+-- the line of an answer that is a refusal
+abbrev pub refusalOf : Answer → Bytes
+refusalOf a = refusalLine (a .number) (a .text) (a .op) (a .place) (a .pointer)
+
 -- what stands in the line behind the written text: a newline, or all of a refusal's line
 unfoldable pub ending : Answer → Bytes
-ending a = if eqb (a .number) done then newline else refusalLine (a .number) (a .text) (a .op) (a .place) (a .pointer)
+ending a = if eqb (a .number) done then newline else refusalOf a
 
 -- a line has room for as many bytes of output as it has beside its newline
 abbrev pub lentTo : Memory → Lent

@@ -4,8 +4,8 @@ ghost use mathlib.Core.Path.{_≡_};
 ghost use mathlib.Core.List.{_++_};
 ghost use Prim.Native.Nat.{min};
 ghost use Rattle.writer.specs.Writing.{Placed};
-ghost use Rattle.report.specs.Line.{decimal, lastField, refusalLine};
-ghost use Rattle.report.specs.Report.{ending};
+ghost use Rattle.report.specs.Line.{decimal, lastField};
+ghost use Rattle.report.specs.Report.{refusalOf, ending};
 use json_patch::Answer;
 use tape::fields::long;
 use tape::layout::PLAIN_STRING;
@@ -62,7 +62,7 @@ fn put_last_field(n: u64, out: &mut [u8]) -> usize
 }
 
 fn put_refusal(answer: Answer, out: &mut [u8]) -> usize
-    ensures { λ r. ⌜ Placed (refusalLine (answer .number) (answer .text) (answer .op) (answer .place) (answer .pointer)) 0 (now (out .entry)) (now (out .exit)) r ⌝ }
+    ensures { λ r. ⌜ Placed (refusalOf answer) 0 (now (out .entry)) (now (out .exit)) r ⌝ }
 {
     let number = answer.number as u64;
     let text = answer.text as u64;
