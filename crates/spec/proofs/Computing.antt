@@ -17,7 +17,7 @@ got (refused number place) = leaf Label.null-literal
 
 unfoldable pub all : Run (List Operation) → List Operation
 all (finished os) = os
-all (stopped number op) = []
+all (stopped s) = []
 
 abbrev pub operationsOf : Bytes → List Operation
 operationsOf t = all (shape (got (read t)))

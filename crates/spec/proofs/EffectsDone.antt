@@ -12,13 +12,14 @@ use Rattle.spec.specs.Forest.{none, count, before, from, insertAt, _⧺_
 use Rattle.spec.specs.Value as Value
 use Rattle.spec.specs.Value.{Label, Members, tag, isArray, isObject, sameText, find, has, named, valueOf}
 use Rattle.spec.specs.Equality.{equal}
-use Rattle.spec.specs.Pointer.{Tokens, isDash, elementBelow, memberNamed, childAt, child, walk}
+use Rattle.spec.specs.Pointer.{Tokens, isDash, elementBelow, memberNamed, childAt, child, farther, walk}
 use Rattle.spec.specs.Operation.{Kind, Operation, put, atParent, insertElement, insertMember, insertChild, removeChild, replaceChild}
 use Rattle.spec.specs.Operation.{addAt, removeAtPath, replaceAtPath, moveTo, copyTo, testAt, perform}
 use Rattle.spec.specs.Effects as Effects
 use Rattle.spec.specs.Effects.{ArrayIndex, holding, node, Child, Evaluates, root, step, Below, there, deeper}
 use Rattle.spec.specs.Effects.{Adds, Added, Removes, removed, Replaces, replaced, Performs}
 use Rattle.spec.proofs.OutcomeLaws.{refused≢ok, both-ok}
+use Rattle.spec.proofs.FartherLaws.{farther-ok}
 use Rattle.spec.proofs.TextLaws.{sameText-true}
 use Rattle.spec.proofs.ChildLaws.{element-names, member-names}
 use Rattle.spec.proofs.SplitLaws.{split-at, count-before, count-append, insert-split, insert-last}
@@ -36,12 +37,12 @@ walk-to [] v w h = subst (Evaluates [] v) (ok-same h) root
 walk-to (t ∷ ts) v w h =
     let (k, e, i) = both-ok (childAt t v) _ w h in
     let s = standing t v k e in
-    step (s .stands) (walk-to ts (s .value) w (ap (walk ts) (sym (value-there s)) ∙ i))
+    step (s .stands) (walk-to ts (s .value) w (ap (walk ts) (sym (value-there s)) ∙ farther-ok _ i))
 
 pub to-walk : {ts : Tokens} {v w : Value.Value} → Evaluates ts v w → walk ts v ≡ ok w
-unfolding walk _>>=_
+unfolding walk farther _>>=_
 to-walk root = refl
-to-walk (step c r) = rw (child-at c, child-is c) (to-walk r)
+to-walk (step c r) = rw (child-at c, child-is c, to-walk r)
 
 -- A change at the parent
 
@@ -57,14 +58,14 @@ module _ (change : Text → Value.Value → Outcome Value.Value) (Change : Text 
   parent-to to t [] v w h = there (to t v w h)
   parent-to to t (u ∷ ts) v w h =
       let (k, e, i) = both-ok (childAt t v) _ w h in
-      let (y, f, j) = both-ok (atParent change u ts (valueOf (child k v))) _ w i in
+      let (y, f, j) = both-ok (farther (atParent change u ts (valueOf (child k v)))) _ w i in
       let s = standing t v k e in
-      let inner = parent-to to u ts (s .value) y (ap (atParent change u ts) (sym (value-there s)) ∙ f) in
+      let inner = parent-to to u ts (s .value) y (ap (atParent change u ts) (sym (value-there s)) ∙ farther-ok _ f) in
       subst (Below Change (t ∷ u ∷ ts) v) (put-there s y ∙ ok-same j) (deeper (s .stands) inner)
 
   to-parent : ((t : Text) (v w : Value.Value) → Change t v w → change t v ≡ ok w) → {ts : Tokens} {v w : Value.Value} → Below Change ts v w →
       atLast (refused 0 0) change ts v ≡ ok w
-  unfolding atLast atParent _>>=_
+  unfolding atLast atParent farther _>>=_
   to-parent back (there {t} {v} {w} c) = back t v w c
   to-parent back (deeper {y = y} c b) = rw (child-at c, child-is c, to-parent back b) (ap ok (child-put c y))
 

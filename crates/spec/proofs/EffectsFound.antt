@@ -9,7 +9,7 @@ use Rattle.spec.specs.Bytes.{Text, ascii}
 use Rattle.spec.specs.Forest.{_⧺_}
 use Rattle.spec.specs.Value as Value
 use Rattle.spec.specs.Value.{Label, Members, tag, sameText, valueOf}
-use Rattle.spec.specs.Pointer.{Tokens, isDash, child, walk}
+use Rattle.spec.specs.Pointer.{Tokens, isDash, child, farther, walk}
 use Rattle.spec.specs.Effects as Effects
 use Rattle.spec.specs.Effects.{ArrayIndex, holding, node, Child, Evaluates, step, Below, there, deeper, Adds, Added, Replaces, replaced, FoundAt, Parts}
 use Rattle.spec.proofs.PlaceLaws.{walk-on, walk-beside}
@@ -66,8 +66,8 @@ pub replaced-found : (x : Value.Value) (ts : Tokens) (v w : Value.Value) → Bel
 replaced-found x ts v w b = replaced-below b
 
 -- one step of a walk
-step-in : {t name : Text} {v x : Value.Value} {b a : Members} (us : Tokens) → Child t v name x b a → walk (t ∷ us) v ≡ walk us x
-step-in {t} {v = v} us c = walk-on t us v _ (child-at c) ∙ ap (walk us) (ap valueOf (child-is c))
+step-in : {t name : Text} {v x : Value.Value} {b a : Members} (us : Tokens) → Child t v name x b a → walk (t ∷ us) v ≡ farther (walk us x)
+step-in {t} {v = v} us c = walk-on t us v _ (child-at c) ∙ ap (λ x. farther (walk us x)) (ap valueOf (child-is c))
 
 -- what a pointer leads to that parts from the path of a change
 pub untouched : (Change : Text → Value.Value → Value.Value → Type 0) (ts us : Tokens) (v w : Value.Value) → Below Change ts v w → Parts ts us →
@@ -75,4 +75,4 @@ pub untouched : (Change : Text → Value.Value → Value.Value → Type 0) (ts u
 untouched Change ts us v w (deeper {y = y} c b) (Effects.here {t} {u = u} {us = us'} n) =
     ap (walk (u ∷ us')) (sym (child-put c y)) ∙ walk-beside t u us' y v _ (child-at c) n
 untouched Change ts us v w (deeper {x = x} {y = y} c b) (Effects.later {us = us'} p) =
-    step-in us' (child-again y c) ∙ untouched Change _ us' x y b p ∙ sym (step-in us' c)
+    step-in us' (child-again y c) ∙ ap farther (untouched Change _ us' x y b p) ∙ sym (step-in us' c)

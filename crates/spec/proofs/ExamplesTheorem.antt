@@ -1,6 +1,6 @@
 -- The examples of documents 01 and 02, proved of the definitions by computation.
 use mathlib.Core.Path.{refl}
-use Rattle.spec.specs.Outcome.{_>>=_, require}
+use Rattle.spec.specs.Outcome.{isRefused, _>>=_, require}
 use Rattle.spec.specs.Bytes.{ascii, byte, within, byteIn}
 use Rattle.spec.specs.Strings.{hexValue, hexIn, lowSurrogate, afterHigh, secondLimit, unicodeEscape, shortEscape, escape, tail, multibyte, character, characters, string}
 use Rattle.spec.specs.Numbers.{isDigit, isE, counted, digits, someDigits, int, frac, sign, exponentDigits, signedDigits, exp, minus, number}
@@ -10,15 +10,15 @@ use Rattle.spec.specs.Value.{tag, isNumber, isString, isArray, isObject,
 use Rattle.spec.specs.Equality.{sameBool, sameInteger, sameWorth, sameLabel, partner, matches, equal}
 use Rattle.spec.specs.Read.{isBlank, blanksFrom, blanks, spelled, roomFor, literalValue, numberValue, stringValue, scalar, fresh, nameFor, containerLabel, closingBracket, items, contents, container, value, read}
 use Rattle.spec.specs.Write.{utf8, hexDigit, writeCharacter, writeCharacters, writeString, opening, closing, writeName, comma, writeItems, write}
-use Rattle.spec.specs.Pointer.{prepend, segments, tilde, unescape, unescapeAll, tokens, allDigits, isIndex, isDash, elementBelow, memberNamed, childAt, child, walk}
+use Rattle.spec.specs.Pointer.{prepend, segments, tilde, unescape, unescapeAll, tokens, allDigits, isIndex, isDash, elementBelow, memberNamed, childAt, child, farther, walk}
 use Rattle.spec.specs.Operation.{put, atParent, insertElement, insertMember, insertChild, removeChild, replaceChild, addAt, removeAtPath, replaceAtPath, moveTo, copyTo, testAt, perform, notTooDeep, notTooLarge, limited}
-use Rattle.spec.specs.Patch.{member, stringOf, stringMember, kindNamed, usesValue, usesFrom, isMove, valueFor, fromFor, membersFor, operationMembers, properPrefix, withPointers, operation, atOp, onFinish, operations, shape, run}
+use Rattle.spec.specs.Patch.{member, stringOf, stringMember, kindNamed, usesValue, usesFrom, isMove, valueFor, fromFor, membersFor, operationMembers, properPrefix, withPointers, operation, noPointer, atOp, onFinish, operations, shape, whichPointer, run}
 use Rattle.spec.specs.Answer.{workSuffices, fitting, answerOf, patched, onPatch, onDocument, answerIn, answer}
 use Rattle.spec.specs.Examples.{All, starred, zeros}
 
 -- the definitions that compute the answer, layer by layer: to unfold one of these names is to unfold all that its line names
 unfoldable pub compute-outcomes : Unit {0}
-unfolding _>>=_ require ascii byte within byteIn
+unfolding isRefused _>>=_ require ascii byte within byteIn
 compute-outcomes = tt
 
 unfoldable pub compute-strings : Unit {0}
@@ -46,7 +46,7 @@ unfolding utf8 hexDigit writeCharacter writeCharacters writeString opening closi
 compute-writing = tt
 
 unfoldable pub compute-pointers : Unit {0}
-unfolding prepend segments tilde unescape unescapeAll tokens allDigits isIndex isDash elementBelow memberNamed childAt child walk
+unfolding prepend segments tilde unescape unescapeAll tokens allDigits isIndex isDash elementBelow memberNamed childAt child farther walk
 compute-pointers = tt
 
 unfoldable pub compute-operations : Unit {0}
@@ -54,7 +54,7 @@ unfolding put atParent insertElement insertMember insertChild removeChild replac
 compute-operations = tt
 
 unfoldable pub compute-patches : Unit {0}
-unfolding member stringOf stringMember kindNamed usesValue usesFrom isMove valueFor fromFor membersFor operationMembers properPrefix withPointers operation atOp onFinish operations shape run
+unfolding member stringOf stringMember kindNamed usesValue usesFrom isMove valueFor fromFor membersFor operationMembers properPrefix withPointers operation noPointer atOp onFinish operations shape whichPointer run
 compute-patches = tt
 
 unfoldable pub compute-answers : Unit {0}

@@ -1,4 +1,5 @@
 pub mod OutcomeLaws
+pub mod FartherLaws
 pub mod ListLaws
 pub mod ForestLaws
 pub mod TextLaws

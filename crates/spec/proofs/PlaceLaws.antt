@@ -1,6 +1,6 @@
 -- A pointer as a place in a value: what stands there, and another value put there. Two pointers neither of which begins with the other
 -- are places apart: a value put at one changes nothing at the other.
-use mathlib.Core.Path.{_≡_, refl, sym, _∙_}
+use mathlib.Core.Path.{_≡_, refl, ap, sym, _∙_}
 use mathlib.Core.List.{List, [], _∷_}
 use Prim.Native.Nat.{ℕ, _+_, _≤_, max}
 use native.Mathlib.Omega.{arith}
@@ -8,10 +8,11 @@ use lib.ListN.{length}
 use Rattle.spec.specs.Outcome.{Outcome, ok, refused, _>>=_}
 use Rattle.spec.specs.Bytes.{Text}
 use Rattle.spec.specs.Value.{valueOf, depth}
-use Rattle.spec.specs.Pointer.{childAt, child, walk}
+use Rattle.spec.specs.Pointer.{childAt, child, farther, walk}
 use Rattle.spec.specs.Operation.{put}
 use Rattle.spec.specs.Value as Value
 use Rattle.spec.proofs.OutcomeLaws.{refused≢ok}
+use Rattle.spec.proofs.FartherLaws.{farther-ok}
 use Rattle.spec.proofs.ChildLaws.{child-there, child-apart, childAt-put, child-put, child-put-other, put-put, put-child, put-commute, depth-child, depth-put}
 
 -- a value put where a pointer leads, and nothing changed where it leads nowhere
@@ -26,7 +27,7 @@ pub data Apart : List Text → List Text → Type 0 where
 
 -- the first step, once it is known where it leads
 module _ (t : Text) (ts : List Text) (v : Value.Value) where
-  pub walk-on : (k : ℕ) → childAt t v ≡ ok k → walk (t ∷ ts) v ≡ walk ts (valueOf (child k v))
+  pub walk-on : (k : ℕ) → childAt t v ≡ ok k → walk (t ∷ ts) v ≡ farther (walk ts (valueOf (child k v)))
   unfolding walk _>>=_
   walk-on k h = rw h
 
@@ -44,7 +45,7 @@ module _ (t : Text) (ts : List Text) (v : Value.Value) where
 
 -- the first step after the child that it leads to was replaced
 module _ (t : Text) (ts : List Text) (x v : Value.Value) (k : ℕ) (h : childAt t v ≡ ok k) where
-  walk-put : walk (t ∷ ts) (put k x v) ≡ walk ts x
+  walk-put : walk (t ∷ ts) (put k x v) ≡ farther (walk ts x)
   walk-put = let c = child-there t v k h in walk-on t ts (put k x v) k (childAt-put k x v c t ∙ h) ∙ rw (child-put k x v c)
 
   plant-put : (y : Value.Value) → plant (t ∷ ts) y (put k x v) ≡ put k (plant ts y x) v
@@ -63,14 +64,14 @@ leads [] v c h = let same : v ≡ c = cc in rw (← same) stay
 leads (t ∷ ts) v c h = go (childAt t v) refl (leads ts)
   where
     go : (o : Outcome ℕ) → childAt t v ≡ o → ((w c : Value.Value) → walk ts w ≡ ok c → Leads ts w c) → Leads (t ∷ ts) v c
-    go (ok k) q ih = step q (ih (valueOf (child k v)) c (sym (walk-on t ts v k q) ∙ h))
+    go (ok k) q ih = step q (ih (valueOf (child k v)) c (farther-ok _ (sym (walk-on t ts v k q) ∙ h)))
     go (refused n p) q ih = absurd (refused≢ok (sym (walk-off t ts v n p q) ∙ h))
 
 -- what is put in a place stands there
 walk-plant-on : {R : List Text} {v c : Value.Value} (x : Value.Value) → Leads R v c → walk R (plant R x v) ≡ ok x
-unfolding walk plant
+unfolding walk farther plant
 walk-plant-on x stay = refl
-walk-plant-on x (step {t} {ts} {v} {c} {k} h l) = rw (plant-on t ts v x k h, walk-put t ts _ v k h) (walk-plant-on x l)
+walk-plant-on x (step {t} {ts} {v} {c} {k} h l) = rw (plant-on t ts v x k h, walk-put t ts _ v k h, walk-plant-on x l)
 
 -- what stands there put there again changes nothing
 plant-walk-on : {R : List Text} {v c : Value.Value} → Leads R v c → plant R c v ≡ v
@@ -138,7 +139,7 @@ walk-plant-apart x v (there {t} {ts} {us} a) = go (childAt t v) refl (λ w. walk
   where
     go : (o : Outcome ℕ) → childAt t v ≡ o → ((w : Value.Value) → walk us (plant ts x w) ≡ walk us w) →
         walk (t ∷ us) (plant (t ∷ ts) x v) ≡ walk (t ∷ us) v
-    go (ok k) q ih = rw (plant-on t ts v x k q, walk-put t us _ v k q, walk-on t us v k q) (ih _)
+    go (ok k) q ih = rw (plant-on t ts v x k q, walk-put t us _ v k q, walk-on t us v k q) (ap farther (ih _))
     go (refused m p) q ih = rw (plant-off t ts v x m p q)
 
 -- values put in places apart may be put there in either order

@@ -20,7 +20,7 @@ use Rattle.spec.specs.Value.{Members, isArray}
 use Rattle.spec.specs.Write.{write}
 use Rattle.spec.specs.Pointer.{Tokens}
 use Rattle.spec.specs.Operation.{Operation, limited}
-use Rattle.spec.specs.Patch.{Run, finished, stopped, atOp, onFinish, operation, operations, shape, run}
+use Rattle.spec.specs.Patch.{stop, Run, finished, stopped, noPointer, atOp, onFinish, operation, operations, shape, run}
 use Rattle.spec.specs.Answer.{Lent, success, workSuffices, fitting, answer, answerOf, patched, onPatch, onDocument, answerIn}
 use Rattle.spec.specs.Elements.{Alone, Each, nothing, one, ElementsOf}
 use Rattle.spec.specs.Region.{Shuffle, done, left, right, Accepted, WellFormed, Enough, SucceedsWith, succeeds, bareRun, hereOr, endsAt, firstEnd, firstTooLarge, Situation, RegionStatement}
@@ -43,10 +43,10 @@ operations-meaning op (Forest.tree e kids rest) os h =
     go (operation (record { label = e .label; kids = kids })) (operations (op + 1) rest) refl refl h (operations-meaning (op + 1) rest)
   where
     go : (o : Outcome Operation) (r : Run (List Operation)) → operation (record { label = e .label; kids = kids }) ≡ o → operations (op + 1) rest ≡ r →
-        onFinish (atOp op o) (λ o. onFinish r λ os. finished (o ∷ os)) ≡ finished os → ((os : List Operation) → operations (op + 1) rest ≡ finished os → Meaning (elements rest) os) →
+        onFinish (atOp op noPointer o) (λ o. onFinish r λ os. finished (o ∷ os)) ≡ finished os → ((os : List Operation) → operations (op + 1) rest ≡ finished os → Meaning (elements rest) os) →
         Meaning (elements (Forest.tree e kids rest)) os
     go (ok o) (finished later) q r h ih = let same : o ∷ later ≡ os = cc in rw (← same) (element q (ih later r))
-    go (ok o) (stopped n k) q r h ih = absurd (finished≢stopped (sym h))
+    go (ok o) (stopped s) q r h ih = absurd (finished≢stopped (sym h))
     go (refused n p) r q t h ih = absurd (finished≢stopped (sym h))
 
 -- what a patch whose shape is right is: an array, and its elements mean its operations
@@ -59,7 +59,7 @@ unfolding shape
 shaped patch os h = go (isArray (patch .label)) (leb (count (patch .kids)) maxOperations) refl h
   where
     go : (a b : Bool) → isArray (patch .label) ≡ a →
-        (if a then (if b then operations 1 (patch .kids) else stopped too-many-operations 0) else stopped wrong-shape 0) ≡ finished os → Shaped patch os
+        (if a then (if b then operations 1 (patch .kids) else stopped (stop too-many-operations 0 0 0)) else stopped (stop wrong-shape 0 0 0)) ≡ finished os → Shaped patch os
     go true true e h = record { array = e; meaning = operations-meaning 1 (patch .kids) os h }
     go true false e h = absurd (finished≢stopped (sym h))
     go false b e h = absurd (finished≢stopped (sym h))
@@ -163,10 +163,10 @@ module _ {D P Q Z : Bytes} {lent : Lent} {R S : Tokens} {d : Value.Value} {xs ys
             let (w, shuffled, joined, joined') = all-finish separate (ops .order) (p .finishes) (q .finishes) in
             (write w, succeeds-with shuffled, succeeds-with joined, succeeds-with joined');
         otherwise = λ not-both.
-            let (n, k, first, stop) = first-stops separate (ops .order) not-both in
-            (n, k, sym (ops .same-end 1 1 1 _ _) ∙ first, stop);
+            let (end, first, stops) = first-stops separate (ops .order) not-both in
+            (end, sym (ops .same-end 1 1 1 _ _) ∙ first, stops);
         call-too-large = λ op large. call-at (some op) (bareRun zs d) large refl;
-        call-refused = λ number op small stop. call-at none (stopped number op) small stop;
+        call-refused = λ s small stops. call-at none (stopped s) small stops;
         call-succeeds = λ text small run.
             let written = call-at none (finished (run .last)) small (run .finishes) in
             let room = fits (lent .output) (write (run .last)) (λ short. c .enough .output (ap (λ a. a .number) written ∙ short)) in

@@ -12,7 +12,7 @@ use Rattle.spec.specs.Value.{depth, sameText}
 use Rattle.spec.specs.Limits.{maxDepth}
 use Rattle.spec.specs.Pointer.{Tokens, walk}
 use Rattle.spec.specs.Operation.{Operation}
-use Rattle.spec.specs.Patch.{Run, finished, stopped, atOp, onFinish, run}
+use Rattle.spec.specs.Patch.{Stop, stop, Run, finished, stopped, atOp, onFinish, whichPointer, run}
 use Rattle.spec.specs.Region.{Shuffle, done, left, right, isPrefix, apart, strictlyInside, allInside, endsAt, succeeds, hereOr, firstEnd, bare, bareRun}
 use Rattle.spec.proofs.TextLaws.{both-true, sameText-refl, sameText-true, sameText-false}
 use Rattle.spec.proofs.PlaceLaws.{Apart, here, there, plant, plant-plant, plant-walk, walk-plant, walk-plant-apart, plant-commute}
@@ -68,18 +68,21 @@ graft-plant {R} {S} w b a apart = go (walk S b)
 
 -- both runs are at the same operation: both end there, or both go on
 data Step (R S : Tokens) (o : Operation) (v a b : Value.Value) : Type 0 where
-  ends : (n p : ℕ) → bare o v ≡ refused n p → bare o a ≡ refused n p → Step R S o v a b
+  ends : (n p : ℕ) → bare o v ≡ refused n p → bare o a ≡ refused n p → whichPointer o v n ≡ whichPointer o a n → Step R S o v a b
   goes : (w x : Value.Value) → bare o v ≡ ok w → bare o a ≡ ok x → Between R S w x b → Step R S o v a b
 
 step : {R S : Tokens} {o : Operation} {v a b : Value.Value} → Apart R S → Local R o → Between R S v a b → Step R S o v a b
 unfolding _>>=_
-step {R} {S} {o} {v} {a} {b} apart (change, is) h = go (walk R v) refl
+step {R} {S} {o} {v} {a} {b} apart local h = go (walk R v) refl
   where
+    change : Value.Value → Outcome Value.Value
+    change = local .change
+
     does : (u c : Value.Value) (r : Outcome Value.Value) → depth u ≤ maxDepth → walk R u ≡ ok c → change c ≡ r → bare o u ≡ r >>= λ w. ok (plant R w u)
-    does u c r d q e = is u d ∙ atRegion-on R change u c q ∙ rw e
+    does u c r d q e = local .is u d ∙ atRegion-on R change u c q ∙ rw e
 
     fails : (u : Value.Value) (n p : ℕ) → depth u ≤ maxDepth → walk R u ≡ refused n p → bare o u ≡ refused n p
-    fails u n p d q = is u d ∙ atRegion-off R change u n p q
+    fails u n p d q = local .is u d ∙ atRegion-off R change u n p q
 
     changed : (c : Value.Value) → walk R v ≡ ok c → walk R a ≡ ok c → (r : Outcome Value.Value) → change c ≡ r → Step R S o v a b
     changed c q q' (ok w) r =
@@ -96,13 +99,16 @@ step {R} {S} {o} {v} {a} {b} apart (change, is) h = go (walk R v) refl
           a-depth = bare-depth o a _ a-goes;
           b-depth = h .b-depth;
         }
-    changed c q q' (refused n p) r = ends n p (does v c (refused n p) (h .v-depth) q r) (does a c (refused n p) (h .a-depth) q' r)
+    changed c q q' (refused n p) r = ends n p (does v c (refused n p) (h .v-depth) q r) (does a c (refused n p) (h .a-depth) q' r) (local .pointer v a n (h .at-first))
 
     go : (r : Outcome Value.Value) → walk R v ≡ r → Step R S o v a b
     go (ok c) q = changed c q (sym (h .at-first) ∙ q) (change c) refl
-    go (refused n p) q = ends n p (fails v n p (h .v-depth) q) (fails a n p (h .a-depth) (sym (h .at-first) ∙ q))
+    go (refused n p) q = ends n p (fails v n p (h .v-depth) q) (fails a n p (h .a-depth) (sym (h .at-first) ∙ q)) (local .pointer v a n (h .at-first))
 
-pub finished≢stopped : {A : Type 0} {a : A} {n k : ℕ} → finished a ≡ stopped n k → ⊥
+pub stopped-same : {A : Type 0} {s t : Stop} → _≡_ {A = Run A} (stopped s) (stopped t) → s ≡ t
+stopped-same h = cc
+
+pub finished≢stopped : {A : Type 0} {a : A} {s : Stop} → finished a ≡ stopped s → ⊥
 finished≢stopped h = let z : _≡_ {A = ℕ} 0 1 = cc in omega arith
 
 -- a run that goes on, and one that ends at its first operation
@@ -111,19 +117,19 @@ module _ (op : ℕ) (o : Operation) (os : List Operation) (v : Value.Value) wher
   unfolding run atOp onFinish
   run-goes w h = rw h
 
-  run-ends : (n p : ℕ) → bare o v ≡ refused n p → run bare op (o ∷ os) v ≡ stopped n op
+  run-ends : (n p : ℕ) → bare o v ≡ refused n p → run bare op (o ∷ os) v ≡ stopped (stop n op p (whichPointer o v n))
   unfolding run atOp onFinish
   run-ends n p h = rw h
 
 -- a run ends at none of the operations before it
-ends-later : (op : ℕ) (os : List Operation) (v : Value.Value) (n k : ℕ) → run bare op os v ≡ stopped n k → op ≤ k
+ends-later : (op : ℕ) (os : List Operation) (v : Value.Value) (s : Stop) → run bare op os v ≡ stopped s → op ≤ s .op
 unfolding run atOp onFinish
-ends-later op [] v n k h = absurd (finished≢stopped h)
-ends-later op (o ∷ os) v n k h = go (bare o v) refl (ends-later (op + 1) os)
+ends-later op [] v s h = absurd (finished≢stopped h)
+ends-later op (o ∷ os) v s h = go (bare o v) refl (ends-later (op + 1) os)
   where
-    go : (r : Outcome Value.Value) → bare o v ≡ r → ((w : Value.Value) (n k : ℕ) → run bare (op + 1) os w ≡ stopped n k → op + 1 ≤ k) → op ≤ k
-    go (ok w) q ih = omega (arith, ih w n k (sym (run-goes op o os v w q) ∙ h))
-    go (refused m p) q ih = let same : op ≡ k = cc (run-ends op o os v m p q) in omega arith
+    go : (r : Outcome Value.Value) → bare o v ≡ r → ((w : Value.Value) (s : Stop) → run bare (op + 1) os w ≡ stopped s → op + 1 ≤ s .op) → op ≤ s .op
+    go (ok w) q ih = omega (arith, ih w s (sym (run-goes op o os v w q) ∙ h))
+    go (refused m p) q ih = let same : op ≡ s .op = ap Stop.op (stopped-same (sym (run-ends op o os v m p q) ∙ h)) in omega arith
 
 not-yet : (i : ℕ) (os : List Operation) (v : Value.Value) → endsAt i (run bare (i + 1) os v) ≡ none
 unfolding endsAt
@@ -131,15 +137,15 @@ not-yet i os v = go (run bare (i + 1) os v) refl
   where
     go : (r : Run Value.Value) → run bare (i + 1) os v ≡ r → endsAt i r ≡ none
     go (finished w) q = refl
-    go (stopped n k) q = rw (ne-eqb i k (λ e. omega (arith, ends-later (i + 1) os v n k q)), endsAt)
+    go (stopped s) q = rw (ne-eqb i (s .op) (λ e. omega (arith, ends-later (i + 1) os v s q)), endsAt)
 
-ends-now : (i n : ℕ) → endsAt {A = Value.Value} i (stopped n i) ≡ some n
+ends-now : (i n p q : ℕ) → endsAt {A = Value.Value} i (stopped (stop n i p q)) ≡ some (stop n i p q)
 unfolding endsAt
-ends-now i n = rw (eq-eqb i i refl, endsAt)
+ends-now i n p q = rw (eq-eqb i i refl, endsAt)
 
 -- what comes of the shuffled run from its operation op on, by what comes of the two runs alone from their operations i and j on
 data Result (R : Tokens) {xs ys zs : List Operation} (s : Shuffle xs ys zs) (op i j : ℕ) (v a b : Value.Value) : Type 0 where
-  ended : (n k : ℕ) → firstEnd s op i j (run bare i xs a) (run bare j ys b) ≡ some (n, k) → run bare op zs v ≡ stopped n k → Result R s op i j v a b
+  ended : (e : Stop) → firstEnd s op i j (run bare i xs a) (run bare j ys b) ≡ some e → run bare op zs v ≡ stopped e → Result R s op i j v a b
   completed : (x y : Value.Value) → run bare i xs a ≡ finished x → run bare j ys b ≡ finished y → run bare op zs v ≡ finished (graft R x y) →
       Result R s op i j v a b
 
@@ -148,19 +154,21 @@ carry : {R : Tokens} {xs ys zs xs' ys' zs' : List Operation} {s : Shuffle xs ys 
     run bare op zs v ≡ run bare op' zs' v' → run bare i xs a ≡ run bare i' xs' a' → run bare j ys b ≡ run bare j' ys' b' →
     firstEnd s op i j (run bare i xs a) (run bare j ys b) ≡ firstEnd s' op' i' j' (run bare i' xs' a') (run bare j' ys' b') →
     Result R s' op' i' j' v' a' b' → Result R s op i j v a b
-carry e f g c (ended n k first stop) = ended n k (c ∙ first) (e ∙ stop)
+carry e f g c (ended s first stop) = ended s (c ∙ first) (e ∙ stop)
 carry e f g c (completed x y p q r) = completed x y (f ∙ p) (g ∙ q) (e ∙ r)
 
 module _ {R S : Tokens} (x : Operation) (xs ys zs : List Operation) (s : Shuffle xs ys zs) (op i j : ℕ) (v a b : Value.Value) where
   left-step : Step R S x v a b → ((w c : Value.Value) → Between R S w c b → Result R s (op + 1) (i + 1) j w c b) → Result R (left {x = x} s) op i j v a b
   unfolding firstEnd hereOr
-  left-step (ends n p e f) ih = ended n op (rw (run-ends i x xs a n p f, ends-now i n)) (run-ends op x zs v n p e)
+  left-step (ends n p e f h) ih =
+      ended (stop n op p (whichPointer x v n)) (rw (run-ends i x xs a n p f, ends-now i n p (whichPointer x a n), h)) (run-ends op x zs v n p e)
   left-step (goes w c e f k) ih =
       carry (run-goes op x zs v w e) (run-goes i x xs a c f) refl (rw (run-goes i x xs a c f, not-yet i xs c)) (ih w c k)
 
   right-step : Step S R x v b a → ((w c : Value.Value) → Between R S w a c → Result R s (op + 1) i (j + 1) w a c) → Result R (right {y = x} s) op i j v a b
   unfolding firstEnd hereOr
-  right-step (ends n p e f) ih = ended n op (rw (run-ends j x ys b n p f, ends-now j n)) (run-ends op x zs v n p e)
+  right-step (ends n p e f h) ih =
+      ended (stop n op p (whichPointer x v n)) (rw (run-ends j x ys b n p f, ends-now j n p (whichPointer x b n), h)) (run-ends op x zs v n p e)
   right-step (goes w c e f k) ih =
       carry (run-goes op x zs v w e) refl (run-goes j x ys b c f) (rw (run-goes j x ys b c f, not-yet j ys c)) (ih w c (swap k))
 
@@ -236,7 +244,7 @@ module _ {d : Value.Value} {R S : Tokens} {xs ys : List Operation} (h : Separate
   shuffle-finishes {zs} s {x} {y} p q = go (result s)
     where
       go : Result R s 1 1 1 d d d → bareRun zs d ≡ finished (graft R x y)
-      go (ended n k first stop) = cc (first, p, q, no-end s 1 1 1 x y)
+      go (ended e first stop) = cc (first, p, q, no-end s 1 1 1 x y)
       go (completed x' y' p' q' r) = cc
 
   -- if both finish alone, so do the shuffle and the two joined in either order, with one document
@@ -247,10 +255,10 @@ module _ {d : Value.Value} {R S : Tokens} {xs ys : List Operation} (h : Separate
 
   -- otherwise the shuffle stops at the first operation at which its own list stops alone
   pub first-stops : {zs : List Operation} (s : Shuffle xs ys zs) → (succeeds (bareRun xs d) && succeeds (bareRun ys d)) ≡ false →
-      (n k : ℕ) × (firstEnd s 1 1 1 (bareRun xs d) (bareRun ys d) ≡ some (n, k)) × (bareRun zs d ≡ stopped n k)
+      (e : Stop) × (firstEnd s 1 1 1 (bareRun xs d) (bareRun ys d) ≡ some e) × (bareRun zs d ≡ stopped e)
   unfolding succeeds
   first-stops {zs} s not-both = go (result s)
     where
-      go : Result R s 1 1 1 d d d → (n k : ℕ) × (firstEnd s 1 1 1 (bareRun xs d) (bareRun ys d) ≡ some (n, k)) × (bareRun zs d ≡ stopped n k)
-      go (ended n k first stop) = (n, k, first, stop)
+      go : Result R s 1 1 1 d d d → (e : Stop) × (firstEnd s 1 1 1 (bareRun xs d) (bareRun ys d) ≡ some e) × (bareRun zs d ≡ stopped e)
+      go (ended e first stop) = (e, first, stop)
       go (completed x y p q r) = absurd (true≢false (rw (p, q) at not-both))

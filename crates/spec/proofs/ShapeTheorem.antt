@@ -15,7 +15,7 @@ use Rattle.spec.specs.Pointer.{Tokens, segments, tilde, unescape, unesca
 use Rattle.spec.specs.Operation.{Kind, Operation}
 use Rattle.spec.specs.Patch.{member, stringOf, stringMember, kindNamed, usesValue, usesFrom, isMove}
 use Rattle.spec.specs.Patch.{OperationMembers, valueFor, fromFor, membersFor, operationMembers}
-use Rattle.spec.specs.Patch.{properPrefix, withPointers, operation, Run, finished, stopped, atOp, onFinish, operations, shape}
+use Rattle.spec.specs.Patch.{properPrefix, withPointers, operation, Stop, stop, Run, finished, stopped, noPointer, atOp, onFinish, operations, shape}
 use Rattle.spec.specs.Effects as Effects
 use Rattle.spec.specs.Effects.{Child}
 use Rattle.spec.specs.Shape as Shape
@@ -23,10 +23,10 @@ use Rattle.spec.specs.Shape.{Spells, Has, has, HasString, has-string, Va
 use Rattle.spec.specs.Shape.{AreOperations, no-element, element, IsPatch, FirstWrong, here, later, NoPatch, ShapeStatement}
 use Rattle.spec.proofs.OutcomeLaws.{refused≢ok, both-ok}
 use Rattle.spec.proofs.TextLaws.{both-true, sameText-true, sameText-refl}
-use Rattle.spec.proofs.RunTheorem.{finished≢stopped}
+use Rattle.spec.proofs.RunTheorem.{finished≢stopped, stopped-same}
 use Rattle.spec.proofs.EffectsLaws.{standing, child-is, value-there}
 use Rattle.spec.proofs.EffectsDone.{ok-same, member-there, member-found}
-use Rattle.spec.proofs.EffectsRefused.{Out, fine, bad, out-then}
+use Rattle.spec.proofs.EffectsRefused.{Out, fine, bad, Flat, flat, out-then}
 
 -- Members
 
@@ -277,11 +277,11 @@ to-operation {v} {o} h =
 
 -- Refusals
 
-cases : {A C : Type 0} {No : ℕ → Type 0} (o : Outcome A) → Out No o → ((a : A) → o ≡ ok a → C) → ((n : ℕ) → No n → o ≡ refused n 0 → C) → C
+cases : {A C : Type 0} {No : ℕ → Type 0} (o : Outcome A) → Out (Flat No) o → ((a : A) → o ≡ ok a → C) → ((n : ℕ) → No n → o ≡ refused n 0 → C) → C
 cases o (fine a) f g = f a refl
-cases o (bad {n} q) f g = g n q refl
+cases o (bad (flat {n} q)) f g = g n q refl
 
-out-if : {A : Type 0} {No : ℕ → Type 0} (b : Bool) {x y : Outcome A} → Out No x → Out No y → Out No (if b then x else y)
+out-if : {A : Type 0} {No : ℕ → Type 0} (b : Bool) {x y : Outcome A} → Out (Flat No) x → Out (Flat No) y → Out (Flat No) (if b then x else y)
 out-if true p q = p
 out-if false p q = q
 
@@ -291,54 +291,54 @@ Eight n = n ≡ 8
 abbrev Ten : ℕ → Type 0
 Ten n = n ≡ 10
 
-member-out : (name : Text) (v : Value.Value) → Out Eight (member name v)
+member-out : (name : Text) (v : Value.Value) → Out (Flat Eight) (member name v)
 unfolding member
-member-out name v = out-if (Value.has name (v .kids)) (fine _) (bad refl)
+member-out name v = out-if (Value.has name (v .kids)) (fine _) (bad (flat refl))
 
-string-out : (name : Text) (v : Value.Value) → Out Eight (stringMember name v)
+string-out : (name : Text) (v : Value.Value) → Out (Flat Eight) (stringMember name v)
 unfolding stringMember stringOf
-string-out name v = out-then (member name v) _ (member-out name v) (λ n q. q) λ x e. out-if (isString (x .label)) (fine _) (bad refl)
+string-out name v = out-then (member name v) _ (member-out name v) (λ n k q. q) λ x e. out-if (isString (x .label)) (fine _) (bad (flat refl))
 
-kind-out : (t : Text) → Out Eight (kindNamed t)
+kind-out : (t : Text) → Out (Flat Eight) (kindNamed t)
 unfolding kindNamed
 kind-out t =
     out-if (sameText t (ascii "add")) (fine _)
     (out-if (sameText t (ascii "remove")) (fine _)
     (out-if (sameText t (ascii "replace")) (fine _)
-    (out-if (sameText t (ascii "move")) (fine _) (out-if (sameText t (ascii "copy")) (fine _) (out-if (sameText t (ascii "test")) (fine _) (bad refl))))))
+    (out-if (sameText t (ascii "move")) (fine _) (out-if (sameText t (ascii "copy")) (fine _) (out-if (sameText t (ascii "test")) (fine _) (bad (flat refl)))))))
 
-members-out : (v : Value.Value) → Out Eight (operationMembers v)
+members-out : (v : Value.Value) → Out (Flat Eight) (operationMembers v)
 unfolding operationMembers membersFor valueFor fromFor require
 members-out v =
-    out-then (require 8 (isObject (v .label))) _ (out-if (isObject (v .label)) (fine tt) (bad refl)) (λ n q. q) λ _ _.
-    out-then (stringMember (ascii "op") v) _ (string-out (ascii "op") v) (λ n q. q) λ op _.
-    out-then (kindNamed op) _ (kind-out op) (λ n q. q) λ kind _.
-    out-then (stringMember (ascii "path") v) _ (string-out (ascii "path") v) (λ n q. q) λ path _.
-    out-then (valueFor kind v) _ (out-if (usesValue kind) (member-out (ascii "value") v) (fine _)) (λ n q. q) λ x _.
-    out-then (fromFor kind v) _ (out-if (usesFrom kind) (string-out (ascii "from") v) (fine [])) (λ n q. q) λ from _.
+    out-then (require 8 (isObject (v .label))) _ (out-if (isObject (v .label)) (fine tt) (bad (flat refl))) (λ n k q. q) λ _ _.
+    out-then (stringMember (ascii "op") v) _ (string-out (ascii "op") v) (λ n k q. q) λ op _.
+    out-then (kindNamed op) _ (kind-out op) (λ n k q. q) λ kind _.
+    out-then (stringMember (ascii "path") v) _ (string-out (ascii "path") v) (λ n k q. q) λ path _.
+    out-then (valueFor kind v) _ (out-if (usesValue kind) (member-out (ascii "value") v) (fine _)) (λ n k q. q) λ x _.
+    out-then (fromFor kind v) _ (out-if (usesFrom kind) (string-out (ascii "from") v) (fine [])) (λ n k q. q) λ from _.
     fine _
 
-unescape-out : (escaped : Bool) (t : Text) → Out Ten (unescape escaped t)
+unescape-out : (escaped : Bool) (t : Text) → Out (Flat Ten) (unescape escaped t)
 unfolding unescape tilde
 unescape-out false [] = fine []
-unescape-out true [] = bad refl
+unescape-out true [] = bad (flat refl)
 unescape-out false (c ∷ t) =
-    out-if (eqb c 0x7E) (unescape-out true t) (out-then (unescape false t) _ (unescape-out false t) (λ n q. q) λ u _. fine (c ∷ u))
+    out-if (eqb c 0x7E) (unescape-out true t) (out-then (unescape false t) _ (unescape-out false t) (λ n k q. q) λ u _. fine (c ∷ u))
 unescape-out true (c ∷ t) =
-    out-then (tilde c) _ (out-if (eqb c 0x30) (fine 0x7E) (out-if (eqb c 0x31) (fine 0x2F) (bad refl))) (λ n q. q) λ d _.
-    out-then (unescape false t) _ (unescape-out false t) (λ n q. q) λ u _. fine (d ∷ u)
+    out-then (tilde c) _ (out-if (eqb c 0x30) (fine 0x7E) (out-if (eqb c 0x31) (fine 0x2F) (bad (flat refl)))) (λ n k q. q) λ d _.
+    out-then (unescape false t) _ (unescape-out false t) (λ n k q. q) λ u _. fine (d ∷ u)
 
-unescape-all-out : (ts : List Text) → Out Ten (unescapeAll ts)
+unescape-all-out : (ts : List Text) → Out (Flat Ten) (unescapeAll ts)
 unfolding unescapeAll
 unescape-all-out [] = fine []
 unescape-all-out (t ∷ ts) =
-    out-then (unescape false t) _ (unescape-out false t) (λ n q. q) λ u _.
-    out-then (unescapeAll ts) _ (unescape-all-out ts) (λ n q. q) λ us _. fine (u ∷ us)
+    out-then (unescape false t) _ (unescape-out false t) (λ n k q. q) λ u _.
+    out-then (unescapeAll ts) _ (unescape-all-out ts) (λ n k q. q) λ us _. fine (u ∷ us)
 
-tokens-out : (t : Text) → Out Ten (tokens t)
+tokens-out : (t : Text) → Out (Flat Ten) (tokens t)
 unfolding tokens
 tokens-out [] = fine []
-tokens-out (c ∷ t) = out-if (eqb c 0x2F) (unescape-all-out (segments t)) (bad refl)
+tokens-out (c ∷ t) = out-if (eqb c 0x2F) (unescape-all-out (segments t)) (bad (flat refl))
 
 -- An element that is no operation
 
@@ -346,27 +346,27 @@ with-members : (v : Value.Value) (m : OperationMembers) → operationMembers v �
 unfolding operation _>>=_
 with-members v m e = rw e
 
-pointers-out : (v : Value.Value) (m : OperationMembers) → HasMembers v m → Out (Wrong v) (withPointers m)
+pointers-out : (v : Value.Value) (m : OperationMembers) → HasMembers v m → Out (Flat (Wrong v)) (withPointers m)
 unfolding withPointers require _>>=_
 pointers-out v m h =
     cases (tokens (m .path)) (tokens-out (m .path))
     (λ path p.
     cases (tokens (m .from)) (tokens-out (m .from)) (λ from f. rw (p, f) (go path from p f (isMove (m .kind) && properPrefix from path) refl))
-    (λ n ten f. rw (p, f) (bad (subst (Wrong v) (sym ten) (Shape.no-from m h λ ts g. refused≢ok (sym f ∙ g))))))
-    (λ n ten p. rw p (bad (subst (Wrong v) (sym ten) (Shape.no-path m h λ ts g. refused≢ok (sym p ∙ g)))))
+    (λ n ten f. rw (p, f) (bad (flat (subst (Wrong v) (sym ten) (Shape.no-from m h λ ts g. refused≢ok (sym f ∙ g)))))))
+    (λ n ten p. rw p (bad (flat (subst (Wrong v) (sym ten) (Shape.no-path m h λ ts g. refused≢ok (sym p ∙ g))))))
   where
     go : (path from : Tokens) → tokens (m .path) ≡ ok path → tokens (m .from) ≡ ok from → (b : Bool) → (isMove (m .kind) && properPrefix from path) ≡ b →
-        Out {A = Operation} (Wrong v) (require 14 (not b) >>= λ _. ok (record { kind = m .kind; path = path; from = from; value = m .value }))
+        Out {A = Operation} (Flat (Wrong v)) (require 14 (not b) >>= λ _. ok (record { kind = m .kind; path = path; from = from; value = m .value }))
     go path from p f false q = fine _
     go path from p f true q =
         let (a, b) = both-true (isMove (m .kind)) (properPrefix from path) q in
-        bad (Shape.into-child m path from h p f (is-move (m .kind) a) (prefix-to from path b))
+        bad (flat (Shape.into-child m path from h p f (is-move (m .kind) a) (prefix-to from path b)))
 
-operation-out : (v : Value.Value) → Out (Wrong v) (operation v)
+operation-out : (v : Value.Value) → Out (Flat (Wrong v)) (operation v)
 unfolding operation _>>=_
 operation-out v =
     cases (operationMembers v) (members-out v) (λ m e. rw (with-members v m e) (pointers-out v m (members-to v m e)))
-    (λ n eight e. rw e (bad (subst (Wrong v) (sym eight) (Shape.no-members λ m h. refused≢ok (sym e ∙ to-members h)))))
+    (λ n eight e. rw e (bad (flat (subst (Wrong v) (sym eight) (Shape.no-members λ m h. refused≢ok (sym e ∙ to-members h))))))
 
 wrong-is : (v : Value.Value) (n : ℕ) → Wrong v n → operation v ≡ refused n 0
 unfolding operation withPointers require isMove _>>=_
@@ -389,27 +389,24 @@ unfolding operations atOp onFinish
 one-more op e kids rest o h = rw h
 
 one-wrong : (op : ℕ) (e : Value.Entry) (kids rest : Members) (n p : ℕ) → operation (elementOf e kids) ≡ refused n p →
-    operations op (tree e kids rest) ≡ stopped n op
-unfolding operations atOp onFinish
+    operations op (tree e kids rest) ≡ stopped (stop n op p 0)
+unfolding operations atOp onFinish noPointer
 one-wrong op e kids rest n p h = rw h
 
 finished-same : {A : Type 0} {a b : A} → finished a ≡ finished b → a ≡ b
 finished-same h = cc
-
-stopped-same : {A : Type 0} {m n j k : ℕ} → _≡_ {A = Run A} (stopped m j) (stopped n k) → (m ≡ n) × (j ≡ k)
-stopped-same h = (cc, cc)
 
 -- the elements after one that is an operation, by what comes of all
 rest-finished : (r : Run (List Operation)) (o : Operation) {os : List Operation} → (onFinish r λ os. finished (o ∷ os)) ≡ finished os →
     (others : List Operation) × (r ≡ finished others) × (o ∷ others ≡ os)
 unfolding onFinish
 rest-finished (finished others) o h = (others, refl, finished-same h)
-rest-finished (stopped n k) o h = absurd (finished≢stopped (sym h))
+rest-finished (stopped s) o h = absurd (finished≢stopped (sym h))
 
-rest-stopped : (r : Run (List Operation)) (o : Operation) {n k : ℕ} → (onFinish r λ os. finished (o ∷ os)) ≡ stopped n k → r ≡ stopped n k
+rest-stopped : (r : Run (List Operation)) (o : Operation) {s : Stop} → (onFinish r λ os. finished (o ∷ os)) ≡ stopped s → r ≡ stopped s
 unfolding onFinish
 rest-stopped (finished others) o h = absurd (finished≢stopped h)
-rest-stopped (stopped m j) o h = h
+rest-stopped (stopped s) o h = h
 
 elements-to : (op : ℕ) (f : Members) (os : List Operation) → operations op f ≡ finished os → AreOperations f os
 unfolding operations
@@ -426,19 +423,24 @@ unfolding operations onFinish
 to-elements op no-element = refl
 to-elements op (element {e} {kids} {rest} {o} i a) = one-more op e kids rest o (to-operation i) ∙ rw (to-elements (op + 1) a)
 
-wrong-to : (op : ℕ) (f : Members) (n k : ℕ) → operations op f ≡ stopped n k → FirstWrong op f n k
+-- where a shape stops: with no place and no pointer
+abbrev Flatly : (ℕ → ℕ → Type 0) → Stop → Type 0
+Flatly No s = No (s .number) (s .op) × (s .place ≡ 0) × (s .pointer ≡ 0)
+
+flatly : {A : Type 0} (No : ℕ → ℕ → Type 0) {n k : ℕ} {s : Stop} → _≡_ {A = Run A} (stopped (stop n k 0 0)) (stopped s) → No n k → Flatly No s
+flatly No h w = subst (Flatly No) (stopped-same h) (w, refl, refl)
+
+wrong-to : (op : ℕ) (f : Members) (s : Stop) → operations op f ≡ stopped s → Flatly (FirstWrong op f) s
 unfolding operations
-wrong-to op none n k h = absurd (finished≢stopped h)
-wrong-to op (tree e kids rest) n k h =
+wrong-to op none s h = absurd (finished≢stopped h)
+wrong-to op (tree e kids rest) s h =
     cases (operation (elementOf e kids)) (operation-out (elementOf e kids))
     (λ o q.
-    later o (operation-to (elementOf e kids) o q)
-    (wrong-to (op + 1) rest n k (rest-stopped (operations (op + 1) rest) o (sym (one-more op e kids rest o q) ∙ h))))
-    (λ m w q.
-    let (number, place) = stopped-same (sym (one-wrong op e kids rest m 0 q) ∙ h) in
-    subst (λ k. FirstWrong op (tree e kids rest) n k) place (here (subst (Wrong (elementOf e kids)) number w)))
+    let (w, place, pointer) = wrong-to (op + 1) rest s (rest-stopped (operations (op + 1) rest) o (sym (one-more op e kids rest o q) ∙ h)) in
+    (later o (operation-to (elementOf e kids) o q) w, place, pointer))
+    (λ m w q. flatly (FirstWrong op (tree e kids rest)) (sym (one-wrong op e kids rest m 0 q) ∙ h) (here w))
 
-to-wrong : {op n k : ℕ} {f : Members} → FirstWrong op f n k → operations op f ≡ stopped n k
+to-wrong : {op n k : ℕ} {f : Members} → FirstWrong op f n k → operations op f ≡ stopped (stop n k 0 0)
 unfolding onFinish
 to-wrong (here {op} {n} {e} {kids} {rest} w) = one-wrong op e kids rest n 0 (wrong-is (elementOf e kids) n w)
 to-wrong (later {op} {e = e} {kids} {rest} o i w) = one-more op e kids rest o (to-operation i) ∙ rw (to-wrong w)
@@ -468,8 +470,8 @@ no-array l n = go (isArray l) refl
 
 -- what a patch comes to, by the two tests on the whole of it
 data Whole (v : Value.Value) (r : Run (List Operation)) : Type 0 where
-  other : (v .label ≡ Label.array → ⊥) → r ≡ stopped 8 0 → Whole v r
-  large : v .label ≡ Label.array → 256 < count (v .kids) → r ≡ stopped 9 0 → Whole v r
+  other : (v .label ≡ Label.array → ⊥) → r ≡ stopped (stop 8 0 0 0) → Whole v r
+  large : v .label ≡ Label.array → 256 < count (v .kids) → r ≡ stopped (stop 9 0 0 0) → Whole v r
   listed : v .label ≡ Label.array → count (v .kids) ≤ 256 → r ≡ operations 1 (v .kids) → Whole v r
 
 whole : (v : Value.Value) → Whole v (shape v)
@@ -477,7 +479,7 @@ unfolding shape
 whole v = go (isArray (v .label)) refl (leb (count (v .kids)) 256) refl
   where
     go : (a : Bool) → isArray (v .label) ≡ a → (b : Bool) → leb (count (v .kids)) 256 ≡ b →
-        Whole v (if a then (if b then operations 1 (v .kids) else stopped 9 0) else stopped 8 0)
+        Whole v (if a then (if b then operations 1 (v .kids) else stopped (stop 9 0 0 0)) else stopped (stop 8 0 0 0))
     go true p true q = listed (array-to (v .label) p) (leb-true (count (v .kids)) 256 q) refl
     go true p false q = large (array-to (v .label) p) (leb-false (count (v .kids)) 256 q) refl
     go false p b q = other (λ e. true≢false (sym (to-array e) ∙ p)) refl
@@ -494,24 +496,23 @@ to-right : (v : Value.Value) (os : List Operation) → IsPatch v os → shape v 
 unfolding shape
 to-right v os p = rw (to-array (p .array), le-leb (count (v .kids)) 256 (p .few)) (to-elements 1 (p .elements))
 
-misshapen-to : (v : Value.Value) (n op : ℕ) → shape v ≡ stopped n op → NoPatch v n op
-misshapen-to v n op h = go (whole v)
+misshapen-to : (v : Value.Value) (s : Stop) → shape v ≡ stopped s → Flatly (NoPatch v) s
+misshapen-to v s h = go (whole v)
   where
-    ended : {m k : ℕ} → NoPatch v m k → shape v ≡ stopped m k → NoPatch v n op
-    ended {m} {k} p e =
-        let (number, place) = stopped-same (sym e ∙ h) in
-        subst (λ m. NoPatch v m op) number (subst (NoPatch v m) place p)
+    go : Whole v (shape v) → Flatly (NoPatch v) s
+    go (other a e) = flatly (NoPatch v) (sym e ∙ h) (Shape.not-array a)
+    go (large l c e) = flatly (NoPatch v) (sym e ∙ h) (Shape.too-many l c)
+    go (listed l c e) = let (w, place, pointer) = wrong-to 1 (v .kids) s (sym e ∙ h) in (Shape.wrong-element l c w, place, pointer)
 
-    go : Whole v (shape v) → NoPatch v n op
-    go (other a e) = ended (Shape.not-array a) e
-    go (large l c e) = ended (Shape.too-many l c) e
-    go (listed l c e) = Shape.wrong-element l c (wrong-to 1 (v .kids) n op (sym e ∙ h))
-
-to-misshapen : (v : Value.Value) (n op : ℕ) → NoPatch v n op → shape v ≡ stopped n op
+to-misshapen : (v : Value.Value) (n op : ℕ) → NoPatch v n op → shape v ≡ stopped (stop n op 0 0)
 unfolding shape
 to-misshapen v n op (Shape.not-array a) = rw (no-array (v .label) a)
 to-misshapen v n op (Shape.too-many l c) = rw (to-array l, lt-leb (count (v .kids)) 256 c)
 to-misshapen v n op (Shape.wrong-element l c w) = rw (to-array l, le-leb (count (v .kids)) 256 c) (to-wrong w)
 
+to-stopped : (v : Value.Value) (s : Stop) → Flatly (NoPatch v) s → shape v ≡ stopped s
+to-stopped v s (w, place, pointer) =
+    to-misshapen v (s .number) (s .op) w ∙ ap₂ (λ p q. stopped (stop (s .number) (s .op) p q)) (sym place) (sym pointer)
+
 pub shaped-so : ShapeStatement
-shaped-so = record { right = λ v os. (right-to v os, to-right v os); wrong = λ v n op. (misshapen-to v n op, to-misshapen v n op) }
+shaped-so = record { right = λ v os. (right-to v os, to-right v os); wrong = λ v s. (misshapen-to v s, to-stopped v s) }

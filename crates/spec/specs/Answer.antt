@@ -13,23 +13,29 @@ use Rattle.spec.specs.Value as Value
 use Rattle.spec.specs.Read.{read}
 use Rattle.spec.specs.Write.{write}
 use Rattle.spec.specs.Operation.{limited}
-use Rattle.spec.specs.Patch.{Run, finished, stopped, shape, run, onFinish}
+use Rattle.spec.specs.Patch.{Stop, Run, finished, stopped, shape, run, onFinish}
 
 -- "An answer has a number, text (1 document, 2 patch, else 0), op (counted from 1, else 0), place (a byte offset, else 0) and the written
--- length (0 on refusal)": here the written text, whose length that is.
+-- length (0 on refusal)": here the written text, whose length that is. Document 02, T-01: "The answer gains a field, pointer"; for 11 and 12
+-- place counts tokens.
 pub record Answer : Type 0 where
   pub number : ℕ
   pub text : ℕ
   pub op : ℕ
   pub place : ℕ
+  pub pointer : ℕ
   pub written : Bytes
 
 abbrev pub success : Bytes → Answer
-success t = record { number = Refusal.done; text = 0; op = 0; place = 0; written = t }
+success t = record { number = Refusal.done; text = 0; op = 0; place = 0; pointer = 0; written = t }
 
--- a refusal by its number, text, op and place
+-- a refusal of a text or of what is lent, by its number, text, op and place
 abbrev pub refusal : ℕ → ℕ → ℕ → ℕ → Answer
-refusal number text op place = record { number = number; text = text; op = op; place = place; written = [] }
+refusal number text op place = record { number = number; text = text; op = op; place = place; pointer = 0; written = [] }
+
+-- the refusal where the operations stop
+abbrev pub failure : Stop → Answer
+failure s = record { number = s .number; text = 0; op = s .op; place = s .place; pointer = s .pointer; written = [] }
 
 -- the lengths of what is lent: bytes of the output, records of the node table, entries of the index
 pub record Lent : Type 0 where
@@ -47,7 +53,7 @@ fitting room t = if leb (length t) room then success t else refusal output-too-s
 -- what a run comes to, with so much room for its text
 unfoldable pub answerOf : ℕ → Run Value.Value → Answer
 answerOf room (finished v) = fitting room (write v)
-answerOf room (stopped number op) = refusal number 0 op 0
+answerOf room (stopped s) = failure s
 
 -- the shape of every operation, the operations one after another, then 16
 unfoldable pub patched : ℕ → Value.Value → Value.Value → Answer

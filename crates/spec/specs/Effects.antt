@@ -2,7 +2,7 @@
 -- `decimal` and `equal` but no function of Pointer or Operation. proofs/EffectsTheorem proves that `walk` and `perform` are these.
 use mathlib.Core.Path.{_≡_}
 use mathlib.Core.Logic.{_↔_}
-use Prim.Native.Nat.{ℕ, _≤_, _<_}
+use Prim.Native.Nat.{ℕ, suc, _≤_, _<_}
 use Prim.Native.Char.{code}
 use mathlib.Core.List.{[], _∷_}
 use mathlib.Core.Bool.{true, false}
@@ -16,6 +16,7 @@ use Rattle.spec.specs.Value.{Label, Entry, Members}
 use Rattle.spec.specs.Equality.{equal}
 use Rattle.spec.specs.Pointer.{Tokens, walk}
 use Rattle.spec.specs.Operation.{Kind, Operation, perform}
+use Rattle.spec.specs.Patch.{whichPointer}
 
 -- *(%x30-39)
 pub data Digits : Text → Type 0 where
@@ -138,17 +139,19 @@ pub data NoChild (t : Text) (v : Value.Value) : ℕ → Type 0 where
   -- an index not below the length, however long, is 11."
   too-large : (k : ℕ) → v .label ≡ Label.array → ArrayIndex t k → count (v .kids) ≤ k → NoChild t v location-missing
 
-pub data LeadsNowhere : Tokens → Value.Value → ℕ → Type 0 where
-  here : {t : Text} {ts : Tokens} {v : Value.Value} {n : ℕ} → NoChild t v n → LeadsNowhere (t ∷ ts) v n
-  later : {t name : Text} {ts : Tokens} {v x : Value.Value} {before after : Members} {n : ℕ} → Child t v name x before after →
-      LeadsNowhere ts x n → LeadsNowhere (t ∷ ts) v n
+-- `LeadsNowhere ts v n k`: after k of the tokens ts the next one names nothing. Document 02, T-01: "the count of tokens walked before the one
+-- that failed".
+pub data LeadsNowhere : Tokens → Value.Value → ℕ → ℕ → Type 0 where
+  here : {t : Text} {ts : Tokens} {v : Value.Value} {n : ℕ} → NoChild t v n → LeadsNowhere (t ∷ ts) v n 0
+  later : {t name : Text} {ts : Tokens} {v x : Value.Value} {before after : Members} {n k : ℕ} → Child t v name x before after →
+      LeadsNowhere ts x n k → LeadsNowhere (t ∷ ts) v n (suc k)
 
--- a change refused where a pointer's last token applies, or no parent
-pub data Fails (Refused : Text → Value.Value → ℕ → Type 0) : Tokens → Value.Value → ℕ → Type 0 where
-  there : {t : Text} {v : Value.Value} {n : ℕ} → Refused t v n → Fails Refused (t ∷ []) v n
-  no-parent : {t u : Text} {ts : Tokens} {v : Value.Value} {n : ℕ} → NoChild t v n → Fails Refused (t ∷ u ∷ ts) v n
-  deeper : {t u name : Text} {ts : Tokens} {v x : Value.Value} {before after : Members} {n : ℕ} → Child t v name x before after →
-      Fails Refused (u ∷ ts) x n → Fails Refused (t ∷ u ∷ ts) v n
+-- a change refused where a pointer's last token applies, or no parent; with the same count
+pub data Fails (Refused : Text → Value.Value → ℕ → Type 0) : Tokens → Value.Value → ℕ → ℕ → Type 0 where
+  there : {t : Text} {v : Value.Value} {n : ℕ} → Refused t v n → Fails Refused (t ∷ []) v n 0
+  no-parent : {t u : Text} {ts : Tokens} {v : Value.Value} {n : ℕ} → NoChild t v n → Fails Refused (t ∷ u ∷ ts) v n 0
+  deeper : {t u name : Text} {ts : Tokens} {v x : Value.Value} {before after : Members} {n k : ℕ} → Child t v name x before after →
+      Fails Refused (u ∷ ts) x n k → Fails Refused (t ∷ u ∷ ts) v n (suc k)
 
 -- "In an array, `-` appends, an index up to the length inserts, a greater one is 11."
 pub data NotAdded (t : Text) (v : Value.Value) : ℕ → Type 0 where
@@ -156,29 +159,31 @@ pub data NotAdded (t : Text) (v : Value.Value) : ℕ → Type 0 where
   not-index : v .label ≡ Label.array → (t ≡ code "-" ∷ [] → ⊥) → ((k : ℕ) → ArrayIndex t k → ⊥) → NotAdded t v no-index
   too-large : (k : ℕ) → v .label ≡ Label.array → ArrayIndex t k → count (v .kids) < k → NotAdded t v location-missing
 
--- `Refuses o v n`: the operation o is refused on v with the number n.
-pub data Refuses (o : Operation) (v : Value.Value) : ℕ → Type 0 where
-  add : {n : ℕ} → o .kind ≡ Kind.add → Fails NotAdded (o .path) v n → Refuses o v n
-  remove : {n : ℕ} → o .kind ≡ Kind.remove → Fails NoChild (o .path) v n → Refuses o v n
+-- `Refuses o v n k p`: the operation o is refused on v with the number n. With 11 and 12, k tokens were walked of the pointer p. Document 02,
+-- T-01: "it is 1 for `path` and 2 for `from`, with all other numbers 0".
+pub data Refuses (o : Operation) (v : Value.Value) : ℕ → ℕ → ℕ → Type 0 where
+  add : {n k : ℕ} → o .kind ≡ Kind.add → Fails NotAdded (o .path) v n k → Refuses o v n k 1
+  remove : {n k : ℕ} → o .kind ≡ Kind.remove → Fails NoChild (o .path) v n k → Refuses o v n k 1
   -- "the root is 13"
-  remove-root : o .kind ≡ Kind.remove → o .path ≡ [] → Refuses o v remove-of-root
-  replace : {n : ℕ} → o .kind ≡ Kind.replace → Fails NoChild (o .path) v n → Refuses o v n
-  move : {n : ℕ} → o .kind ≡ Kind.move → LeadsNowhere (o .from) v n → Refuses o v n
-  move-add : {x left : Value.Value} {n : ℕ} → o .kind ≡ Kind.move → Evaluates (o .from) v x → Below Removes (o .from) v left →
-      Fails NotAdded (o .path) left n → Refuses o v n
-  copy : {n : ℕ} → o .kind ≡ Kind.copy → LeadsNowhere (o .from) v n → Refuses o v n
-  copy-add : {x : Value.Value} {n : ℕ} → o .kind ≡ Kind.copy → Evaluates (o .from) v x → Fails NotAdded (o .path) v n → Refuses o v n
-  test : {n : ℕ} → o .kind ≡ Kind.test → LeadsNowhere (o .path) v n → Refuses o v n
+  remove-root : o .kind ≡ Kind.remove → o .path ≡ [] → Refuses o v remove-of-root 0 0
+  replace : {n k : ℕ} → o .kind ≡ Kind.replace → Fails NoChild (o .path) v n k → Refuses o v n k 1
+  move : {n k : ℕ} → o .kind ≡ Kind.move → LeadsNowhere (o .from) v n k → Refuses o v n k 2
+  move-add : {x left : Value.Value} {n k : ℕ} → o .kind ≡ Kind.move → Evaluates (o .from) v x → Below Removes (o .from) v left →
+      Fails NotAdded (o .path) left n k → Refuses o v n k 1
+  copy : {n k : ℕ} → o .kind ≡ Kind.copy → LeadsNowhere (o .from) v n k → Refuses o v n k 2
+  copy-add : {x : Value.Value} {n k : ℕ} → o .kind ≡ Kind.copy → Evaluates (o .from) v x → Fails NotAdded (o .path) v n k → Refuses o v n k 1
+  test : {n k : ℕ} → o .kind ≡ Kind.test → LeadsNowhere (o .path) v n k → Refuses o v n k 1
   -- "be equal, else 15"
-  differs : {found : Value.Value} → o .kind ≡ Kind.test → Evaluates (o .path) v found → equal found (o .value) ≡ false → Refuses o v test-differs
+  differs : {found : Value.Value} → o .kind ≡ Kind.test → Evaluates (o .path) v found → equal found (o .value) ≡ false →
+      Refuses o v test-differs 0 0
 
 pub record EffectsStatement : Type 1 where
   -- The walk is RFC 6901's evaluation, and is refused exactly as document 01 says.
   pub walks : (ts : Tokens) (v w : Value.Value) → walk ts v ≡ ok w ↔ Evaluates ts v w
-  pub walk-refused : (ts : Tokens) (v : Value.Value) (n p : ℕ) → walk ts v ≡ refused n p ↔ (LeadsNowhere ts v n × (p ≡ 0))
+  pub walk-refused : (ts : Tokens) (v : Value.Value) (n k : ℕ) → walk ts v ≡ refused n k ↔ LeadsNowhere ts v n k
   -- The operations are RFC 6902's, and are refused exactly as document 01 says.
   pub performs : (o : Operation) (v w : Value.Value) → perform o v ≡ ok w ↔ Performs o v w
-  pub refuses : (o : Operation) (v : Value.Value) (n p : ℕ) → perform o v ≡ refused n p ↔ (Refuses o v n × (p ≡ 0))
+  pub refuses : (o : Operation) (v : Value.Value) (n k p : ℕ) → ((perform o v ≡ refused n k) × (whichPointer o v n ≡ p)) ↔ Refuses o v n k p
   -- So a pointer that parts from the path of a change leads to what it led to before.
   pub untouched : (Change : Text → Value.Value → Value.Value → Type 0) (ts us : Tokens) (v w : Value.Value) → Below Change ts v w → Parts ts us →
       walk us w ≡ walk us v

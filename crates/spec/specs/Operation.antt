@@ -10,7 +10,7 @@ use Rattle.spec.specs.Forest.{count, insertAt, removeAt, replaceAt}
 use Rattle.spec.specs.Value as Value
 use Rattle.spec.specs.Value.{Members, isArray, isObject, find, has, named, valueOf, depth, nodes}
 use Rattle.spec.specs.Equality.{equal}
-use Rattle.spec.specs.Pointer.{Tokens, childAt, child, walk, elementBelow, isDash}
+use Rattle.spec.specs.Pointer.{Tokens, childAt, child, walk, farther, elementBelow, isDash}
 
 pub data Kind : Type 0 where
   add remove replace move copy test : Kind
@@ -34,7 +34,7 @@ unfoldable pub atParent : (Text → Value.Value → Outcome Value.Value) → Tex
 atParent change t [] v = change t v
 atParent change t (u ∷ ts) v = do
   k ← childAt t v
-  w ← atParent change u ts (valueOf (child k v))
+  w ← farther (atParent change u ts (valueOf (child k v)))
   ok (put k w v)
 
 -- "In an array, `-` appends, an index up to the length inserts, a greater one is 11."

@@ -7,10 +7,15 @@ abbrev pub if_then_else_ : {A : Type 0} → Bool → A → A → A
 if_then_else_ true a b = a
 if_then_else_ false a b = b
 
--- A refusal's number is that of the table in Refusal; its place is a byte offset, and 0 where the table has no place.
+-- A refusal's number is that of the table in Refusal. Its place is a byte offset in a text that is read, the count of tokens walked along a
+-- pointer that leads nowhere, and 0 where the table has no place.
 pub data Outcome (A : Type 0) : Type 0 where
   ok : A → Outcome A
   refused : ℕ → ℕ → Outcome A
+
+unfoldable pub isRefused : {A : Type 0} → Outcome A → Bool
+isRefused (ok a) = false
+isRefused (refused number place) = true
 
 infixl 20 _>>=_
 -- the next step on the result; a refusal is handed on

@@ -1,16 +1,16 @@
 -- A patch: document 01, "Patch shape", and the run of its operations.
 use Prim.Native.Nat.{ℕ, _+_}
 use mathlib.Core.List.{List, [], _∷_}
-use mathlib.Core.Bool.{Bool, true, false, _&&_, not}
-use lib.Dec.{leb}
-use Rattle.spec.specs.Outcome.{Outcome, ok, refused, _>>=_, if_then_else_, require}
-use Rattle.spec.specs.Refusal.{wrong-shape, too-many-operations, move-into-child}
+use mathlib.Core.Bool.{Bool, true, false, _&&_, _||_, not}
+use lib.Dec.{leb, eqb}
+use Rattle.spec.specs.Outcome.{Outcome, ok, refused, _>>=_, if_then_else_, require, isRefused}
+use Rattle.spec.specs.Refusal.{wrong-shape, too-many-operations, move-into-child, location-missing, no-index}
 use Rattle.spec.specs.Limits.{maxOperations}
 use Rattle.spec.specs.Bytes.{Text, ascii}
 use Rattle.spec.specs.Forest.{none, tree, count}
 use Rattle.spec.specs.Value as Value
 use Rattle.spec.specs.Value.{Label, Members, leaf, valueOf, isArray, isObject, isString, content, sameText, find, has}
-use Rattle.spec.specs.Pointer.{Tokens, tokens, child}
+use Rattle.spec.specs.Pointer.{Tokens, tokens, child, walk}
 use Rattle.spec.specs.Operation.{Kind, add, remove, replace, move, copy, test, Operation}
 
 -- a member of an operation object, or 8
@@ -110,36 +110,55 @@ withPointers m = do
 unfoldable pub operation : Value.Value → Outcome Operation
 operation v = operationMembers v >>= withPointers
 
--- What comes of a list of operations: a result, or the number of the refusal and the op at which it was given.
+-- Where a list of operations stops: the number of the refusal, the op at which it is given, its place and its pointer.
+pub record Stop : Type 0 where
+  pub number : ℕ
+  pub op : ℕ
+  pub place : ℕ
+  pub pointer : ℕ
+
+abbrev pub stop : ℕ → ℕ → ℕ → ℕ → Stop
+stop number op place pointer = record { number = number; op = op; place = place; pointer = pointer }
+
+-- What comes of a list of operations.
 pub data Run (A : Type 0) : Type 0 where
   finished : A → Run A
-  stopped : ℕ → ℕ → Run A
+  stopped : Stop → Run A
 
--- an outcome of the operation op; a refusal stops the run there
-unfoldable pub atOp : {A : Type 0} → ℕ → Outcome A → Run A
-atOp op (ok a) = finished a
-atOp op (refused number place) = stopped number op
+-- an outcome of the operation op; a refusal stops the run there, with the pointer that belongs to its number
+unfoldable pub atOp : {A : Type 0} → ℕ → (ℕ → ℕ) → Outcome A → Run A
+atOp op pointer (ok a) = finished a
+atOp op pointer (refused number place) = stopped (stop number op place (pointer number))
+
+-- of the shape no pointer is told
+unfoldable pub noPointer : ℕ → ℕ
+noPointer number = 0
 
 unfoldable pub onFinish : {A B : Type 0} → Run A → (A → Run B) → Run B
 onFinish (finished a) next = next a
-onFinish (stopped number op) next = stopped number op
+onFinish (stopped s) next = stopped s
 
 -- the operations of the elements, the first of which is op
 unfoldable pub operations : ℕ → Members → Run (List Operation)
 operations op none = finished []
 operations op (tree e kids rest) =
-    onFinish (atOp op (operation (record { label = e .label; kids = kids }))) λ o.
+    onFinish (atOp op noPointer (operation (record { label = e .label; kids = kids }))) λ o.
     onFinish (operations (op + 1) rest) λ os.
     finished (o ∷ os)
 
 -- "The top value is an array (8, op 0), of at most 256 elements (9). Then for each element in order .."
 unfoldable pub shape : Value.Value → Run (List Operation)
 shape v =
-    if isArray (v .label) then (if leb (count (v .kids)) maxOperations then operations 1 (v .kids) else stopped too-many-operations 0)
-    else stopped wrong-shape 0
+    if isArray (v .label) then (if leb (count (v .kids)) maxOperations then operations 1 (v .kids) else stopped (stop too-many-operations 0 0 0))
+    else stopped (stop wrong-shape 0 0 0)
+
+-- Document 02, T-01: "with 11 and 12 it is 1 for `path` and 2 for `from`, with all other numbers 0". Where `from` is used, it is walked first.
+unfoldable pub whichPointer : Operation → Value.Value → ℕ → ℕ
+whichPointer o v number =
+    if eqb number location-missing || eqb number no-index then (if usesFrom (o .kind) && isRefused (walk (o .from) v) then 2 else 1) else 0
 
 -- The operations one after another, each by `step` on the document that the one before left; the first of them is op, and the first that
 -- fails ends the run.
 unfoldable pub run : (Operation → Value.Value → Outcome Value.Value) → ℕ → List Operation → Value.Value → Run Value.Value
 run step op [] v = finished v
-run step op (o ∷ os) v = onFinish (atOp op (step o v)) λ w. run step (op + 1) os w
+run step op (o ∷ os) v = onFinish (atOp op (whichPointer o v) (step o v)) λ w. run step (op + 1) os w

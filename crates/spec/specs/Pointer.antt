@@ -1,5 +1,5 @@
 -- JSON Pointer, RFC 6901: a pointer's tokens, and the value that they lead to.
-use Prim.Native.Nat.{ℕ}
+use Prim.Native.Nat.{ℕ, suc}
 use Prim.Native.Char.{code}
 use mathlib.Core.List.{List, [], _∷_}
 use mathlib.Core.Bool.{Bool, true, false, _&&_}
@@ -92,9 +92,14 @@ childAt t v =
 unfoldable pub child : ℕ → Value.Value → Tree Entry
 child k v = nth (named [] (leaf Label.null-literal)) k (v .kids)
 
+-- Document 02, T-01: "place is the count of tokens walked before the one that failed". This is an outcome behind one token more.
+unfoldable pub farther : {A : Type 0} → Outcome A → Outcome A
+farther (ok a) = ok a
+farther (refused number walked) = refused number (suc walked)
+
 -- "Token by token from the root."
 unfoldable pub walk : Tokens → Value.Value → Outcome Value.Value
 walk [] v = ok v
 walk (t ∷ ts) v = do
   k ← childAt t v
-  walk ts (valueOf (child k v))
+  farther (walk ts (valueOf (child k v)))

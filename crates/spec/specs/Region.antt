@@ -17,8 +17,8 @@ use Rattle.spec.specs.Read.{read}
 use Rattle.spec.specs.Write.{write}
 use Rattle.spec.specs.Pointer.{Tokens}
 use Rattle.spec.specs.Operation.{Operation, perform, notTooDeep}
-use Rattle.spec.specs.Patch.{Run, finished, stopped, usesFrom, properPrefix, shape, run}
-use Rattle.spec.specs.Answer.{Lent, answer, success, refusal}
+use Rattle.spec.specs.Patch.{Stop, stop, Run, finished, stopped, usesFrom, properPrefix, shape, run}
+use Rattle.spec.specs.Answer.{Lent, answer, success, refusal, failure}
 use Rattle.spec.specs.Elements.{ElementsOf}
 
 -- Regions. "A region is a pointer, whether or not the document has a value there; tokens are compared unescaped."
@@ -94,21 +94,21 @@ pub record SucceedsWith (r : Run Value.Value) (text : Bytes) : Type 0 where
 
 unfoldable pub succeeds : {A : Type 0} → Run A → Bool
 succeeds (finished a) = true
-succeeds (stopped number op) = false
+succeeds (stopped s) = false
 
--- the number with which a run ends at its operation op, if it does
-unfoldable pub endsAt : {A : Type 0} → ℕ → Run A → Option ℕ
+-- where a run stops, if it is at its operation op
+unfoldable pub endsAt : {A : Type 0} → ℕ → Run A → Option Stop
 endsAt op (finished a) = none
-endsAt op (stopped number end) = if eqb op end then some number else none
+endsAt op (stopped s) = if eqb op (s .op) then some s else none
 
--- the operation op and its number where its own list ends there, and else what comes later
-unfoldable pub hereOr : ℕ → Option ℕ → Option (ℕ × ℕ) → Option (ℕ × ℕ)
-hereOr op (some number) later = some (number, op)
+-- the operation op, stopped as its own list is where that ends there, and else what comes later
+unfoldable pub hereOr : ℕ → Option Stop → Option Stop → Option Stop
+hereOr op (some s) later = some (stop (s .number) op (s .place) (s .pointer))
 hereOr op none later = later
 
--- "The first operation in it at which that operation's own patch ends alone", by what the two patches come to alone: its number, and its
--- op in the shuffle. `op`, `i` and `j` count the next operation in the shuffle and in each patch.
-unfoldable pub firstEnd : {A B : Type 0} {xs ys zs : List A} → Shuffle xs ys zs → ℕ → ℕ → ℕ → Run B → Run B → Option (ℕ × ℕ)
+-- "The first operation in it at which that operation's own patch ends alone", by what the two patches come to alone: as it stops there, but
+-- with its op in the shuffle. `op`, `i` and `j` count the next operation in the shuffle and in each patch.
+unfoldable pub firstEnd : {A B : Type 0} {xs ys zs : List A} → Shuffle xs ys zs → ℕ → ℕ → ℕ → Run B → Run B → Option Stop
 firstEnd done op i j p q = none
 firstEnd (left s) op i j p q = hereOr op (endsAt i p) (firstEnd s (op + 1) (i + 1) j p q)
 firstEnd (right s) op i j p q = hereOr op (endsAt j q) (firstEnd s (op + 1) i (j + 1) p q)
@@ -142,16 +142,17 @@ pub record RegionStatement {D P Q Z : Bytes} {lent : Lent} {R S : Tokens} {docum
   pub both-succeed : (t t' : Bytes) → SucceedsWith (bareRun xs document) t → SucceedsWith (bareRun ys document) t' →
       (text : Bytes) × SucceedsWith (bareRun zs document) text × SucceedsWith (bareRun (xs ++ ys) document) text ×
       SucceedsWith (bareRun (ys ++ xs) document) text
-  -- "Otherwise it ends at the first operation in it at which that operation's own patch ends alone, with the same number."
+  -- "Otherwise it ends at the first operation in it at which that operation's own patch ends alone, with the same number." More than that:
+  -- with the same place and pointer, too.
   pub otherwise : (succeeds (bareRun xs document) && succeeds (bareRun ys document)) ≡ false →
-      (number op : ℕ) × (firstEnd (c .shuffle .order) 1 1 1 (bareRun xs document) (bareRun ys document) ≡ some (number, op)) ×
-      (bareRun zs document ≡ stopped number op)
+      (s : Stop) × (firstEnd (c .shuffle .order) 1 1 1 (bareRun xs document) (bareRun ys document) ≡ some s) ×
+      (bareRun zs document ≡ stopped s)
   -- "If an operation of the shuffle's bare run leaves more than 2,048 nodes, the call on the shuffle answers 6 with the op of the first
   -- such one."
   pub call-too-large : (op : ℕ) → firstTooLarge 1 zs document ≡ some op → answer D Z lent ≡ refusal too-many-nodes 0 op 0
   -- "Otherwise it answers the bare run's number and op,
-  pub call-refused : (number op : ℕ) → firstTooLarge 1 zs document ≡ none → bareRun zs document ≡ stopped number op →
-      answer D Z lent ≡ refusal number 0 op 0
+  pub call-refused : (s : Stop) → firstTooLarge 1 zs document ≡ none → bareRun zs document ≡ stopped s →
+      answer D Z lent ≡ failure s
   -- or answers 0 and writes the run's text."
   pub call-succeeds : (text : Bytes) → firstTooLarge 1 zs document ≡ none → SucceedsWith (bareRun zs document) text →
       answer D Z lent ≡ success text

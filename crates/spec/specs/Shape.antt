@@ -12,7 +12,7 @@ use Rattle.spec.specs.Value as Value
 use Rattle.spec.specs.Value.{Label, Entry, Members, leaf}
 use Rattle.spec.specs.Pointer.{Tokens, tokens}
 use Rattle.spec.specs.Operation.{Kind, Operation}
-use Rattle.spec.specs.Patch.{OperationMembers, finished, stopped, shape}
+use Rattle.spec.specs.Patch.{OperationMembers, Stop, finished, stopped, shape}
 use Rattle.spec.specs.Effects.{Without, node}
 
 -- "`op` is one of add, remove, replace, move, copy, test"
@@ -116,4 +116,5 @@ pub data NoPatch (v : Value.Value) : ℕ → ℕ → Type 0 where
 
 pub record ShapeStatement : Type 0 where
   pub right : (v : Value.Value) (os : List Operation) → shape v ≡ finished os ↔ IsPatch v os
-  pub wrong : (v : Value.Value) (n op : ℕ) → shape v ≡ stopped n op ↔ NoPatch v n op
+  -- with no place and no pointer
+  pub wrong : (v : Value.Value) (s : Stop) → shape v ≡ stopped s ↔ (NoPatch v (s .number) (s .op) × (s .place ≡ 0) × (s .pointer ≡ 0))
