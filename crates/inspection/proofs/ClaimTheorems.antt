@@ -1,16 +1,19 @@
 -- The claims on the line of a list, and all of them together.
-use Prim.Native.Nat.{ℕ, _+_, _-_, _≤_}
+use Prim.Native.Nat.{ℕ, _+_, _-_, _*_, _≤_}
 use native.Mathlib.Omega.{arith}
 use mathlib.Core.Path.{_≡_, refl, sym, ap, subst, _∙_}
 use mathlib.Core.Bool.{Bool, true, false}
 use mathlib.Core.List.{List, [], _∷_, _++_}
 use lib.ListN.{length}
+use Rattle.spec.specs.Limits.{maxOperations}
 use Rattle.spec.specs.Bytes.{ascii}
-use Rattle.inspection.specs.Inspection.{Counts, noCounts, plus, total}
-use Rattle.inspection.specs.Tally.{Result, isRefused, countsIn, Tally, both, one, tally, Field, field, fieldsOf, line}
+use Rattle.inspection.specs.Inspection.{Counts, noCounts, plus, total, inspection}
+use Rattle.inspection.specs.Tally.{Result, unreadable, inspected, File, unread, holding, resultOf, results}
+use Rattle.inspection.specs.Tally.{isRefused, countsIn, Tally, both, one, tally, Field, field, fieldsOf, line}
 use Rattle.inspection.specs.Claims as Claims
-use Rattle.inspection.specs.Claims.{Permuted, empty, same, swap, SameLine, Sums, JoinedSums, Refused, LineOf, EveryLine, NothingAdded, CountsAdded, CountStatement}
-use Rattle.inspection.proofs.TallyLaws.{plus-comm, plus-assoc, plus-none, total-plus, both-comm, both-assoc, tally-append, one-refused, one-accepted}
+use Rattle.inspection.specs.Claims.{Permuted, empty, same, swap, SameLine, Sums, JoinedSums}
+use Rattle.inspection.specs.Claims.{Refused, LineOf, EveryLine, NothingAdded, CountsAdded, FewTallied, CountStatement}
+use Rattle.inspection.proofs.TallyLaws.{plus-none, none-total, total-plus, both-comm, both-assoc, tally-append, one-refused, one-accepted}
 use Rattle.inspection.proofs.InspectionLaws.{refused-alike, accepted-whole, few-counted, none-refused}
 
 -- ---- another order
@@ -105,6 +108,24 @@ counts-added rs qs r e =
     ap total (among rs qs r ∙ ap (λ t. plus (t .counts) (tally (rs ++ qs) .counts)) (one-accepted r e))
     ∙ total-plus (countsIn r) (tally (rs ++ qs) .counts)
 
+-- ---- no file adds more than 256
+one-few : (f : File) → total (one (resultOf f) .counts) ≤ maxOperations
+unfolding resultOf isRefused countsIn
+one-few unread = rw (one-refused unreadable refl) (omega (arith, none-total))
+one-few (holding s) = go (isRefused (inspected (inspection s))) refl
+  where
+    go : (b : Bool) → isRefused (inspected (inspection s)) ≡ b → total (one (inspected (inspection s)) .counts) ≤ maxOperations
+    go true e = rw (one-refused (inspected (inspection s)) e) (omega (arith, none-total))
+    go false e = rw (one-accepted (inspected (inspection s)) e) (few-counted s)
+
+pub few-tallied : FewTallied
+unfolding results tally both
+few-tallied [] = omega (arith, none-total)
+few-tallied (f ∷ fs) =
+    let here = one-few f in
+    let rest = few-tallied fs in
+    rw (total-plus (one (resultOf f) .counts) (tally (results fs) .counts)) (omega arith)
+
 pub counted : CountStatement
 counted =
     record {
@@ -117,4 +138,5 @@ counted =
       every-line = every-line;
       nothing-added = nothing-added;
       counts-added = counts-added;
+      few-tallied = few-tallied;
     }

@@ -26,10 +26,10 @@ use Rattle.grammar.proofs.Refusing.{Refusing, refused-so}
 use Rattle.grammar.proofs.Faults.{Fault, by-3, by-4, by-5, by-6, by-7, read-faults}
 use Rattle.inspection.specs.Inspection.{Counts, noCounts, oneOf, plus, total, countsOf, Inspection, accepted, refusal, ofShape, ofReading, inspection}
 use Rattle.inspection.specs.Claims.{RefusedAlike, WellFormed, AcceptedWhole, FewCounted, NoneRefused}
-use Rattle.inspection.proofs.TallyLaws.{total-plus}
+use Rattle.inspection.proofs.TallyLaws.{none-total, total-plus}
 
 -- ---- all six together are the operations
-total-one : (k : Operation.Kind) → total (oneOf k) ≡ 1
+pub total-one : (k : Operation.Kind) → total (oneOf k) ≡ 1
 unfolding total oneOf
 total-one Operation.add = refl
 total-one Operation.remove = refl
@@ -58,8 +58,7 @@ operations-count op (tree e kids rest) os h =
     go (stopped n p) b is ih h = absurd (let z : _≡_ {A = ℕ} 0 1 = cc in omega arith)
 
 none-few : total noCounts ≤ maxOperations
-unfolding total
-none-few = omega arith
+none-few = omega (arith, none-total)
 
 shape-few : (v : Value.Value) (os : List Operation.Operation) → shape v ≡ finished os → length os ≤ maxOperations
 unfolding shape
@@ -103,7 +102,7 @@ read-some s n p e = fault-some (refused-so (subst (Refusing (Fault s)) e (read-f
 
 -- ---- each way through the definition
 module _ (P : Bytes) where
-  inspection-long : maxBytes < length P → inspection P ≡ refusal input-too-long 2 0 0
+  pub inspection-long : maxBytes < length P → inspection P ≡ refusal input-too-long 2 0 0
   unfolding inspection
   inspection-long h = rw (lt-ltb maxBytes (length P) h)
 

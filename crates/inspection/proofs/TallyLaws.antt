@@ -28,6 +28,10 @@ module _ (c : Counts) where
   unfolding plus
   plus-none = counts-equal (omega arith) (omega arith) (omega arith) (omega arith) (omega arith) (omega arith)
 
+pub none-total : total noCounts ≡ 0
+unfolding total
+none-total = refl
+
 pub total-plus : (c d : Counts) → total (plus c d) ≡ total c + total d
 unfolding plus total
 total-plus c d = omega arith

@@ -1,5 +1,5 @@
 -- What the definitions come to. proofs/ClaimTheorems proves each.
-use Prim.Native.Nat.{ℕ, _+_, _≤_}
+use Prim.Native.Nat.{ℕ, _+_, _*_, _≤_}
 use mathlib.Core.Path.{_≡_}
 use mathlib.Core.Bool.{true, false}
 use mathlib.Core.List.{List, [], _∷_, _++_}
@@ -15,7 +15,7 @@ use Rattle.spec.specs.Patch.{finished, shape}
 use Rattle.spec.specs.Answer as Answer
 use Rattle.spec.specs.Answer.{Lent, workSuffices, answer}
 use Rattle.inspection.specs.Inspection.{Counts, noCounts, total, countsOf, inspection}
-use Rattle.inspection.specs.Tally.{Result, isRefused, countsIn, tally, Field, field, line}
+use Rattle.inspection.specs.Tally.{Result, File, results, isRefused, countsIn, tally, Field, field, line}
 
 -- ---- one patch
 
@@ -112,6 +112,10 @@ CountsAdded =
     (rs qs : List Result) (r : Result) → isRefused r ≡ false
     → total (tally (rs ++ r ∷ qs) .counts) ≡ total (countsIn r) + total (tally (rs ++ qs) .counts)
 
+-- The six together are at most 256 for each file: with 1,000,000 files no count comes near the greatest number of 64 bits.
+abbrev pub FewTallied : Type 0
+FewTallied = (files : List File) → total (tally (results files) .counts) ≤ maxOperations * length files
+
 -- all of it
 pub record CountStatement : Type 0 where
   pub refused-alike : RefusedAlike
@@ -123,3 +127,4 @@ pub record CountStatement : Type 0 where
   pub every-line : EveryLine
   pub nothing-added : NothingAdded
   pub counts-added : CountsAdded
+  pub few-tallied : FewTallied

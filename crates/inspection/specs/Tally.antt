@@ -5,13 +5,26 @@ use mathlib.Core.Bool.{Bool, true, not}
 use lib.Dec.{eqb}
 use Rattle.spec.specs.Outcome.{if_then_else_}
 use Rattle.spec.specs.Refusal.{done}
-use Rattle.spec.specs.Bytes.{Text, ascii}
-use Rattle.inspection.specs.Inspection.{Counts, noCounts, plus, total, Inspection}
+use Rattle.spec.specs.Bytes.{Bytes, Text, ascii}
+use Rattle.inspection.specs.Inspection.{Counts, noCounts, plus, total, Inspection, inspection}
 
 -- What a name of the list comes to: a file that cannot be read, or what its patch comes to.
 pub data Result : Type 0 where
   unreadable : Result
   inspected : Inspection → Result
+
+-- a name of the list by its file: it cannot be read, or it holds these bytes
+pub data File : Type 0 where
+  unread : File
+  holding : Bytes → File
+
+unfoldable pub resultOf : File → Result
+resultOf unread = unreadable
+resultOf (holding s) = inspected (inspection s)
+
+unfoldable pub results : List File → List Result
+results [] = []
+results (f ∷ fs) = resultOf f ∷ results fs
 
 -- "the refused or unreadable"
 unfoldable pub isRefused : Result → Bool
