@@ -32,7 +32,7 @@ unfolding line
 same-line rs qs p = ap fieldsOf (tally-permuted p)
 
 -- ---- the refused are some of all
-all-refused : (rs : List Result) → (Refused rs (tally rs .refused) × (tally rs .patches ≡ length rs))
+pub all-refused : (rs : List Result) → (Refused rs (tally rs .refused) × (tally rs .patches ≡ length rs))
 unfolding tally both
 all-refused [] = (Refused.none, refl)
 all-refused (r ∷ rs) = go (isRefused r) refl (all-refused rs)
@@ -49,7 +49,7 @@ refused-some Refused.none = omega arith
 refused-some (Refused.refused e h) = omega (arith, refused-some h)
 refused-some (Refused.accepted e h) = omega (arith, refused-some h)
 
-refused-few : (rs : List Result) → tally rs .refused ≤ tally rs .patches
+pub refused-few : (rs : List Result) → tally rs .refused ≤ tally rs .patches
 refused-few rs = let (n, p) = all-refused rs in omega (arith, refused-some n, p)
 
 -- ---- two lists joined
