@@ -67,7 +67,7 @@ pub struct Answer {
 
 impl Answer {
     /// The written length, or the refusal.
-    fn result(self) -> Result<usize, Refusal> {
+    pub(crate) fn result(self) -> Result<usize, Refusal> {
         let Answer { number, text, op, place, length } = self;
         match number {
             0 => Ok(length as usize),
@@ -131,6 +131,11 @@ impl Work {
     /// A work area.
     pub const fn new() -> Self {
         Work { nodes: [Node::ZERO; WORK_NODES], index: [0; WORK_ENTRIES] }
+    }
+
+    /// Its two lists.
+    pub(crate) fn lists(&mut self) -> (&mut [Node], &mut [u16]) {
+        (&mut self.nodes, &mut self.index)
     }
 }
 

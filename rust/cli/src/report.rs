@@ -2,7 +2,7 @@
 
 use crate::arguments::Arguments;
 use crate::command::Status;
-use crate::files::Name;
+use crate::files::{Name, Text};
 use crate::found::found;
 use crate::patches::{Refused, Run};
 use crate::trouble::Trouble;
@@ -45,6 +45,21 @@ fn in_words(run: &Run, Refused { refusal, index, document }: &Refused) -> String
         Some(note) => format!("json-patch: {}\n", explanation.noted(note)),
         None => format!("json-patch: {explanation}\n"),
     }
+}
+
+/// Says why a patch was refused that has no document, as the options have it.
+pub fn of_patch(arguments: &Arguments, patch: &Text, refusal: &Refusal) -> Status {
+    if arguments.has("porcelain") {
+        say(&format!("{}\n", refusal.line()));
+    } else if !arguments.has("quiet") {
+        let name = Name(&patch.name).to_string();
+        let explanation = refusal.explain(b"", &patch.bytes);
+        say(&format!(
+            "json-patch: {}\n",
+            explanation.named(&"no document", &name).painted(paint())
+        ));
+    }
+    Status::Refused
 }
 
 /// What is said of a refusal where no patch is applied.
