@@ -5,7 +5,7 @@
  *     rt staticlib json_patch && rt staticlib inspect
  *     cc -O2 -Iinclude bench/inspect.c target/staticlib/libinspect.a \
  *         target/staticlib/libjson_patch.a -o target/inspect
- *     target/inspect crates/patch_count/data/*.json */
+ *     cd crates/patch_count/data && ../../../target/inspect none.json six.json most.json longest.json */
 #include "json_patch_inspect.h"
 
 #include <stdio.h>
