@@ -11,8 +11,7 @@ ghost use lib.ListN.{length};
 ghost use Rattle.patch_count.specs.Names.{LineEnd};
 ghost use Rattle.patch_count.specs.Sums.{Sums, FedIs};
 
-// What stands for the length of a name that has more bytes than the buffer for one, which is lent: 4,096. Such a name
-// is unreadable.
+// A name with more bytes than the lent buffer has, 4,096, gets this length. It is unreadable.
 const LONGER: usize = 4_097;
 
 // More names are too many. Empty lines are no names.
