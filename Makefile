@@ -42,11 +42,12 @@ override JSON_PATCH_LIB := $(abspath $(or $(JSON_PATCH_LIB),target/staticlib))
 export JSON_PATCH_LIB
 
 out := target/make
-# As rt makes them: the call, the functions on one record, the links, and Intel HEX.
+# As rt makes them: the call, the functions on one record, the links, Intel HEX, and the inspection.
 proved_call := $(JSON_PATCH_LIB)/libjson_patch.a
 proved_record := $(JSON_PATCH_LIB)/librecord.a
 links := $(JSON_PATCH_LIB)/libfragment.a
 hex := $(JSON_PATCH_LIB)/libhex.a
+inspect := $(JSON_PATCH_LIB)/libinspect.a
 # The library as it is installed: the call and the records.
 static := $(out)/libjson_patch.a
 shared := libjson_patch.so.$(VERSION)
@@ -57,7 +58,7 @@ completions := $(out)/json-patch.bash $(out)/_json-patch $(out)/json-patch.fish
 proved := crates.txt $(shell find crates -path '*/must-fail' -prune -o -name '*.rt' -print -o -name '*.antt' -print)
 rust := $(shell find rust/src rust/cli/src -name '*.rs') rust/build.rs rust/Cargo.toml rust/Cargo.lock rust/cli/Cargo.toml
 
-all: $(static) $(links) $(hex) $(out)/$(soname) $(command) $(completions)
+all: $(static) $(links) $(hex) $(inspect) $(out)/$(soname) $(command) $(completions)
 
 ifndef prebuilt
 $(proved_call): $(proved)
@@ -77,6 +78,10 @@ $(links): $(proved_record)
 $(hex): $(links)
 	rt staticlib hex
 	@touch $@
+
+$(inspect): $(hex)
+	rt staticlib inspect
+	@touch $@
 endif
 
 # The proved objects, unchanged, in one archive.
@@ -87,15 +92,15 @@ $(static): $(proved_call) $(proved_record)
 	$(AR) rcs $@ $(out)/objects/*.o
 
 # The shared library is the archives, linked whole.
-$(out)/$(shared): $(static) $(links) $(hex)
+$(out)/$(shared): $(static) $(links) $(hex) $(inspect)
 	@mkdir -p $(out)
 	$(CC) -shared $(LDFLAGS) -Wl,-soname,$(soname) -Wl,-z,defs -Wl,-z,relro -Wl,-z,now \
-		-Wl,--whole-archive $(static) $(links) $(hex) -Wl,--no-whole-archive -o $@
+		-Wl,--whole-archive $(static) $(links) $(hex) $(inspect) -Wl,--no-whole-archive -o $@
 
 $(out)/$(soname): $(out)/$(shared)
 	ln -sf $(shared) $@
 
-$(command): $(rust) $(proved_call) $(links) $(hex)
+$(command): $(rust) $(proved_call) $(links) $(hex) $(inspect)
 	@mkdir -p $(out)
 	$(CARGO) build --release $(CARGO_FLAGS) --manifest-path rust/Cargo.toml --package json-patch-cli --target-dir rust/target
 	cp rust/target/release/json-patch $@
@@ -119,6 +124,8 @@ check: all
 	@echo "== Python"
 	cd python && JSON_PATCH_LIBRARY=$(CURDIR)/$(out)/$(soname) PYTHONDONTWRITEBYTECODE=1 \
 		$(PYTHON) -W error -m unittest discover -s tests
+	@echo "== the count over patch files"
+	@if command -v rt >/dev/null; then rt check patch_count && tests/count.sh; else echo "left out: no rt to make the program"; fi
 	@echo "== installed, used and removed"
 	MAKE="$(MAKE)" CC="$(CC)" PYTHON="$(PYTHON)" tests/installed.sh
 	@echo "check: all passed"
@@ -128,8 +135,9 @@ install: all
 		$(DESTDIR)$(MANDIR)/man1 $(DESTDIR)$(MANDIR)/man3 $(DESTDIR)$(DOCDIR) $(DESTDIR)$(BASHDIR) \
 		$(DESTDIR)$(ZSHDIR) $(DESTDIR)$(FISHDIR) $(DESTDIR)$(PYTHONDIR)/json_patch
 	$(INSTALL) -m 755 $(command) $(DESTDIR)$(BINDIR)/json-patch
-	$(INSTALL) -m 644 include/json_patch.h include/json_patch_link.h include/json_patch_hex.h $(DESTDIR)$(INCLUDEDIR)
-	$(INSTALL) -m 644 $(static) $(links) $(hex) $(DESTDIR)$(LIBDIR)
+	$(INSTALL) -m 644 include/json_patch.h include/json_patch_link.h include/json_patch_hex.h \
+		include/json_patch_inspect.h $(DESTDIR)$(INCLUDEDIR)
+	$(INSTALL) -m 644 $(static) $(links) $(hex) $(inspect) $(DESTDIR)$(LIBDIR)
 	$(INSTALL) -m 644 $(out)/$(shared) $(DESTDIR)$(LIBDIR)/$(shared)
 	ln -sf $(shared) $(DESTDIR)$(LIBDIR)/$(soname)
 	ln -sf $(soname) $(DESTDIR)$(LIBDIR)/libjson_patch.so
@@ -149,6 +157,7 @@ install: all
 uninstall:
 	rm -f $(DESTDIR)$(BINDIR)/json-patch $(DESTDIR)$(INCLUDEDIR)/json_patch.h \
 		$(DESTDIR)$(INCLUDEDIR)/json_patch_link.h $(DESTDIR)$(INCLUDEDIR)/json_patch_hex.h \
+		$(DESTDIR)$(INCLUDEDIR)/json_patch_inspect.h $(DESTDIR)$(LIBDIR)/libinspect.a \
 		$(DESTDIR)$(LIBDIR)/libfragment.a $(DESTDIR)$(LIBDIR)/libhex.a \
 		$(DESTDIR)$(LIBDIR)/libjson_patch.a $(DESTDIR)$(LIBDIR)/libjson_patch.so \
 		$(DESTDIR)$(LIBDIR)/$(soname) $(DESTDIR)$(LIBDIR)/$(shared) \

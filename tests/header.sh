@@ -1,8 +1,8 @@
 #!/bin/sh
-# Compiles tests/header.c with every compiler that is here, as C99, C11, C++11
+# Compiles tests/header.c and tests/inspect.c with every compiler that is here, as C99, C11, C++11
 # and C++17, with many warnings as errors and under both sanitizers, and runs it.
-#   JSON_PATCH_LIB=DIR   where libjson_patch.a and librecord.a are, if not in
-#                        target/staticlib
+#   JSON_PATCH_LIB=DIR   where libjson_patch.a, librecord.a and libinspect.a are,
+#                        if not in target/staticlib
 set -eu
 here=$(cd "$(dirname "$0")" && pwd)
 root=$(dirname "$here")
@@ -14,10 +14,13 @@ sanitizers="-O1 -g -fsanitize=address,undefined -fno-sanitize-recover=all"
 try() { # NAME COMPILER..
     name=$1
     shift
-    "$@" $warnings $sanitizers -I"$root/include" -c "$here/header.c" -o "$out/$name.o"
-    "$1" $sanitizers "$out/$name.o" "$folder/libjson_patch.a" "$folder/librecord.a" -o "$out/$name"
-    printf '%s: ' "$name"
-    "$out/$name"
+    for file in header inspect; do
+        "$@" $warnings $sanitizers -I"$root/include" -c "$here/$file.c" -o "$out/$name.o"
+        "$1" $sanitizers "$out/$name.o" "$folder/libjson_patch.a" "$folder/librecord.a" \
+            "$folder/libinspect.a" -o "$out/$name"
+        printf '%s: ' "$name"
+        "$out/$name"
+    done
 }
 for compiler in gcc clang; do
     if ! command -v $compiler >/dev/null; then

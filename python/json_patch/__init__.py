@@ -50,9 +50,9 @@ import json
 import os
 import threading
 from pathlib import Path
-from typing import Any, List, Tuple, Union
+from typing import Any, List, NamedTuple, Tuple, Union
 
-__all__ = ["Kind", "Pointer", "Refusal", "apply", "MAX_BYTES", "OUTPUT", "__version__"]
+__all__ = ["Counts", "Kind", "Pointer", "Refusal", "apply", "inspect", "MAX_BYTES", "OUTPUT", "__version__"]
 __version__ = "0.2.0"
 
 Bytes = Union[bytes, bytearray, memoryview]
@@ -100,6 +100,29 @@ class _Answer(ctypes.Structure):
     _fields_ = [
         (name, ctypes.c_uint64) for name in ("number", "text", "op", "place", "pointer", "length")
     ]
+
+
+class _Inspection(ctypes.Structure):
+    """What a patch comes to, as in json_patch_inspect.h."""
+
+    _fields_ = [
+        (name, ctypes.c_uint64)
+        for name in (
+            "number", "text", "op", "place",
+            "adds", "removes", "replaces", "moves", "copies", "tests",
+        )
+    ]
+
+
+class Counts(NamedTuple):
+    """How many there are of each operation."""
+
+    adds: int
+    removes: int
+    replaces: int
+    moves: int
+    copies: int
+    tests: int
 
 
 class Kind(enum.IntEnum):
@@ -224,6 +247,28 @@ def apply(document: Bytes, patch: Bytes, *, room: int = OUTPUT) -> bytes:
     raise Refusal(*fields, _words(*fields, *texts))
 
 
+def inspect(patch: Bytes) -> Counts:
+    """Reads a patch and judges its shape, without a document, and counts its
+    operations.
+
+    Raises `Refusal` where `apply` would refuse the patch with any document.
+
+    >>> inspect(b'[{"op": "remove", "path": "/a"}, {"op": "remove", "path": "/b"}]')
+    Counts(adds=0, removes=2, replaces=0, moves=0, copies=0, tests=0)
+    >>> inspect(b'[{"op": "remove"}]')
+    Traceback (most recent call last):
+    ...
+    json_patch.Refusal: patch: operation 1, remove: the patch is malformed
+    """
+    text = _octets(patch, "patch")
+    found = _Inspection()
+    _inspect(text, len(text), *_work().lent(), found)
+    if found.number == 0:
+        return Counts(*(getattr(found, name) for name in Counts._fields))
+    fields = (found.number, found.text, found.op, found.place, 0)
+    raise Refusal(*fields, _words(*fields, b"", text))
+
+
 def _octets(text: Bytes, name: str) -> bytes:
     """A text as bytes."""
     if isinstance(text, str):
@@ -315,10 +360,18 @@ def _library() -> ctypes.CDLL:
         raise ImportError(f"no {_SONAME}: run 'make install', or set JSON_PATCH_LIBRARY") from error
 
 
-_apply = _library().json_patch_apply
+_shared = _library()
+
+_apply = _shared.json_patch_apply
 _apply.restype = ctypes.c_uint32
 _apply.argtypes = [
     *[ctypes.c_char_p, ctypes.c_size_t] * 3,
     *_Work.types,
     ctypes.POINTER(_Answer),
+]
+
+_inspect = _shared.json_patch_inspect
+_inspect.restype = ctypes.c_uint32
+_inspect.argtypes = [
+    ctypes.c_char_p, ctypes.c_size_t, *_Work.types, ctypes.POINTER(_Inspection)
 ]

@@ -10,7 +10,7 @@ import unittest
 from pathlib import Path
 
 import json_patch
-from json_patch import Kind, Pointer, Refusal, apply
+from json_patch import Counts, Kind, Pointer, Refusal, apply, inspect
 
 ROOT = Path(__file__).resolve().parents[2]
 
@@ -49,6 +49,19 @@ class Calls(unittest.TestCase):
             apply("{}", b"[]")
         with self.assertRaisesRegex(TypeError, "patch is not bytes but list"):
             apply(b"{}", [])
+
+    def test_inspect(self):
+        data = ROOT / "crates" / "patch_count" / "data"
+        self.assertEqual(inspect((data / "six.json").read_bytes()), Counts(1, 2, 3, 4, 5, 6))
+        self.assertEqual(inspect(b"[]"), Counts(0, 0, 0, 0, 0, 0))
+        for path in data.glob("refused-*.json"):
+            with self.assertRaises(Refusal) as caught:
+                inspect(path.read_bytes())
+            self.assertEqual(caught.exception.number, int(path.stem.split("-")[1]), path.name)
+        with self.assertRaisesRegex(Refusal, "patch:1:4: not JSON text"):
+            inspect(b"[1,]")
+        with self.assertRaisesRegex(TypeError, "patch is a str: encode it"):
+            inspect("[]")
 
     def test_room(self):
         self.assertEqual(apply(b"[1]", b"[]", room=3), b"[1]")

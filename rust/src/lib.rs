@@ -42,6 +42,7 @@
 
 mod explain;
 pub mod hex;
+pub mod inspect;
 mod json;
 pub mod link;
 mod place;

@@ -69,7 +69,7 @@ pub struct Answer {
 
 impl Answer {
     /// The written length, or the refusal.
-    fn result(self) -> Result<usize, Refusal> {
+    pub(crate) fn result(self) -> Result<usize, Refusal> {
         let Answer { number, text, op, place, pointer, length } = self;
         match number {
             0 => Ok(length as usize),
@@ -134,6 +134,11 @@ impl Work {
     /// A work area.
     pub const fn new() -> Self {
         Work { nodes: [Node::ZERO; WORK_NODES], index: [0; WORK_ENTRIES] }
+    }
+
+    /// Its two lists.
+    pub(crate) fn lists(&mut self) -> (&mut [Node], &mut [u16]) {
+        (&mut self.nodes, &mut self.index)
     }
 }
 

@@ -11,6 +11,7 @@
 mod answer;
 pub mod cases;
 pub mod compare;
+pub mod count;
 pub mod cursor;
 pub mod generate;
 pub mod hex;

@@ -17,3 +17,7 @@ pub const MOST_OPERATIONS: usize = 256;
 pub const TOOL_READS: u64 = 32_769;
 /// The output the patch tool lends.
 pub const TOOL_ROOM: usize = 65_536;
+/// The longest name of a patch file in a list, in bytes.
+pub const LONGEST_NAME: usize = 4_096;
+/// The most names in a list.
+pub const MOST_NAMES: usize = 1_000_000;

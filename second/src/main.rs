@@ -2,11 +2,12 @@
 
 #![forbid(unsafe_code)]
 
-use second::{cases, compare, generate, hex, links, tool, vectors};
+use second::{cases, compare, count, generate, hex, links, tool, vectors};
 use std::env;
 use std::ffi::OsString;
 use std::fs;
-use std::io::{self, BufWriter, Write};
+use std::io::{self, BufWriter, Read, Write};
+use std::path::Path;
 use std::process::ExitCode;
 
 const USAGE: &str = "usage:
@@ -22,6 +23,10 @@ const USAGE: &str = "usage:
   second hex-cases
   second hex-answers FILE
   second hex-generate SEED COUNT
+  second count
+  second inspect FILE...
+  second count-folder SEED COUNT FOLDER
+  second count-cases FOLDER
 ";
 
 /// The line of a call whose work area is too short. This program has none, so
@@ -112,6 +117,22 @@ fn run(arguments: &[OsString]) -> Result<(), Trouble> {
             for index in 0..number(count)? {
                 out.write_all(&hex::generate::case(seed, index).file())?;
             }
+        }
+        (Some("count"), []) => {
+            let mut names = Vec::new();
+            io::stdin().lock().read_to_end(&mut names)?;
+            out.write_all(count::report(&names).as_bytes())?;
+        }
+        (Some("inspect"), files) => {
+            for file in files {
+                writeln!(out, "{}: {}", file.display(), count::inspect(&fs::read(file)?))?;
+            }
+        }
+        (Some("count-folder"), [seed, count, folder]) => {
+            count::folder(number(seed)?, number(count)?, Path::new(folder), &mut out)?;
+        }
+        (Some("count-cases"), [folder]) => {
+            out.write_all(&count::cases::write(Path::new(folder))?)?;
         }
         (Some("compare"), [seed, count, dashes, command @ ..])
             if dashes == "--" && !command.is_empty() =>

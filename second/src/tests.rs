@@ -1,6 +1,7 @@
 //! The tests.
 
 mod appendix;
+mod count;
 mod generator;
 mod hex;
 mod links;

@@ -50,7 +50,7 @@ module _ {T : Texts} {s : Bytes} {base : ℕ} {nodes nodes' : List Row} {o : Out
 
 -- ---- the tree of a text that is read, as a node
 module _ {w : Table} {base end : ℕ} {v : Value.Value} (r : Rooted w base end v) where
-  rooted-node : NodeHeld w base (r .root) (r .kids)
+  pub rooted-node : NodeHeld w base (r .root) (r .kids)
   rooted-node = record { rest = none; held = r .held; label = all-first (r .sound) .label; sound = all-kids (r .sound) }
 
 -- the patch

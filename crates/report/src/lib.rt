@@ -3,12 +3,15 @@
 //
 // What is proved: the bytes laid down are those of the definition `lineOf` (specs/Line), of the answer that the
 // definition `answer` of crate `spec` gives, as many as there is room for; behind them the buffer is as it was. Where
-// it has 84 bytes or more, there is room for every line.
+// it has 84 bytes or more, there is room for every line. `put_bytes` and `put_two_fields` lay down pieces of other
+// lines in the same way.
 mod pieces; // the pieces of the line
 
 use json_patch::Answer;
 use json_patch::apply;
+pub use pieces::put_bytes;
 use pieces::put_ending;
+pub use pieces::put_two_fields;
 use tape::layout::Node;
 ghost use mathlib.Core.Path.{_≡_};
 ghost use Prim.Native.Nat.{_-_};

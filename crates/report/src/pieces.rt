@@ -18,7 +18,7 @@ fn least(a: usize, b: usize) -> usize
     if a < b { a } else { b }
 }
 
-fn put_bytes(s: &[u8], out: &mut [u8]) -> usize
+pub fn put_bytes(s: &[u8], out: &mut [u8]) -> usize
     ensures { λ r. ⌜ Placed (now (s .entry)) 0 (now (out .entry)) (now (out .exit)) r ⌝ }
 {
     let count = write_text(long(PLAIN_STRING), s, out);
@@ -44,7 +44,7 @@ fn put_field(word: &[u8], n: u64, out: &mut [u8]) -> usize
 }
 
 // Two of them.
-fn put_two_fields(first: &[u8], m: u64, second: &[u8], n: u64, out: &mut [u8]) -> usize
+pub fn put_two_fields(first: &[u8], m: u64, second: &[u8], n: u64, out: &mut [u8]) -> usize
     ensures { λ r. ⌜ Placed ((now (first .entry) ++ decimal m) ++ (now (second .entry) ++ decimal n)) 0 (now (out .entry)) (now (out .exit)) r ⌝ }
 {
     let put = put_field(first, m, out);

@@ -5,6 +5,7 @@ use Rattle.spec.proofs.ShapeTheorem.{shaped-so}
 use Rattle.grammar.proofs.Theorems as Grammar
 use Rattle.grammar.proofs.RefusedAt as Refused
 use Rattle.claims.proofs.ClaimsTheorem.{claims}
+use Rattle.inspection.proofs.ClaimTheorems.{counted}
 use Rattle.sequence.proofs.SequenceTheorem.{sequence}
 use Rattle.sequence.proofs.ExamplesTheorem as InARow
 use Rattle.sequence_call.proofs.CallsTheorem.{calls}
@@ -55,6 +56,7 @@ theorems =
             columns = columns;
             undo = undo-theorem;
             undo-examples = Undo.witness;
+            count = counted;
             in-a-row = sequence;
             in-a-row-calls = calls;
             in-a-row-examples = InARow.examples;

@@ -10,6 +10,7 @@ use Rattle.claims.specs.Equality.{EqualityStatement}
 use Rattle.claims.specs.Pointers.{PointersStatement}
 use Rattle.claims.specs.Operations.{OperationsStatement}
 use Rattle.claims.specs.RoundTrip.{RoundTripStatement}
+use Rattle.inspection.specs.Claims.{CountStatement}
 use Rattle.sequence.specs.Sequence.{SequenceStatement}
 use Rattle.sequence.specs.Examples as InARow
 use Rattle.sequence_call.specs.Calls.{CallsStatement}
@@ -84,6 +85,8 @@ pub record Requests : Type 0 where
   -- T-09: the undo takes a patch back (of the definition; there is no call yet), with examples that meet the premises
   pub undo : UndoStatement
   pub undo-examples : Undo.Witness
+  -- T-12: the line of a list of patch files: another order, two lists joined, its sums; a patch is refused as the plain call refuses it
+  pub count : CountStatement
   -- T-13: patches in a row are one, of the definition and of the calls, with examples that meet the premises
   pub in-a-row : SequenceStatement
   pub in-a-row-calls : CallsStatement

@@ -14,6 +14,7 @@ mod files;
 mod found;
 mod help;
 mod hex;
+mod inspect;
 mod link;
 mod patches;
 mod pointer;
@@ -32,6 +33,7 @@ use trouble::Trouble;
 pub const COMMANDS: &[&Command] = &[
     &apply::COMMAND,
     &check::COMMAND,
+    &inspect::COMMAND,
     &link::COMMAND,
     &pointer::COMMAND,
     &hex::COMMAND,

@@ -2,7 +2,7 @@
 
 use crate::arguments::Arguments;
 use crate::command::Status;
-use crate::files::Name;
+use crate::files::{Name, Text};
 use crate::found::{found, reached};
 use crate::patches::{Refused, Run};
 use crate::trouble::Trouble;
@@ -59,6 +59,21 @@ fn note(refused: &Refused, patch: &[u8], to: &str, walked: Option<Walked>) -> Op
         Kind::OutputTooShort => Some("at most 65,536 bytes are written".to_string()),
         _ => None,
     }
+}
+
+/// Says why a patch was refused that has no document, as the options have it.
+pub fn of_patch(arguments: &Arguments, patch: &Text, refusal: &Refusal) -> Status {
+    if arguments.has("porcelain") {
+        say(&format!("{}\n", refusal.line()));
+    } else if !arguments.has("quiet") {
+        let name = Name(&patch.name).to_string();
+        let explanation = refusal.explain(b"", &patch.bytes);
+        say(&format!(
+            "json-patch: {}\n",
+            explanation.named(&"no document", &name).painted(paint())
+        ));
+    }
+    Status::Refused
 }
 
 /// What is said of a refusal where no patch is applied.

@@ -3,6 +3,7 @@
 
 mod files;
 mod hex;
+mod inspect;
 mod links;
 mod replacing;
 mod statuses;

@@ -1,0 +1,3 @@
+pub mod TallyLaws
+pub mod InspectionLaws
+pub mod ClaimTheorems

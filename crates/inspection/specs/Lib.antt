@@ -1,0 +1,3 @@
+pub mod Inspection
+pub mod Tally
+pub mod Claims

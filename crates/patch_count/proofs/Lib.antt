@@ -1,0 +1,4 @@
+pub mod SumLaws
+pub mod LineLaws
+pub mod ContentsLaws
+pub mod NameLaws

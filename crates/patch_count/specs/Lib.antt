@@ -1,0 +1,5 @@
+pub mod Line
+pub mod Pieces
+pub mod Sums
+pub mod Names
+pub mod Contents
