@@ -30,7 +30,7 @@ use Rattle.region.specs.Answer.{regionTokens, patchedWithin, onPatchWith
 use Rattle.region.specs.Claims as Claims
 use Rattle.region.specs.Claims.{Makers, Permitted, AllPermitted, no-more, one-more, KeepsRule, keeps, IsPatchWithin, FirstFault, NoPatchWithin}
 use Rattle.region.specs.Claims.{FirstBreak, BreaksRule, Passes}
-use Rattle.region.specs.Claims.{ShapeWithinStatement, RuleStatement, InsideStatement, AllInsideStatement, PassesStatement}
+use Rattle.region.specs.Claims.{ShapeWithinStatement, RuleStatement, InsideStatement, AllInsideStatement, TextsFirstStatement, PassesStatement}
 use Rattle.region.proofs.ShapeLaws.{stopped-same, prefix-to, to-prefix}
 use Rattle.region.proofs.RuleLaws.{elements-to, to-elements, fault-to, to-fault}
 
@@ -233,6 +233,24 @@ all-inside R v os h = go (right-to R v os h .rule)
   where
     go : {os : List Operation} → KeepsRule R os → allInside R os ≡ true
     go (keeps all) = all-permitted-inside all
+
+-- ---- the texts first
+
+module _ (room : ℕ) (document patch region : Bytes) (unread : (v p : Value.Value) → read document ≡ ok v → read patch ≡ ok p → ⊥) where
+  patch-unread : (v : Value.Value) → read document ≡ ok v → (o : Outcome Value.Value) → read patch ≡ o → onPatchWithin room v o region ≡ onPatch room v o
+  unfolding onPatchWithin onPatch
+  patch-unread v e (ok p) f = absurd (unread v p e f)
+  patch-unread v e (refused number place) f = refl
+
+  document-unread : (o : Outcome Value.Value) → read document ≡ o → onDocumentWithin room o patch region ≡ onDocument room o patch
+  unfolding onDocumentWithin onDocument
+  document-unread (ok v) e = patch-unread v e (read patch) refl
+  document-unread (refused number place) e = refl
+
+pub texts-first : TextsFirstStatement
+unfolding answerWithin answer answerIn
+texts-first document patch region lent short unread =
+    rw (le-ltb maxBytes (length region) short, document-unread (lent .output) document patch region unread (read document) refl)
 
 -- ---- what passes
 

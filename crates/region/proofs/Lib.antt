@@ -1,3 +1,5 @@
 pub mod ShapeLaws
 pub mod RuleLaws
 pub mod ClaimTheorems
+pub mod SpellLaws
+pub mod BeginsLaws

@@ -12,6 +12,7 @@ use Rattle.spec.specs.Bytes.{Bytes}
 use Rattle.spec.specs.Forest.{none, tree, count}
 use Rattle.spec.specs.Value as Value
 use Rattle.spec.specs.Value.{Label, Entry, Members}
+use Rattle.spec.specs.Read.{read}
 use Rattle.spec.specs.Pointer.{Tokens}
 use Rattle.spec.specs.Operation.{Kind, Operation}
 use Rattle.spec.specs.Patch.{Stop, stop, finished, stopped}
@@ -99,6 +100,13 @@ InsideStatement = (region : Tokens) (o : Operation) → Makers (o .kind) → str
 -- so a maker's patch is strictly inside its region, and document 01's region statement speaks of it
 abbrev pub AllInsideStatement : Type 0
 AllInsideStatement = (region : Tokens) (v : Value.Value) (os : List Operation) → shapeWithin region v ≡ finished os → allInside region os ≡ true
+
+-- ---- 10 comes "after both texts are read": until they are, the answer is that of a plain patch.
+
+abbrev pub TextsFirstStatement : Type 0
+TextsFirstStatement =
+    (document patch region : Bytes) (lent : Lent) → length region ≤ maxBytes → ((v p : Value.Value) → read document ≡ ok v → read patch ≡ ok p → ⊥) →
+    answerWithin document patch region lent ≡ answer document patch lent
 
 -- ---- "What passes gives the answer of a plain patch."
 

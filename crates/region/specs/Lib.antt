@@ -1,3 +1,4 @@
 pub mod Rule
 pub mod Answer
 pub mod Claims
+pub mod Begins
