@@ -81,7 +81,7 @@ fn pointers_number<'a>(texts: Texts<'a>, moves: bool, path: Spelling, from: Spel
 }
 
 // Refused where another member than `op` is wrong, of an operation of a kind.
-fn members_number<'a>(texts: Texts<'a>, nodes: &[Node], row: usize, kind: Kind) -> u8
+pub fn members_number<'a>(texts: Texts<'a>, nodes: &[Node], row: usize, kind: Kind) -> u8
     ensures { λ r. ⌜ MembersAre (before texts nodes) row kind r ⌝ }
 {
     let uses = uses_of(kind);
