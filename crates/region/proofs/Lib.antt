@@ -3,3 +3,4 @@ pub mod RuleLaws
 pub mod ClaimTheorems
 pub mod SpellLaws
 pub mod BeginsLaws
+pub mod WithinLaws

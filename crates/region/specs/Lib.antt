@@ -2,3 +2,4 @@ pub mod Rule
 pub mod Answer
 pub mod Claims
 pub mod Begins
+pub mod Within
