@@ -58,7 +58,8 @@ int main(void) {
     bench("the maker's patch", profile, correction, sizeof output);
     bench("the same for a pack of 2600 mAh", "{\"mAh\":2600,\"cut\":[4.2,3.0],\"stages\":[]}", correction, sizeof output);
     bench("a patch cut short", profile, "[{\"op\":\"replace\",\"path\":\"/cut/0\",\"val", sizeof output);
-    bench("a member that is not there", profile, "[{\"op\":\"replace\",\"path\":\"/cutoff\",\"value\":4.15}]", sizeof output);
+    bench("a member that is not there", profile, "[{\"op\":\"replace\",\"path\":\"/stages/1/volts\",\"value\":4.15}]",
+          sizeof output);
     bench("an output of 100 bytes", profile, correction, 100);
     printf("work area zero, output untouched by a refusal: %s\n", kept_its_promises() ? "yes" : "NO");
     return 0;

@@ -61,8 +61,8 @@ enum json_patch_number {
     JSON_PATCH_WRONG_SHAPE = 8,         /* patch not of the right shape: op */
     JSON_PATCH_TOO_MANY_OPERATIONS = 9, /* more than 256 operations */
     JSON_PATCH_MALFORMED_POINTER = 10,  /* malformed pointer: op */
-    JSON_PATCH_LOCATION_MISSING = 11,   /* location missing: op */
-    JSON_PATCH_NO_INDEX = 12,           /* token is no array index: op */
+    JSON_PATCH_LOCATION_MISSING = 11,   /* location missing: op, place, pointer */
+    JSON_PATCH_NO_INDEX = 12,           /* token is no array index: op, place, pointer */
     JSON_PATCH_REMOVE_OF_ROOT = 13,     /* remove of the root: op */
     JSON_PATCH_MOVE_INTO_CHILD = 14,    /* move into its own child: op */
     JSON_PATCH_TEST_DIFFERS = 15,       /* test found a difference: op */
@@ -73,13 +73,19 @@ enum json_patch_number {
 #define JSON_PATCH_TEXT_DOCUMENT 1
 #define JSON_PATCH_TEXT_PATCH 2
 
-/* The answer. A field that its number does not set is 0. */
+/* The pointer that an answer speaks of: which member of the operation it is. */
+#define JSON_PATCH_POINTER_PATH 1
+#define JSON_PATCH_POINTER_FROM 2
+
+/* The answer. A field that its number does not set is 0. With 11 and 12, place
+ * is the count of tokens of that pointer walked before the one that failed. */
 typedef struct json_patch_answer {
-    uint64_t number; /* 0, or that of the refusal */
-    uint64_t text;   /* 1 document, 2 patch, else 0 */
-    uint64_t op;     /* the operation, counted from 1, else 0 */
-    uint64_t place;  /* a byte offset, else 0 */
-    uint64_t length; /* the written length, 0 on refusal */
+    uint64_t number;  /* 0, or that of the refusal */
+    uint64_t text;    /* 1 document, 2 patch, else 0 */
+    uint64_t op;      /* the operation, counted from 1, else 0 */
+    uint64_t place;   /* a byte offset, or with 11 and 12 the tokens walked, else 0 */
+    uint64_t pointer; /* with 11 and 12: 1 path, 2 from, else 0 */
+    uint64_t length;  /* the written length, 0 on refusal */
 } json_patch_answer;
 
 /* A node of the work area: one value of the document or of the patch, in one
@@ -252,6 +258,7 @@ static inline size_t json_patch_put_number_(char *buffer, size_t size, size_t at
  *     done: 32 bytes written
  *     refused 3: patch, byte 37: not JSON text
  *     refused 15: operation 1: the test found a difference
+ *     refused 11: operation 2: `path`, after 1 token: the location does not exist
  * As snprintf: at most size bytes are laid down, the last of them a zero, and
  * the length of the whole description is given. 128 bytes hold any. */
 static inline size_t json_patch_describe(const json_patch_answer *answer, char *buffer, size_t size) {
@@ -274,6 +281,12 @@ static inline size_t json_patch_describe(const json_patch_answer *answer, char *
         if (answer->op) {
             at = json_patch_put_text_(buffer, room, at, ": operation ");
             at = json_patch_put_number_(buffer, room, at, answer->op);
+        }
+        if (answer->pointer) {
+            const char *name = answer->pointer == JSON_PATCH_POINTER_FROM ? ": `from`, after " : ": `path`, after ";
+            at = json_patch_put_text_(buffer, room, at, name);
+            at = json_patch_put_number_(buffer, room, at, answer->place);
+            at = json_patch_put_text_(buffer, room, at, answer->place == 1 ? " token" : " tokens");
         }
         at = json_patch_put_text_(buffer, room, at, ": ");
         at = json_patch_put_text_(buffer, room, at, json_patch_message(answer->number));

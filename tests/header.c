@@ -29,12 +29,13 @@ static void described(json_patch_answer answer, const char *words) {
     }
 }
 
-static json_patch_answer made(uint64_t number, uint64_t text, uint64_t op, uint64_t place, uint64_t length) {
+static json_patch_answer made(uint64_t number, uint64_t text, uint64_t op, uint64_t place, uint64_t pointer, uint64_t length) {
     json_patch_answer answer;
     answer.number = number;
     answer.text = text;
     answer.op = op;
     answer.place = place;
+    answer.pointer = pointer;
     answer.length = length;
     return answer;
 }
@@ -42,22 +43,47 @@ static json_patch_answer made(uint64_t number, uint64_t text, uint64_t op, uint6
 static void words(void) {
     json_patch_answer longest;
     uint64_t number;
-    described(made(0, 0, 0, 0, 32), "done: 32 bytes written");
-    described(made(0, 0, 0, 0, 1), "done: 1 byte written");
-    described(made(1, 0, 0, 0, 0), "refused 1: the work area is shorter than stated");
-    described(made(2, 2, 0, 0, 0), "refused 2: patch: the text is longer than 32,768 bytes");
-    described(made(3, 1, 0, 0, 0), "refused 3: document, byte 0: not JSON text");
-    described(made(5, 2, 0, 37, 0), "refused 5: patch, byte 37: more than 32 nested containers");
-    described(made(5, 0, 4, 0, 0), "refused 5: operation 4: more than 32 nested containers");
-    described(made(8, 0, 0, 0, 0), "refused 8: the patch is malformed");
-    described(made(15, 0, 256, 0, 0), "refused 15: operation 256: the test found a difference");
-    described(made(999, 0, UINT64_MAX, 0, 0), "refused 999: operation 18446744073709551615: unknown answer");
+    described(made(0, 0, 0, 0, 0, 32), "done: 32 bytes written");
+    described(made(0, 0, 0, 0, 0, 1), "done: 1 byte written");
+    described(made(1, 0, 0, 0, 0, 0), "refused 1: the work area is shorter than stated");
+    described(made(2, 2, 0, 0, 0, 0), "refused 2: patch: the text is longer than 32,768 bytes");
+    described(made(3, 1, 0, 0, 0, 0), "refused 3: document, byte 0: not JSON text");
+    described(made(5, 2, 0, 37, 0, 0), "refused 5: patch, byte 37: more than 32 nested containers");
+    described(made(5, 0, 4, 0, 0, 0), "refused 5: operation 4: more than 32 nested containers");
+    described(made(8, 0, 0, 0, 0, 0), "refused 8: the patch is malformed");
+    described(made(11, 0, 1, 0, 1, 0), "refused 11: operation 1: `path`, after 0 tokens: the location does not exist");
+    described(made(11, 0, 2, 1, 1, 0), "refused 11: operation 2: `path`, after 1 token: the location does not exist");
+    described(made(12, 0, 3, 2, 2, 0), "refused 12: operation 3: `from`, after 2 tokens: a token is not an array index");
+    described(made(15, 0, 256, 0, 0, 0), "refused 15: operation 256: the test found a difference");
+    described(made(999, 0, UINT64_MAX, 0, 0, 0), "refused 999: operation 18446744073709551615: unknown answer");
     for (number = 0; number <= 16; number++) {
         expect(json_patch_message(number)[0] != '\0', "a message");
         expect(strcmp(json_patch_message(number), json_patch_message(17)) != 0, "a message of its own");
-        longest = made(number, 1, UINT64_MAX, UINT64_MAX, UINT64_MAX);
+        const int lost = number == JSON_PATCH_LOCATION_MISSING || number == JSON_PATCH_NO_INDEX;
+        longest = made(number, 1, UINT64_MAX, UINT64_MAX, lost ? JSON_PATCH_POINTER_FROM : 0, UINT64_MAX);
         expect(json_patch_describe(&longest, NULL, 0) < 128, "128 bytes hold any");
     }
+}
+
+/* Every field of an answer, after a call with an answer that held other numbers. */
+static void answered(const char *document, const char *patch, json_patch_answer wanted) {
+    json_patch_answer answer;
+    char output[16];
+    memset(&answer, 0xa5, sizeof answer);
+    json_patch_apply_with(document, strlen(document), patch, strlen(patch), output, sizeof output, &work, &answer);
+    expect(memcmp(&answer, &wanted, sizeof answer) == 0, patch);
+}
+
+static void pointers(void) {
+    answered("{\"a\":[1,3]}", "[{\"op\":\"add\",\"path\":\"/a/3\",\"value\":2}]",
+             made(JSON_PATCH_LOCATION_MISSING, 0, 1, 1, JSON_PATCH_POINTER_PATH, 0));
+    answered("{\"a\":[1,3]}", "[{\"op\":\"test\",\"path\":\"/a/0\",\"value\":1},{\"op\":\"remove\",\"path\":\"/b\"}]",
+             made(JSON_PATCH_LOCATION_MISSING, 0, 2, 0, JSON_PATCH_POINTER_PATH, 0));
+    answered("{\"a\":[1,[3]]}", "[{\"op\":\"copy\",\"path\":\"\",\"from\":\"/a/1/x/y\"}]",
+             made(JSON_PATCH_NO_INDEX, 0, 1, 2, JSON_PATCH_POINTER_FROM, 0));
+    answered("{\"a\":[1,3]}", "[{\"op\":\"test\",\"path\":\"/a/0\",\"value\":2}]", made(JSON_PATCH_TEST_DIFFERS, 0, 1, 0, 0, 0));
+    answered("[1,]", "[]", made(JSON_PATCH_NOT_JSON, JSON_PATCH_TEXT_DOCUMENT, 0, 3, 0, 0));
+    answered("[1 ]", "[]", made(JSON_PATCH_DONE, 0, 0, 0, 0, 3));
 }
 
 static void calls(void) {
@@ -108,6 +134,7 @@ static void layout(void) {
     expect(offsetof(json_patch_node, start) == 4 && offsetof(json_patch_node, length) == 6, "the text's offsets");
     expect(offsetof(json_patch_node, span) == 8 && offsetof(json_patch_node, hash) == 10, "the offsets of span and hash");
     expect(offsetof(json_patch_node, tags) == 12 && offsetof(json_patch_node, origin) == 14, "the offsets of tags and origin");
+    expect(sizeof(json_patch_answer) == 48 && offsetof(json_patch_answer, pointer) == 32, "the answer's layout");
     expect(sizeof work == 114688 && offsetof(json_patch_work, index) == 98304, "a work area of 112 KiB");
 }
 
@@ -225,6 +252,7 @@ static void cleared(void) {
 
 int main(void) {
     words();
+    pointers();
     calls();
     layout();
     dumped();

@@ -21,8 +21,8 @@ int main(int argc, char **argv) {
     json_patch_apply(document, document_length, patch, patch_length, output, sizeof output, nodes, JSON_PATCH_WORK_NODES, \
                      entries, JSON_PATCH_WORK_ENTRIES, &answer)
     if (CALL() != JSON_PATCH_DONE) {
-        fprintf(stderr, "error: refused %d text %d op %d place %d\n", (int)answer.number, (int)answer.text, (int)answer.op,
-                (int)answer.place);
+        fprintf(stderr, "error: refused %d text %d op %d place %d pointer %d\n", (int)answer.number, (int)answer.text,
+                (int)answer.op, (int)answer.place, (int)answer.pointer);
         if (calls == 0) return 1;
     }
     if (calls == 0) {

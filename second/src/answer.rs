@@ -13,8 +13,12 @@ pub struct Answer {
     pub text: u32,
     /// The operation, counted from 1, else 0.
     pub op: u32,
-    /// A byte offset, else 0.
+    /// A byte offset; with 11 and 12 the tokens walked before the one that
+    /// failed; else 0.
     pub place: usize,
+    /// With 11 and 12, the pointer that leads nowhere: 1 for `path`, 2 for
+    /// `from`; else 0.
+    pub pointer: u32,
     /// The written text, empty on refusal.
     pub written: Vec<u8>,
 }
@@ -40,8 +44,8 @@ fn attempt(document: &[u8], patch: &[u8], room: usize) -> Result<Vec<u8>, Answer
     }
     let document = reader::read(document).map_err(|r| in_text(r.number, DOCUMENT, r.place))?;
     let patch = reader::read(patch).map_err(|r| in_text(r.number, PATCH, r.place))?;
-    let operations = patch::shape(&patch).map_err(|r| at_op(r.number, r.op))?;
-    let result = operations::run(document, &operations).map_err(|r| at_op(r.number, r.op))?;
+    let operations = patch::shape(&patch).map_err(at_op)?;
+    let result = operations::run(document, &operations).map_err(at_op)?;
     let written = writer::write(&result);
     if written.len() > room {
         return Err(plain(NO_ROOM));
@@ -50,23 +54,24 @@ fn attempt(document: &[u8], patch: &[u8], room: usize) -> Result<Vec<u8>, Answer
 }
 
 fn plain(number: u32) -> Answer {
-    Answer { number, text: 0, op: 0, place: 0, written: Vec::new() }
+    Answer { number, text: 0, op: 0, place: 0, pointer: 0, written: Vec::new() }
 }
 
 fn in_text(number: u32, text: u32, place: usize) -> Answer {
     Answer { text, place, ..plain(number) }
 }
 
-fn at_op(number: u32, op: u32) -> Answer {
-    Answer { op, ..plain(number) }
+fn at_op(refusal: patch::Refusal) -> Answer {
+    let patch::Refusal { number, op, place, pointer } = refusal;
+    Answer { op, place, pointer, ..plain(number) }
 }
 
 /// The line the patch tool prints for an answer, without the newline.
 pub fn line(answer: &Answer) -> Vec<u8> {
-    let Answer { number, text, op, place, written } = answer;
+    let Answer { number, text, op, place, pointer, written } = answer;
     if *number == 0 {
         written.clone()
     } else {
-        format!("refused {number} text {text} op {op} place {place}").into_bytes()
+        format!("refused {number} text {text} op {op} place {place} pointer {pointer}").into_bytes()
     }
 }

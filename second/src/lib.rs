@@ -27,7 +27,7 @@ mod strings;
 pub mod tool;
 pub mod value;
 pub mod vectors;
-mod walk;
+pub mod walk;
 pub mod writer;
 
 pub use answer::{apply, line, Answer};

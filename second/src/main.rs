@@ -26,7 +26,7 @@ const USAGE: &str = "usage:
 
 /// The line of a call whose work area is too short. This program has none, so
 /// no case can say it.
-const SHORT_WORK: &[u8] = b"work-a-record-short: refused 1 text 0 op 0 place 0\n";
+const SHORT_WORK: &[u8] = b"work-a-record-short: refused 1 text 0 op 0 place 0 pointer 0\n";
 
 /// How a command ends when it does not end well.
 enum Trouble {

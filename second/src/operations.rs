@@ -1,18 +1,18 @@
 //! The six operations, and running a list of them.
 
 use crate::limits::{MOST_LEVELS, MOST_NODES};
-use crate::patch::{Operation, Refusal};
+use crate::patch::{refusal, Operation, Refusal};
 use crate::refusals::{DIFFERENT, MISSING, ROOT_REMOVED, TOO_DEEP, TOO_MANY_NODES};
 use crate::value::{equal, Member, Value};
-use crate::walk::{find, find_mut, index, position, Index};
+use crate::walk::{find, find_mut, index, position, Index, Lost};
 
 /// Runs all operations, with both limits after each.
 pub fn run(document: Value, operations: &[Operation]) -> Result<Value, Refusal> {
     let mut document = document;
     for (op, operation) in (1..).zip(operations) {
-        document = step(document, operation).map_err(|number| Refusal { number, op })?;
+        document = step(document, operation).map_err(|fault| fault.at(op))?;
         if document.nodes() > MOST_NODES {
-            return Err(Refusal { number: TOO_MANY_NODES, op });
+            return Err(refusal(TOO_MANY_NODES, op));
         }
     }
     Ok(document)
@@ -23,48 +23,75 @@ pub fn run(document: Value, operations: &[Operation]) -> Result<Value, Refusal> 
 pub fn bare_run(document: Value, operations: &[Operation]) -> Result<Value, Refusal> {
     let mut document = document;
     for (op, operation) in (1..).zip(operations) {
-        document = step(document, operation).map_err(|number| Refusal { number, op })?;
+        document = step(document, operation).map_err(|fault| fault.at(op))?;
     }
     Ok(document)
 }
 
-/// One step of a bare run: the document after the operation, or the number of
-/// its own refusal, or 5 if the result is too deep.
-pub fn step(document: Value, operation: &Operation) -> Result<Value, u32> {
+/// One step of a bare run: the document after the operation, or why that is
+/// refused, or 5 if the result is too deep.
+pub fn step(document: Value, operation: &Operation) -> Result<Value, Fault> {
     let mut document = document;
     perform(&mut document, operation)?;
     if document.depth() > MOST_LEVELS {
-        return Err(TOO_DEEP);
+        return Err(Fault::Other(TOO_DEEP));
     }
     Ok(document)
+}
+
+/// Why an operation is refused.
+#[derive(Clone, Copy, Debug)]
+pub enum Fault {
+    /// `path` leads nowhere.
+    Path(Lost),
+    /// `from` leads nowhere.
+    From(Lost),
+    /// Anything else, by its number.
+    Other(u32),
+}
+
+impl Fault {
+    /// The refusal, given at that operation.
+    fn at(self, op: u32) -> Refusal {
+        match self {
+            Fault::Path(Lost { number, walked }) => {
+                Refusal { number, op, place: walked, pointer: 1 }
+            }
+            Fault::From(Lost { number, walked }) => {
+                Refusal { number, op, place: walked, pointer: 2 }
+            }
+            Fault::Other(number) => refusal(number, op),
+        }
+    }
 }
 
 /// Performs one operation. After a refusal the document is of no more use: a
 /// move may have taken a value out of it already.
-fn perform(document: &mut Value, operation: &Operation) -> Result<(), u32> {
+fn perform(document: &mut Value, operation: &Operation) -> Result<(), Fault> {
     match operation {
-        Operation::Add { path, value } => add(document, path, value.clone()),
-        Operation::Remove { path } => remove(document, path).map(drop),
+        Operation::Add { path, value } => add(document, path, value.clone()).map_err(Fault::Path),
+        Operation::Remove { path } if path.is_empty() => Err(Fault::Other(ROOT_REMOVED)),
+        Operation::Remove { path } => take(document, path).map(drop).map_err(Fault::Path),
         Operation::Replace { path, value } => {
-            *find_mut(document, path)? = value.clone();
+            *find_mut(document, path).map_err(Fault::Path)? = value.clone();
             Ok(())
         }
         // The root can only be moved to the root (all else is a move into its
         // own child), and that changes nothing.
         Operation::Move { from, path } if from.is_empty() && path.is_empty() => Ok(()),
         Operation::Move { from, path } => {
-            let value = remove(document, from)?;
-            add(document, path, value)
+            let value = take(document, from).map_err(Fault::From)?;
+            add(document, path, value).map_err(Fault::Path)
         }
         Operation::Copy { from, path } => {
-            let value = find(document, from)?.clone();
-            add(document, path, value)
+            let value = find(document, from).map_err(Fault::From)?.clone();
+            add(document, path, value).map_err(Fault::Path)
         }
         Operation::Test { path, value } => {
-            if equal(find(document, path)?, value) {
+            if equal(find(document, path).map_err(Fault::Path)?, value) {
                 Ok(())
             } else {
-                Err(DIFFERENT)
+                Err(Fault::Other(DIFFERENT))
             }
         }
     }
@@ -72,12 +99,13 @@ fn perform(document: &mut Value, operation: &Operation) -> Result<(), u32> {
 
 /// Adds a value: at the root it becomes the document, in an object it replaces
 /// the member of that name at its position or goes last, in an array it is
-/// inserted.
-fn add(document: &mut Value, path: &[String], value: Value) -> Result<(), u32> {
+/// inserted. The last token can fail as any other: all before it were walked.
+fn add(document: &mut Value, path: &[String], value: Value) -> Result<(), Lost> {
     let Some((last, parents)) = path.split_last() else {
         *document = value;
         return Ok(());
     };
+    let lost = |number| Lost { number, walked: parents.len() };
     match find_mut(document, parents)? {
         Value::Object(members) => {
             match members.iter_mut().find(|member| member.name == *last) {
@@ -87,27 +115,28 @@ fn add(document: &mut Value, path: &[String], value: Value) -> Result<(), u32> {
             Ok(())
         }
         Value::Array(items) => {
-            match index(last)? {
+            match index(last).map_err(lost)? {
                 Index::End => items.push(value),
                 Index::At(at) if at <= items.len() => items.insert(at, value),
-                Index::At(_) => return Err(MISSING),
+                Index::At(_) => return Err(lost(MISSING)),
             }
             Ok(())
         }
-        _ => Err(MISSING),
+        _ => Err(lost(MISSING)),
     }
 }
 
-/// Takes the value at the path out of the document.
-fn remove(document: &mut Value, path: &[String]) -> Result<Value, u32> {
+/// Takes the value at the path out of the document; a root leaves null.
+fn take(document: &mut Value, path: &[String]) -> Result<Value, Lost> {
     let Some((last, parents)) = path.split_last() else {
-        return Err(ROOT_REMOVED);
+        return Ok(std::mem::replace(document, Value::Null));
     };
+    let lost = |number| Lost { number, walked: parents.len() };
     let parent = find_mut(document, parents)?;
-    let at = position(parent, last)?;
+    let at = position(parent, last).map_err(lost)?;
     match parent {
         Value::Object(members) => Ok(members.remove(at).value),
         Value::Array(items) => Ok(items.remove(at)),
-        _ => Err(MISSING),
+        _ => Err(lost(MISSING)),
     }
 }

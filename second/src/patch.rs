@@ -27,19 +27,29 @@ pub struct Refusal {
     pub number: u32,
     /// The operation, counted from 1.
     pub op: u32,
+    /// For a pointer that leads nowhere, the tokens walked before the one that
+    /// failed; else 0.
+    pub place: usize,
+    /// Which pointer that is: 1 for `path`, 2 for `from`; else 0.
+    pub pointer: u32,
+}
+
+/// A refusal that speaks of no pointer's way.
+pub fn refusal(number: u32, op: u32) -> Refusal {
+    Refusal { number, op, place: 0, pointer: 0 }
 }
 
 /// The operations of a patch.
 pub fn shape(patch: &Value) -> Result<Vec<Operation>, Refusal> {
     let Value::Array(elements) = patch else {
-        return Err(Refusal { number: WRONG_SHAPE, op: 0 });
+        return Err(refusal(WRONG_SHAPE, 0));
     };
     if elements.len() > MOST_OPERATIONS {
-        return Err(Refusal { number: TOO_MANY_OPERATIONS, op: 0 });
+        return Err(refusal(TOO_MANY_OPERATIONS, 0));
     }
     (1..)
         .zip(elements)
-        .map(|(op, element)| operation(element).map_err(|number| Refusal { number, op }))
+        .map(|(op, element)| operation(element).map_err(|number| refusal(number, op)))
         .collect()
 }
 

@@ -19,6 +19,7 @@ mod pointers;
 mod reading;
 mod shape;
 mod strings;
+mod walks;
 
 /// A case and the line it must give.
 #[derive(Clone, Debug)]
@@ -49,6 +50,9 @@ pub fn all() -> Vec<Vector> {
         rows("index", pointers::INDEX_ROWS),
         rows("operation", operations::ROWS),
         rows("order", operations::ORDER_ROWS),
+        rows("walk", walks::ROWS),
+        walks::vectors(),
+        walks::long(),
         rows("equality", equality::ROWS),
         equality::vectors(),
         objects::vectors(),
@@ -89,10 +93,16 @@ fn reads(
 
 /// The line of a document refused by the reader.
 fn refused(number: u32, place: usize) -> String {
-    format!("refused {number} text 1 op 0 place {place}")
+    format!("refused {number} text 1 op 0 place {place} pointer 0")
 }
 
-/// The line of a refused operation.
+/// The line of a pointer that leads nowhere: so many tokens were walked, and it
+/// is 1 for `path`, 2 for `from`.
+fn refused_pointer(number: u32, op: usize, walked: usize, pointer: u32) -> String {
+    format!("refused {number} text 0 op {op} place {walked} pointer {pointer}")
+}
+
+/// The line of an operation refused for another reason.
 fn refused_op(number: u32, op: usize) -> String {
-    format!("refused {number} text 0 op {op} place 0")
+    format!("refused {number} text 0 op {op} place 0 pointer 0")
 }

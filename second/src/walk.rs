@@ -3,6 +3,15 @@
 use crate::refusals::{MISSING, NO_INDEX};
 use crate::value::Value;
 
+/// A pointer that leads nowhere.
+#[derive(Clone, Copy, Debug, PartialEq, Eq)]
+pub struct Lost {
+    /// The refusal's number, 11 or 12.
+    pub number: u32,
+    /// How many tokens were walked before the one that failed.
+    pub walked: usize,
+}
+
 /// What a token means in an array.
 pub enum Index {
     /// `-`, the end of the array.
@@ -41,28 +50,30 @@ pub fn position(container: &Value, token: &str) -> Result<usize, u32> {
 }
 
 /// The value at the tokens.
-pub fn find<'a>(root: &'a Value, tokens: &[String]) -> Result<&'a Value, u32> {
+pub fn find<'a>(root: &'a Value, tokens: &[String]) -> Result<&'a Value, Lost> {
     let mut here = root;
-    for token in tokens {
-        let at = position(here, token)?;
+    for (walked, token) in tokens.iter().enumerate() {
+        let lost = |number| Lost { number, walked };
+        let at = position(here, token).map_err(lost)?;
         here = match here {
             Value::Array(items) => &items[at],
             Value::Object(members) => &members[at].value,
-            _ => return Err(MISSING),
+            _ => return Err(lost(MISSING)),
         };
     }
     Ok(here)
 }
 
 /// The value at the tokens, to be changed.
-pub fn find_mut<'a>(root: &'a mut Value, tokens: &[String]) -> Result<&'a mut Value, u32> {
+pub fn find_mut<'a>(root: &'a mut Value, tokens: &[String]) -> Result<&'a mut Value, Lost> {
     let mut here = root;
-    for token in tokens {
-        let at = position(here, token)?;
+    for (walked, token) in tokens.iter().enumerate() {
+        let lost = |number| Lost { number, walked };
+        let at = position(here, token).map_err(lost)?;
         here = match here {
             Value::Array(items) => &mut items[at],
             Value::Object(members) => &mut members[at].value,
-            _ => return Err(MISSING),
+            _ => return Err(lost(MISSING)),
         };
     }
     Ok(here)

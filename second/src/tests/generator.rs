@@ -19,6 +19,26 @@ fn every_refusal_occurs_in_five_thousand_cases() {
 }
 
 #[test]
+fn both_pointers_fail_at_every_one_of_four_tokens() {
+    let mut seen: BTreeMap<(u32, u32, usize), usize> = BTreeMap::new();
+    for index in 0..20_000 {
+        let case = case(7, index);
+        let answer = crate::apply(&case.document, &case.patch, 65_536);
+        if answer.pointer != 0 {
+            *seen.entry((answer.number, answer.pointer, answer.place)).or_default() += 1;
+        }
+    }
+    for number in [11, 12] {
+        for pointer in [1, 2] {
+            for place in 0..4 {
+                let times = seen.get(&(number, pointer, place)).copied().unwrap_or(0);
+                assert!(times >= 1, "{number} {pointer} {place}: {seen:?}");
+            }
+        }
+    }
+}
+
+#[test]
 fn the_same_seed_gives_the_same_cases() {
     for index in 0..200 {
         assert_eq!(case(3, index), case(3, index));

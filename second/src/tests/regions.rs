@@ -19,6 +19,7 @@ struct Seen {
     too_deep: usize,
     too_many_nodes: usize,
     too_many_nodes_then_failure: usize,
+    lost: usize,
 }
 
 #[test]
@@ -33,6 +34,7 @@ fn shuffles_of_patches_in_separate_regions() {
     let least = [both_succeed, one_fails, both_fail, too_deep, too_many_nodes];
     assert!(least.into_iter().all(|times| times >= 50), "{seen:?}");
     assert!(seen.too_many_nodes_then_failure > 0, "{seen:?}");
+    assert!(seen.lost >= 50, "{seen:?}");
 }
 
 fn check(index: u64, random: &mut Random, shuffle: &Shuffle, seen: &mut Seen) {
@@ -82,16 +84,20 @@ fn check(index: u64, random: &mut Random, shuffle: &Shuffle, seen: &mut Seen) {
             seen.too_many_nodes += 1;
             seen.too_many_nodes_then_failure += usize::from(bare.is_err());
             assert_eq!((answer.number, answer.op), (6, op), "{index}");
+            assert_eq!((answer.place, answer.pointer), (0, 0), "{index}");
         }
         (None, Ok(result)) => {
             assert_eq!(answer.number, 0, "{index}");
             assert_eq!(answer.written, write(&result), "{index}");
         }
         (None, Err(end)) => {
-            assert_eq!((answer.number, answer.op), (end.number, end.op), "{index}");
+            let Refusal { number, op, place, pointer } = end;
+            assert_eq!((answer.number, answer.op), (number, op), "{index}");
+            assert_eq!((answer.place, answer.pointer), (place, pointer), "{index}");
+            seen.lost += usize::from(pointer != 0);
         }
     }
-    assert_eq!((answer.text, answer.place), (0, 0), "{index}");
+    assert_eq!(answer.text, 0, "{index}");
 }
 
 /// The operations of a patch that must be well formed.

@@ -38,7 +38,7 @@ fn it_prints_one_line() {
     );
     let bad = folder.file("bad", br#"[{"op":"test","path":"/mAh","value":3001}]"#);
     assert_eq!(output(&[document.clone(), good]), b"{\"mAh\":3000,\"cut\":[4.2,3.0,2.8]}\n");
-    assert_eq!(output(&[document, bad]), b"refused 15 text 0 op 1 place 0\n");
+    assert_eq!(output(&[document, bad]), b"refused 15 text 0 op 1 place 0 pointer 0\n");
 }
 
 #[test]
@@ -46,7 +46,7 @@ fn it_sees_that_a_file_is_too_long() {
     let folder = Folder::new("long");
     let document = folder.file("document", &b" ".repeat(1_000_000));
     let patch = folder.file("patch", b"[]");
-    assert_eq!(output(&[document, patch]), b"refused 2 text 1 op 0 place 0\n");
+    assert_eq!(output(&[document, patch]), b"refused 2 text 1 op 0 place 0 pointer 0\n");
 }
 
 #[test]

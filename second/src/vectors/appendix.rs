@@ -153,7 +153,7 @@ pub const EXAMPLES: &[Example] = &[
 { "op": "test", "path": "/baz", "value": "bar" }
 ]"#,
         result: None,
-        line: "refused 15 text 0 op 1 place 0",
+        line: "refused 15 text 0 op 1 place 0 pointer 0",
     },
     Example {
         name: "A.10",
@@ -193,7 +193,7 @@ pub const EXAMPLES: &[Example] = &[
 { "op": "add", "path": "/baz/bat", "value": "qux" }
 ]"#,
         result: None,
-        line: "refused 11 text 0 op 1 place 0",
+        line: "refused 11 text 0 op 1 place 0 pointer 1",
     },
     // No document is printed; the repeated name is refused whatever it is.
     Example {
@@ -203,7 +203,7 @@ pub const EXAMPLES: &[Example] = &[
 { "op": "add", "path": "/baz", "value": "qux", "op": "remove" }
 ]"#,
         result: None,
-        line: "refused 4 text 2 op 0 place 52",
+        line: "refused 4 text 2 op 0 place 52 pointer 0",
     },
     Example {
         name: "A.14",
@@ -232,7 +232,7 @@ pub const EXAMPLES: &[Example] = &[
 {"op": "test", "path": "/~01", "value": "10"}
 ]"#,
         result: None,
-        line: "refused 15 text 0 op 1 place 0",
+        line: "refused 15 text 0 op 1 place 0 pointer 0",
     },
     Example {
         name: "A.16",

@@ -110,7 +110,7 @@ const NO_ZEROS: &[(&str, &str)] = &[
 #[rustfmt::skip]
 pub const ROWS: &[Row] = &[
     ("member", r#"{"a":[{"b":1e1}]}"#, r#"[{"op":"test","path":"/a/0/b","value":10}]"#, r#"{"a":[{"b":1e1}]}"#),
-    ("member-differs", r#"{"a":[{"b":1e1}]}"#, r#"[{"op":"test","path":"/a/0","value":{"b":1}}]"#, "refused 15 text 0 op 1 place 0"),
+    ("member-differs", r#"{"a":[{"b":1e1}]}"#, r#"[{"op":"test","path":"/a/0","value":{"b":1}}]"#, "refused 15 text 0 op 1 place 0 pointer 0"),
     ("after-move", r#"{"a":1,"b":2}"#, r#"[{"op":"move","from":"/a","path":"/a"},{"op":"test","path":"","value":{"a":1,"b":2}}]"#, r#"{"b":2,"a":1}"#),
     ("copied-with-original", r#"{"a":[-0,"\u0000"]}"#, r#"[{"op":"copy","from":"/a","path":"/b"},{"op":"test","path":"/b","value":[-0.0,"\u0000"]}]"#, r#"{"a":[-0,"\u0000"],"b":[-0,"\u0000"]}"#),
 ];

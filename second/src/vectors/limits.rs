@@ -1,6 +1,6 @@
 //! Both sides of every limit, and the output's room.
 
-use super::{reads, refused, refused_op, vector, Vector};
+use super::{reads, refused, refused_op, refused_pointer, vector, Vector};
 
 /// All of them.
 pub fn vectors() -> Vec<Vector> {
@@ -59,27 +59,37 @@ fn lengths() -> Vec<Vector> {
     let padded = |short: &str, length: usize| short.to_string() + &" ".repeat(length - short.len());
     vec![
         vector("limit-document-32768", text(32_768), "[]", text(32_768)),
-        vector("limit-document-32769", text(32_769), "[]", "refused 2 text 1 op 0 place 0"),
+        vector(
+            "limit-document-32769",
+            text(32_769),
+            "[]",
+            "refused 2 text 1 op 0 place 0 pointer 0",
+        ),
         vector(
             "limit-document-32769-blank",
             padded("1", 32_769),
             "[]",
-            "refused 2 text 1 op 0 place 0",
+            "refused 2 text 1 op 0 place 0 pointer 0",
         ),
         vector("limit-patch-32768", "1", padded("[]", 32_768), "1"),
-        vector("limit-patch-32769", "1", padded("[]", 32_769), "refused 2 text 2 op 0 place 0"),
+        vector(
+            "limit-patch-32769",
+            "1",
+            padded("[]", 32_769),
+            "refused 2 text 2 op 0 place 0 pointer 0",
+        ),
         // Both too long: the document is told. Too long comes before all else.
         vector(
             "limit-both-32769",
             padded("1", 32_769),
             padded("[]", 32_769),
-            "refused 2 text 1 op 0 place 0",
+            "refused 2 text 1 op 0 place 0 pointer 0",
         ),
         vector(
             "limit-patch-32769-document-bad",
             "x",
             "x".repeat(32_769),
-            "refused 2 text 2 op 0 place 0",
+            "refused 2 text 2 op 0 place 0 pointer 0",
         ),
     ]
 }
@@ -117,14 +127,14 @@ fn depth() -> Vec<Vector> {
             "limit-depth-31-in-value",
             nest(31),
             format!("{in_value}{}}}]", nest(31)),
-            format!("refused 5 text 2 op 0 place {}", in_value.len() + 30),
+            format!("refused 5 text 2 op 0 place {} pointer 0", in_value.len() + 30),
         ),
         vector("limit-depth-30-in-other-member", "1", format!("{in_other}{}}}]", nest(30)), "1"),
         vector(
             "limit-depth-31-in-other-member",
             "1",
             format!("{in_other}{}}}]", nest(31)),
-            format!("refused 5 text 2 op 0 place {}", in_other.len() + 30),
+            format!("refused 5 text 2 op 0 place {} pointer 0", in_other.len() + 30),
         ),
     ]
 }
@@ -241,7 +251,7 @@ fn nodes() -> Vec<Vector> {
             "limit-nodes-2049-in-patch",
             "1",
             format!("{in_value}{}}}]", zeros(2_044)),
-            format!("refused 6 text 2 op 0 place {}", in_value.len() + 1 + 2 * 2_043),
+            format!("refused 6 text 2 op 0 place {} pointer 0", in_value.len() + 1 + 2 * 2_043),
         ),
     ]
 }
@@ -322,7 +332,7 @@ fn nodes_by_operations() -> Vec<Vector> {
             "limit-nodes-own-refusal-first",
             full_and_deep,
             patch(&[add("/x", "[1]")]),
-            refused_op(12, 1),
+            refused_pointer(12, 1, 0, 1),
         ),
     ]
 }
@@ -335,7 +345,7 @@ fn counts() -> Vec<Vector> {
     let mut cut = patch(&tests(257));
     cut.pop();
     let cut_at = cut.len();
-    let too_many = "refused 9 text 0 op 0 place 0";
+    let too_many = "refused 9 text 0 op 0 place 0 pointer 0";
     vec![
         vector("limit-operations-256", "1", patch(&tests(256)), "1"),
         vector("limit-operations-257", "1", patch(&tests(257)), too_many),
@@ -346,7 +356,7 @@ fn counts() -> Vec<Vector> {
             "limit-operations-257-cut",
             "1",
             cut,
-            format!("refused 3 text 2 op 0 place {cut_at}"),
+            format!("refused 3 text 2 op 0 place {cut_at} pointer 0"),
         ),
     ]
 }
@@ -358,7 +368,7 @@ fn room() -> Vec<Vector> {
         vector.case.room = room;
         vector
     };
-    let none = "refused 16 text 0 op 0 place 0";
+    let none = "refused 16 text 0 op 0 place 0 pointer 0";
     let insert = r#"[{"op":"add","path":"/a/1","value":2}]"#;
     let twice = patch(&vec![relocate("copy", "/0", "/0"); 2]);
     let long = |length: usize| format!("\"{}\"", "a".repeat(length));
@@ -380,9 +390,9 @@ fn room() -> Vec<Vector> {
             0,
             "1",
             r#"[{"op":"test","path":"","value":2}]"#,
-            "refused 15 text 0 op 1 place 0",
+            "refused 15 text 0 op 1 place 0 pointer 0",
         ),
-        fitted("room-after-reading", 0, "x", "[]", "refused 3 text 1 op 0 place 0"),
+        fitted("room-after-reading", 0, "x", "[]", "refused 3 text 1 op 0 place 0 pointer 0"),
         // Three strings of 21,844 bytes, two commas and two brackets; then
         // three strings a byte shorter, and four bytes more of a number.
         vector(
