@@ -4,6 +4,7 @@ mod appendix;
 mod generator;
 mod hex;
 mod links;
+mod makers;
 mod pairs;
 mod parts;
 mod regions;
