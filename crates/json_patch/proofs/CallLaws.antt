@@ -20,7 +20,7 @@ use Rattle.json_patch.specs.declared.answer.Answer.{Answer}
 use Rattle.json_patch.proofs.AnswerLaws.{answered-refusal, answered-as, work-suffices, answer-work-short, answer-same}
 
 -- a list whose first n entries were lent, came back as a part of the same length, and were cleared
-part-wiped : {A : Type 0} (n : ℕ) (zero : A) (xs part : List A) → n ≤ length xs → length part ≡ length (take n xs)
+pub part-wiped : {A : Type 0} (n : ℕ) (zero : A) (xs part : List A) → n ≤ length xs → length part ≡ length (take n xs)
     → filled zero (part ++ drop n xs) 0 n ≡ wiped true n zero xs
 unfolding wiped
 part-wiped n zero xs part long same =
