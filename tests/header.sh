@@ -1,8 +1,8 @@
 #!/bin/sh
 # Compiles tests/header.c with every compiler that is here, as C99, C11, C++11
 # and C++17, with many warnings as errors and under both sanitizers, and runs it.
-#   JSON_PATCH_LIB=DIR   where libjson_patch.a and librecord.a are, if not in
-#                        target/staticlib
+#   JSON_PATCH_LIB=DIR   where libjson_patch.a, libregion_call.a and librecord.a are,
+#                        if not in target/staticlib
 set -eu
 here=$(cd "$(dirname "$0")" && pwd)
 root=$(dirname "$here")
@@ -15,7 +15,7 @@ try() { # NAME COMPILER..
     name=$1
     shift
     "$@" $warnings $sanitizers -I"$root/include" -c "$here/header.c" -o "$out/$name.o"
-    "$1" $sanitizers "$out/$name.o" "$folder/libjson_patch.a" "$folder/librecord.a" -o "$out/$name"
+    "$1" $sanitizers "$out/$name.o" "$folder/libjson_patch.a" "$folder/libregion_call.a" "$folder/librecord.a" -o "$out/$name"
     printf '%s: ' "$name"
     "$out/$name"
 }

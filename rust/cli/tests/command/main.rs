@@ -4,6 +4,7 @@
 mod files;
 mod hex;
 mod links;
+mod regions;
 mod replacing;
 mod statuses;
 mod support;
