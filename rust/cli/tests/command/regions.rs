@@ -3,7 +3,8 @@
 use crate::support::{Folder, FIXED, PACK};
 
 /// A patch that a maker with the region `/cut` may send.
-const CUT: &str = r#"[{"op":"test","path":"/cut/0","value":4.2},{"op":"add","path":"/cut/-","value":2.8}]"#;
+const CUT: &str =
+    r#"[{"op":"test","path":"/cut/0","value":4.2},{"op":"add","path":"/cut/-","value":2.8}]"#;
 
 #[test]
 fn a_makers_patch_is_applied() {
