@@ -45,6 +45,11 @@ module _ (q : Altered) where
   unfolding atPath
   path-refused {number} {place} e f = rw e (ap (Performed.Refused number place) f)
 
+-- a walk along `from` that is lost
+pub from-refused : (number place : ℕ) {pointer : ℕ} → pointer ≡ pointerOf 2 number → Performed.Refused number place pointer ≡ atFrom number place
+unfolding atFrom
+from-refused number place f = ap (Performed.Refused number place) f
+
 -- ---- which pointer it is, of each number
 -- an operation without `from`
 pub which-path : (o : Operation.Operation) (v : Value.Value) → usesFrom (o .kind) ≡ false → (number : ℕ) → whichPointer o v number ≡ pointerOf 1 number
