@@ -54,7 +54,7 @@ use Rattle.region.proofs.ClaimTheorems.{shaped-within}
 use Rattle.region_call.specs.Stages.{RunWithinIs}
 
 -- ---- the region
-module _ {w : Table} {region out : Bytes} {used : ℕ} {r : Answer} where
+module _ {w : Table} (region : Bytes) {out : Bytes} {used : ℕ} {r : Answer} where
   pub region-malformed : accepted (regionTokens region) ≡ false → RefusalIs malformed-pointer 0 0 0 r → RunWithinIs w region out out used r
   unfolding patchedWithin accepted
   region-malformed e is v p d held short = go (regionTokens region) e
@@ -86,18 +86,18 @@ module _ {w : Table} {region : Bytes} {s : Shape} (shaped : PatchWithinIs w patc
 
     -- ---- the operations run: what has the shape of a maker's patch has that of a patch
     module _ (e : s ≡ Shape.Right) {nodes' : List Row} {told : Ran} (runs : RunIs w nodes' used told) where
-      within-ran : {out' : Bytes} → ({o : Run Value.Value} {q : Ran} → RanTo (w .texts) nodes' o q → told ≡ q → Answered (answerOf (length out) o) out out' r)
+      within-ran : {out' : Bytes} → ((o : Run Value.Value) (q : Ran) → RanTo (w .texts) nodes' o q → told ≡ q → Answered (answerOf (length out) o) out out' r)
           → RunWithinIs w region out out' used r
       unfolding onFinish
       within-ran go =
           within-tokens λ R q v p d held short.
           let (os, shape-is) = shape-right (shape-told q held) e in
           let plain : shape p ≡ finished os = shaped-so .right p os .1 (shaped-within .right R p os .0 shape-is .patch) in
-          rw shape-is (go (ran-told runs d held short os plain) refl)
+          rw shape-is (go (run limited 1 os v) told (ran-told runs d held short os plain) refl)
 
       pub within-stopped : {number op place pointer : ℕ} → told ≡ Ran.Refused number op place pointer → StoppedIs told r → RunWithinIs w region out out used r
       unfolding answerOf
-      within-stopped t is = within-ran go
+      within-stopped t is = within-ran λ o q. go
         where
           go : {o : Run Value.Value} {q : Ran} → RanTo (w .texts) nodes' o q → told ≡ q → Answered (answerOf (length out) o) out out r
           go (ran is d) f = absurd (let z : _≡_ {A = ℕ} 0 1 = cc in omega arith)
@@ -106,7 +106,7 @@ module _ {w : Table} {region : Bytes} {s : Shape} (shaped : PatchWithinIs w patc
       pub within-done : {rows : ℕ} {out' : Bytes} → told ≡ Ran.Done rows → WriteOutIs (table (w .texts) nodes') out out' r
           → RunWithinIs w region out out' used r
       unfolding answerOf
-      within-done {out' = out'} t writes = within-ran go
+      within-done {out' = out'} t writes = within-ran λ o q. go
         where
           go : {o : Run Value.Value} {q : Ran} → RanTo (w .texts) nodes' o q → told ≡ q → Answered (answerOf (length out) o) out out' r
           go (ran {used = n} {v = u} is d) f = rw is (writes n u d)
@@ -144,15 +144,15 @@ unfolding answerWithin
 within-same D P region lent lent' e o = rw (e, o)
 
 -- ---- the two texts read
-module _ {T : Texts} {region : Bytes} {w w' : Work} {told : Read} (long : workNodes ≤ length (w .nodes)) (longer : workEntries ≤ length (w .index))
+module _ {T : Texts} {w w' : Work} {told : Read} (long : workNodes ≤ length (w .nodes)) (longer : workEntries ≤ length (w .index))
     (short : length (T .document) ≤ maxBytes) (small : length (T .patch) ≤ maxBytes) (reads : DocumentIs T w w' told) where
   document-as-read : read (T .document) ≡ reading w (T .document)
   document-as-read = read-into w (T .document) long longer short
 
-  pub document-unread : {out : Bytes} {number place : ℕ} {r : Answer} → told ≡ Read.Refused number place → UnreadIs 1 told r
+  pub document-unread : (region : Bytes) {out : Bytes} {number place : ℕ} {r : Answer} → told ≡ Read.Refused number place → UnreadIs 1 told r
       → Answered (onDocumentWithin (length out) (read (T .document)) (T .patch) region) out out r
   unfolding onDocumentWithin
-  document-unread {number = number} {place} t is = rw (document-as-read ∙ text-refusal (reads .text) t) (answered-refusal (is number place t))
+  document-unread region {number = number} {place} t is = rw (document-as-read ∙ text-refusal (reads .text) t) (answered-refusal (is number place t))
 
   -- the document is read: then the patch
   module _ {next : Cursor} {used : ℕ} (t : told ≡ Read.Value next used) (same : length (w' .nodes) ≡ length (w .nodes))
@@ -161,18 +161,18 @@ module _ {T : Texts} {region : Bytes} {w w' : Work} {told : Read} (long : workNo
     patch-as-read : read (T .patch) ≡ reading w' (T .patch)
     patch-as-read = read-into w' (T .patch) (omega arith) (omega arith) small
 
-    pub patch-unread : {out : Bytes} {number place : ℕ} {r : Answer} → told-patch ≡ Read.Refused number place → UnreadIs 2 told-patch r
+    pub patch-unread : (region : Bytes) {out : Bytes} {number place : ℕ} {r : Answer} → told-patch ≡ Read.Refused number place → UnreadIs 2 told-patch r
         → Answered (onDocumentWithin (length out) (read (T .document)) (T .patch) region) out out r
     unfolding onDocumentWithin onPatchWithin
-    patch-unread {number = number} {place} e is =
+    patch-unread region {number = number} {place} e is =
         text-value (reads .text) t λ v reads-as few rooted changed.
         rw (document-as-read ∙ reads-as, patch-as-read ∙ text-refusal (reads-patch .text) e) (answered-refusal (is number place e))
 
-    pub patch-read : {out out' : Bytes} {after : Cursor} {end : ℕ} {r : Answer} → told-patch ≡ Read.Value after end → length (w'' .nodes) ≡ length (w' .nodes)
+    pub patch-read : (region : Bytes) {out out' : Bytes} {after : Cursor} {end : ℕ} {r : Answer} → told-patch ≡ Read.Value after end → length (w'' .nodes) ≡ length (w' .nodes)
         → RunWithinIs (table T (w'' .nodes)) region out out' used r
         → Answered (onDocumentWithin (length out) (read (T .document)) (T .patch) region) out out' r
     unfolding onDocumentWithin onPatchWithin
-    patch-read e kept runs =
+    patch-read region e kept runs =
         text-value (reads .text) t λ v reads-as few rooted changed.
         text-value (reads-patch .text) e λ p patch-as few-nodes rooted-patch changed-patch.
         let d = document-held rooted few (read-depth (T .document) v (document-as-read ∙ reads-as)) (omega arith) in

@@ -52,14 +52,7 @@ fn lend<'a>(
 ) -> Answer
     requires { ⌜ room ≤ length (now output) ⌝ }
 {
-    apply_within(
-        document,
-        patch,
-        region,
-        &mut output[..room],
-        nodes,
-        index,
-    )
+    apply_within(document, patch, region, &mut output[..room], nodes, index)
 }
 
 // The case's line, with another text in it where there is not as much room, or where the call has not left the memory
@@ -82,7 +75,15 @@ fn run_case<'a>(
     let node = [rubbish; 8];
     let mut nodes = [node; layout::ROWS];
     let mut index = [rubbish; index::SLOTS];
-    let answer = lend(document, patch, region, room, &mut output, &mut nodes, &mut index);
+    let answer = lend(
+        document,
+        patch,
+        region,
+        room,
+        &mut output,
+        &mut nodes,
+        &mut index,
+    );
     if !all_clear(&nodes) {
         say(b"the work area is not all zero\n");
         return;

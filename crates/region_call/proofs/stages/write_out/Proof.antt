@@ -10,7 +10,17 @@ pub write-out-spec : {M : Type 1} → statement M
 write-out-spec =
     tie.close
     (tie.spec
+    -- fits-requires
+    (λ c κs. search needs)
+    -- refused-requires
+    (λ c κs. search needs)
     -- returns
-    (λ c used v d. text-refused d _ (c .fits2 .ensures) (not-true _ (c .if1 .taken)) (c .refused .ensures))
+    (λ c used v d. text-refused d _ (c .before .before .fits2 .ensures) (not-true _ (c .before .if1 .taken)) (c .refused .ensures))
+    -- write-requires
+    (λ c κs. search needs)
+    -- success-requires
+    (λ c κs. search needs)
+    -- same-length
+    (λ c. search needs)
     -- returns-2
-    (λ c used v d. text-written d _ (c .fits2 .ensures) (not-false _ (c .if1 .left)) (c .write .ensures) (c .success .ensures)))
+    (λ c used v d. text-written d _ (c .before .before .before .before .before .before .fits2 .ensures) (not-false _ (c .before .before .before .before .before .if1 .left)) (c .before .before .before .write .ensures) (c .success .ensures)))
