@@ -28,7 +28,8 @@ use Rattle.fragment.specs.Scan.{verdict}
 use Rattle.fragment.specs.declared.scan.Verdict.{Verdict}
 use Rattle.fragment.specs.declared.scan.Verdict.the-variants as Verdict
 use Rattle.region.specs.Answer.{regionTokens}
-use Rattle.region.specs.Begins.{begins}
+use Rattle.text.specs.Letters.{isLetter}
+use Rattle.region.specs.Begins.{begins, Common, none, more}
 use Rattle.region.proofs.SpellLaws.{begins-tokens}
 
 -- ---- one character of the region
@@ -72,6 +73,11 @@ module _ (s : Bytes) (at : ℕ) (h : standsForItself (byte s at) ≡ true) where
       let (quote, backslash) = and-both (not (eqb b (code "\""))) _ others in
       rw (not-true (eqb b (code "\"")) quote, not-true (eqb b (code "\\")) backslash, bounds)
 
+-- a letter by itself stands for itself
+letter-stands : (s : Bytes) (at : ℕ) → isLetter (byte s at) ≡ true → standsForItself (byte s at) ≡ true
+unfolding isLetter
+letter-stands s at h = and-both (ltb (byte s at) (code "~")) (standsForItself (byte s at)) h .1
+
 -- ---- whether a text is a region
 
 module _ (s : Bytes) where
@@ -112,6 +118,12 @@ module _ (s : Bytes) where
 -- ---- a slash
 
 module _ (s : Bytes) (at : ℕ) where
+  pub slash-here : byte s at ≡ code "/" → true ≡ begins [] (decodeFrom s at)
+  unfolding begins standsForItself within
+  slash-here e =
+      let read : characterIn s at ≡ ok (byte s at, at + 1) = self-in s at (rw e) in
+      rw (decode-more s at (byte s at) (at + 1) read, eq-eqb (byte s at) (code "/") e)
+
   pub slash-none : {n p : ℕ} → characterIn s at ≡ refused n p → false ≡ begins [] (decodeFrom s at)
   unfolding begins
   slash-none e = rw (decode-ends s at e)
@@ -238,17 +250,9 @@ module _ {region part : Bytes} where
               let (others, is, r) = first-read region i inside e (l .reads) in
               record { left = others; reads = r; whole = l .whole ∙ firsts-same is (decode-more part j d after f) same }
 
--- ---- the same byte in both, given what the code looked at
-module _ {b : ℕ} {r : Bool} (part : Bytes) (j : ℕ) (there : b ≡ byte part j) (is : r ≡ standsForItself b) (self : r ≡ true) where
-  stands : standsForItself (byte part j) ≡ true
-  stands = ap standsForItself (sym there) ∙ sym is ∙ self
-
-  pub self-inside : j < length part
-  self-inside = omega (arith, in-past part j (self-in part j stands))
-
-pub ahead-self : {region part : Bytes} {i j b : ℕ} {r : Bool} → Ahead region part i j → i < length region → b ≡ byte part j → byte region i ≡ b
-    → r ≡ standsForItself b → r ≡ true → Ahead region part (i + 1) (j + 1)
-ahead-self {region} {part} {i} {j} ahead inside there same is self =
-    let here : byte region i ≡ byte part j = same ∙ there in
-    let both = stands part j there is self in
-    ahead-next ahead inside (self-at region i (ap standsForItself here ∙ both)) (self-in part j both) here
+-- ---- the bytes that both begin with
+pub ahead-common : (region part : Bytes) {i : ℕ} → Common region part i → Ahead region part i i
+ahead-common region part none = ahead-all region part
+ahead-common region part (more {i} c inside same letter) =
+    let both = letter-stands part i letter in
+    ahead-next (ahead-common region part c) inside (self-at region i (ap standsForItself same ∙ both)) (self-in part i both) same

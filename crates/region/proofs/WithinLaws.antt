@@ -32,7 +32,7 @@ use Rattle.tape.proofs.Held.{held-node}
 use Rattle.table.specs.Meaning.{partOf, members, meant}
 use Rattle.table.specs.Sound.{NodeHeld, RowsHeld}
 use Rattle.shape.specs.Kinds.{kindOutcome, answered, asks}
-use Rattle.shape.specs.Members.{TextIs, StringIs}
+use Rattle.shape.specs.Members.{ForNode, TextIs, StringIs}
 use Rattle.shape.specs.Operation as Shapes
 use Rattle.shape.specs.Operation.{Answers, OperationNumber, Knows, KindIs, MembersAre}
 use Rattle.shape.specs.Patch.{ShapeIs}
@@ -43,12 +43,12 @@ use Rattle.shape.specs.declared.members.Spelled.the-variants as Spelled
 use Rattle.shape.specs.declared.patch.Shape.{Shape}
 use Rattle.shape.specs.declared.patch.Shape.the-variants as Shape
 use Rattle.shape.proofs.KindLaws.{asks-known}
-use Rattle.shape.proofs.AnswerLaws.{answers-ok, answers-refused, text-refused, text-decoded, operation-kind, kind-refused, kind-known}
+use Rattle.shape.proofs.AnswerLaws.{answers-ok, answers-refused, text-decoded, operation-kind, kind-refused, kind-known}
 use Rattle.shape.proofs.RunLaws.{rows-children, rows-first, first-node, rows-next, one-more, array-here, counted}
 use Rattle.region.specs.Rule.{isMakers, isTest, kindPermitted, permitted, operationWithin, operationsWithin, elementsWithin, shapeWithin}
 use Rattle.region.specs.Answer.{regionTokens}
 use Rattle.region.specs.Within as Within
-use Rattle.region.specs.Within.{ElementNumber, ForRegion, PathIs, ElementIs, ElementsAre, PatchWithinIs}
+use Rattle.region.specs.Within.{ElementNumber, ForRegion, ElementIs, ElementsAre, PatchWithinIs}
 use Rattle.region.proofs.RuleLaws.{within-ok, within-broken, within-refused}
 
 -- ---- the kind that an operation may be of
@@ -99,17 +99,11 @@ said v o e =
     let (two, path-is) = said-pointers m o e₂ in
     record { kind = kind-is ∙ ap ok (one ∙ two); path = m .path; there = there; tokens-are = path-is }
 
--- ---- the path, each way out of `path_inside`
-module _ {w : Table} {row : ℕ} {region : Bytes} {path : Spelled} (is : StringIs w row (ascii "path") path) where
-  -- an operation has a path
-  pub path-missing : (r : Bool) → path ≡ Spelled.Not → PathIs w row region r
-  path-missing r e =
-      record {
-        held = λ R q c kids n o h.
-            let there : ok (said _ o h .path) ≡ refused wrong-shape 0 = sym (said _ o h .there) ∙ text-refused (is .held c kids n) e in
-            absurd (let z : _≡_ {A = ℕ} 0 1 = cc in omega arith);
-      }
+-- ---- the path: whether it begins with the region's tokens and has one more at least
+pub record PathIs (w : Table) (row : ℕ) (region : Bytes) (r : Bool) : Type 0 where
+  pub held : ForRegion region λ R. ForNode w row λ v. (o : Operation.Operation) → operation v ≡ ok o → r ≡ properPrefix R (o .path)
 
+module _ {w : Table} {row : ℕ} {region : Bytes} {path : Spelled} (is : StringIs w row (ascii "path") path) where
   pub path-judged : (s : Spelling) → path ≡ Spelled.As s → {bytes : Bytes} → bytes ≡ partOf (w .texts) s
       → {r : Bool} → PrefixOf (regionTokens region) (tokens (decode bytes)) r → PathIs w row region r
   path-judged s e {bytes} b judged =

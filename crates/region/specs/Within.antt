@@ -2,7 +2,6 @@
 -- tree is free; so is it in a region that is none.
 use Prim.Native.Nat.{ℕ}
 use mathlib.Core.Path.{_≡_}
-use mathlib.Core.Bool.{Bool}
 use mathlib.Core.List.{[]}
 use lib.ListN.{getD}
 use Rattle.spec.specs.Outcome.{ok}
@@ -10,8 +9,6 @@ use Rattle.spec.specs.Refusal.{wrong-shape, too-many-operations, not-permitted}
 use Rattle.spec.specs.Bytes.{Bytes}
 use Rattle.spec.specs.Forest.{Forest}
 use Rattle.spec.specs.Pointer.{Tokens}
-use Rattle.spec.specs.Operation as Operation
-use Rattle.spec.specs.Patch.{properPrefix, operation}
 use Rattle.tape.specs.Layout.{arrayKind}
 use Rattle.tape.specs.Fields.{kindOf}
 use Rattle.tape.specs.declared.fields.Cell.{Cell}
@@ -34,10 +31,6 @@ pub data ElementNumber : ℕ → Type 0 where
 -- what holds in the region, where it is one
 abbrev pub ForRegion : Bytes → (Tokens → Type 0) → Type 0
 ForRegion region Q = (R : Tokens) → regionTokens region ≡ ok R → Q R
-
--- whether the path of the operation in a row begins with the region's tokens and has one more at least
-pub record PathIs (w : Table) (row : ℕ) (region : Bytes) (r : Bool) : Type 0 where
-  pub held : ForRegion region λ R. ForNode w row λ v. (o : Operation.Operation) → operation v ≡ ok o → r ≡ properPrefix R (o .path)
 
 -- the element in a row, of the operation op
 pub record ElementIs (w : Table) (row op : ℕ) (region : Bytes) (r : ℕ) : Type 0 where

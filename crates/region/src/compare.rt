@@ -10,13 +10,13 @@ ghost use Rattle.pointer.specs.Tokens.{accepted};
 ghost use Rattle.pointer.specs.Prefix.{PrefixOf};
 ghost use Rattle.fragment.specs.Link.{characterAt};
 ghost use Rattle.region.specs.Answer.{regionTokens};
-ghost use Rattle.region.specs.Begins.{begins};
+ghost use Rattle.region.specs.Begins.{begins, Common};
 use fragment::Verdict;
 use fragment::verdict_of;
 use lexer::Character;
 use lexer::Cursor;
 use lexer::peek;
-use lexer::stands_for_itself;
+use text::letters::is_letter;
 use text::letters::string_letter;
 
 // Whether a text is a region: UTF-8, and a pointer.
@@ -42,10 +42,35 @@ fn character_at(s: &[u8], at: usize) -> Character
     (Cursor { at }).character(s)
 }
 
+// How many bytes a region and a part begin with that are the same and characters by themselves. Passed at once, they
+// need few tests each.
+fn common(region: &[u8], part: &[u8]) -> usize
+    ensures { λ r. ⌜ Common (now (region .entry)) (now (part .entry)) r ⌝ }
+{
+    let mut i = 0;
+    while i < region.len() {
+        if part.len() <= i {
+            return i;
+        }
+        let b = region[i];
+        if part[i] != b {
+            return i;
+        }
+        if !is_letter(b) {
+            return i;
+        }
+        i += 1;
+    }
+    i
+}
+
 // Whether a part goes on with a slash at a place.
 fn slash_at(part: &[u8], at: usize) -> bool
     ensures { λ r. ⌜ r ≡ begins [] (decodeFrom (now (part .entry)) at) ⌝ }
 {
+    if peek(part, at) == b'/' {
+        return true;
+    }
     match string_letter(part, at) {
         Character::Scalar(c, _) => c == 0x2F,
         Character::Refused(_) => false,
@@ -58,18 +83,10 @@ fn slash_at(part: &[u8], at: usize) -> bool
 pub fn is_inside(region: &[u8], part: &[u8]) -> bool
     ensures { λ r. ⌜ PrefixOf (regionTokens (now (region .entry))) (tokens (decode (now (part .entry)))) r ⌝ }
 {
-    let mut i = 0;
-    let mut j = 0;
+    let start = common(region, part);
+    let mut i = start;
+    let mut j = start;
     while i < region.len() {
-        // most characters are the same byte in both
-        let b = peek(part, j);
-        if region[i] == b {
-            if stands_for_itself(b) {
-                i += 1;
-                j += 1;
-                continue;
-            }
-        }
         let Character::Scalar(c, next) = character_at(region, i) else {
             return false;
         };

@@ -4,7 +4,7 @@ use shape::Kind;
 use shape::Shape;
 use shape::Spelled;
 use shape::kind_of;
-use shape::members_number;
+use shape::others_number;
 use shape::string_member;
 use shape::uses_of;
 use spec::limits;
@@ -20,7 +20,7 @@ ghost use mathlib.Core.Path.{_≡_};
 ghost use Rattle.tape.specs.Lent.{before};
 ghost use Rattle.shape.specs.Kinds.{asks};
 ghost use Rattle.region.specs.Rule.{isMakers, isTest, kindPermitted};
-ghost use Rattle.region.specs.Within.{PathIs, ElementIs, ElementsAre, PatchWithinIs};
+ghost use Rattle.region.specs.Within.{ElementIs, ElementsAre, PatchWithinIs};
 
 fn is_test(kind: Kind) -> bool
     ensures { λ r. ⌜ r ≡ asks isTest kind ⌝ }
@@ -61,16 +61,6 @@ fn kind_permitted(op: usize, kind: Kind) -> bool
     is_makers(kind)
 }
 
-// Whether the path of the operation in a row is strictly inside the region.
-fn path_inside<'a>(texts: Texts<'a>, nodes: &[Node], row: usize, region: &[u8]) -> bool
-    ensures { λ r. ⌜ PathIs (before texts nodes) row (now (region .entry)) r ⌝ }
-{
-    let Spelled::As(path) = string_member(texts, nodes, row, b"path") else {
-        return false;
-    };
-    is_inside(region, part(texts, path))
-}
-
 // Refused where the element in a row, which is operation `op`, is malformed, and then where it breaks the rule; 0
 // where it is neither.
 fn element_number<'a>(texts: Texts<'a>, nodes: &[Node], row: usize, op: usize, region: &[u8]) -> u8
@@ -80,14 +70,17 @@ fn element_number<'a>(texts: Texts<'a>, nodes: &[Node], row: usize, op: usize, r
     if !uses_of(kind).known {
         return refusal::WRONG_SHAPE;
     }
-    let number = members_number(texts, nodes, row, kind);
+    let Spelled::As(path) = string_member(texts, nodes, row, b"path") else {
+        return refusal::WRONG_SHAPE;
+    };
+    let number = others_number(texts, nodes, row, kind, path);
     if number != 0 {
         return number;
     }
     if !kind_permitted(op, kind) {
         return refusal::NOT_PERMITTED;
     }
-    if path_inside(texts, nodes, row, region) {
+    if is_inside(region, part(texts, path)) {
         return 0;
     }
     refusal::NOT_PERMITTED

@@ -1,6 +1,6 @@
 // Every committed case with a region, run through the library. For each a line: its name, and what the patch tool
-// would print of its answer, with as many bytes of output lent as the case says. The stored output is what the second program answers, so that each
-// run holds the two to each other.
+// would print of its answer, with as many bytes of output lent as the case says. The stored output is what the second
+// program answers, so that each run holds the two to each other.
 mod cases; // a case in the file of cases
 mod checks; // whether a buffer holds one and the same everywhere
 mod lines; // what is printed
