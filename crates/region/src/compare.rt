@@ -1,7 +1,7 @@
 // A region and the paths of operations, compared where they stand.
 ghost use mathlib.Core.Path.{_≡_};
 ghost use mathlib.Core.List.{[]};
-ghost use Prim.Native.Nat.{_<_};
+ghost use Prim.Native.Nat.{_≤_, _<_};
 ghost use lib.ListN.{length};
 ghost use Rattle.spec.specs.Pointer.{tokens};
 ghost use Rattle.lexer.specs.Answers.{characterOutcome};
@@ -42,16 +42,23 @@ fn character_at(s: &[u8], at: usize) -> Character
     (Cursor { at }).character(s)
 }
 
+fn least(a: usize, b: usize) -> usize
+    ensures { λ r. ⌜ (r ≤ a) × (r ≤ b) ⌝ }
+{
+    if a < b {
+        return a;
+    }
+    b
+}
+
 // How many bytes a region and a part begin with that are the same and characters by themselves. Passed at once, they
 // need few tests each.
 fn common(region: &[u8], part: &[u8]) -> usize
     ensures { λ r. ⌜ Common (now (region .entry)) (now (part .entry)) r ⌝ }
 {
+    let end = least(region.len(), part.len());
     let mut i = 0;
-    while i < region.len() {
-        if part.len() <= i {
-            return i;
-        }
+    while i < end {
         let b = region[i];
         if part[i] != b {
             return i;
