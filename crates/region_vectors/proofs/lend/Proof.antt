@@ -10,5 +10,17 @@ pub lend-spec : {M : Type 1} → statement M
 lend-spec =
     tie.close
     (tie.spec
+    -- slice-relend-prefix-apply-within
+    (λ c. search needs)
     -- slice-aggregate-apply-within
-    (λ c. sym (length-take-le (c .args .room) (c .args .output .now) (omega arith))))
+    (λ c. sym (length-take-le (c .before .before .before .before .before .before .args .room) (c .before .before .before .before .before .before .args .output .now) (omega arith)))
+    -- apply-within-requires
+    (λ c κs. search needs)
+    -- same-length
+    (λ c. search needs)
+    -- same-length-2
+    (λ c. search needs)
+    -- same-length-3
+    (λ c. search needs)
+    -- returns
+    (λ c. search needs))
