@@ -42,13 +42,15 @@ override JSON_PATCH_LIB := $(abspath $(or $(JSON_PATCH_LIB),target/staticlib))
 export JSON_PATCH_LIB
 
 out := target/make
-# As rt makes them: the call, the functions on one record, the links, Intel HEX, and the inspection.
+# As rt makes them: the call, the call with a region, the functions on one record,
+# the links, Intel HEX, and the inspection.
 proved_call := $(JSON_PATCH_LIB)/libjson_patch.a
+proved_region := $(JSON_PATCH_LIB)/libregion_call.a
 proved_record := $(JSON_PATCH_LIB)/librecord.a
 links := $(JSON_PATCH_LIB)/libfragment.a
 hex := $(JSON_PATCH_LIB)/libhex.a
 inspect := $(JSON_PATCH_LIB)/libinspect.a
-# The library as it is installed: the call and the records.
+# The library as it is installed: the two calls and the records.
 static := $(out)/libjson_patch.a
 shared := libjson_patch.so.$(VERSION)
 soname := libjson_patch.so.$(ABI)
@@ -67,7 +69,11 @@ $(proved_call): $(proved)
 	@touch $@
 
 # One after another: they prove the crates that they share.
-$(proved_record): $(proved_call)
+$(proved_region): $(proved_call)
+	rt staticlib region_call
+	@touch $@
+
+$(proved_record): $(proved_region)
 	rt staticlib record
 	@touch $@
 
@@ -85,10 +91,10 @@ $(inspect): $(hex)
 endif
 
 # The proved objects, unchanged, in one archive.
-$(static): $(proved_call) $(proved_record)
+$(static): $(proved_call) $(proved_region) $(proved_record)
 	@rm -rf $(out)/objects $@
 	@mkdir -p $(out)/objects
-	cd $(out)/objects && $(AR) x $(proved_call) && $(AR) x $(proved_record)
+	cd $(out)/objects && $(AR) x $(proved_call) && $(AR) x $(proved_region) && $(AR) x $(proved_record)
 	$(AR) rcs $@ $(out)/objects/*.o
 
 # The shared library is the archives, linked whole.
@@ -100,7 +106,7 @@ $(out)/$(shared): $(static) $(links) $(hex) $(inspect)
 $(out)/$(soname): $(out)/$(shared)
 	ln -sf $(shared) $@
 
-$(command): $(rust) $(proved_call) $(links) $(hex) $(inspect)
+$(command): $(rust) $(proved_call) $(proved_region) $(links) $(hex) $(inspect)
 	@mkdir -p $(out)
 	$(CARGO) build --release $(CARGO_FLAGS) --manifest-path rust/Cargo.toml --package json-patch-cli --target-dir rust/target
 	cp rust/target/release/json-patch $@

@@ -52,7 +52,7 @@ extern "C" {
 enum json_patch_number {
     JSON_PATCH_DONE = 0,                /* done: length */
     JSON_PATCH_WORK_TOO_SHORT = 1,      /* a work buffer is shorter than stated */
-    JSON_PATCH_INPUT_TOO_LONG = 2,      /* an input is too long, document first: text */
+    JSON_PATCH_INPUT_TOO_LONG = 2,      /* an input is too long, document first: text (0 for a region) */
     JSON_PATCH_NOT_JSON = 3,            /* not JSON text: text, place */
     JSON_PATCH_REPEATED_NAME = 4,       /* a member name repeated in one object: text, place */
     JSON_PATCH_TOO_DEEP = 5,            /* more than 32 nested: text, place; or op */
@@ -60,13 +60,14 @@ enum json_patch_number {
     JSON_PATCH_NUMBER_OVER_LIMIT = 7,   /* number over its limit: text, place */
     JSON_PATCH_WRONG_SHAPE = 8,         /* patch not of the right shape: op */
     JSON_PATCH_TOO_MANY_OPERATIONS = 9, /* more than 256 operations */
-    JSON_PATCH_MALFORMED_POINTER = 10,  /* malformed pointer: op */
+    JSON_PATCH_MALFORMED_POINTER = 10,  /* malformed pointer: op (0 for a region) */
     JSON_PATCH_LOCATION_MISSING = 11,   /* location missing: op, place, pointer */
     JSON_PATCH_NO_INDEX = 12,           /* token is no array index: op, place, pointer */
     JSON_PATCH_REMOVE_OF_ROOT = 13,     /* remove of the root: op */
     JSON_PATCH_MOVE_INTO_CHILD = 14,    /* move into its own child: op */
     JSON_PATCH_TEST_DIFFERS = 15,       /* test found a difference: op */
-    JSON_PATCH_OUTPUT_TOO_SHORT = 16    /* written text longer than the lent output */
+    JSON_PATCH_OUTPUT_TOO_SHORT = 16,   /* written text longer than the lent output */
+    JSON_PATCH_NOT_PERMITTED = 17       /* the rule of a region is broken: op */
 };
 
 /* The text that an answer speaks of. */
@@ -126,6 +127,26 @@ uint32_t json_patch_apply(const uint8_t *document, size_t document_length,
                           json_patch_node *nodes, size_t nodes_count,
                           uint16_t *index, size_t index_count,
                           json_patch_answer *answer);
+
+/* Applies the patch of a pack maker within a region, which is a pointer given as
+ * its text in UTF-8: no JSON string, and the empty one is the root. A maker sends
+ * only test, replace and add; the first operation is a test; every path begins
+ * with the region's tokens and has at least one more. What keeps that rule gets
+ * the answer of json_patch_apply.
+ *
+ * Three refusals more: 2 with text 0 for a region over 32,768 bytes, after the two
+ * texts' lengths; 10 with op 0 for a region that is malformed or not UTF-8, after
+ * both texts are read; 17 where the rule is broken, with the op of that operation,
+ * after its 8, 10 and 14, or with op 0 for a patch without operations. All else
+ * is as above. In libregion_call.a (`rt staticlib region_call`), and in
+ * -ljson_patch. */
+uint32_t json_patch_apply_within(const uint8_t *document, size_t document_length,
+                                 const uint8_t *patch, size_t patch_length,
+                                 const uint8_t *region, size_t region_length,
+                                 uint8_t *output, size_t output_length,
+                                 json_patch_node *nodes, size_t nodes_count,
+                                 uint16_t *index, size_t index_count,
+                                 json_patch_answer *answer);
 
 /* The work area as one object. It may hold anything before a call and is all
  * zero after one, so it can be lent again and again. It is too large for a small
@@ -211,6 +232,21 @@ static inline uint32_t json_patch_apply_with(const void *document, size_t docume
                             work->nodes, JSON_PATCH_WORK_NODES, work->index, JSON_PATCH_WORK_ENTRIES, answer);
 }
 
+/* json_patch_apply_within in a work area. A pointer may be null where its length
+ * is 0. */
+static inline uint32_t json_patch_apply_within_with(const void *document, size_t document_length,
+                                                    const void *patch, size_t patch_length,
+                                                    const void *region, size_t region_length,
+                                                    void *output, size_t output_length,
+                                                    json_patch_work *work, json_patch_answer *answer) {
+    uint8_t none = 0;
+    return json_patch_apply_within(document_length ? JSON_PATCH_AS_(const uint8_t *, document) : &none, document_length,
+                                   patch_length ? JSON_PATCH_AS_(const uint8_t *, patch) : &none, patch_length,
+                                   region_length ? JSON_PATCH_AS_(const uint8_t *, region) : &none, region_length,
+                                   output_length ? JSON_PATCH_AS_(uint8_t *, output) : &none, output_length,
+                                   work->nodes, JSON_PATCH_WORK_NODES, work->index, JSON_PATCH_WORK_ENTRIES, answer);
+}
+
 /* What a number means, in a few words. Never null. */
 static inline const char *json_patch_message(uint64_t number) {
     switch (number) {
@@ -231,6 +267,7 @@ static inline const char *json_patch_message(uint64_t number) {
     case JSON_PATCH_MOVE_INTO_CHILD: return "a value cannot be moved into its own child";
     case JSON_PATCH_TEST_DIFFERS: return "the test found a difference";
     case JSON_PATCH_OUTPUT_TOO_SHORT: return "the result is longer than the lent output";
+    case JSON_PATCH_NOT_PERMITTED: return "not permitted in the region";
     default: return "unknown answer";
     }
 }

@@ -56,9 +56,10 @@ static void words(void) {
     described(made(12, 0, 3, 2, 2, 0), "refused 12: operation 3: `from`, after 2 tokens: a token is not an array index");
     described(made(15, 0, 256, 0, 0, 0), "refused 15: operation 256: the test found a difference");
     described(made(999, 0, UINT64_MAX, 0, 0, 0), "refused 999: operation 18446744073709551615: unknown answer");
-    for (number = 0; number <= 16; number++) {
+    described(made(17, 0, 2, 0, 0, 0), "refused 17: operation 2: not permitted in the region");
+    for (number = 0; number <= 17; number++) {
         expect(json_patch_message(number)[0] != '\0', "a message");
-        expect(strcmp(json_patch_message(number), json_patch_message(17)) != 0, "a message of its own");
+        expect(strcmp(json_patch_message(number), json_patch_message(18)) != 0, "a message of its own");
         const int lost = number == JSON_PATCH_LOCATION_MISSING || number == JSON_PATCH_NO_INDEX;
         longest = made(number, 1, UINT64_MAX, UINT64_MAX, lost ? JSON_PATCH_POINTER_FROM : 0, UINT64_MAX);
         expect(json_patch_describe(&longest, NULL, 0) < 128, "128 bytes hold any");
@@ -84,6 +85,28 @@ static void pointers(void) {
     answered("{\"a\":[1,3]}", "[{\"op\":\"test\",\"path\":\"/a/0\",\"value\":2}]", made(JSON_PATCH_TEST_DIFFERS, 0, 1, 0, 0, 0));
     answered("[1,]", "[]", made(JSON_PATCH_NOT_JSON, JSON_PATCH_TEXT_DOCUMENT, 0, 3, 0, 0));
     answered("[1 ]", "[]", made(JSON_PATCH_DONE, 0, 0, 0, 0, 3));
+}
+
+/* The call with a region. */
+static void answered_within(const char *region, const char *patch, json_patch_answer wanted) {
+    const char *document = "{\"m\":{\"a\":1}}";
+    json_patch_answer answer;
+    char output[16];
+    memset(&answer, 0xa5, sizeof answer);
+    json_patch_apply_within_with(document, strlen(document), patch, strlen(patch), region, strlen(region), output,
+                                 sizeof output, &work, &answer);
+    expect(memcmp(&answer, &wanted, sizeof answer) == 0, patch);
+}
+
+static void regions(void) {
+    const char *test = "[{\"op\":\"test\",\"path\":\"/m/a\",\"value\":1}]";
+    answered_within("/m", test, made(JSON_PATCH_DONE, 0, 0, 0, 0, 13));
+    answered_within("", test, made(JSON_PATCH_DONE, 0, 0, 0, 0, 13));
+    answered_within("/m/a", test, made(JSON_PATCH_NOT_PERMITTED, 0, 1, 0, 0, 0));
+    answered_within("/m", "[]", made(JSON_PATCH_NOT_PERMITTED, 0, 0, 0, 0, 0));
+    answered_within("m", test, made(JSON_PATCH_MALFORMED_POINTER, 0, 0, 0, 0, 0));
+    answered_within("/m", "[{\"op\":\"test\",\"path\":\"/m/b\",\"value\":1}]",
+                    made(JSON_PATCH_LOCATION_MISSING, 0, 1, 1, JSON_PATCH_POINTER_PATH, 0));
 }
 
 static void calls(void) {
@@ -253,6 +276,7 @@ static void cleared(void) {
 int main(void) {
     words();
     pointers();
+    regions();
     calls();
     layout();
     dumped();

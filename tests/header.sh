@@ -1,7 +1,7 @@
 #!/bin/sh
 # Compiles tests/header.c and tests/inspect.c with every compiler that is here, as C99, C11, C++11
 # and C++17, with many warnings as errors and under both sanitizers, and runs it.
-#   JSON_PATCH_LIB=DIR   where libjson_patch.a, librecord.a and libinspect.a are,
+#   JSON_PATCH_LIB=DIR   where libjson_patch.a, libregion_call.a, librecord.a and libinspect.a are,
 #                        if not in target/staticlib
 set -eu
 here=$(cd "$(dirname "$0")" && pwd)
@@ -16,7 +16,7 @@ try() { # NAME COMPILER..
     shift
     for file in header inspect; do
         "$@" $warnings $sanitizers -I"$root/include" -c "$here/$file.c" -o "$out/$name.o"
-        "$1" $sanitizers "$out/$name.o" "$folder/libjson_patch.a" "$folder/librecord.a" \
+        "$1" $sanitizers "$out/$name.o" "$folder/libjson_patch.a" "$folder/libregion_call.a" "$folder/librecord.a" \
             "$folder/libinspect.a" -o "$out/$name"
         printf '%s: ' "$name"
         "$out/$name"

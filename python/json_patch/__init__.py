@@ -144,6 +144,7 @@ class Kind(enum.IntEnum):
     MOVE_INTO_CHILD = 14
     TEST_DIFFERS = 15
     OUTPUT_TOO_SHORT = 16
+    NOT_PERMITTED = 17
 
     @property
     def meaning(self) -> str:
@@ -168,6 +169,7 @@ _MEANINGS = {
     Kind.MOVE_INTO_CHILD: "a value cannot be moved into its own child",
     Kind.TEST_DIFFERS: "the test found a difference",
     Kind.OUTPUT_TOO_SHORT: "the result is longer than the lent output",
+    Kind.NOT_PERMITTED: "not permitted in the region",
 }
 
 
@@ -220,11 +222,25 @@ class Refusal(ValueError):
         return f"refused {int(self.number)} {where}"
 
 
-def apply(document: Bytes, patch: Bytes, *, room: int = OUTPUT) -> bytes:
+def apply(
+    document: Bytes, patch: Bytes, *, region: Union[str, Bytes, None] = None, room: int = OUTPUT
+) -> bytes:
     """Applies the patch to the document and returns the result, compact.
 
     Raises `Refusal` where the patch cannot be applied. `room` is the length that
     a result may have; one that is longer is refused with 16.
+
+    Where a region is given, which is a JSON Pointer, the patch must be one that a
+    pack maker may send: only test, replace and add, a test first, and every path
+    inside the region. Else it is refused with 17.
+
+    >>> patch = b'[{"op": "test", "path": "/a/b", "value": 1}]'
+    >>> apply(b'{"a": {"b": 1}}', patch, region="/a")
+    b'{"a":{"b":1}}'
+    >>> apply(b'{"a": {"b": 1}}', patch, region="/a/b")
+    Traceback (most recent call last):
+    ...
+    json_patch.Refusal: patch: operation 1, test "/a/b": not permitted in the region
 
     >>> apply(b'[1, 2, 3]', b'[{"op": "move", "from": "/0", "path": "/2"}]')
     b'[2,3,1]'
@@ -238,9 +254,12 @@ def apply(document: Bytes, patch: Bytes, *, room: int = OUTPUT) -> bytes:
         raise ValueError("room is less than 0")
     answer = _Answer()
     output = ctypes.create_string_buffer(max(room, 1))
-    _apply(
-        texts[0], len(texts[0]), texts[1], len(texts[1]), output, room, *_work().lent(), answer
-    )
+    lent = [texts[0], len(texts[0]), texts[1], len(texts[1])]
+    if region is None:
+        _apply(*lent, output, room, *_work().lent(), answer)
+    else:
+        within = region.encode() if isinstance(region, str) else _octets(region, "region")
+        _apply_within(*lent, within, len(within), output, room, *_work().lent(), answer)
     if answer.number == 0:
         return ctypes.string_at(output, answer.length)
     fields = (answer.number, answer.text, answer.op, answer.place, answer.pointer)
@@ -292,6 +311,8 @@ def _words(
     if op:
         way = _way(patch, op, place, Pointer(pointer), kind)
         return f"patch: operation {op}{_operation(patch, op)}: {kind.meaning}{way}"
+    if text == 0 and kind in (Kind.INPUT_TOO_LONG, Kind.MALFORMED_POINTER):
+        name = "region"
     return f"{name}: {kind.meaning}"
 
 
@@ -360,15 +381,21 @@ def _library() -> ctypes.CDLL:
         raise ImportError(f"no {_SONAME}: run 'make install', or set JSON_PATCH_LIBRARY") from error
 
 
-_shared = _library()
+def _call(name: str, buffers: int) -> Any:
+    """A call of the library, by the number of its buffers beside the work area."""
+    call = getattr(_shared, name)
+    call.restype = ctypes.c_uint32
+    call.argtypes = [
+        *[ctypes.c_char_p, ctypes.c_size_t] * buffers,
+        *_Work.types,
+        ctypes.POINTER(_Answer),
+    ]
+    return call
 
-_apply = _shared.json_patch_apply
-_apply.restype = ctypes.c_uint32
-_apply.argtypes = [
-    *[ctypes.c_char_p, ctypes.c_size_t] * 3,
-    *_Work.types,
-    ctypes.POINTER(_Answer),
-]
+
+_shared = _library()
+_apply = _call("json_patch_apply", 3)
+_apply_within = _call("json_patch_apply_within", 4)
 
 _inspect = _shared.json_patch_inspect
 _inspect.restype = ctypes.c_uint32

@@ -63,6 +63,19 @@ class Calls(unittest.TestCase):
         with self.assertRaisesRegex(TypeError, "patch is a str: encode it"):
             inspect("[]")
 
+    def test_region(self):
+        document = b'{"a":{"b":1},"c":2}'
+        patch = b'[{"op":"test","path":"/a/b","value":1},{"op":"add","path":"/a/d","value":2}]'
+        for region in ("/a", b"/a", bytearray(b"/a"), ""):
+            self.assertEqual(apply(document, patch, region=region), b'{"a":{"b":1,"d":2},"c":2}')
+        refusal = refused(document, patch, region="/a/b")
+        self.assertEqual((refusal.number, refusal.op), (Kind.NOT_PERMITTED, 1))
+        refusal = refused(document, b"[]", region="/a")
+        self.assertEqual((refusal.number, refusal.op), (Kind.NOT_PERMITTED, 0))
+        self.assertEqual(refused(document, patch, region="a").message, "region: a pointer is malformed")
+        with self.assertRaisesRegex(TypeError, "region is not bytes but int"):
+            apply(document, patch, region=1)
+
     def test_room(self):
         self.assertEqual(apply(b"[1]", b"[]", room=3), b"[1]")
         self.assertEqual(refused(b"[1]", b"[]", room=2).number, Kind.OUTPUT_TOO_SHORT)
@@ -217,6 +230,29 @@ class Agreement(unittest.TestCase):
             self.assertEqual(name + b": " + line, next(lines))
             count += 1
         self.assertGreater(count, 1700)
+
+    def test_the_committed_cases_with_a_region(self):
+        folder = ROOT / "crates" / "region_vectors"
+        cases = (folder / "data" / "cases").read_bytes()
+        lines = iter((folder / "stdout").read_bytes().split(b"\n"))
+        at = count = 0
+        while at < len(cases):
+            end = cases.index(b"\n", at)
+            _, name, *numbers = cases[at:end].split(b" ")
+            room, *lengths = map(int, numbers)
+            at, texts = end + 1, []
+            for length in lengths:
+                texts.append(cases[at : at + length])
+                at += length + 1
+            document, patch, region = texts
+            try:
+                line = apply(document, patch, region=region, room=room)
+            except Refusal as refusal:
+                line = refusal.line.encode()
+                self.assertTrue(refusal.message.startswith(("document:", "patch:", "region:")))
+            self.assertEqual(name + b": " + line, next(lines))
+            count += 1
+        self.assertGreater(count, 300)
 
 
 if __name__ == "__main__":

@@ -231,6 +231,7 @@ impl<'a> Explanation<'a> {
                 path.map(|why| ("path", why)).or_else(|| Some(("from", from()?)))
             }
             Some(Kind::TooDeep | Kind::TooManyNodes) => return f.write_str(" in its result"),
+            Some(Kind::NotPermitted) => Some(("", not_permitted(operation, self.refusal.op))),
             Some(Kind::LocationMissing) => return write!(f, " in {}", self.names[0]),
             _ => None,
         };
@@ -244,12 +245,18 @@ impl<'a> Explanation<'a> {
     /// A text as a whole, or nothing in either.
     fn as_a_whole(&self, f: &mut fmt::Formatter) -> fmt::Result {
         let Paint { name, fault, off, .. } = self.paint;
-        let title = if self.refusal.text == 1 { self.names[0] } else { self.names[1] };
+        let title: &dyn fmt::Display = match (self.refusal.text, self.refusal.kind()) {
+            (1, _) => self.names[0],
+            (0, Some(Kind::InputTooLong | Kind::MalformedPointer)) => &"region",
+            _ => self.names[1],
+        };
         write!(f, "{name}{title}:{off} {fault}")?;
         self.meaning(f)?;
-        if self.refusal.kind() == Some(Kind::WrongShape) {
-            f.write_str(": it is not an array of operations")?;
-        }
+        f.write_str(match self.refusal.kind() {
+            Some(Kind::WrongShape) => ": it is not an array of operations",
+            Some(Kind::NotPermitted) => ": it has no operations",
+            _ => "",
+        })?;
         f.write_str(off)?;
         self.note(f)?;
         if self.refusal.kind() == Some(Kind::WrongShape) && kind(self.patch) == Type::Object {
@@ -319,6 +326,16 @@ fn malformed(operation: &[u8]) -> Option<(&'static str, &'static str)> {
         "move" | "copy" => string("from"),
         _ => None,
     })
+}
+
+/// The part of the rule for makers that an operation breaks.
+fn not_permitted(operation: &[u8], op: usize) -> &'static str {
+    match member(operation, "op").and_then(known) {
+        Some("test") => "its path is not inside the region",
+        _ if op == 1 => "the first operation is a test",
+        Some("add" | "replace") => "its path is not inside the region",
+        _ => "makers send only test, replace and add",
+    }
 }
 
 /// Why the text of a string is no pointer.

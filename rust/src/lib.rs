@@ -52,7 +52,9 @@ mod refusal;
 pub use explain::{Explanation, Paint, Walked};
 pub use json::elements;
 pub use place::{Place, Shown};
-pub use raw::{apply, apply_in, Node, Work, WORK_ENTRIES, WORK_NODES};
+pub use raw::{
+    apply, apply_in, apply_within, apply_within_in, Node, Work, WORK_ENTRIES, WORK_NODES,
+};
 pub use refusal::{Kind, Line, Pointer, Refusal};
 
 /// The longest document, and the longest patch, in bytes.

@@ -105,6 +105,27 @@ extern "C" {
         index_count: usize,
         answer: *mut Answer,
     ) -> u32;
+
+    /// Applies the patch of a maker within a region, or refuses; gives the answer's
+    /// number.
+    ///
+    /// # Safety
+    /// As above.
+    pub fn json_patch_apply_within(
+        document: *const u8,
+        document_length: usize,
+        patch: *const u8,
+        patch_length: usize,
+        region: *const u8,
+        region_length: usize,
+        output: *mut u8,
+        output_length: usize,
+        nodes: *mut Node,
+        nodes_count: usize,
+        index: *mut u16,
+        index_count: usize,
+        answer: *mut Answer,
+    ) -> u32;
 }
 
 /// The work area: a list of nodes and an index, 114,688 bytes in all.
@@ -206,6 +227,72 @@ pub fn apply_in(
             document.len(),
             patch.as_ptr(),
             patch.len(),
+            output.as_mut_ptr(),
+            output.len(),
+            nodes.as_mut_ptr(),
+            nodes.len(),
+            index.as_mut_ptr(),
+            index.len(),
+            &mut answer,
+        );
+    }
+    answer.result()
+}
+
+/// Applies the patch of a pack maker within a region and writes the result to the
+/// output.
+///
+/// The region is a pointer's text in UTF-8, and no JSON string; the empty one is
+/// the root. A maker sends only test, replace and add; the first operation is a
+/// test; every path begins with the region's tokens and has at least one more.
+/// What keeps that rule gets the answer of [`apply`].
+///
+/// ```
+/// # fn main() -> Result<(), json_patch::Refusal> {
+/// use json_patch::{apply_within, Kind, Work};
+///
+/// let document = br#"{"packs":{"acme":{"mAh":3000}}}"#;
+/// let patch = br#"[{"op":"test","path":"/packs/acme/mAh","value":3e3},
+///                  {"op":"replace","path":"/packs/acme/mAh","value":3100}]"#;
+/// let (mut output, mut work) = ([0; 64], Work::new());
+/// let length = apply_within(document, patch, b"/packs/acme", &mut output, &mut work)?;
+/// assert_eq!(&output[..length], br#"{"packs":{"acme":{"mAh":3100}}}"#);
+///
+/// let refusal = apply_within(document, patch, b"/packs/other", &mut output, &mut work).unwrap_err();
+/// assert_eq!((refusal.kind(), refusal.op), (Some(Kind::NotPermitted), 1));
+/// # Ok(())
+/// # }
+/// ```
+pub fn apply_within(
+    document: &[u8],
+    patch: &[u8],
+    region: &[u8],
+    output: &mut [u8],
+    work: &mut Work,
+) -> Result<usize, Refusal> {
+    apply_within_in(document, patch, region, output, &mut work.nodes, &mut work.index)
+}
+
+/// The same in any two lists, as [`apply_in`].
+pub fn apply_within_in(
+    document: &[u8],
+    patch: &[u8],
+    region: &[u8],
+    output: &mut [u8],
+    nodes: &mut [Node],
+    index: &mut [u16],
+) -> Result<usize, Refusal> {
+    let mut answer = Answer::default();
+    // Safety: every pointer and length is of a slice, and the borrows keep those
+    // that are written apart from all others.
+    unsafe {
+        json_patch_apply_within(
+            document.as_ptr(),
+            document.len(),
+            patch.as_ptr(),
+            patch.len(),
+            region.as_ptr(),
+            region.len(),
             output.as_mut_ptr(),
             output.len(),
             nodes.as_mut_ptr(),

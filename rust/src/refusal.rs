@@ -41,7 +41,7 @@ use core::fmt;
 /// ```
 #[derive(Clone, Copy, Debug, PartialEq, Eq, Hash)]
 pub struct Refusal {
-    /// The number, from 1 to 16.
+    /// The number, from 1 to 17.
     pub number: u32,
     /// 1 for the document, 2 for the patch, else 0.
     pub text: u32,
@@ -168,7 +168,7 @@ impl fmt::Display for Pointer {
 pub enum Kind {
     /// A work buffer is shorter than stated.
     WorkTooShort = 1,
-    /// An input is too long, document first; sets `text`.
+    /// An input is too long, document first; sets `text`, to 0 for a region.
     InputTooLong = 2,
     /// Not JSON text; sets `text` and `place`.
     NotJson = 3,
@@ -184,7 +184,7 @@ pub enum Kind {
     WrongShape = 8,
     /// More than 256 operations.
     TooManyOperations = 9,
-    /// Malformed pointer; sets `op`.
+    /// Malformed pointer; sets `op`, to 0 for a region.
     MalformedPointer = 10,
     /// Location missing; sets `op`, `place` and `pointer`.
     LocationMissing = 11,
@@ -198,11 +198,14 @@ pub enum Kind {
     TestDiffers = 15,
     /// Written text longer than the lent output.
     OutputTooShort = 16,
+    /// The rule of a region is broken; sets `op`, to 0 for a patch without
+    /// operations. Only [`apply_within`](crate::apply_within) gives it.
+    NotPermitted = 17,
 }
 
 impl Kind {
     /// All of them, in the order of their numbers.
-    pub const ALL: [Kind; 16] = [
+    pub const ALL: [Kind; 17] = [
         Kind::WorkTooShort,
         Kind::InputTooLong,
         Kind::NotJson,
@@ -219,6 +222,7 @@ impl Kind {
         Kind::MoveIntoChild,
         Kind::TestDiffers,
         Kind::OutputTooShort,
+        Kind::NotPermitted,
     ];
 
     /// Its number.
@@ -245,6 +249,7 @@ impl Kind {
             Kind::MoveIntoChild => "a value cannot be moved into its own child",
             Kind::TestDiffers => "the test found a difference",
             Kind::OutputTooShort => "the result is longer than the lent output",
+            Kind::NotPermitted => "not permitted in the region",
         }
     }
 }

@@ -46,9 +46,9 @@ fn typed(item: &str) -> (String, String) {
 
 /// As the library's source has it: a slice is a pointer and a length, or a count
 /// where it is no slice of bytes.
-fn of_source() -> Signature {
-    let source = file("crates/json_patch/src/exports.rt");
-    let text = between(&source, "pub extern \"C\" fn json_patch_apply", "{");
+fn of_source(krate: &str, name: &str) -> Signature {
+    let source = file(&format!("crates/{krate}/src/exports.rt"));
+    let text = between(&source, &format!("pub extern \"C\" fn {name}<"), "{");
     let mut parameters = Vec::new();
     for (name, kind) in items(between(text, "(", ")")).into_iter().map(typed) {
         let kind: Vec<&str> =
@@ -71,7 +71,7 @@ fn of_source() -> Signature {
 }
 
 /// As the header has it.
-fn of_header() -> Signature {
+fn of_header(name: &str) -> Signature {
     let header = header();
     let words = |name: &str| match name {
         "uint8_t" => "u8".to_string(),
@@ -81,7 +81,7 @@ fn of_header() -> Signature {
         "json_patch_answer" => answer_in_words(fields_of_header("answer", "uint64_t").len()),
         other => panic!("a type of C: {other}"),
     };
-    let parameters = items(between(&header, "uint32_t json_patch_apply(", ")"))
+    let parameters = items(between(&header, &format!("uint32_t {name}("), ")"))
         .into_iter()
         .map(|item| match item.split_once('*') {
             Some((kind, name)) => match kind.trim().strip_prefix("const ") {
@@ -98,9 +98,10 @@ fn of_header() -> Signature {
 }
 
 /// As the declaration in Rust has it.
-fn of_rust() -> Signature {
+fn of_rust(name: &str) -> Signature {
     let source = file("rust/src/raw.rs");
-    let text = between(&source, "pub fn json_patch_apply", ";");
+    let text = between(&source, &format!("pub fn {name}("), ";");
+    let text = &format!("({text}");
     let answer = answer_in_words(fields_of("rust/src/raw.rs", "Answer", "u64").len());
     let parameters = items(between(text, "(", ")"))
         .into_iter()
@@ -143,11 +144,15 @@ fn fields_of(source: &str, name: &str, kind: &str) -> Vec<String> {
 }
 
 #[test]
-fn the_function_is_declared_alike() {
-    let source = of_source();
-    assert_eq!(of_header(), source);
-    assert_eq!(of_rust(), source);
-    assert_eq!(source.parameters.len(), 11);
+fn the_functions_are_declared_alike() {
+    let calls =
+        [("json_patch", "json_patch_apply", 11), ("region_call", "json_patch_apply_within", 13)];
+    for (krate, name, parameters) in calls {
+        let source = of_source(krate, name);
+        assert_eq!(of_header(name), source);
+        assert_eq!(of_rust(name), source);
+        assert_eq!(source.parameters.len(), parameters);
+    }
 }
 
 #[test]

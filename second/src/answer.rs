@@ -23,8 +23,8 @@ pub struct Answer {
     pub written: Vec<u8>,
 }
 
-const DOCUMENT: u32 = 1;
-const PATCH: u32 = 2;
+pub(crate) const DOCUMENT: u32 = 1;
+pub(crate) const PATCH: u32 = 2;
 
 /// Applies a patch to a document, to be written in an output of that room.
 pub fn apply(document: &[u8], patch: &[u8], room: usize) -> Answer {
@@ -53,15 +53,19 @@ fn attempt(document: &[u8], patch: &[u8], room: usize) -> Result<Vec<u8>, Answer
     Ok(written)
 }
 
-fn plain(number: u32) -> Answer {
+/// A refusal that says nothing but its number; with 0, the answer of a text that
+/// is empty.
+pub(crate) fn plain(number: u32) -> Answer {
     Answer { number, text: 0, op: 0, place: 0, pointer: 0, written: Vec::new() }
 }
 
-fn in_text(number: u32, text: u32, place: usize) -> Answer {
+/// A refusal in one of the two texts.
+pub(crate) fn in_text(number: u32, text: u32, place: usize) -> Answer {
     Answer { text, place, ..plain(number) }
 }
 
-fn at_op(refusal: patch::Refusal) -> Answer {
+/// A refusal of the shape, or of a run.
+pub(crate) fn at_op(refusal: patch::Refusal) -> Answer {
     let patch::Refusal { number, op, place, pointer } = refusal;
     Answer { op, place, pointer, ..plain(number) }
 }

@@ -17,6 +17,7 @@ pub mod generate;
 pub mod hex;
 pub mod limits;
 pub mod links;
+pub mod makers;
 mod number;
 mod numeral;
 pub mod operations;

@@ -2,7 +2,7 @@
 
 #![forbid(unsafe_code)]
 
-use second::{cases, compare, count, generate, hex, links, tool, vectors};
+use second::{cases, compare, count, generate, hex, links, makers, tool, vectors};
 use std::env;
 use std::ffi::OsString;
 use std::fs;
@@ -20,6 +20,10 @@ const USAGE: &str = "usage:
   second link-cases
   second link-answers FILE
   second link-generate SEED COUNT
+  second region-cases
+  second region-answers FILE
+  second region-vectors FILE
+  second region-generate SEED COUNT
   second hex-cases
   second hex-answers FILE
   second hex-generate SEED COUNT
@@ -102,6 +106,22 @@ fn run(arguments: &[OsString]) -> Result<(), Trouble> {
                 out.write_all(&links::generate::case(seed, index).file())?;
             }
         }
+        (Some("region-cases"), []) => {
+            for vector in makers::vectors::all() {
+                out.write_all(&vector.case.file())?;
+            }
+        }
+        (Some("region-answers"), [file]) => region_answers(file, &mut out)?,
+        (Some("region-vectors"), [file]) => {
+            region_answers(file, &mut out)?;
+            out.write_all(SHORT_WORK)?;
+        }
+        (Some("region-generate"), [seed, count]) => {
+            let seed = number(seed)?;
+            for index in 0..number(count)? {
+                out.write_all(&makers::generate::case(seed, index).file())?;
+            }
+        }
         (Some("hex-cases"), []) => {
             for vector in hex::vectors::all() {
                 out.write_all(&vector.case.file())?;
@@ -155,6 +175,16 @@ fn answers(file: &OsString, out: &mut impl Write) -> Result<(), Trouble> {
     for case in cases {
         write!(out, "{}: ", case.name)?;
         out.write_all(&case.line(case.room))?;
+        out.write_all(b"\n")?;
+    }
+    Ok(())
+}
+
+/// The line of each case of a file of cases with a region.
+fn region_answers(file: &OsString, out: &mut impl Write) -> Result<(), Trouble> {
+    for case in makers::cases::parse(&fs::read(file)?).map_err(Trouble::Message)? {
+        write!(out, "{}: ", case.name)?;
+        out.write_all(&case.line())?;
         out.write_all(b"\n")?;
     }
     Ok(())

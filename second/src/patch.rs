@@ -55,7 +55,7 @@ pub fn shape(patch: &Value) -> Result<Vec<Operation>, Refusal> {
 
 /// One element: its members first (8), then its pointers (10), then, for a
 /// move, whether it goes into its own child (14).
-fn operation(element: &Value) -> Result<Operation, u32> {
+pub(crate) fn operation(element: &Value) -> Result<Operation, u32> {
     // No member is found in what is no object, so that is refused here too.
     let op = text_member(element, "op")?;
     let path = text_member(element, "path")?;

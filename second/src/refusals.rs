@@ -31,6 +31,8 @@ pub const INTO_OWN_CHILD: u32 = 14;
 pub const DIFFERENT: u32 = 15;
 /// The written text is longer than the output.
 pub const NO_ROOM: u32 = 16;
+/// The rule for makers is broken: document 02, T-05.
+pub const NOT_PERMITTED: u32 = 17;
 /// No record of Intel HEX: document 02, T-07.
 pub const NO_RECORD: u32 = 18;
 /// A record with a wrong sum.

@@ -5,6 +5,7 @@ mod count;
 mod generator;
 mod hex;
 mod links;
+mod makers;
 mod pairs;
 mod parts;
 mod regions;

@@ -17,3 +17,5 @@ pub mod exports; // the two calls for C
 pub use answer::Answer;
 pub use calls::read_link;
 pub use calls::write_link;
+pub use scan::Verdict;
+pub use scan::verdict_of;

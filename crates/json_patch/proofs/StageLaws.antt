@@ -72,7 +72,7 @@ module _ {w : Table} {used : ℕ} {v : Value.Value} (d : Document w used v) wher
         answered-as (fitting-whole _ _ room) (answered-success (rw (laid .0) at is) (laid .1))
 
 -- ---- the shape of the patch
-shape-right : {o : Run (List Operation.Operation)} {s : Shape} → ShapeIs o s → s ≡ Shape.Right → ((os : List Operation.Operation) × (o ≡ finished os))
+pub shape-right : {o : Run (List Operation.Operation)} {s : Shape} → ShapeIs o s → s ≡ Shape.Right → ((os : List Operation.Operation) × (o ≡ finished os))
 shape-right (right os) e = (os, refl)
 shape-right (wrong number op) e = absurd (let z : _≡_ {A = ℕ} 0 1 = cc in omega arith)
 
@@ -90,7 +90,7 @@ module _ {w : Table} {s : Shape} (shaped : PatchIs w patchRow s) where
       go (wrong number op) f = answered-refusal (is number op f)
 
 -- ---- the operations run
-ran-told : {w : Table} {nodes' : List Row} {used : ℕ} {told : Ran} {v p : Value.Value} → RunIs w nodes' used told → Document w used v → PatchHeld w p
+pub ran-told : {w : Table} {nodes' : List Row} {used : ℕ} {told : Ran} {v p : Value.Value} → RunIs w nodes' used told → Document w used v → PatchHeld w p
     → Short (w .texts) → (os : List Operation.Operation) → shape p ≡ finished os → RanTo (w .texts) nodes' (run limited 1 os v) told
 ran-told {v = v} runs d held short os shaped =
     runs .held v d short (held .c) (held .kids) (held .held) (held .inside) (subst Proper (sym (held .means)) (held .proper)) os

@@ -35,7 +35,8 @@ use Rattle.table.specs.declared.find.Member.{Member}
 use Rattle.table.specs.declared.find.Member.the-variants as Member
 use Rattle.shape.specs.Kinds.{kindOutcome}
 use Rattle.shape.specs.Members.{Sought, textOutcome, TextIs, StringIs}
-use Rattle.shape.specs.Operation.{Answers, right, wrong, kindOf, KindRows, no-object, object, KindIs}
+use Rattle.shape.specs.Operation as OperationNumber
+use Rattle.shape.specs.Operation.{Answers, right, wrong, kindOf, KindRows, no-object, object, KindIs, OthersAre, MembersAre}
 use Rattle.shape.specs.declared.kinds.Kind.{Kind}
 use Rattle.shape.specs.declared.kinds.Kind.the-variants as Kind
 use Rattle.shape.specs.declared.members.Spelled.{Spelled}
@@ -206,3 +207,13 @@ module _ (v : Value.Value) where
       → Answers (membersFor k v >>= withPointers) r → Answers (operation v) r
   unfolding _>>=_
   kind-known is e rest = rw (operation-kind, ← is, e) rest
+
+-- ---- the members of an operation, each way out of `members_number`
+module _ {w : Table} {row : ℕ} {kind : Kind} {path : Spelled} (is : StringIs w row (ascii "path") path) where
+  pub members-no-path : path ≡ Spelled.Not → MembersAre w row kind 8
+  members-no-path e =
+      record { number = OperationNumber.shape; held = λ k known c kids n. path-missing k _ (text-refused (is .held c kids n) e) }
+
+  pub members-others : (s : Spelling) → path ≡ Spelled.As s → {r : ℕ} → OthersAre w row kind s r → MembersAre w row kind r
+  members-others s e others =
+      record { number = others .number; held = λ k known c kids n. others .held k known c kids n (text-decoded (is .held c kids n) s e) }

@@ -63,7 +63,7 @@ module _ (T : Texts) (op : ℕ) (c : Cell) (kids rest : Forest Cell) where
   first-right e = rw e
 
 -- the same answer with one operation more before
-one-more : (o : Operation.Operation) {run : Run (List Operation.Operation)} {r : Shape} → ShapeIs run r → ShapeIs (onFinish run (λ os. finished (o ∷ os))) r
+pub one-more : (o : Operation.Operation) {run : Run (List Operation.Operation)} {r : Shape} → ShapeIs run r → ShapeIs (onFinish run (λ os. finished (o ∷ os))) r
 unfolding onFinish
 one-more o (right os) = right (o ∷ os)
 one-more o (wrong number op) = wrong number op
@@ -129,11 +129,11 @@ module _ {w : Table} {start end row op : ℕ} (any : LeftAny w start end row op)
 
 -- ---- before the loop
 module _ {w : Table} {row : ℕ} {c : Cell} {kids : Forest Cell} (n : NodeHeld w row c kids) where
-  array-here : isArray (meant (w .texts) c kids .label) ≡ eqb (kindOf (getD (w .nodes) row [])) 5
+  pub array-here : isArray (meant (w .texts) c kids .label) ≡ eqb (kindOf (getD (w .nodes) row [])) 5
   array-here =
       isArray-label (w .texts) (c .kind) (c .value) (formed-fit (n .held .formed) .kind) ∙ ap (λ k. eqb k 5) (sym (kind-here (held-node (n .held))))
 
-  counted : {number : ℕ} → ArityIs (w .nodes) row number → count (members (w .texts) kids) ≡ number
+  pub counted : {number : ℕ} → ArityIs (w .nodes) row number → count (members (w .texts) kids) ≡ number
   counted many = count-map (entryOf (w .texts)) kids ∙ sym (many .held c kids (held-node (n .held)))
 
 -- each way out of `shape_of`

@@ -67,6 +67,12 @@ pub record PointersAre (T : Texts) (moves : Bool) (path from : Spelling) (r : �
   pub held : (k : Operation.Kind) → moves ≡ isMove k → (value : Value.Value) →
       Answers (withPointers (record { kind = k; path = decode (partOf T path); from = decode (partOf T from); value = value })) r
 
+-- the members beside `op` and `path`, given where `path` stands
+pub record OthersAre (w : Table) (row : ℕ) (kind : Kind) (path : Spelling) (r : ℕ) : Type 0 where
+  pub number : OperationNumber r
+  pub held : (k : Operation.Kind) → Knows kind k → ForNode w row λ v. stringMember (ascii "path") v ≡ ok (decode (partOf (w .texts) path))
+      → Answers (membersFor k v >>= withPointers) r
+
 pub record MembersAre (w : Table) (row : ℕ) (kind : Kind) (r : ℕ) : Type 0 where
   pub number : OperationNumber r
   pub held : (k : Operation.Kind) → Knows kind k → ForNode w row λ v. Answers (membersFor k v >>= withPointers) r

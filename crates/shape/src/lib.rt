@@ -19,5 +19,6 @@ pub use members::Spelled;
 pub use members::member;
 pub use members::string_member;
 pub use operation::kind_of;
+pub use operation::others_number;
 pub use patch::Shape;
 pub use patch::shape_of;

@@ -16,7 +16,7 @@ use tape::layout::Node;
 use tape::layout::Texts;
 use tape::nodes::kind;
 ghost use Rattle.tape.specs.Lent.{lent, before};
-ghost use Rattle.shape.specs.Operation.{KindIs, ValueIs, FromIs, PointersAre, MembersAre, OperationIs};
+ghost use Rattle.shape.specs.Operation.{KindIs, ValueIs, FromIs, PointersAre, OthersAre, MembersAre, OperationIs};
 
 // The kind of the operation in a row. It is known only of an object with an `op` that names one.
 pub fn kind_of<'a>(texts: Texts<'a>, nodes: &[Node], row: usize) -> Kind
@@ -80,14 +80,18 @@ fn pointers_number<'a>(texts: Texts<'a>, moves: bool, path: Spelling, from: Spel
     0
 }
 
-// Refused where another member than `op` is wrong, of an operation of a kind.
-fn members_number<'a>(texts: Texts<'a>, nodes: &[Node], row: usize, kind: Kind) -> u8
-    ensures { λ r. ⌜ MembersAre (before texts nodes) row kind r ⌝ }
+// Refused where another member than `op` and `path` is wrong, or a pointer is, of an operation of a kind whose `path`
+// is given.
+pub fn others_number<'a>(
+    texts: Texts<'a>,
+    nodes: &[Node],
+    row: usize,
+    kind: Kind,
+    path: Spelling,
+) -> u8
+    ensures { λ r. ⌜ OthersAre (before texts nodes) row kind path r ⌝ }
 {
     let uses = uses_of(kind);
-    let Spelled::As(path) = string_member(texts, nodes, row, b"path") else {
-        return refusal::WRONG_SHAPE;
-    };
     let number = value_number(texts, nodes, row, uses.value);
     if number != 0 {
         return number;
@@ -96,6 +100,16 @@ fn members_number<'a>(texts: Texts<'a>, nodes: &[Node], row: usize, kind: Kind) 
         return refusal::WRONG_SHAPE;
     };
     pointers_number(texts, uses.moves, path, from)
+}
+
+// Refused where another member than `op` is wrong, or a pointer is, of an operation of a kind.
+fn members_number<'a>(texts: Texts<'a>, nodes: &[Node], row: usize, kind: Kind) -> u8
+    ensures { λ r. ⌜ MembersAre (before texts nodes) row kind r ⌝ }
+{
+    let Spelled::As(path) = string_member(texts, nodes, row, b"path") else {
+        return refusal::WRONG_SHAPE;
+    };
+    others_number(texts, nodes, row, kind, path)
 }
 
 // Refused where the operation in a row is malformed.

@@ -1,7 +1,7 @@
 //! `json-patch apply`.
 
 use crate::arguments::{wrong, Arguments};
-use crate::command::{Command, Opt, Status, Takes, OUTPUT, PORCELAIN, QUIET};
+use crate::command::{Command, Opt, Status, Takes, OUTPUT, PORCELAIN, QUIET, REGION};
 use crate::files::{deliver, Target};
 use crate::patches::Run;
 use crate::report;
@@ -16,7 +16,11 @@ pub const COMMAND: Command = Command {
 Applies each JSON Patch to the text that the one before left, and writes the
 result to standard output. Either all patches are applied or none is. A file
 that is written appears whole or not at all; its permissions stay, and a
-symbolic link is followed. The name - is standard input.",
+symbolic link is followed. The name - is standard input.
+
+With --region each patch must be one that a pack maker may send: only test,
+replace and add, a test first, and every path inside the region, which is a
+JSON Pointer, and not the region itself. '' is the whole document.",
     options: &[
         OUTPUT,
         Opt {
@@ -25,6 +29,7 @@ symbolic link is followed. The name - is standard input.",
             value: None,
             summary: "write the result to DOCUMENT",
         },
+        REGION,
         PORCELAIN,
         QUIET,
     ],

@@ -1,7 +1,7 @@
 //! `json-patch check`.
 
 use crate::arguments::Arguments;
-use crate::command::{Command, Status, Takes, PORCELAIN, QUIET};
+use crate::command::{Command, Status, Takes, PORCELAIN, QUIET, REGION};
 use crate::files::{print, Name};
 use crate::patches::Run;
 use crate::report;
@@ -17,7 +17,7 @@ pub const COMMAND: Command = Command {
 Does what apply does, and writes no result: each patch is tried on the text
 that the one before left. Prints a line for each patch where all of them apply.
 The name - is standard input.",
-    options: &[PORCELAIN, QUIET],
+    options: &[REGION, PORCELAIN, QUIET],
     example: "\
 $ json-patch check pack.json fix.json
 fix.json: 2 operations apply to pack.json",

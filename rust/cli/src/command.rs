@@ -63,6 +63,14 @@ pub const OUTPUT: Opt = Opt {
     summary: "write the result to FILE",
 };
 
+/// `--region`, of every command that applies patches.
+pub const REGION: Opt = Opt {
+    short: None,
+    long: "region",
+    value: Some("POINTER"),
+    summary: "take only patches of a maker, inside POINTER",
+};
+
 /// `--quiet`, of every command that can refuse.
 pub const QUIET: Opt = Opt {
     short: Some('q'),

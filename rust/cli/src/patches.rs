@@ -4,7 +4,8 @@ use crate::arguments::{wrong, Arguments};
 use crate::command::Command;
 use crate::files::{Name, Text};
 use crate::trouble::Trouble;
-use json_patch::{apply, Refusal, Work, TOOL_OUTPUT};
+use json_patch::{apply, apply_within, Refusal, Work, TOOL_OUTPUT};
+use std::os::unix::ffi::OsStrExt;
 
 /// A document, and the patches for it.
 pub struct Run {
@@ -12,6 +13,8 @@ pub struct Run {
     pub document: Text,
     /// The patches, at least one.
     pub patches: Vec<Text>,
+    /// The region that the patches must keep to, where one is given.
+    pub region: Option<Vec<u8>>,
 }
 
 /// The patch that was refused, and where.
@@ -38,14 +41,19 @@ impl Run {
         }
         let document = Text::read(document)?;
         let patches = patches.iter().map(|name| Text::read(name)).collect::<Result<_, _>>()?;
-        Ok(Run { document, patches })
+        let region = arguments.value("region").map(|region| region.as_bytes().to_vec());
+        Ok(Run { document, patches, region })
     }
 
     /// The text that the last patch leaves, or the first refusal.
     pub fn result(&self) -> Result<Vec<u8>, Refused> {
         let mut text = self.document.bytes.clone();
         for (index, patch) in self.patches.iter().enumerate() {
-            text = match applied(&text, &patch.bytes) {
+            let result = match &self.region {
+                Some(region) => applied_within(&text, &patch.bytes, region),
+                None => applied(&text, &patch.bytes),
+            };
+            text = match result {
                 Ok(next) => next,
                 Err(refusal) => return Err(Refused { refusal, index, document: text }),
             };
@@ -68,6 +76,14 @@ impl Run {
 pub fn applied(document: &[u8], patch: &[u8]) -> Result<Vec<u8>, Refusal> {
     let mut output = vec![0; TOOL_OUTPUT];
     let length = apply(document, patch, &mut output, &mut Work::new())?;
+    output.truncate(length);
+    Ok(output)
+}
+
+/// The same within a region.
+fn applied_within(document: &[u8], patch: &[u8], region: &[u8]) -> Result<Vec<u8>, Refusal> {
+    let mut output = vec![0; TOOL_OUTPUT];
+    let length = apply_within(document, patch, region, &mut output, &mut Work::new())?;
     output.truncate(length);
     Ok(output)
 }

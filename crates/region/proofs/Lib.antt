@@ -1,0 +1,6 @@
+pub mod ShapeLaws
+pub mod RuleLaws
+pub mod ClaimTheorems
+pub mod SpellLaws
+pub mod BeginsLaws
+pub mod WithinLaws

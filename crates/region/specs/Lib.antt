@@ -1,0 +1,5 @@
+pub mod Rule
+pub mod Answer
+pub mod Claims
+pub mod Begins
+pub mod Within

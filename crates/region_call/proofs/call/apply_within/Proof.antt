@@ -1,0 +1,47 @@
+-- `apply_within` meets its contract, by the work area's lengths, and then by what the checked call answers.
+use native.Mathlib.Omega.{arith}
+use borrow.Author.Needs.{needs}
+use mathlib.Core.Path.{sym}
+use lib.Seq.{length-take-le}
+use Rattle.spec.specs.Limits.{workNodes, workEntries}
+use Rattle.json_patch.proofs.AnswerLaws.{nodes-short, index-short}
+use Rattle.region_call.proofs.CallLaws.{work-short, work-done}
+use Rattle.region_call.proofs.call.apply_within.Statement.{statement}
+use Rattle.region_call.proofs.call.apply_within.Tie as tie
+
+pub apply-within-spec : {M : Type 1} → statement M
+apply-within-spec =
+    tie.close
+    (tie.spec
+    -- refused-requires
+    (λ c κs. search needs)
+    -- returns
+    (λ c. work-short (nodes-short _ (omega arith)) (c .refused .ensures))
+    -- refused-requires-2
+    (λ c κs. search needs)
+    -- returns-2
+    (λ c. work-short (index-short _ (omega arith) (omega arith)) (c .refused2 .ensures))
+    -- slice-relend-prefix-checked-within
+    (λ c. search needs)
+    -- slice-aggregate-checked-within
+    (λ c. sym (length-take-le workNodes (c .before .before .before .before .before .before .before .before .before .args .nodes .now) (omega arith)))
+    -- slice-relend-prefix-checked-within-2
+    (λ c. search needs)
+    -- slice-aggregate-checked-within-2
+    (λ c. sym (length-take-le workEntries (c .before .before .before .before .before .before .before .before .before .before .args .index .now) (omega arith)))
+    -- checked-within-requires
+    (λ c κs. search needs)
+    -- wipe-requires
+    (λ c κs. search needs)
+    -- empty-requires
+    (λ c κs. search needs)
+    -- same-length
+    (λ c. search needs)
+    -- same-length-2
+    (λ c. search needs)
+    -- same-length-3
+    (λ c. search needs)
+    -- returns-3
+    (λ c.
+    work-done (omega arith) (omega arith) (c .before .before .before .before .before .before .before .before .before .before .before .before .checked-within .ensures) (c .before .before .before .before .before .before .before .before .before .before .before .before .checked-within .last .1 .1 .1 .0) (c .before .before .before .before .before .before .before .before .before .before .before .before .checked-within .kept .1 .1 .1 .0)
+    (c .before .before .before .before .before .wipe .ensures) (c .before .before .before .before .before .before .before .before .before .before .before .before .checked-within .last .1 .1 .1 .1 .0) (c .before .before .before .before .before .before .before .before .before .before .before .before .checked-within .kept .1 .1 .1 .1 .0) (c .before .before .empty .ensures)))

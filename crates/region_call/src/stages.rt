@@ -1,0 +1,99 @@
+// The stages of the call with a region: the three lengths, the whole document read, the whole patch read, the region,
+// the shape of every operation with the rule, the operations one after another, then the result written.
+use json_patch::Answer;
+use json_patch::misshapen;
+use json_patch::refused;
+use json_patch::stopped;
+use json_patch::success;
+use json_patch::unread;
+use operations::Ran;
+use operations::run;
+use reader::Read;
+use reader::read_document;
+use reader::read_patch;
+use region::is_region;
+use region::shape_within;
+use shape::Shape;
+use spec::limits;
+use spec::refusal;
+use tape::layout;
+use tape::layout::Node;
+use tape::layout::Texts;
+use writer::fits;
+use writer::write;
+ghost use Rattle.tape.specs.Lent.{lent, before};
+ghost use Rattle.json_patch.specs.Call.{memoryBefore};
+ghost use Rattle.json_patch.specs.Stages.{WriteOutIs};
+ghost use Rattle.region_call.specs.Stages.{RunWithinIs, CheckedWithinIs};
+
+// The document is written, where the output has room for all of it.
+fn write_out<'a>(texts: Texts<'a>, output: &mut [u8], nodes: &[Node]) -> Answer
+    ensures { λ r. ⌜ WriteOutIs (before texts nodes) (now (output .entry)) (now (output .exit)) r ⌝ }
+{
+    if !fits(
+        texts,
+        nodes,
+        layout::DOCUMENT,
+        limits::MAX_DEPTH,
+        output.len(),
+    ) {
+        return refused(refusal::OUTPUT_TOO_SHORT, 0, 0, 0);
+    }
+    let length = write(texts, nodes, layout::DOCUMENT, limits::MAX_DEPTH, output);
+    success(length)
+}
+
+// The patch, which is read, is applied within the region to the document, which has `used` rows.
+fn run_within<'a>(
+    texts: Texts<'a>,
+    region: &[u8],
+    output: &mut [u8],
+    nodes: &mut [Node],
+    index: &mut [u16],
+    used: usize,
+) -> Answer
+    ensures { λ r. ⌜ RunWithinIs (before texts nodes) (now (region .entry)) (now (output .entry)) (now (output .exit)) used r ⌝ }
+{
+    if !is_region(region) {
+        return refused(refusal::MALFORMED_POINTER, 0, 0, 0);
+    }
+    let shape = shape_within(texts, nodes, layout::PATCH, region);
+    let Shape::Right = shape else {
+        return misshapen(shape);
+    };
+    let ran = run(texts, nodes, index, used);
+    let Ran::Done(_) = ran else {
+        return stopped(ran);
+    };
+    write_out(texts, output, nodes)
+}
+
+// All of it, where the work area is long enough.
+pub fn checked_within<'a>(
+    texts: Texts<'a>,
+    region: &[u8],
+    output: &mut [u8],
+    nodes: &mut [Node],
+    index: &mut [u16],
+) -> Answer
+    ensures { λ r. ⌜ CheckedWithinIs (lent texts) (now (region .entry)) (memoryBefore output nodes index) (now (output .exit)) r ⌝ }
+{
+    if limits::MAX_BYTES < texts[0].len() {
+        return refused(refusal::INPUT_TOO_LONG, 1, 0, 0);
+    }
+    if limits::MAX_BYTES < texts[1].len() {
+        return refused(refusal::INPUT_TOO_LONG, 2, 0, 0);
+    }
+    if limits::MAX_BYTES < region.len() {
+        return refused(refusal::INPUT_TOO_LONG, 0, 0, 0);
+    }
+    let document = read_document(texts, nodes, index);
+    let Read::Value(_, used) = document else {
+        return unread(1, document);
+    };
+    let patch = read_patch(texts, nodes, index);
+    let Read::Value(_, _) = patch else {
+        return unread(2, patch);
+    };
+    run_within(texts, region, output, nodes, index, used)
+}

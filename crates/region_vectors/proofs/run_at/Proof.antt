@@ -1,0 +1,32 @@
+-- `run_at` lends parts that lie in the file, and answers the place behind them.
+use borrow.Author.Needs.{needs}
+use Rattle.region_vectors.proofs.PlaceLaws.{standing}
+use Rattle.region_vectors.proofs.run_at.Statement.{statement}
+use Rattle.region_vectors.proofs.run_at.Tie as tie
+
+pub run-at-spec : {M : Type 1} → statement M
+run-at-spec =
+    tie.close
+    (tie.spec
+    -- case-at-requires
+    (λ c κs. search needs)
+    -- enum-known-c
+    (λ c. search needs)
+    -- enum-told
+    (λ c. search needs)
+    -- returns
+    (λ c. search needs)
+    -- part-requires
+    (λ c κs. standing _ _ (c .before .c .given .1) (c .before .before .before .case-at .ensures) .name)
+    -- part-requires-2
+    (λ c κs. standing _ _ (c .before .before .c .given .1) (c .before .before .before .before .case-at .ensures) .document)
+    -- part-requires-3
+    (λ c κs. standing _ _ (c .before .before .before .c .given .1) (c .before .before .before .before .before .case-at .ensures) .patch)
+    -- part-requires-4
+    (λ c κs. standing _ _ (c .before .before .before .before .c .given .1) (c .before .before .before .before .before .before .case-at .ensures) .region)
+    -- narrow-requires
+    (λ c κs. search needs)
+    -- run-case-requires
+    (λ c κs. search needs)
+    -- returns-2
+    (λ c. standing _ _ (c .before .before .before .before .before .before .before .c .given .1) (c .before .before .before .before .before .before .before .before .before .case-at .ensures) .next))
