@@ -1,0 +1,2 @@
+pub mod SharedRun
+pub mod FrameLaws
