@@ -1,4 +1,4 @@
--- The numbers of the answer: document 01, "The answer", its table in its order.
+-- The numbers of the answer: document 01, "The answer", its table in its order; then 17, document 02, T-05.
 use Prim.Native.Nat.{ℕ}
 
 abbrev pub done : ℕ
@@ -51,3 +51,6 @@ test-differs = 15
 
 abbrev pub output-too-short : ℕ
 output-too-short = 16
+
+abbrev pub not-permitted : ℕ
+not-permitted = 17

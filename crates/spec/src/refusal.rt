@@ -33,3 +33,5 @@ pub const MOVE_INTO_CHILD: u8 = 14;
 pub const TEST_DIFFERS: u8 = 15;
 
 pub const OUTPUT_TOO_SHORT: u8 = 16;
+
+pub const NOT_PERMITTED: u8 = 17;

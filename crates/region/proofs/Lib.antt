@@ -1,0 +1,3 @@
+pub mod ShapeLaws
+pub mod RuleLaws
+pub mod ClaimTheorems
