@@ -1,2 +1,5 @@
 pub mod SharedRun
 pub mod FrameLaws
+pub mod PlaceLaws
+pub mod PartLaws
+pub mod IsolationTheorem

@@ -20,24 +20,26 @@ ok-same : {A : Type 0} {a b : A} → ok a ≡ ok b → a ≡ b
 ok-same h = cc
 
 -- where the region exists, a replacement there is the value put there
-replaced-below : (x : Value.Value) (t : Text) (ts : Tokens) (v c : Value.Value) → walk (t ∷ ts) v ≡ ok c →
+replaced-below : (x : Value.Value) (ts : Tokens) (t : Text) (v c : Value.Value) → walk (t ∷ ts) v ≡ ok c →
     atParent (replaceChild x) t ts v ≡ ok (plant (t ∷ ts) x v)
 unfolding atParent replaceChild plant farther _>>=_
-replaced-below x t ts v c h = go (childAt t v) refl
+replaced-below x [] t v c h = go (childAt t v) refl
   where
-    go : (o : Outcome ℕ) → childAt t v ≡ o → atParent (replaceChild x) t ts v ≡ ok (plant (t ∷ ts) x v)
-    go (refused n p) q = absurd (refused≢ok (sym (walk-off t ts v n p q) ∙ h))
-    go (ok k) q = rw (plant-on t ts v x k q) (below ts (farther-ok _ (sym (walk-on t ts v k q) ∙ h)))
-      where
-        below : (ts : Tokens) → walk ts (valueOf (child k v)) ≡ ok c →
-            atParent (replaceChild x) t ts v ≡ ok (put k (plant ts x (valueOf (child k v))) v)
-        below [] i = rw q
-        below (u ∷ us) i = rw (q, replaced-below x u us (valueOf (child k v)) c i)
+    go : (o : Outcome ℕ) → childAt t v ≡ o → atParent (replaceChild x) t [] v ≡ ok (plant (t ∷ []) x v)
+    go (refused n p) q = absurd (refused≢ok (sym (walk-off t [] v n p q) ∙ h))
+    go (ok k) q = rw (plant-on t [] v x k q, q)
+replaced-below x (u ∷ us) t v c h = go (childAt t v) refl (λ w. replaced-below x us u w c)
+  where
+    go : (o : Outcome ℕ) → childAt t v ≡ o →
+        ((w : Value.Value) → walk (u ∷ us) w ≡ ok c → atParent (replaceChild x) u us w ≡ ok (plant (u ∷ us) x w)) →
+        atParent (replaceChild x) t (u ∷ us) v ≡ ok (plant (t ∷ u ∷ us) x v)
+    go (refused n p) q ih = absurd (refused≢ok (sym (walk-off t (u ∷ us) v n p q) ∙ h))
+    go (ok k) q ih = rw (plant-on t (u ∷ us) v x k q, q, ih (valueOf (child k v)) (farther-ok _ (sym (walk-on t (u ∷ us) v k q) ∙ h)))
 
 replaced : (R : Tokens) (x v c : Value.Value) → walk R v ≡ ok c → replaceAtPath R x v ≡ ok (plant R x v)
 unfolding replaceAtPath plant
 replaced [] x v c h = refl
-replaced (t ∷ ts) x v c h = replaced-below x t ts v c h
+replaced (t ∷ ts) x v c h = replaced-below x ts t v c h
 
 -- the bytes around a region stay, whatever is put there
 module _ (R : Tokens) (v c : Value.Value) (h : walk R v ≡ ok c) where

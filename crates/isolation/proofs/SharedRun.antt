@@ -4,6 +4,7 @@ use mathlib.Core.Bool.{Bool, true, false, _&&_}
 use mathlib.Core.List.{List, [], _∷_}
 use mathlib.Core.Option.{Option, none, some}
 use Prim.Native.Nat.{ℕ, _+_, _≤_}
+use native.Mathlib.Omega.{arith}
 use Rattle.spec.specs.Outcome.{Outcome, ok, refused, _>>=_}
 use Rattle.spec.specs.Limits.{maxDepth}
 use Rattle.spec.specs.Value as Value
@@ -21,15 +22,17 @@ pub record Holding (R : Tokens) (c v : Value.Value) : Type 0 where
   pub there : walk R v ≡ ok c
   pub shallow : depth v ≤ maxDepth
 
--- two runs of one list of operations: both stop alike, or both finish with one value at the region and the rest of each document as it was
-pub data Alike (R : Tokens) (v w : Value.Value) : Run Value.Value → Run Value.Value → Type 0 where
-  stop-alike : (s : Stop) → Alike R v w (stopped s) (stopped s)
+-- two runs of one list of operations, the first of which is op: both stop alike, or both finish with one value at the region and the rest of
+-- each document as it was
+pub data Alike (R : Tokens) (v w : Value.Value) (op : ℕ) : Run Value.Value → Run Value.Value → Type 0 where
+  stop-alike : (s : Stop) → op ≤ s .op → Alike R v w op (stopped s) (stopped s)
   finish-alike : (x : Value.Value) → walk R (plant R x v) ≡ ok x → walk R (plant R x w) ≡ ok x →
-      Alike R v w (finished (plant R x v)) (finished (plant R x w))
+      Alike R v w op (finished (plant R x v)) (finished (plant R x w))
 
--- a value at the region put in before changes nothing
-planted-before : {R : Tokens} {v w : Value.Value} (c : Value.Value) {r s : Run Value.Value} → Alike R (plant R c v) (plant R c w) r s → Alike R v w r s
-planted-before c (stop-alike s) = stop-alike s
+-- an operation before them that put a value at the region
+planted-before : {R : Tokens} {v w : Value.Value} {op : ℕ} (c : Value.Value) {r s : Run Value.Value} →
+    Alike R (plant R c v) (plant R c w) (op + 1) r s → Alike R v w op r s
+planted-before c (stop-alike s l) = stop-alike s (omega arith)
 planted-before {R} {v} {w} c (finish-alike x p q) =
     rw (plant-plant R c x v, plant-plant R c x w)
     (finish-alike x (ap (walk R) (sym (plant-plant R c x v)) ∙ p) (ap (walk R) (sym (plant-plant R c x w)) ∙ q))
@@ -67,13 +70,13 @@ module _ (op : ℕ) (o : Operation) (os : List Operation) (v : Value.Value) wher
   run-ends n p h = rw h
 
 pub alike : (R : Tokens) (os : List Operation) → allInside R os ≡ true → (op : ℕ) (c v w : Value.Value) → Holding R c v → Holding R c w →
-    Alike R v w (run bare op os v) (run bare op os w)
+    Alike R v w op (run bare op os v) (run bare op os w)
 unfolding run allInside
 alike R [] inside op c v w a b =
     let same-v = plant-walk R v c (a .there) in
     let same-w = plant-walk R w c (b .there) in
-    subst (λ u. Alike R v w (finished u) (finished w)) same-v
-    (subst (λ u. Alike R v w (finished (plant R c v)) (finished u)) same-w
+    subst (λ u. Alike R v w op (finished u) (finished w)) same-v
+    (subst (λ u. Alike R v w op (finished (plant R c v)) (finished u)) same-w
     (finish-alike c (ap (walk R) same-v ∙ a .there) (ap (walk R) same-w ∙ b .there)))
 alike R (o ∷ os) inside op c v w a b =
     let (here, rest) = both-true (strictlyInside R o) (allInside R os) inside in
@@ -81,7 +84,7 @@ alike R (o ∷ os) inside op c v w a b =
   where
     go : Step R o v w →
         ((x : Value.Value) → Holding R x (plant R x v) → Holding R x (plant R x w) →
-        Alike R (plant R x v) (plant R x w) (run bare (op + 1) os (plant R x v)) (run bare (op + 1) os (plant R x w))) →
-        Alike R v w (run bare op (o ∷ os) v) (run bare op (o ∷ os) w)
-    go (ends n p e f same) ih = rw (run-ends op o os v n p e, run-ends op o os w n p f, same) (stop-alike (stop n op p (whichPointer o w n)))
+        Alike R (plant R x v) (plant R x w) (op + 1) (run bare (op + 1) os (plant R x v)) (run bare (op + 1) os (plant R x w))) →
+        Alike R v w op (run bare op (o ∷ os) v) (run bare op (o ∷ os) w)
+    go (ends n p e f same) ih = rw (run-ends op o os v n p e, run-ends op o os w n p f, same) (stop-alike (stop n op p (whichPointer o w n)) (omega arith))
     go (goes x e f p q) ih = rw (run-goes op o os v (plant R x v) e, run-goes op o os w (plant R x w) f) (planted-before x (ih x p q))

@@ -4,7 +4,7 @@
 use mathlib.Core.Path.{_≡_}
 use mathlib.Core.List.{_++_}
 use Rattle.spec.specs.Outcome.{ok}
-use Rattle.spec.specs.Refusal.{done, work-too-short, too-many-nodes, output-too-short}
+use Rattle.spec.specs.Refusal.{work-too-short, too-many-nodes, output-too-short}
 use Rattle.spec.specs.Bytes.{Bytes}
 use Rattle.spec.specs.Value as Value
 use Rattle.spec.specs.Write.{write}
@@ -72,5 +72,8 @@ pub record Results (region : Tokens) (before before' : Value.Value) (a b : Answe
 
 pub record Isolated {D E patch region : Bytes} {lent lent' : Lent} (c : Situation D E patch region lent lent') : Type 0 where
   pub same : SameFields (answerWithin D patch region lent) (answerWithin E patch region lent')
-  pub results : answerWithin D patch region lent .number ≡ done →
+  pub results : (text : Bytes) → answerWithin D patch region lent ≡ success text →
       Results (c .passes .tokens) (c .first .before) (c .second .before) (answerWithin D patch region lent) (answerWithin E patch region lent')
+
+pub record IsolationStatement : Type 0 where
+  pub isolated : (D E patch region : Bytes) (lent lent' : Lent) (c : Situation D E patch region lent lent') → Isolated c
