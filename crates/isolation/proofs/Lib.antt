@@ -3,3 +3,4 @@ pub mod FrameLaws
 pub mod PlaceLaws
 pub mod PartLaws
 pub mod IsolationTheorem
+pub mod ExampleTheorem
