@@ -1,0 +1,6 @@
+pub mod SharedRun
+pub mod FrameLaws
+pub mod PlaceLaws
+pub mod PartLaws
+pub mod IsolationTheorem
+pub mod ExampleTheorem
