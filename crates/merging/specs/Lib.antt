@@ -1,0 +1,2 @@
+pub mod MergePatch
+pub mod Examples
