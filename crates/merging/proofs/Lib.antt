@@ -1,1 +1,2 @@
 pub mod ExamplesTheorem
+pub mod MemberLaws
