@@ -71,7 +71,7 @@ unfoldable pub or-else : Value.Value → Option Value.Value → Value.Value
 or-else other none = other
 or-else other (some v) = v
 
-get-is : (z : Tree Entry) (other : Value.Value) (n : Text) (f : Members) →
+pub get-is : (z : Tree Entry) (other : Value.Value) (n : Text) (f : Members) →
     (if has n f then valueOf (nth z (find n f) f) else other) ≡ or-else other (get n f)
 unfolding or-else get find count nth
 get-is z other n Forest.none = refl
