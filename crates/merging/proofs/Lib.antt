@@ -1,0 +1,4 @@
+pub mod ExamplesTheorem
+pub mod MemberLaws
+pub mod StepLaws
+pub mod MergeTheorem

@@ -1,0 +1,3 @@
+pub mod MergePatch
+pub mod Examples
+pub mod Claims
