@@ -33,7 +33,7 @@ own=$kit/on/$machine
 tools=$own/toolchain
 clang=$tools/bin/clang
 ar=$tools/bin/llvm-ar
-[ -x "$clang" ] && [ -x "$ar" ] || fail "no clang or no llvm-ar in $tools/bin"
+if [ ! -x "$clang" ] || [ ! -x "$ar" ]; then fail "no clang or no llvm-ar in $tools/bin"; fi
 
 # The view of the toolchain: links to all of it but clang.
 view=$out/kit
@@ -87,10 +87,14 @@ compare() { # CRATE
 
 # aarch64: no floating point registers, and no access that is not aligned. A loader runs
 # before the first are on, and with the MMU off, where each such access is a fault.
+# Where nothing may be unaligned, a record of 16 bytes takes up to 16 loads and stores, and
+# clang would call memmove for that. The two limits let it write them out, so memcpy
+# and memset are all that the library needs, as on x86-64.
+record="-mllvm -max-store-memmove=16 -mllvm -max-store-memcpy=16"
 cross() { # CRATE TARGET
     case $2 in
-    aarch64) compile "$1" aarch64 --target=aarch64-none-elf -mgeneral-regs-only -mstrict-align -fPIC ;;
-    riscv64) compile "$1" riscv64 --target=riscv64-unknown-elf -march=rv64gc -mabi=lp64d -mcmodel=medany ;;
+    aarch64) compile "$1" aarch64 --target=aarch64-none-elf -mgeneral-regs-only -mstrict-align -fPIC $record ;;
+    riscv64) compile "$1" riscv64 --target=riscv64-unknown-elf -march=rv64gc -mabi=lp64d -mcmodel=medany $record ;;
     wasm64) compile "$1" wasm64 --target=wasm64-unknown-unknown ;;
     esac
     echo "target/cross/$2/lib$1.a"
