@@ -7,7 +7,7 @@
 #     wasm64             in node
 #   tests/cross.sh sizes    code, data and undefined symbols
 #   COUNT=20000             and as many generated cases; builds second/ with cargo
-#   SEED=1                  which ones
+#   SEED=1                  the seed of the first 5,000, one more for each 5,000 after
 #   DEEP=1                  and those of bench/stack_cases.py; builds second/ too
 #   STACK=28672             the bare machine's stack, in bytes
 # Debian: qemu-user-static qemu-system-arm gcc-aarch64-linux-gnu gcc-riscv64-linux-gnu
@@ -43,7 +43,13 @@ more() { # NAME COMMAND..
     "$second" vectors "$out/cases/$name" >"$out/cases/$name.expected"
     files="$files $name"
 }
-if [ "${COUNT:-0}" -gt 0 ]; then more generated "$second" generate "${SEED:-1}" "$COUNT"; fi
+# At most 5,000 in a file, so that it has room in a bank of flash.
+left=${COUNT:-0} seed=${SEED:-1}
+while [ "$left" -gt 0 ]; do
+    now=$((left < 5000 ? left : 5000))
+    more "generated-$seed" "$second" generate "$seed" "$now"
+    left=$((left - now)) seed=$((seed + 1))
+done
 if [ "${DEEP:-0}" -gt 0 ]; then
     need python3 python3
     more deep python3 "$root/bench/stack_cases.py"
@@ -91,8 +97,15 @@ bare() {
     done
     # The guard is there: with a stack that is too small the machine faults just below RAM.
     machine 8192 "$out/cases/committed"
-    tail -n 1 "$out/bare/said" | grep -q 'FAULT class 37 address 0x000000003fff' || fail "no fault below a stack of 8,192 bytes"
-    echo "bare: a stack of 8192 bytes is too small, and the guard says so: $(tail -n 1 "$out/bare/said" | sed 's/.*FAULT/FAULT/')"
+    fault=$(sed -n '$s/.*FAULT/FAULT/p' "$out/bare/said")
+    case $fault in
+    "FAULT class 37 address 0x000000003fff"*) echo "bare: with 8192 bytes of stack the guard is met: $fault" ;;
+    *) fail "no fault below a stack of 8192 bytes" ;;
+    esac
+}
+
+symbols() { # WORDS..
+    "$target-linux-gnu-nm" -g "$@" "$out/$target/libjson_patch.a"
 }
 
 sizes() {
@@ -105,9 +118,11 @@ sizes() {
                 printf "%s: code %d, constants %d, data %d, bss %d bytes\n", target, sum["text"],
                     sum["rodata"] + sum["srodata"], sum["data"] + sum["sdata"], sum["bss"] + sum["sbss"]
             }'
-        echo "$target: exported: $("$target-linux-gnu-nm" -g --defined-only "$out/$target/libjson_patch.a" | awk 'NF == 3 { print $3 }' | sort | tr '\n' ' ')"
-        undefined=$("$target-linux-gnu-nm" -u "$out/$target/libjson_patch.a" | awk '$1 == "U" { print $2 }' | sort | tr '\n' ' ')
+        exported=$(symbols --defined-only | awk 'NF == 3 { print $3 }' | sort | tr '\n' ' ')
+        undefined=$(symbols -u | awk '$1 == "U" { print $2 }' | sort | tr '\n' ' ')
+        echo "$target: exported: $exported"
         echo "$target: undefined: $undefined"
+        [ "$exported" = "json_patch_apply " ] || fail "$target exports more than json_patch_apply"
         [ "$undefined" = "memcpy memset " ] || fail "$target needs more than memcpy and memset"
     done
     built wasm64 json_patch.wasm

@@ -1,7 +1,8 @@
 #!/bin/sh
 # Proves the library and compiles it for other 64-bit processors.
 #   tools/cross.sh [aarch64] [riscv64] [wasm64]   all three if none is named
-#   CRATES="json_patch hex"                       which crates, if not json_patch alone
+#   CRATES="json_patch hex"                       which crates, if not json_patch alone;
+#                                                 not record, with structs by value
 # Makes target/cross/TARGET/libCRATE.a, and for wasm64 also json_patch.wasm, which
 # needs wasm-ld (Debian: lld). docs/DEVICE.md says what is proved of these.
 #
@@ -58,13 +59,20 @@ ir() { "$clang" --no-default-config -Wno-override-module -x ir "$@"; }
 
 # Proves a crate, and writes its module as text without the words that name x86-64.
 prove() { # CRATE
-    rm -f "$out/module.bc" "$root/target/staticlib/lib$1.a"
+    rm -f "$out/module.bc"
     (cd "$root" && RATTLE_HOME=$view rt staticlib "$1") || fail "$1 is not proved"
     grep -q '^logic=proved ' "$root/target/log/$1.say" || fail "rt does not say that $1 is proved"
     [ -f "$out/module.bc" ] || fail "rattle gave clang no module.bc for $1"
     ir --target=x86_64-unknown-linux-gnu -S -emit-llvm -Xclang -disable-llvm-passes "$out/module.bc" -o - |
         sed -e '/^target \(datalayout\|triple\) = /d' -e 's/ "target-cpu"="x86-64"//' >"$out/$1.ll"
     if grep -q x86 "$out/$1.ll"; then fail "the module of $1 still names x86"; fi
+    # Pointers and integers go to a function alike on all of these processors. A struct
+    # that is passed by value does not: the module has it as x86-64 passes it.
+    given='(, )?(ptr|i[0-9]+) noundef( zeroext| signext)? %a[0-9]+'
+    if grep '^define ' "$out/$1.ll" | grep -v '^define internal ' |
+        grep -Evq "^define (noundef )?((zeroext|signext) )?(void|i[0-9]+) @[a-z_0-9]+\\(($given)*\\) "; then
+        fail "$1 exports a function with a struct by value: x86-64 alone"
+    fi
 }
 
 # The words of rattle's own call of clang, but for the target's.
@@ -81,7 +89,8 @@ compile() { # CRATE FOLDER WORDS..
 # What was taken off the module changes nothing: rattle's own object comes out.
 compare() { # CRATE
     compile "$1" x86_64 --target=x86_64-unknown-linux-gnu -march=x86-64 -fPIC
-    "$ar" p "$root/target/staticlib/lib$1.a" "$1.o" | cmp - "$out/x86_64/$1.o" || fail "for x86-64 this is not what rattle makes of $1"
+    "$ar" p "$root/target/staticlib/lib$1.a" "$1.o" | cmp - "$out/x86_64/$1.o" ||
+        fail "for x86-64 this is not what rattle makes of $1"
     echo "$1: proved, and for x86-64 byte for byte what rattle makes"
 }
 

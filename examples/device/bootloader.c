@@ -1,4 +1,4 @@
-/* A boot loader corrects a charge profile: AArch64, no operating system, no C library.
+/* A bootloader corrects a charge profile: AArch64, no operating system, no C library.
  * The profile and the makers' patches lie in flash, the result lies in RAM, and what
  * was refused is told on the serial line. Built, run and compared by run.sh.
  *

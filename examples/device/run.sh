@@ -1,5 +1,5 @@
 #!/bin/sh
-# Builds the boot loader, puts the profile and the makers' patches into flash, runs it on
+# Builds the bootloader, puts the profile and the makers' patches into flash, runs it on
 # qemu's AArch64 machine and compares the serial line with bootloader.expected.
 #   examples/device/run.sh     proves and compiles the library first, if it is not there
 # Debian: gcc-aarch64-linux-gnu qemu-system-arm

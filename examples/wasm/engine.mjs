@@ -2,8 +2,9 @@
 // 64-bit memories; in node 20, --experimental-wasm-memory64.
 const MOST = 32768, NODES = 6144, ENTRIES = 8192, FIELDS = 6;
 
-// bytes: json_patch.wasm. most: the bytes of output that are lent at most. The answer's
-// `kept` says whether the call has left the lent memory as it must.
+// bytes: json_patch.wasm. most: the bytes of output that are lent at most. With `rubbish`,
+// a byte, the work area holds it before the call, and the answer's `kept` says whether the
+// call has left the lent memory as it must.
 export function engine(bytes, most = 65536) {
     const instance = new WebAssembly.Instance(new WebAssembly.Module(bytes));
     const { json_patch_apply, memory, __heap_base } = instance.exports;
@@ -19,17 +20,20 @@ export function engine(bytes, most = 65536) {
         all.set(cut, at);
         return BigInt(cut.length);
     };
-    const same = (from, to, byte) => all.subarray(from, to).every(b => b === byte);
-    return (documentBytes, patchBytes, { room = most, nodesCount = NODES, rubbish = 0 } = {}) => {
+    const same = (from, to, byte) => {
+        while (from < to && all[from] === byte) from++;
+        return from === to;
+    };
+    return (documentBytes, patchBytes, { room = most, nodesCount = NODES, rubbish } = {}) => {
         const documentLength = put(document, documentBytes), patchLength = put(patch, patchBytes);
-        all.fill(0xff, output, output + most);
-        all.fill(rubbish, nodes, answer);
+        const watched = rubbish !== undefined;
+        if (watched) all.fill(0xff, output, output + most).fill(rubbish, nodes, answer);
         const returned = json_patch_apply(BigInt(document), documentLength, BigInt(patch), patchLength,
             BigInt(output), BigInt(Math.min(room, most)), BigInt(nodes), BigInt(nodesCount),
             BigInt(index), BigInt(ENTRIES), BigInt(answer));
         const [number, text, op, place, pointer, length] = Array.from(fields, Number);
-        const kept = returned === number && same(output + length, output + most, 0xff) &&
-            same(nodes, answer, nodesCount < NODES ? rubbish : 0);
+        const kept = returned === number && (!watched || same(output + length, output + most, 0xff) &&
+            same(nodes, answer, nodesCount < NODES ? rubbish : 0));
         return { number, text, op, place, pointer, written: all.slice(output, output + length), kept };
     };
 }

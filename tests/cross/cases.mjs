@@ -3,7 +3,7 @@
 import { readFileSync, writeSync } from 'node:fs';
 import { engine } from '../../examples/wasm/engine.mjs';
 
-const apply = engine(readFileSync(process.argv[2])), file = readFileSync(process.argv[3]);
+const apply = engine(readFileSync(process.argv[2]), 131072), file = readFileSync(process.argv[3]);
 const lines = [];
 const tell = (name, a) => lines.push(Buffer.from(name + ': ' + (a.kept ? '' : 'the memory is not as it must be: ')),
     a.number === 0 ? a.written :
