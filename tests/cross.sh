@@ -127,6 +127,13 @@ sizes() {
     done
     built wasm64 json_patch.wasm
     echo "wasm64: json_patch.wasm has $(wc -c <"$out/wasm64/json_patch.wasm") bytes"
+    need node nodejs
+    node --experimental-wasm-memory64 -e '
+        const module = new WebAssembly.Module(require("fs").readFileSync(process.argv[1]));
+        const names = list => list.map(entry => entry.name).sort().join(" ");
+        console.log("wasm64: exported: " + names(WebAssembly.Module.exports(module)));
+        console.log("wasm64: undefined: " + names(WebAssembly.Module.imports(module)));
+    ' "$out/wasm64/json_patch.wasm"
 }
 
 for what in ${*:-aarch64 riscv64 bare wasm64}; do
