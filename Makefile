@@ -5,10 +5,12 @@
 #   make install          PREFIX=/usr/local DESTDIR=
 #   make uninstall        the same
 #   make clean            what make has made; proofs stay
+#   make cross            the library for AArch64, RISC-V and WebAssembly (docs/DEVICE.md)
+#   make check-cross      that library under qemu and in node, and the bootloader
 #
 # Needs rt (the Rattle toolchain), a C compiler, cargo (Rust 1.82 or later) and
 # GNU make; for 'make check' also a C++ compiler, pkg-config and python3, and gdb
-# if there is one.
+# if there is one. What the last two need is on the page; each names what is missing.
 
 PREFIX ?= /usr/local
 DESTDIR ?=
@@ -136,6 +138,13 @@ check: all
 	MAKE="$(MAKE)" CC="$(CC)" PYTHON="$(PYTHON)" tests/installed.sh
 	@echo "check: all passed"
 
+cross:
+	tools/cross.sh
+
+check-cross: cross
+	tests/cross.sh sizes aarch64 riscv64 bare wasm64
+	examples/device/run.sh
+
 install: all
 	$(INSTALL) -d $(DESTDIR)$(BINDIR) $(DESTDIR)$(INCLUDEDIR) $(DESTDIR)$(LIBDIR)/pkgconfig \
 		$(DESTDIR)$(MANDIR)/man1 $(DESTDIR)$(MANDIR)/man3 $(DESTDIR)$(DOCDIR) $(DESTDIR)$(BASHDIR) \
@@ -175,7 +184,7 @@ uninstall:
 	-rmdir $(DESTDIR)$(DOCDIR) 2>/dev/null
 
 clean:
-	rm -rf $(out) target/examples rust/target
+	rm -rf $(out) target/examples target/cross rust/target
 
-.PHONY: all check install uninstall clean
+.PHONY: all check cross check-cross install uninstall clean
 .DELETE_ON_ERROR:
