@@ -2,7 +2,7 @@
 
 #![forbid(unsafe_code)]
 
-use second::{cases, compare, generate, hex, links, tool, vectors};
+use second::{cases, compare, generate, hex, links, tool, undo, vectors};
 use std::env;
 use std::ffi::OsString;
 use std::fs;
@@ -22,6 +22,10 @@ const USAGE: &str = "usage:
   second hex-cases
   second hex-answers FILE
   second hex-generate SEED COUNT
+  second undo DOC PATCH
+  second undo-cases
+  second undo-answers FILE
+  second undo-generate SEED COUNT
 ";
 
 /// The line of a call whose work area is too short. This program has none, so
@@ -111,6 +115,23 @@ fn run(arguments: &[OsString]) -> Result<(), Trouble> {
             let seed = number(seed)?;
             for index in 0..number(count)? {
                 out.write_all(&hex::generate::case(seed, index).file())?;
+            }
+        }
+        (Some("undo"), files) => out.write_all(&tool::undo_output(files))?,
+        (Some("undo-cases"), []) => {
+            for vector in undo::vectors::all() {
+                out.write_all(&vector.case.file())?;
+            }
+        }
+        (Some("undo-answers"), [file]) => {
+            for case in undo::cases::parse(&fs::read(file)?).map_err(Trouble::Message)? {
+                out.write_all(&case.lines())?;
+            }
+        }
+        (Some("undo-generate"), [seed, count]) => {
+            let seed = number(seed)?;
+            for index in 0..number(count)? {
+                out.write_all(&undo::generate::case(seed, index).file())?;
             }
         }
         (Some("compare"), [seed, count, dashes, command @ ..])

@@ -9,4 +9,5 @@ mod parts;
 mod regions;
 mod round_trip;
 mod tool;
+mod undo;
 mod vectors;
