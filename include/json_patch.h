@@ -83,8 +83,8 @@ typedef struct json_patch_answer {
     uint64_t number;  /* 0, or that of the refusal */
     uint64_t text;    /* 1 document, 2 patch, else 0 */
     uint64_t op;      /* the operation, counted from 1, else 0 */
-    uint64_t place;   /* a byte offset; with 11 and 12 the tokens walked; else 0 */
-    uint64_t pointer; /* with 11 and 12: 1 path, 2 from; else 0 */
+    uint64_t place;   /* a byte offset, or with 11 and 12 the tokens walked, else 0 */
+    uint64_t pointer; /* with 11 and 12: 1 path, 2 from, else 0 */
     uint64_t length;  /* the written length, 0 on refusal */
 } json_patch_answer;
 

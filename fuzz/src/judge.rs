@@ -60,7 +60,7 @@ impl fmt::Display for Fault {
 fn shown(answer: &Result<usize, Refusal>) -> String {
     match answer {
         Ok(length) => format!("0 length {length}"),
-        Err(refusal) => refusal.to_string(),
+        Err(refusal) => refusal.line().to_string(),
     }
 }
 
@@ -171,8 +171,8 @@ impl Judge {
 
         let wanted = match expected {
             Answer { number: 0, written, .. } => Ok(written.len()),
-            &Answer { number, text, op, place, .. } => {
-                Err(Refusal { number, text, op: op as usize, place })
+            &Answer { number, text, op, place, pointer, .. } => {
+                Err(Refusal { number, text, op: op as usize, place, pointer })
             }
         };
         let fault = |what| Some(Fault { what, given, wanted });
@@ -236,5 +236,5 @@ fn any_node(random: &mut Random) -> Node {
 }
 
 fn refusal(number: u32) -> Answer {
-    Answer { number, text: 0, op: 0, place: 0, written: Vec::new() }
+    Answer { number, text: 0, op: 0, place: 0, pointer: 0, written: Vec::new() }
 }

@@ -9,8 +9,8 @@ How it differs from the package ``jsonpatch``:
 * There are limits: texts of 32,768 bytes, 32 nested containers, 2,048 values,
   256 operations, numbers of 128 bytes. What is over one of them is refused, and
   so are a repeated member name, NaN and all else that RFC 8259 does not have.
-* A refusal is an exception with the number of the refusal, the operation and
-  the place: `Refusal`.
+* A refusal is an exception with the number of the refusal, the operation, the
+  place, and how far a pointer got that leads nowhere: `Refusal`.
 * It only applies patches. ``jsonpatch`` also makes them from two documents.
 
 The work is done by a shared library in which every function is proved to meet
@@ -30,6 +30,14 @@ b'{"mAh":3000,"cut":[4.2,3.0,2.80]}'
 patch: operation 1, test "/mAh": the test found a difference
 TEST_DIFFERS 15 1
 
+>>> try:
+...     apply(document, b'[{"op": "remove", "path": "/cut/2/max"}]')
+... except Refusal as refusal:
+...     print(refusal)
+...     print(refusal.pointer.name, refusal.place)
+patch: operation 1, remove "/cut/2/max": the location does not exist: path: "/cut" has no "2"
+PATH 1
+
 The library is looked for at $JSON_PATCH_LIBRARY, beside this package as
 ``make`` and ``make install`` lay it down, and where the system's loader looks.
 """
@@ -44,7 +52,7 @@ import threading
 from pathlib import Path
 from typing import Any, List, Tuple, Union
 
-__all__ = ["Kind", "Refusal", "apply", "MAX_BYTES", "OUTPUT", "__version__"]
+__all__ = ["Kind", "Pointer", "Refusal", "apply", "MAX_BYTES", "OUTPUT", "__version__"]
 __version__ = "0.2.0"
 
 Bytes = Union[bytes, bytearray, memoryview]
@@ -89,7 +97,9 @@ class _Work(ctypes.Structure):
 class _Answer(ctypes.Structure):
     """The answer, as in json_patch.h."""
 
-    _fields_ = [(name, ctypes.c_uint64) for name in ("number", "text", "op", "place", "length")]
+    _fields_ = [
+        (name, ctypes.c_uint64) for name in ("number", "text", "op", "place", "pointer", "length")
+    ]
 
 
 class Kind(enum.IntEnum):
@@ -138,6 +148,14 @@ _MEANINGS = {
 }
 
 
+class Pointer(enum.IntEnum):
+    """The pointer that a refusal speaks of, under its name in json_patch.h."""
+
+    NONE = 0
+    PATH = 1
+    FROM = 2
+
+
 class Refusal(ValueError):
     """Why a patch was not applied, and where.
 
@@ -151,16 +169,22 @@ class Refusal(ValueError):
     op: int
     """The operation, counted from 1, else 0."""
     place: int
-    """The offset of a byte in that text, else 0."""
+    """The offset of a byte in that text; with 11 and 12 the count of tokens that
+    were walked before the one that failed; else 0."""
+    pointer: Pointer
+    """With 11 and 12 the pointer that leads nowhere, else NONE."""
     message: str
     """The refusal in words."""
 
-    def __init__(self, number: int, text: int, op: int, place: int, message: str) -> None:
-        super().__init__(number, text, op, place, message)
+    def __init__(
+        self, number: int, text: int, op: int, place: int, pointer: int, message: str
+    ) -> None:
+        super().__init__(number, text, op, place, pointer, message)
         self.number = Kind(number)
         self.text = text
         self.op = op
         self.place = place
+        self.pointer = Pointer(pointer)
         self.message = message
 
     def __str__(self) -> str:
@@ -169,7 +193,8 @@ class Refusal(ValueError):
     @property
     def line(self) -> str:
         """The line that the patch tool prints."""
-        return f"refused {int(self.number)} text {self.text} op {self.op} place {self.place}"
+        where = f"text {self.text} op {self.op} place {self.place} pointer {int(self.pointer)}"
+        return f"refused {int(self.number)} {where}"
 
 
 def apply(document: Bytes, patch: Bytes, *, room: int = OUTPUT) -> bytes:
@@ -195,7 +220,7 @@ def apply(document: Bytes, patch: Bytes, *, room: int = OUTPUT) -> bytes:
     )
     if answer.number == 0:
         return ctypes.string_at(output, answer.length)
-    fields = (answer.number, answer.text, answer.op, answer.place)
+    fields = (answer.number, answer.text, answer.op, answer.place, answer.pointer)
     raise Refusal(*fields, _words(*fields, *texts))
 
 
@@ -208,7 +233,9 @@ def _octets(text: Bytes, name: str) -> bytes:
     return bytes(text)
 
 
-def _words(number: int, text: int, op: int, place: int, document: bytes, patch: bytes) -> str:
+def _words(
+    number: int, text: int, op: int, place: int, pointer: int, document: bytes, patch: bytes
+) -> str:
     """A refusal in words, with the operation or the place in the two texts."""
     kind = Kind(number)
     name, octets = ("document", document) if text == 1 else ("patch", patch)
@@ -218,7 +245,8 @@ def _words(number: int, text: int, op: int, place: int, document: bytes, patch: 
         column = sum(byte & 0xC0 != 0x80 for byte in octets[start:place]) + 1
         return f"{name}:{line}:{column}: {kind.meaning}"
     if op:
-        return f"patch: operation {op}{_operation(patch, op)}: {kind.meaning}"
+        way = _way(patch, op, place, Pointer(pointer), kind)
+        return f"patch: operation {op}{_operation(patch, op)}: {kind.meaning}{way}"
     return f"{name}: {kind.meaning}"
 
 
@@ -234,6 +262,20 @@ def _operation(patch: bytes, op: int) -> str:
     if isinstance(path, str):
         words.append(_shown(path))
     return " ".join(words)
+
+
+def _way(patch: bytes, op: int, place: int, pointer: Pointer, kind: Kind) -> str:
+    """How far a pointer got that leads nowhere: what was walked, and the token that
+    failed."""
+    if pointer == Pointer.NONE:
+        return ""
+    operation, name = json.loads(patch)[op - 1], pointer.name.lower()
+    _, *tokens = operation[name].split("/")
+    walked = "".join("/" + token for token in tokens[:place])
+    there, token = _shown(walked) if walked else "the root", _shown(tokens[place])
+    removed = ", once from is removed" if name == "path" and operation["op"] == "move" else ""
+    fault = f"is an array, and {token} is no index" if kind == Kind.NO_INDEX else f"has no {token}"
+    return f": {name}{removed}: {there} {fault}"
 
 
 def _shown(text: str) -> str:

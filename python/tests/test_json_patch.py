@@ -10,7 +10,7 @@ import unittest
 from pathlib import Path
 
 import json_patch
-from json_patch import Kind, Refusal, apply
+from json_patch import Kind, Pointer, Refusal, apply
 
 ROOT = Path(__file__).resolve().parents[2]
 
@@ -80,11 +80,32 @@ class Calls(unittest.TestCase):
 class Refusals(unittest.TestCase):
     def test_fields(self):
         refusal = refused(b'{"a":1,\n "a":2}', b"[]")
-        fields = (refusal.number, refusal.text, refusal.op, refusal.place)
-        self.assertEqual(fields, (Kind.REPEATED_NAME, 1, 0, 11))
-        self.assertEqual(refusal.line, "refused 4 text 1 op 0 place 11")
+        fields = (refusal.number, refusal.text, refusal.op, refusal.place, refusal.pointer)
+        self.assertEqual(fields, (Kind.REPEATED_NAME, 1, 0, 11, Pointer.NONE))
+        self.assertEqual(refusal.line, "refused 4 text 1 op 0 place 11 pointer 0")
         self.assertEqual(str(refusal), "document:2:4: a member name is repeated in one object")
         self.assertIsInstance(refusal, ValueError)
+
+    def test_a_pointer_that_leads_nowhere(self):
+        refusal = refused(b'{"a":[1]}', b'[{"op":"copy","from":"/a/x/y","path":""}]')
+        fields = (refusal.number, refusal.text, refusal.op, refusal.place, refusal.pointer)
+        self.assertEqual(fields, (Kind.NO_INDEX, 0, 1, 1, Pointer.FROM))
+        self.assertEqual(refusal.line, "refused 12 text 0 op 1 place 1 pointer 2")
+
+        def said(operation, words):
+            message = str(refused(b'{"a":[1,{"b/c":{}}]}', b"[" + operation + b"]"))
+            self.assertTrue(message.endswith(words), message)
+
+        said(b'{"op":"test","path":"/x/y","value":1}', ': path: the root has no "x"')
+        said(b'{"op":"add","path":"/a/3","value":1}', ': path: "/a" has no "3"')
+        said(b'{"op":"remove","path":"/a/-"}', ': path: "/a" has no "-"')
+        said(b'{"op":"remove","path":"/a/01"}', ': path: "/a" is an array, and "01" is no index')
+        said(b'{"op":"remove","path":"\\/a/1\\u002fb~1c//x"}', ': path: "/a/1/b~1c" has no ""')
+        said(b'{"op":"copy","from":"/a/9","path":"/b/c"}', ': from: "/a" has no "9"')
+        said(
+            b'{"op":"move","from":"/a/0","path":"/a/1/x"}',
+            ': path, once from is removed: "/a" has no "1"',
+        )
 
     def test_words(self):
         def said(patch, words, document=b'{"a":[1]}'):
@@ -97,7 +118,7 @@ class Refusals(unittest.TestCase):
         said(b'[{"op":"x"}]', "patch: operation 1, x: the patch is malformed")
         said(
             b'[{"op":"remove","path":"/a/0"},{"op":"remove","path":"/a/0"}]',
-            'patch: operation 2, remove "/a/0": the location does not exist',
+            'patch: operation 2, remove "/a/0": the location does not exist: path: "/a" has no "0"',
         )
         said(
             b'[{"op":"move","from":"/a","path":"/a/0"}]',
@@ -105,7 +126,8 @@ class Refusals(unittest.TestCase):
         )
         said(
             b'[{"op":"remove","path":"/\\u001b[31m\xe2\x80\xae"}]',
-            'patch: operation 1, remove "/\\u001b[31m\\u202e": the location does not exist',
+            'patch: operation 1, remove "/\\u001b[31m\\u202e": the location does not exist: '
+            'path: the root has no "\\u001b[31m\\u202e"',
         )
         long = json_patch.MAX_BYTES + 1
         said(long * b" ", "patch: the text is longer than 32,768 bytes")
@@ -115,6 +137,9 @@ class Refusals(unittest.TestCase):
         refusal = refused(b"[1,]", b"[]")
         again = pickle.loads(pickle.dumps(refusal))
         self.assertEqual((again.args, str(again)), (refusal.args, str(refusal)))
+        lost = refused(b"[]", b'[{"op":"remove","path":"/0"}]')
+        again = pickle.loads(pickle.dumps(lost))
+        self.assertEqual((again.pointer, again.line), (Pointer.PATH, lost.line))
 
 
 class Agreement(unittest.TestCase):
@@ -132,6 +157,11 @@ class Agreement(unittest.TestCase):
         words = dict(re.findall(r'case JSON_PATCH_(\w+): return "(.*)";', self.header))
         self.assertEqual(words.pop("DONE"), "done")
         self.assertEqual(words, {kind.name: kind.meaning for kind in Kind})
+
+    def test_the_header_has_the_same_pointers(self):
+        names = dict(re.findall(r"#define JSON_PATCH_POINTER_(\w+) (\d+)", self.header))
+        here = {pointer.name: str(int(pointer)) for pointer in Pointer if pointer}
+        self.assertEqual(names, here)
 
     def test_the_header_has_the_same_limits(self):
         self.assertEqual(self.defined("MAX_BYTES"), json_patch.MAX_BYTES)
@@ -169,6 +199,8 @@ class Agreement(unittest.TestCase):
             except Refusal as refusal:
                 line = refusal.line.encode()
                 self.assertTrue(refusal.message.startswith(("document:", "patch:")))
+                lost = refusal.number in (Kind.LOCATION_MISSING, Kind.NO_INDEX)
+                self.assertEqual(refusal.pointer != Pointer.NONE, lost)
             self.assertEqual(name + b": " + line, next(lines))
             count += 1
         self.assertGreater(count, 1700)

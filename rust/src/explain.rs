@@ -1,15 +1,16 @@
 //! A refusal shown in the two texts that were refused.
 
-use crate::json::{characters, elements, kind, member, Type};
+use crate::json::{characters, cut_at_token, elements, kind, member, Type};
 use crate::place::safe;
-use crate::{Kind, Place, Refusal, Shown};
+use crate::{Kind, Place, Pointer, Refusal, Shown};
 use core::fmt;
 
 /// The columns of a pointer or a value that are shown at most.
 const SHOWN: usize = 60;
 
 /// A refusal in words: the text, the operation with its `op` and `path` or the
-/// line and the column, what went wrong, and a hint where one is sure.
+/// line and the column, what went wrong, how far a pointer got that leads nowhere,
+/// and a hint where one is sure.
 ///
 /// ```
 /// use json_patch::{apply, Work};
@@ -24,6 +25,14 @@ const SHOWN: usize = 60;
 ///          | ^\n  \
 ///      hint: no comma stands before a closing bracket"
 /// );
+///
+/// let (document, patch) = (br#"{"cut":[4.2]}"#, br#"[{"op":"remove","path":"/cut/low/mV"}]"#);
+/// let refusal = apply(document, patch, &mut [0; 64], &mut Work::new()).unwrap_err();
+/// assert_eq!(
+///     refusal.explain(document, patch).to_string(),
+///     "patch: operation 1, remove \"/cut/low/mV\": a token is not an array index\n  \
+///      path: \"/cut\" is an array, and \"low\" is no index"
+/// );
 /// ```
 #[derive(Clone, Copy)]
 pub struct Explanation<'a> {
@@ -33,6 +42,27 @@ pub struct Explanation<'a> {
     names: [&'a dyn fmt::Display; 2],
     note: Option<&'a dyn fmt::Display>,
     paint: Paint,
+}
+
+/// How far a pointer got that leads nowhere. Its parts are as they stand in the
+/// patch.
+///
+/// ```
+/// use json_patch::{apply, Pointer, Walked, Work};
+///
+/// let (document, patch) = (br#"{"a":{}}"#, br#"[{"op":"remove","path":"/a/b/c"}]"#);
+/// let refusal = apply(document, patch, &mut [0; 64], &mut Work::new()).unwrap_err();
+/// let walked = refusal.explain(document, patch).walked();
+/// assert_eq!(walked, Some(Walked { pointer: Pointer::Path, way: b"/a", token: b"b" }));
+/// ```
+#[derive(Clone, Copy, Debug, PartialEq, Eq)]
+pub struct Walked<'a> {
+    /// Which pointer it is.
+    pub pointer: Pointer,
+    /// The tokens that were walked, as a pointer: it leads to a value.
+    pub way: &'a [u8],
+    /// The token that failed there.
+    pub token: &'a [u8],
 }
 
 /// What is printed before and after the parts of an explanation: nothing, or
@@ -79,6 +109,14 @@ impl<'a> Explanation<'a> {
     /// The operation that the refusal speaks of, as it stands in the patch.
     pub fn operation(&self) -> Option<&'a [u8]> {
         elements(self.patch).nth(self.refusal.op.checked_sub(1)?)
+    }
+
+    /// How far the pointer got that leads nowhere: with 11 and 12.
+    pub fn walked(&self) -> Option<Walked<'a>> {
+        let pointer = self.refusal.which()?;
+        let text = member(self.operation()?, pointer.name())?;
+        let (way, token) = cut_at_token(text, self.refusal.place)?;
+        Some(Walked { pointer, way, token })
     }
 
     /// A place in one of the texts: its name, line and column, the line, a mark.
@@ -155,10 +193,30 @@ impl<'a> Explanation<'a> {
         write!(f, ": {fault}")?;
         self.fault_of(f, operation)?;
         f.write_str(off)?;
+        self.how_far(f, operation)?;
         self.note(f)?;
         match self.refusal.kind() {
             Some(Kind::TestDiffers) => self.hint(f, "the patch was made for another document"),
             _ => Ok(()),
+        }
+    }
+
+    /// How far a pointer got, on a line of its own.
+    fn how_far(&self, f: &mut fmt::Formatter, operation: &[u8]) -> fmt::Result {
+        let Some(Walked { pointer, way, token }) = self.walked() else { return Ok(()) };
+        let op = member(operation, "op").and_then(known);
+        write!(f, "\n  {pointer}")?;
+        if pointer == Pointer::Path && op == Some("move") {
+            f.write_str(", once from is removed")?;
+        }
+        match way {
+            [] => f.write_str(": the root")?,
+            _ => write!(f, ": \"{}\"", Shown { bytes: way, most: SHOWN })?,
+        }
+        let token = Shown { bytes: token, most: SHOWN };
+        match self.refusal.kind() {
+            Some(Kind::NoIndex) => write!(f, " is an array, and \"{token}\" is no index"),
+            _ => write!(f, " has no \"{token}\""),
         }
     }
 

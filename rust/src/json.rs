@@ -5,6 +5,7 @@
 
 use core::char;
 use core::iter;
+use core::ops::Range;
 
 /// The elements of the array that a text is, or the members of the object, each
 /// as it stands in the text without the blanks around it.
@@ -88,6 +89,36 @@ pub fn characters(string: &[u8]) -> impl Iterator<Item = char> + '_ {
     })
 }
 
+/// A pointer cut at one of its tokens, counted from 0: what stands before the
+/// token's slash, and the token, both as they are written; from the pointer's
+/// text with the quotation marks.
+pub fn cut_at_token(pointer: &[u8], token: usize) -> Option<(&[u8], &[u8])> {
+    let mut slashes = slashes(pointer).skip(token);
+    let slash = slashes.next()?;
+    let end = slashes.next().map_or(pointer.len() - 1, |next| next.start);
+    Some((pointer.get(1..slash.start)?, pointer.get(slash.end..end)?))
+}
+
+/// Where a string's text has slashes, however they are spelled.
+fn slashes(string: &[u8]) -> impl Iterator<Item = Range<usize>> + '_ {
+    let mut at = 1;
+    iter::from_fn(move || loop {
+        let start = at;
+        let (length, slash) = match string.get(start..)? {
+            [] => return None,
+            [b'\\', b'u', four @ ..] => {
+                (6, four.get(..4).is_some_and(|four| four.eq_ignore_ascii_case(b"002f")))
+            }
+            [b'\\', next, ..] => (2, *next == b'/'),
+            [next, ..] => (1, *next == b'/'),
+        };
+        at += length;
+        if slash {
+            return Some(start..at);
+        }
+    })
+}
+
 /// The character of four hexadecimal digits, and of four more where the first
 /// are half of a surrogate pair.
 fn unescaped(rest: &mut core::str::Chars) -> char {
@@ -158,8 +189,22 @@ mod tests {
     }
 
     #[test]
+    fn a_pointer_is_cut_at_its_tokens() {
+        let pointer = br#""/a~1b\/\"\u002F\u002fd""#;
+        let cut = |token| cut_at_token(pointer, token);
+        assert_eq!(cut(0), Some((&b""[..], &b"a~1b"[..])));
+        assert_eq!(cut(1), Some((&b"/a~1b"[..], &br#"\""#[..])));
+        assert_eq!(cut(2), Some((&br#"/a~1b\/\""#[..], &b""[..])));
+        assert_eq!(cut(3), Some((&br#"/a~1b\/\"\u002F"#[..], &b"d"[..])));
+        assert_eq!(cut(4), None);
+        assert_eq!(cut_at_token(b"\"\"", 0), None);
+        assert_eq!(cut_at_token(b"\"/\"", 0), Some((&b""[..], &b""[..])));
+    }
+
+    #[test]
     fn no_text_is_a_fault() {
-        let pieces = [&b"["[..], b"]", b"{", b"}", b"\"", b"\\", b"\\ud800", b",", b":", b"\xff"];
+        let pieces =
+            [&b"["[..], b"]", b"{", b"}", b"\"", b"\\", b"\\ud800", b",", b":", b"/", b"\xff"];
         for n in 0..pieces.len().pow(4) {
             let mut text = std::vec::Vec::new();
             for power in 0..4 {
@@ -170,6 +215,9 @@ mod tests {
             }
             member(&text, "a");
             characters(&text).count();
+            for token in 0..3 {
+                cut_at_token(&text, token);
+            }
         }
     }
 }

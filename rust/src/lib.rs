@@ -48,11 +48,11 @@ mod place;
 pub mod raw;
 mod refusal;
 
-pub use explain::{Explanation, Paint};
+pub use explain::{Explanation, Paint, Walked};
 pub use json::elements;
 pub use place::{Place, Shown};
 pub use raw::{apply, apply_in, Node, Work, WORK_ENTRIES, WORK_NODES};
-pub use refusal::{Kind, Line, Refusal};
+pub use refusal::{Kind, Line, Pointer, Refusal};
 
 /// The longest document, and the longest patch, in bytes.
 pub const MAX_BYTES: usize = 32_768;

@@ -59,8 +59,10 @@ pub struct Answer {
     pub text: u64,
     /// The operation, counted from 1, else 0.
     pub op: u64,
-    /// A byte offset, else 0.
+    /// A byte offset; with 11 and 12 the tokens walked; else 0.
     pub place: u64,
+    /// With 11 and 12: 1 for `path`, 2 for `from`; else 0.
+    pub pointer: u64,
     /// The written length, 0 on refusal.
     pub length: u64,
 }
@@ -68,7 +70,7 @@ pub struct Answer {
 impl Answer {
     /// The written length, or the refusal.
     fn result(self) -> Result<usize, Refusal> {
-        let Answer { number, text, op, place, length } = self;
+        let Answer { number, text, op, place, pointer, length } = self;
         match number {
             0 => Ok(length as usize),
             _ => Err(Refusal {
@@ -76,6 +78,7 @@ impl Answer {
                 text: text as u32,
                 op: op as usize,
                 place: place as usize,
+                pointer: pointer as u32,
             }),
         }
     }

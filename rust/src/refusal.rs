@@ -18,9 +18,26 @@ use core::fmt;
 /// assert_eq!(refusal.kind(), Some(Kind::TestDiffers));
 /// assert_eq!((refusal.number, refusal.op), (15, 1));
 /// assert_eq!(refusal.to_string(), "refused 15: operation 1: the test found a difference");
-/// assert_eq!(refusal.line().to_string(), "refused 15 text 0 op 1 place 0");
+/// assert_eq!(refusal.line().to_string(), "refused 15 text 0 op 1 place 0 pointer 0");
 /// # Ok(())
 /// # }
+/// ```
+///
+/// Where a pointer leads nowhere, the refusal says which one, and how many of its
+/// tokens were walked before the one that failed.
+///
+/// ```
+/// use json_patch::{apply, Kind, Pointer, Work};
+///
+/// let patch = br#"[{"op":"remove","path":"/cut/0"},{"op":"add","path":"/cut/2","value":2.8}]"#;
+/// let refusal = apply(br#"{"cut":[4.2,3.0]}"#, patch, &mut [0; 64], &mut Work::new()).unwrap_err();
+/// assert_eq!(refusal.kind(), Some(Kind::LocationMissing));
+/// assert_eq!((refusal.which(), refusal.place), (Some(Pointer::Path), 1));
+/// assert_eq!(
+///     refusal.to_string(),
+///     "refused 11: operation 2: `path`, after 1 token: the location does not exist"
+/// );
+/// assert_eq!(refusal.line().to_string(), "refused 11 text 0 op 2 place 1 pointer 1");
 /// ```
 #[derive(Clone, Copy, Debug, PartialEq, Eq, Hash)]
 pub struct Refusal {
@@ -30,8 +47,12 @@ pub struct Refusal {
     pub text: u32,
     /// The operation, counted from 1, else 0.
     pub op: usize,
-    /// A byte offset in that text, else 0.
+    /// A byte offset in that text; with 11 and 12 the count of tokens walked
+    /// before the one that failed; else 0.
     pub place: usize,
+    /// With 11 and 12 the pointer that leads nowhere, 1 for `path` and 2 for
+    /// `from`; else 0. See [`which`](Refusal::which).
+    pub pointer: u32,
 }
 
 impl Refusal {
@@ -44,6 +65,15 @@ impl Refusal {
     /// The line that the patch tool prints.
     pub fn line(&self) -> Line {
         Line(*self)
+    }
+
+    /// The pointer that leads nowhere: with 11 and 12, else `None`.
+    pub fn which(&self) -> Option<Pointer> {
+        match self.pointer {
+            1 => Some(Pointer::Path),
+            2 => Some(Pointer::From),
+            _ => None,
+        }
     }
 
     /// Whether `place` is an offset in one of the two texts.
@@ -61,7 +91,8 @@ impl Refusal {
     /// let refusal = apply(document, patch, &mut [0; 64], &mut Work::new()).unwrap_err();
     /// assert_eq!(
     ///     refusal.explain(document, patch).to_string(),
-    ///     r#"patch: operation 1, remove "/b": the location does not exist in document"#
+    ///     "patch: operation 1, remove \"/b\": the location does not exist in document\n  \
+    ///      path: the root has no \"b\""
     /// );
     /// ```
     pub fn explain<'a>(&self, document: &'a [u8], patch: &'a [u8]) -> Explanation<'a> {
@@ -83,6 +114,10 @@ impl fmt::Display for Refusal {
         if self.op != 0 {
             write!(f, ": operation {}", self.op)?;
         }
+        if let Some(which) = self.which() {
+            let tokens = if self.place == 1 { "token" } else { "tokens" };
+            write!(f, ": `{which}`, after {} {tokens}", self.place)?;
+        }
         match self.kind() {
             Some(kind) => write!(f, ": {kind}"),
             None => f.write_str(": unknown answer"),
@@ -98,8 +133,33 @@ pub struct Line(Refusal);
 
 impl fmt::Display for Line {
     fn fmt(&self, f: &mut fmt::Formatter) -> fmt::Result {
-        let Refusal { number, text, op, place } = self.0;
-        write!(f, "refused {number} text {text} op {op} place {place}")
+        let Refusal { number, text, op, place, pointer } = self.0;
+        write!(f, "refused {number} text {text} op {op} place {place} pointer {pointer}")
+    }
+}
+
+/// The two pointers that an operation can have.
+#[derive(Clone, Copy, Debug, PartialEq, Eq, Hash)]
+pub enum Pointer {
+    /// The member `path`.
+    Path = 1,
+    /// The member `from`, of a move or a copy.
+    From = 2,
+}
+
+impl Pointer {
+    /// The member's name.
+    pub fn name(self) -> &'static str {
+        match self {
+            Pointer::Path => "path",
+            Pointer::From => "from",
+        }
+    }
+}
+
+impl fmt::Display for Pointer {
+    fn fmt(&self, f: &mut fmt::Formatter) -> fmt::Result {
+        f.write_str(self.name())
     }
 }
 
@@ -126,9 +186,9 @@ pub enum Kind {
     TooManyOperations = 9,
     /// Malformed pointer; sets `op`.
     MalformedPointer = 10,
-    /// Location missing; sets `op`.
+    /// Location missing; sets `op`, `place` and `pointer`.
     LocationMissing = 11,
-    /// Token is no array index; sets `op`.
+    /// Token is no array index; sets `op`, `place` and `pointer`.
     NoIndex = 12,
     /// Remove of the root; sets `op`.
     RemoveOfRoot = 13,

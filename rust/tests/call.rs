@@ -1,7 +1,7 @@
 //! The call through the wrapper: the lines of document 01, and what is promised
 //! of lent memory.
 
-use json_patch::{apply, apply_in, Kind, Node, Refusal, Work};
+use json_patch::{apply, apply_in, Kind, Node, Pointer, Refusal, Work};
 use json_patch::{MAX_BYTES, TOOL_OUTPUT, WORK_ENTRIES, WORK_NODES};
 use std::thread;
 
@@ -21,38 +21,53 @@ fn lines_of_document_01() {
     let patch = format!(r#"[{{"op":"test","path":"/mAh","value":3e3{tail}"#);
     assert_eq!(line(profile, patch.as_bytes()), r#"{"mAh":3000,"cut":[4.2,3.0,2.8]}"#);
     let patch = format!(r#"[{{"op":"test","path":"/mAh","value":3001{tail}"#);
-    assert_eq!(line(profile, patch.as_bytes()), "refused 15 text 0 op 1 place 0");
-    assert_eq!(line(br#"{"a":1,"a":2}"#, b"[]"), "refused 4 text 1 op 0 place 9");
-    assert_eq!(line(b"[1,]", b"[]"), "refused 3 text 1 op 0 place 3");
-    assert_eq!(line(b"", b"[]"), "refused 3 text 1 op 0 place 0");
-    assert_eq!(line(b"[]", b"[1,]"), "refused 3 text 2 op 0 place 3");
+    assert_eq!(line(profile, patch.as_bytes()), "refused 15 text 0 op 1 place 0 pointer 0");
+    assert_eq!(line(br#"{"a":1,"a":2}"#, b"[]"), "refused 4 text 1 op 0 place 9 pointer 0");
+    assert_eq!(line(b"[1,]", b"[]"), "refused 3 text 1 op 0 place 3 pointer 0");
+    assert_eq!(line(b"", b"[]"), "refused 3 text 1 op 0 place 0 pointer 0");
+    assert_eq!(line(b"[]", b"[1,]"), "refused 3 text 2 op 0 place 3 pointer 0");
     assert_eq!(
         line(br#"{"a":[1,2,3]}"#, br#"[{"op":"move","from":"/a/0","path":"/a/2"}]"#),
         r#"{"a":[2,3,1]}"#
     );
     let long = vec![b' '; MAX_BYTES + 1];
-    assert_eq!(line(&long, &long), "refused 2 text 1 op 0 place 0");
-    assert_eq!(line(b"[]", &long), "refused 2 text 2 op 0 place 0");
+    assert_eq!(line(&long, &long), "refused 2 text 1 op 0 place 0 pointer 0");
+    assert_eq!(line(b"[]", &long), "refused 2 text 2 op 0 place 0 pointer 0");
 }
 
 #[test]
 fn refusals_print_in_words_and_as_their_line() {
-    let words = |number, text, op, place| Refusal { number, text, op, place }.to_string();
+    let refusal = |number, text, op, place, pointer| Refusal { number, text, op, place, pointer };
+    let words = |number, text, op, place| refusal(number, text, op, place, 0).to_string();
     assert_eq!(
         words(4, 1, 0, 9),
         "refused 4: document, byte 9: a member name is repeated in one object"
     );
     assert_eq!(words(2, 2, 0, 0), "refused 2: patch: the text is longer than 32,768 bytes");
     assert_eq!(words(6, 0, 3, 0), "refused 6: operation 3: more than 2,048 values");
+    let lost = refusal(11, 0, 2, 1, 1);
+    assert_eq!(
+        lost.to_string(),
+        "refused 11: operation 2: `path`, after 1 token: the location does not exist"
+    );
+    assert_eq!(lost.line().to_string(), "refused 11 text 0 op 2 place 1 pointer 1");
+    assert_eq!(lost.which(), Some(Pointer::Path));
+    let lost = refusal(12, 0, 256, 0, 2);
+    assert_eq!(
+        lost.to_string(),
+        "refused 12: operation 256: `from`, after 0 tokens: a token is not an array index"
+    );
+    assert_eq!(lost.line().to_string(), "refused 12 text 0 op 256 place 0 pointer 2");
+    assert_eq!(lost.which(), Some(Pointer::From));
     for (index, kind) in Kind::ALL.into_iter().enumerate() {
-        let refusal = Refusal { number: kind.number(), text: 0, op: 0, place: 0 };
+        let refusal = refusal(kind.number(), 0, 0, 0, 0);
         assert_eq!(kind.number() as usize, index + 1);
         assert_eq!(refusal.kind(), Some(kind));
         assert_eq!(refusal.to_string(), format!("refused {}: {kind}", kind.number()));
-        let line = format!("refused {} text 0 op 0 place 0", kind.number());
+        let line = format!("refused {} text 0 op 0 place 0 pointer 0", kind.number());
         assert_eq!(refusal.line().to_string(), line);
     }
-    let none = Refusal { number: 17, text: 0, op: 0, place: 0 };
+    let none = refusal(17, 0, 0, 0, 0);
     assert_eq!(none.kind(), None);
     assert_eq!(none.to_string(), "refused 17: unknown answer");
 }

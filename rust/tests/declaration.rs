@@ -3,7 +3,7 @@
 //! types, the fields of the answer and of a node, the refusals' names, numbers
 //! and words, the limits, the version. So does the manual.
 
-use json_patch::Kind;
+use json_patch::{Kind, Pointer};
 use std::collections::BTreeMap;
 use std::fs;
 use std::path::Path;
@@ -317,6 +317,16 @@ fn refusals_have_the_numbers_and_names_of_the_definitions() {
         .map(|kind| (constant(&format!("{kind:?}")), u64::from(kind.number())))
         .collect();
     assert_eq!(here, refusals);
+}
+
+#[test]
+fn the_pointers_have_the_numbers_of_the_header() {
+    let header = in_header();
+    assert_eq!(header.keys().filter(|name| name.starts_with("POINTER_")).count(), 2);
+    for pointer in [Pointer::Path, Pointer::From] {
+        let name = format!("POINTER_{}", pointer.name().to_uppercase());
+        assert_eq!(header[&name], pointer as u64, "{name}");
+    }
 }
 
 #[test]

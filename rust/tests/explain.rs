@@ -89,11 +89,13 @@ fn operations_are_named_with_their_pointers() {
     };
     said(
         r#"{"op":"remove","path":"/b"}"#,
-        r#", remove "/b": the location does not exist in doc.json"#,
+        ", remove \"/b\": the location does not exist in doc.json\n  \
+         path: the root has no \"b\"",
     );
     said(
         r#"{"value":1,"path":"/a/x","op":"add"}"#,
-        r#", add "/a/x": a token is not an array index"#,
+        ", add \"/a/x\": a token is not an array index\n  \
+         path: \"/a\" is an array, and \"x\" is no index",
     );
     said(r#"{"op":"remove","path":""}"#, r#", remove "": the root cannot be removed"#);
     said(
@@ -102,7 +104,8 @@ fn operations_are_named_with_their_pointers() {
     );
     said(
         r#"{"op":"copy","from":"/x","path":"/y"}"#,
-        r#", copy from "/x" to "/y": the location does not exist in doc.json"#,
+        ", copy from \"/x\" to \"/y\": the location does not exist in doc.json\n  \
+         from: the root has no \"x\"",
     );
     said(
         r#"{"\u006fp":"te\u0073t","path":"\/a/0","value":"x\"]"}"#,
@@ -113,6 +116,40 @@ fn operations_are_named_with_their_pointers() {
     said(
         &format!(r#"{{"op":"add","path":"/a/1/0","value":{deep}}}"#),
         r#", add "/a/1/0": more than 32 nested containers in its result"#,
+    );
+}
+
+#[test]
+fn a_pointer_that_leads_nowhere_says_how_far_it_got() {
+    let document = br#"{"a":[1,[2],{"b/c":{"":{"x":3}}}]}"#;
+    let said = |operation: &str, words: &str| {
+        let found = explained(document, format!("[{operation}]").as_bytes());
+        assert_eq!(found.split_once("\n  ").map(|(_, line)| line), Some(words), "{found}");
+    };
+    let at = |path: &str, words: &str| {
+        said(&format!(r#"{{"op":"test","path":"{path}","value":1}}"#), words);
+    };
+    at("/x/y", r#"path: the root has no "x""#);
+    at("/a/3", r#"path: "/a" has no "3""#);
+    at("/a/-/0", r#"path: "/a" has no "-""#);
+    at("/a/18446744073709551616", r#"path: "/a" has no "18446744073709551616""#);
+    at("/a/01/0", r#"path: "/a" is an array, and "01" is no index"#);
+    at("/a/", r#"path: "/a" is an array, and "" is no index"#);
+    at("/a/0/b", r#"path: "/a/0" has no "b""#);
+    // As they are written, in whatever spelling.
+    at("/a/2/b~1c/d~0", r#"path: "/a/2/b~1c" has no "d~0""#);
+    at(r"\/a\u002f2\/b~1c\/\/y", r#"path: "\/a\u002f2\/b~1c\/" has no "y""#);
+    at(r"\u002Fz\u002F", r#"path: the root has no "z""#);
+    let long = "y".repeat(70);
+    let cut = &long[..60];
+    at(&format!("/a/1/{long}"), &format!("path: \"/a/1\" is an array, and \"{cut}…\" is no index"));
+
+    said(r#"{"op":"copy","from":"/a/1/1","path":"/b/c"}"#, r#"from: "/a/1" has no "1""#);
+    said(r#"{"op":"copy","from":"/a/1","path":"/b/c"}"#, r#"path: the root has no "b""#);
+    said(r#"{"op":"move","from":"/a/7","path":"/b/c"}"#, r#"from: "/a" has no "7""#);
+    said(
+        r#"{"op":"m\u006fve","from":"/a/0","path":"/a/3"}"#,
+        r#"path, once from is removed: "/a" has no "3""#,
     );
 }
 
@@ -179,6 +216,10 @@ fn every_committed_case_can_be_explained() {
             let words = refusal.explain(document, patch).to_string();
             assert!(words.starts_with("document:") || words.starts_with("patch:"), "{words}");
             assert!(!words.contains(|c: char| c.is_control() && c != '\n'), "{words:?}");
+            let lines = ["\n  path: ", "\n  path, once from is removed: ", "\n  from: "];
+            let walked = lines.into_iter().any(|line| words.contains(line));
+            assert_eq!(walked, refusal.pointer != 0, "{line}: {words}");
+            assert_eq!(walked, [11, 12].contains(&refusal.number), "{line}: {words}");
             if refusal.number == 8 && refusal.op > 0 || refusal.number == 10 {
                 assert!(words.contains("malformed: "), "{line}: {words}");
             }

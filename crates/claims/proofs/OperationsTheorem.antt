@@ -18,10 +18,11 @@ use Rattle.spec.specs.Read.{read}
 use Rattle.spec.specs.Write.{write}
 use Rattle.spec.specs.Pointer.{Tokens, childAt, child, walk}
 use Rattle.spec.specs.Operation.{Operation, put, perform, limited, atParent, addAt, removeAtPath, replaceAtPath, moveTo, copyTo, testAt}
-use Rattle.spec.specs.Patch.{Run, finished, stopped, run, atOp, onFinish}
+use Rattle.spec.specs.Patch.{stop, Run, finished, stopped, whichPointer, run, atOp, onFinish}
 use Rattle.spec.specs.Answer.{Answer, Lent, answer, success, refusal, workSuffices, fitting, answerOf, patched, onPatch, onDocument, answerIn}
 use Rattle.spec.proofs.OutcomeLaws.{refused≢ok, both-ok}
 use Rattle.spec.proofs.ChildLaws.{child-there}
+use Rattle.spec.proofs.FartherLaws.{farther-ok}
 use Rattle.spec.proofs.PlaceLaws.{walk-on}
 use Rattle.claims.specs.Proper.{Proper, ProperItems, element, member}
 use Rattle.claims.specs.Equality.{Reordered, Permuted, same}
@@ -78,10 +79,10 @@ equal-same {o} h = rw (← h) (go o)
 parent-walked : (t u : Text) (ts : Tokens) (last : Text) (v w parent : Value.Value) → AtParent u (ts ++ (t ∷ [])) v last parent → walk (u ∷ ts) v ≡ ok w → parent ≡ w
 unfolding walk _>>=_
 parent-walked t u [] last v w parent (step {k = k} q end) h =
-    let e : ok (valueOf (child k v)) ≡ ok w = sym (walk-on u [] v k q) ∙ h in
+    let e : ok (valueOf (child k v)) ≡ ok w = farther-ok _ (sym (walk-on u [] v k q) ∙ h) in
     cc
 parent-walked t u (s ∷ ts) last v w parent (step {k = k} q a) h =
-    parent-walked t s ts last (valueOf (child k v)) w parent a (sym (walk-on u (s ∷ ts) v k q) ∙ h)
+    parent-walked t s ts last (valueOf (child k v)) w parent a (farther-ok _ (sym (walk-on u (s ∷ ts) v k q) ∙ h))
 
 replace-element : (t : Text) (ts : Tokens) (x v parent : Value.Value) → Proper v → walk ts v ≡ ok parent → isArray (parent .label) ≡ true →
     perform (replacing (ts ++ (t ∷ [])) x) v ≡ perform (removing (ts ++ (t ∷ []))) v >>= perform (adding (ts ++ (t ∷ [])) x)
@@ -108,7 +109,8 @@ test-found path x v w h =
 -- A patch that fails
 
 run-stops : (earlier later : List Operation) (o : Operation) (op : ℕ) (v w : Value.Value) (number place : ℕ) →
-    run limited op earlier v ≡ finished w → limited o w ≡ refused number place → run limited op (earlier ++ (o ∷ later)) v ≡ stopped number (length earlier + op)
+    run limited op earlier v ≡ finished w → limited o w ≡ refused number place →
+    run limited op (earlier ++ (o ∷ later)) v ≡ stopped (stop number (length earlier + op) place (whichPointer o w number))
 unfolding run onFinish atOp
 run-stops [] later o op v w number place h i =
     let same : v ≡ w = cc in
@@ -116,11 +118,12 @@ run-stops [] later o op v w number place h i =
     rw (same, i, here)
 run-stops (e ∷ earlier) later o op v w number place h i = go (limited e v) h (λ u. run-stops earlier later o (op + 1) u w number place)
   where
-    go : (r : Outcome Value.Value) → onFinish (atOp op r) (λ u. run limited (op + 1) earlier u) ≡ finished w →
+    go : (r : Outcome Value.Value) → onFinish (atOp op (whichPointer e v) r) (λ u. run limited (op + 1) earlier u) ≡ finished w →
         ((u : Value.Value) → run limited (op + 1) earlier u ≡ finished w → limited o w ≡ refused number place →
-        run limited (op + 1) (earlier ++ (o ∷ later)) u ≡ stopped number (length earlier + (op + 1))) →
-        onFinish (atOp op r) (λ u. run limited (op + 1) (earlier ++ (o ∷ later)) u) ≡ stopped number (suc (length earlier) + op)
-    go (ok u) h ih = let count : length earlier + (op + 1) ≡ suc (length earlier) + op = omega arith in ih u h i ∙ ap (stopped number) count
+        run limited (op + 1) (earlier ++ (o ∷ later)) u ≡ stopped (stop number (length earlier + (op + 1)) place (whichPointer o w number))) →
+        onFinish (atOp op (whichPointer e v) r) (λ u. run limited (op + 1) (earlier ++ (o ∷ later)) u)
+        ≡ stopped (stop number (suc (length earlier) + op) place (whichPointer o w number))
+    go (ok u) h ih = let count : length earlier + (op + 1) ≡ suc (length earlier) + op = omega arith in ih u h i ∙ ap (λ k. stopped (stop number k place (whichPointer o w number))) count
     go (refused n p) h ih = cc
 
 -- no text beside a refusal: so of each step that makes an answer
@@ -140,7 +143,7 @@ either-silent false p q = q
 run-silent : (room : ℕ) (r : Run Value.Value) → Silent (answerOf room r)
 unfolding answerOf fitting
 run-silent room (finished v) = either-silent (leb (length (write v)) room) (success-silent _) (refusal-silent _ _ _ _)
-run-silent room (stopped number op) = refusal-silent _ _ _ _
+run-silent room (stopped s) = record { silent = λ h. refl }
 
 patch-silent : (room : ℕ) (document : Value.Value) (o : Outcome Value.Value) → Silent (onPatch room document o)
 unfolding onPatch patched

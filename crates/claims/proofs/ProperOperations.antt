@@ -12,9 +12,10 @@ use Rattle.spec.specs.Forest.{none, tree, Tree, count, before, from, insertAt, 
 use Rattle.spec.specs.Value as Value
 use Rattle.spec.specs.Value.{Label, Entry, Members, tag, isArray, isObject, named, valueOf, has, find}
 use Rattle.spec.specs.Equality.{equal}
-use Rattle.spec.specs.Pointer.{Tokens, childAt, child, walk}
+use Rattle.spec.specs.Pointer.{Tokens, childAt, child, farther, walk}
 use Rattle.spec.specs.Operation.{Kind, Operation, withKids, put, atParent, insertElement, insertMember, insertChild, removeChild, replaceChild, addAt, removeAtPath, replaceAtPath, moveTo, copyTo, testAt, perform}
 use Rattle.spec.proofs.OutcomeLaws.{refused≢ok, both-ok}
+use Rattle.spec.proofs.FartherLaws.{farther-ok}
 use Rattle.spec.proofs.ForestLaws.{count-replaceAt, find-replaceAt}
 use Rattle.spec.proofs.ChildLaws.{child-there}
 use Rattle.claims.specs.Proper as Proper
@@ -171,9 +172,9 @@ unfolding atParent
 parent-keeps change keeps t [] v w s a p h = keeps t v w s p h
 parent-keeps change keeps t (u ∷ ts) v w s (token s' a) p h =
     let (k, e, i) = both-ok (childAt t v) _ w h in
-    let (x, f, j) = both-ok (atParent change u ts (valueOf (child k v))) _ w i in
+    let (x, f, j) = both-ok (farther (atParent change u ts (valueOf (child k v)))) _ w i in
     let same : put k x v ≡ w = cc in
-    let inside = parent-keeps change keeps u ts (valueOf (child k v)) x s' a (proper-child t k v e p) f in
+    let inside = parent-keeps change keeps u ts (valueOf (child k v)) x s' a (proper-child t k v e p) (farther-ok _ f) in
     subst Proper same (proper-put k x v inside p (child-there t v k e))
 
 -- The six operations
@@ -183,7 +184,7 @@ unfolding walk
 walk-proper [] v w p h = let same : v ≡ w = cc in subst Proper same p
 walk-proper (t ∷ ts) v w p h =
     let (k, e, i) = both-ok (childAt t v) _ w h in
-    walk-proper ts (valueOf (child k v)) w (proper-child t k v e p) i
+    walk-proper ts (valueOf (child k v)) w (proper-child t k v e p) (farther-ok _ i)
 
 add-proper : (path : Tokens) (x v w : Value.Value) → AllCharacters path → Proper x → Proper v → addAt path x v ≡ ok w → Proper w
 unfolding addAt

@@ -14,8 +14,9 @@ use Rattle.spec.specs.Value as Value
 use Rattle.spec.specs.Value.{Label, Entry, Members, leaf, valueOf, tag, isArray, isObject, isString, content, has, find, depth, nodes}
 use Rattle.spec.specs.Pointer.{Tokens, tokens, child}
 use Rattle.spec.specs.Operation.{Kind, Operation, perform, notTooDeep, notTooLarge, limited}
-use Rattle.spec.specs.Patch.{member, stringOf, stringMember, kindNamed, usesValue, usesFrom, isMove, OperationMembers, valueFor, fromFor, membersFor, operationMembers, properPrefix, withPointers, operation, Run, finished, stopped, atOp, onFinish, operations, shape, run}
+use Rattle.spec.specs.Patch.{member, stringOf, stringMember, kindNamed, usesValue, usesFrom, isMove, OperationMembers, valueFor, fromFor, membersFor, operationMembers, properPrefix, withPointers, operation, Stop, stop, Run, finished, stopped, noPointer, atOp, onFinish, operations, shape, whichPointer, run}
 use Rattle.spec.proofs.OutcomeLaws.{refused≢ok, both-ok}
+use Rattle.spec.proofs.RunTheorem.{stopped-same}
 use Rattle.claims.specs.Proper as Proper
 use Rattle.claims.specs.Proper.{Proper, Readable, Allows, ScalarValue, ScalarValues, ProperItems}
 use Rattle.claims.specs.Pointers.{escapeCharacter, escapeToken, pointerOf}
@@ -133,7 +134,7 @@ pub data AllProper : List Operation → Type 0 where
   nothing : AllProper []
   first : {o : Operation} {os : List Operation} → ProperOperation o → AllProper os → AllProper (o ∷ os)
 
-pub stopped≢finished : {A : Type 0} {n op : ℕ} {a : A} → stopped n op ≡ finished a → ⊥
+pub stopped≢finished : {A : Type 0} {s : Stop} {a : A} → stopped s ≡ finished a → ⊥
 stopped≢finished h = let z : _≡_ {A = ℕ} 0 1 = cc in omega arith
 
 if-finishes : {A C : Type 0} (test : Bool) {x y : Run A} {a : A} → (if test then x else y) ≡ finished a → (x ≡ finished a → C) → (y ≡ finished a → C) → C
@@ -144,12 +145,12 @@ if-finishes false h f g = g h
 finishes : {A B : Type 0} (r : Run A) (next : A → Run B) (b : B) → onFinish r next ≡ finished b → (a : A) × (r ≡ finished a) × (next a ≡ finished b)
 unfolding onFinish
 finishes (finished a) next b h = (a, refl, h)
-finishes (stopped n op) next b h = absurd (stopped≢finished h)
+finishes (stopped s) next b h = absurd (stopped≢finished h)
 
-at-op : {A : Type 0} (op : ℕ) (o : Outcome A) (a : A) → atOp op o ≡ finished a → o ≡ ok a
+at-op : {A : Type 0} (op : ℕ) (which : ℕ → ℕ) (o : Outcome A) (a : A) → atOp op which o ≡ finished a → o ≡ ok a
 unfolding atOp
-at-op op (ok b) a h = let same : b ≡ a = cc in ap ok same
-at-op op (refused n p) a h = cc
+at-op op which (ok b) a h = let same : b ≡ a = cc in ap ok same
+at-op op which (refused n p) a h = cc
 
 pub proper-first : {object : Bool} {e : Entry} {kids rest : Members} → ProperItems object (tree e kids rest) → Proper (record { label = e .label; kids = kids }) × ProperItems object rest
 proper-first (Proper.element n a i p) = (record { allows = a; items = i }, p)
@@ -163,7 +164,7 @@ operations-proper object op (tree e kids rest) os p h =
     let (others, k, l) = finishes _ _ os j in
     let same : o ∷ others ≡ os = cc in
     let here = proper-first p in
-    let one = operation-proper (record { label = e .label; kids = kids }) o (here .0) (at-op op _ o i) in
+    let one = operation-proper (record { label = e .label; kids = kids }) o (here .0) (at-op op _ _ o i) in
     subst AllProper same (first one (operations-proper object (op + 1) rest others (here .1) k))
 
 pub shape-proper : (v : Value.Value) (os : List Operation) → Proper v → shape v ≡ finished os → AllProper os
@@ -196,46 +197,48 @@ unfolding run
 run-readable op [] v w a r h = let same : v ≡ w = cc in subst Readable same r
 run-readable op (o ∷ os) v w (first q a) r h =
     let (u, i, j) = finishes _ _ w h in
-    run-readable (op + 1) os u w a (limited-readable o v u q (r .proper) (at-op op _ u i)) j
+    run-readable (op + 1) os u w a (limited-readable o v u q (r .proper) (at-op op _ _ u i)) j
 
 -- A run that stops names an operation, or a refusal of the whole patch by its number.
 
-stops : {A B C : Type 0} (r : Run A) (next : A → Run B) {n op : ℕ} → onFinish r next ≡ stopped n op → (r ≡ stopped n op → C) → ((a : A) → r ≡ finished a → next a ≡ stopped n op → C) → C
+stops : {A B C : Type 0} (r : Run A) (next : A → Run B) {s : Stop} → onFinish r next ≡ stopped s → (r ≡ stopped s → C) →
+    ((a : A) → r ≡ finished a → next a ≡ stopped s → C) → C
 unfolding onFinish
 stops (finished a) next h f g = g a refl h
-stops (stopped m op) next h f g = f (cc)
+stops (stopped t) next h f g = f (cc)
 
-stops-at : {A : Type 0} (op : ℕ) (o : Outcome A) {n q : ℕ} → atOp op o ≡ stopped n q → q ≡ op
+stops-at : {A : Type 0} (op : ℕ) (which : ℕ → ℕ) (o : Outcome A) {s : Stop} → atOp op which o ≡ stopped s → s .op ≡ op
 unfolding atOp
-stops-at op (ok a) h = cc
-stops-at op (refused m p) h = cc
+stops-at op which (ok a) h = absurd (stopped≢finished (sym h))
+stops-at op which (refused m p) h = sym (ap Stop.op (stopped-same h))
 
-run-stops-from : (op : ℕ) (os : List Operation) (v : Value.Value) (n q : ℕ) → run limited op os v ≡ stopped n q → op ≤ q
+run-stops-from : (op : ℕ) (os : List Operation) (v : Value.Value) (s : Stop) → run limited op os v ≡ stopped s → op ≤ s .op
 unfolding run
-run-stops-from op [] v n q h = absurd (stopped≢finished (sym h))
-run-stops-from op (o ∷ os) v n q h =
-    stops (atOp op (limited o v)) _ h (λ i. let same = stops-at op (limited o v) i in omega arith)
-    (λ w _ i. omega (arith, run-stops-from (op + 1) os w n q i))
+run-stops-from op [] v s h = absurd (stopped≢finished (sym h))
+run-stops-from op (o ∷ os) v s h =
+    stops (atOp op (whichPointer o v) (limited o v)) _ h (λ i. let same = stops-at op (whichPointer o v) (limited o v) i in omega arith)
+    (λ w _ i. omega (arith, run-stops-from (op + 1) os w s i))
 
-operations-stop-from : (op : ℕ) (f : Members) (n q : ℕ) → operations op f ≡ stopped n q → op ≤ q
+operations-stop-from : (op : ℕ) (f : Members) (s : Stop) → operations op f ≡ stopped s → op ≤ s .op
 unfolding operations
-operations-stop-from op none n q h = absurd (stopped≢finished (sym h))
-operations-stop-from op (tree e kids rest) n q h =
-    stops _ _ h (λ i. let same = stops-at op (operation (record { label = e .label; kids = kids })) i in omega arith)
-    (λ o _ i. stops _ _ i (λ j. omega (arith, operations-stop-from (op + 1) rest n q j)) (λ os _ j. absurd (stopped≢finished (sym j))))
+operations-stop-from op none s h = absurd (stopped≢finished (sym h))
+operations-stop-from op (tree e kids rest) s h =
+    stops _ _ h (λ i. let same = stops-at op noPointer (operation (record { label = e .label; kids = kids })) i in omega arith)
+    (λ o _ i. stops _ _ i (λ j. omega (arith, operations-stop-from (op + 1) rest s j)) (λ os _ j. absurd (stopped≢finished (sym j))))
 
-shape-stops : (v : Value.Value) (n q : ℕ) → shape v ≡ stopped n q → 0 < n + q
+shape-stops : (v : Value.Value) (s : Stop) → shape v ≡ stopped s → 0 < s .number + s .op
 unfolding shape
-shape-stops v n q h = go (isArray (v .label)) (leb (count (v .kids)) 256) h
+shape-stops v s h = go (isArray (v .label)) (leb (count (v .kids)) 256) h
   where
-    go : (array few : Bool) → (if array then (if few then operations 1 (v .kids) else stopped 9 0) else stopped 8 0) ≡ stopped n q → 0 < n + q
-    go true true h = omega (arith, operations-stop-from 1 (v .kids) n q h)
-    go true false h = let number : 9 ≡ n = cc in omega arith
-    go false few h = let number : 8 ≡ n = cc in omega arith
+    go : (array few : Bool) → (if array then (if few then operations 1 (v .kids) else stopped (stop 9 0 0 0)) else stopped (stop 8 0 0 0)) ≡ stopped s →
+        0 < s .number + s .op
+    go true true h = omega (arith, operations-stop-from 1 (v .kids) s h)
+    go true false h = let number : 9 ≡ s .number = ap Stop.number (stopped-same h) in omega arith
+    go false few h = let number : 8 ≡ s .number = ap Stop.number (stopped-same h) in omega arith
 
-pub patch-stops : (p d : Value.Value) (n q : ℕ) → onFinish (shape p) (λ os. run limited 1 os d) ≡ stopped n q → 0 < n + q
-patch-stops p d n q h =
-    stops (shape p) (λ os. run limited 1 os d) h (shape-stops p n q) (λ os _ i. omega (arith, run-stops-from 1 os d n q i))
+pub patch-stops : (p d : Value.Value) (s : Stop) → onFinish (shape p) (λ os. run limited 1 os d) ≡ stopped s → 0 < s .number + s .op
+patch-stops p d s h =
+    stops (shape p) (λ os. run limited 1 os d) h (shape-stops p s) (λ os _ i. omega (arith, run-stops-from 1 os d s i))
 
 pub patch-finishes : (p d v : Value.Value) → onFinish (shape p) (λ os. run limited 1 os d) ≡ finished v →
     (os : List Operation) × (shape p ≡ finished os) × (run limited 1 os d ≡ finished v)

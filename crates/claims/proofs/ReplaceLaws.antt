@@ -10,7 +10,7 @@ use Rattle.spec.specs.Bytes.{Text}
 use Rattle.spec.specs.Forest.{none, tree, Tree, count, before, from, removeAt, nth, _⧺_}
 use Rattle.spec.specs.Value as Value
 use Rattle.spec.specs.Value.{Label, Entry, Members, tag, isArray, isObject, named, leaf, valueOf, has, find, sameText}
-use Rattle.spec.specs.Pointer.{Tokens, childAt, child, elementBelow, memberNamed, isDash}
+use Rattle.spec.specs.Pointer.{Tokens, childAt, child, farther, elementBelow, memberNamed, isDash}
 use Rattle.spec.specs.Operation.{put, atParent, insertElement, insertMember, insertChild, removeChild, replaceChild}
 use Rattle.spec.proofs.OutcomeLaws.{refused≢ok}
 use Rattle.spec.proofs.TextLaws.{sameText-true, sameText-false}
@@ -150,7 +150,7 @@ pub data AtParent : Text → Tokens → Value.Value → Text → Value.Value →
 
 -- a change below a child that was put there
 below-put : (change : Text → Value.Value → Outcome Value.Value) (t u : Text) (ts : Tokens) (k : ℕ) (w v : Value.Value) → childAt t v ≡ ok k →
-    atParent change t (u ∷ ts) (put k w v) ≡ atParent change u ts w >>= λ w'. ok (put k w' v)
+    atParent change t (u ∷ ts) (put k w v) ≡ farther (atParent change u ts w) >>= λ w'. ok (put k w' v)
 unfolding atParent _>>=_
 below-put change t u ts k w v h =
     let c = child-there t v k h in
@@ -164,6 +164,11 @@ module _ (R : Value.Value → Value.Value → Type 0)
   same-put k v c (both r) = both (on-put k _ _ v c r)
   same-put k v c neither = neither
 
+  same-farther : {o o' : Outcome Value.Value} → Same R o o' → Same R (farther o) (farther o')
+  unfolding farther
+  same-farther (both r) = both r
+  same-farther neither = neither
+
   abbrev Replaced : Text → Tokens → Value.Value → Type 0
   Replaced t ts v = Same R (atParent (replaceChild x) t ts v) (atParent removeChild t ts v >>= atParent (insertChild x) t ts)
 
@@ -172,19 +177,19 @@ module _ (R : Value.Value → Value.Value → Type 0)
       (last : Text) (parent : Value.Value) → AtParent t ts v last parent → Same R (replaceChild x last parent) (removeChild last parent >>= insertChild x last)
 
   pub at-parent : (t : Text) (ts : Tokens) (v : Value.Value) → ReplacedThere t ts v → Replaced t ts v
-  unfolding atParent _>>=_
+  unfolding atParent farther _>>=_
   at-parent t [] v h = h t v end
   at-parent t (u ∷ ts) v h = go (childAt t v) refl (at-parent u ts)
     where
       below : (k : ℕ) → childAt t v ≡ ok k → (r : Outcome Value.Value) →
-          (r >>= λ w. ok (put k w v)) >>= atParent (insertChild x) t (u ∷ ts) ≡ (r >>= atParent (insertChild x) u ts) >>= λ w. ok (put k w v)
+          (farther r >>= λ w. ok (put k w v)) >>= atParent (insertChild x) t (u ∷ ts) ≡ farther (r >>= atParent (insertChild x) u ts) >>= λ w. ok (put k w v)
       below k q (ok w) = below-put (insertChild x) t u ts k w v q
       below k q (refused number place) = refl
 
       go : (o : Outcome ℕ) → childAt t v ≡ o → ((v : Value.Value) → ReplacedThere u ts v → Replaced u ts v) →
-          Same R (o >>= λ k. atParent (replaceChild x) u ts (valueOf (child k v)) >>= λ w. ok (put k w v))
-          ((o >>= λ k. atParent removeChild u ts (valueOf (child k v)) >>= λ w. ok (put k w v)) >>= atParent (insertChild x) t (u ∷ ts))
+          Same R (o >>= λ k. farther (atParent (replaceChild x) u ts (valueOf (child k v))) >>= λ w. ok (put k w v))
+          ((o >>= λ k. farther (atParent removeChild u ts (valueOf (child k v))) >>= λ w. ok (put k w v)) >>= atParent (insertChild x) t (u ∷ ts))
       go (refused number place) q ih = neither
       go (ok k) q ih =
           rw (below k q (atParent removeChild u ts (valueOf (child k v))))
-          (same-put k v (child-there t v k q) (ih (valueOf (child k v)) (λ last parent a. h last parent (step q a))))
+          (same-put k v (child-there t v k q) (same-farther (ih (valueOf (child k v)) (λ last parent a. h last parent (step q a)))))

@@ -78,7 +78,11 @@ module _ (document patch text : Bytes) (room : ℕ) (document-fits : length docu
   run-written : (d p : Value.Value) (r : Run Value.Value) → read document ≡ ok d → read patch ≡ ok p → onFinish (shape p) (λ os. run limited 1 os d) ≡ r →
       answerOf room r ≡ success text → Patched document patch text
   unfolding answerOf fitting
-  run-written d p (stopped n op) rd rp q h = let real = patch-stops p d n op q in no-success n 0 op 0 (omega arith) h
+  run-written d p (stopped s) rd rp q h =
+      let real = patch-stops p d s q in
+      let number = ap (λ a. a .number) h in
+      let op = ap (λ a. a .op) h in
+      absurd (omega arith)
   run-written d p (finished v) rd rp q h =
       let (os, shaped, runs) = patch-finishes p d v q in
       let formed : WellFormed patch os = record { fits = patch-fits; patch = p; reads = rp; shaped = shaped } in

@@ -11,8 +11,9 @@ use Rattle.spec.specs.Value.{Label, leaf, isArray}
 use Rattle.spec.specs.Equality.{equal}
 use Rattle.spec.specs.Pointer.{Tokens, walk}
 use Rattle.spec.specs.Operation.{Kind, Operation, perform, limited}
-use Rattle.spec.specs.Patch.{finished, run}
-use Rattle.spec.specs.Answer.{Lent, answer, refusal, workSuffices}
+use Rattle.spec.specs.Patch.{stop, finished, whichPointer, run}
+use Rattle.spec.specs.Answer as Answer
+use Rattle.spec.specs.Answer.{Lent, answer, workSuffices}
 use Rattle.spec.specs.Region.{Accepted, WellFormed}
 use Rattle.claims.specs.Proper.{Proper}
 use Rattle.claims.specs.Equality.{Reordered}
@@ -62,9 +63,11 @@ pub record OperationsStatement : Type 0 where
   pub test : (path : Tokens) (x v w : Value.Value) → perform (testing path x) v ≡ ok w →
       (found : Value.Value) × (walk path v ≡ ok found) × (equal found x ≡ true) × (w ≡ v)
   -- 5: "if an operation is not successful, evaluation of the JSON Patch document SHOULD terminate and application of the entire patch
-  -- document SHALL NOT be deemed successful": the answer is the failed operation's number and op, and no text.
+  -- document SHALL NOT be deemed successful": the answer is the failed operation's number, op, place and pointer,
+  -- and no text.
   pub failure : (document patch : Bytes) (lent : Lent) (d w : Value.Value) (earlier later : List Operation) (o : Operation) (number place : ℕ) →
       Accepted document d → WellFormed patch (earlier ++ (o ∷ later)) → workSuffices lent ≡ true → run limited 1 earlier d ≡ finished w →
-      limited o w ≡ refused number place → answer document patch lent ≡ refusal number 0 (length earlier + 1) 0
+      limited o w ≡ refused number place →
+      answer document patch lent ≡ Answer.failure (stop number (length earlier + 1) place (whichPointer o w number))
   -- whatever is refused, no text is written
   pub nothing-written : (document patch : Bytes) (lent : Lent) → (answer document patch lent .number ≡ 0 → ⊥) → answer document patch lent .written ≡ []

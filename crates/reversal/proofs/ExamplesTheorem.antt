@@ -12,9 +12,9 @@ use Rattle.spec.specs.Value.{tag, isNumber, isString, isArray, isObject, isCont
 use Rattle.spec.specs.Equality.{sameBool, sameInteger, sameWorth, sameLabel, partner, matches, equal}
 use Rattle.spec.specs.Read.{isBlank, blanksFrom, blanks, spelled, roomFor, literalValue, numberValue, stringValue, scalar, fresh, nameFor, containerLabel, closingBracket, items, contents, container, value, read}
 use Rattle.spec.specs.Write.{utf8, hexDigit, writeCharacter, writeCharacters, writeString, opening, closing, writeName, comma, writeItems, write}
-use Rattle.spec.specs.Pointer.{prepend, segments, tilde, unescape, unescapeAll, tokens, allDigits, isIndex, isDash, elementBelow, memberNamed, childAt, child, walk}
+use Rattle.spec.specs.Pointer.{prepend, segments, tilde, unescape, unescapeAll, tokens, allDigits, isIndex, isDash, elementBelow, memberNamed, childAt, child, farther, walk}
 use Rattle.spec.specs.Operation.{put, atParent, insertElement, insertMember, insertChild, removeChild, replaceChild, addAt, removeAtPath, replaceAtPath, moveTo, copyTo, testAt, perform, notTooDeep, notTooLarge, limited}
-use Rattle.spec.specs.Patch.{member, stringOf, stringMember, kindNamed, usesValue, usesFrom, isMove, valueFor, fromFor, membersFor, operationMembers, properPrefix, withPointers, operation, atOp, onFinish, operations, shape, run}
+use Rattle.spec.specs.Patch.{member, stringOf, stringMember, kindNamed, usesValue, usesFrom, isMove, valueFor, fromFor, membersFor, operationMembers, properPrefix, withPointers, operation, noPointer, atOp, onFinish, operations, shape, whichPointer, run}
 use Rattle.spec.specs.Answer.{workSuffices, fitting, answerOf, patched, onPatch, onDocument, answerIn, answer}
 use Rattle.claims.specs.Pointers.{escapeCharacter, escapeToken, pointerOf}
 use Rattle.reversal.specs.Undo.{resultOr, valueAt, remaining, digitsBefore, indexToken, elementToken, parentTokens, lastToken, mendedIn, mended, isReplace, undoMoved, undoMove, undoOf, undoRun}
@@ -52,7 +52,7 @@ unfolding utf8 hexDigit writeCharacter writeCharacters writeString opening closi
 compute-writing = tt
 
 unfoldable compute-pointers : Unit {0}
-unfolding prepend segments tilde unescape unescapeAll tokens allDigits isIndex isDash elementBelow memberNamed childAt child walk
+unfolding prepend segments tilde unescape unescapeAll tokens allDigits isIndex isDash elementBelow memberNamed childAt child farther walk
 compute-pointers = tt
 
 unfoldable compute-operations : Unit {0}
@@ -60,7 +60,7 @@ unfolding put atParent insertElement insertMember insertChild removeChild replac
 compute-operations = tt
 
 unfoldable compute-patches : Unit {0}
-unfolding member stringOf stringMember kindNamed usesValue usesFrom isMove valueFor fromFor membersFor operationMembers properPrefix withPointers operation atOp onFinish operations shape run
+unfolding member stringOf stringMember kindNamed usesValue usesFrom isMove valueFor fromFor membersFor operationMembers properPrefix withPointers operation noPointer atOp onFinish operations shape whichPointer run
 compute-patches = tt
 
 unfoldable compute-answers : Unit {0}

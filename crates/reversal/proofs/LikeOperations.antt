@@ -11,9 +11,10 @@ use Rattle.spec.specs.Forest.{count, insertAt}
 use Rattle.spec.specs.Value as Value
 use Rattle.spec.specs.Value.{Label, isArray, isObject, named, valueOf, depth, nodes}
 use Rattle.spec.specs.Equality.{equal}
-use Rattle.spec.specs.Pointer.{Tokens, childAt, child, walk, elementBelow, isDash}
+use Rattle.spec.specs.Pointer.{Tokens, childAt, child, farther, walk, elementBelow, isDash}
 use Rattle.spec.specs.Operation.{Kind, Operation, withKids, atParent, insertElement, insertMember, insertChild, removeChild, replaceChild, addAt, removeAtPath, replaceAtPath, moveTo, copyTo, testAt, perform, notTooDeep, notTooLarge, limited}
 use Rattle.spec.proofs.OutcomeLaws.{both-ok}
+use Rattle.spec.proofs.FartherLaws.{farther-ok}
 use Rattle.claims.specs.Proper as Proper
 use Rattle.claims.specs.Proper.{Proper}
 use Rattle.claims.specs.Operations.{Same, both, neither, removing}
@@ -27,7 +28,7 @@ unfolding walk
 walk-proper [] v w p h = let same : v ≡ w = cc in subst Proper same p
 walk-proper (t ∷ ts) v w p h =
     let (k, e, i) = both-ok (childAt t v) _ w h in
-    walk-proper ts (valueOf (child k v)) w (proper-child t k v e p) i
+    walk-proper ts (valueOf (child k v)) w (proper-child t k v e p) (farther-ok _ i)
 
 pub removed-proper : (path : Tokens) (v w : Value.Value) → AllCharacters path → Proper v → removeAtPath path v ≡ ok w → Proper w
 unfolding perform
@@ -46,6 +47,12 @@ module _ {L : Label → Label → Type 0} (laws : Labels L) where
   then-like next next' (both r) f = f _ _ refl refl r
   then-like next next' neither f = neither
 
+  -- behind one token more
+  farther-like : {o o' : Outcome Value.Value} → Answers o o' → Answers (farther o) (farther o')
+  unfolding farther
+  farther-like (both r) = both r
+  farther-like neither = neither
+
   -- one step after the child that a token names
   child-then : (t : Text) (v w : Value.Value) (next next' : ℕ → Outcome Value.Value) → Proper w → LikeValues L v w →
       ((k j : ℕ) → childAt t v ≡ ok k → childAt t w ≡ ok j → Corresponding laws (isObject (v .label)) (v .kids) (w .kids) k j → Answers (next k) (next' j)) →
@@ -62,7 +69,8 @@ module _ {L : Label → Label → Type 0} (laws : Labels L) where
   walk-like [] v w p q r = both r
   walk-like (t ∷ ts) v w p q r =
       child-then t v w _ _ q r λ k j h i c.
-      walk-like ts (valueOf (child k v)) (valueOf (child j w)) (proper-child t k v h p) (proper-child t j w i q) (child-like laws r c)
+      farther-like
+      (walk-like ts (valueOf (child k v)) (valueOf (child j w)) (proper-child t k v h p) (proper-child t j w i q) (child-like laws r c))
 
   -- changes at a parent
   abbrev ChangesAlike : (Text → Value.Value → Outcome Value.Value) → (Text → Value.Value → Outcome Value.Value) → Type 0
@@ -75,7 +83,8 @@ module _ {L : Label → Label → Type 0} (laws : Labels L) where
   parent-like change change' alike t (u ∷ ts) v w p q r =
       child-then t v w _ _ q r λ k j h i c.
       let below = child-like laws r c in
-      then-like _ _ (parent-like change change' alike u ts (valueOf (child k v)) (valueOf (child j w)) (proper-child t k v h p) (proper-child t j w i q) below)
+      then-like _ _
+      (farther-like (parent-like change change' alike u ts (valueOf (child k v)) (valueOf (child j w)) (proper-child t k v h p) (proper-child t j w i q) below))
       λ x y _ _ s. both (put-like laws r c s)
 
   remove-like : ChangesAlike removeChild removeChild

@@ -5,14 +5,15 @@ use mathlib.Core.List.{[], _∷_, _++_}
 use Prim.Native.Nat.{ℕ, zero, suc, _≤_}
 use native.Mathlib.Omega.{arith}
 use borrow.Author.Tests.{lt-ltb}
-use Rattle.spec.specs.Outcome.{Outcome, ok, _>>=_, if_then_else_}
+use Rattle.spec.specs.Outcome.{Outcome, ok, refused, _>>=_, if_then_else_}
 use Rattle.spec.specs.Bytes.{Text}
 use Rattle.spec.specs.Forest.{Forest, none, tree, Tree, single, count, before, from, insertAt, removeAt, _⧺_}
 use Rattle.spec.specs.Value as Value
 use Rattle.spec.specs.Value.{Members, isArray, isObject, named, valueOf, has, find}
-use Rattle.spec.specs.Pointer.{Tokens, childAt, child, walk, elementBelow, isDash}
+use Rattle.spec.specs.Pointer.{Tokens, childAt, child, farther, walk, elementBelow, isDash}
 use Rattle.spec.specs.Operation.{Operation, withKids, put, atParent, insertElement, insertMember, insertChild, removeChild, replaceChild, addAt, removeAtPath, replaceAtPath, perform}
 use Rattle.spec.proofs.OutcomeLaws.{refused≢ok, both-ok}
+use Rattle.spec.proofs.FartherLaws.{farther-ok}
 use Rattle.spec.proofs.ChildLaws.{child-there, childAt-put, child-put, put-put, put-child}
 use Rattle.spec.proofs.PlaceLaws.{walk-on}
 use Rattle.claims.specs.Operations.{removing, replacing}
@@ -35,10 +36,16 @@ module _ {A : Type 0} where
   count-inserted-at (suc k) t none h = absurd (omega arith)
   count-inserted-at (suc k) t (tree a kids rest) h = ap suc (count-inserted-at k t rest (omega arith))
 
+-- behind one token more the result is the same
+result-farther : (other : Value.Value) (o : Outcome Value.Value) → resultOr other (farther o) ≡ resultOr other o
+unfolding resultOr farther
+result-farther other (ok v) = refl
+result-farther other (refused n k) = refl
+
 -- what stands farther down
 pub value-on : (t : Text) (ts : Tokens) (v : Value.Value) (k : ℕ) → childAt t v ≡ ok k → valueAt (t ∷ ts) v ≡ valueAt ts (valueOf (child k v))
 unfolding valueAt
-value-on t ts v k h = rw (walk-on t ts v k h)
+value-on t ts v k h = rw (walk-on t ts v k h) (result-farther _ (walk ts (valueOf (child k v))))
 
 pub value-here : (t : Text) (v : Value.Value) (k : ℕ) → childAt t v ≡ ok k → valueAt (t ∷ []) v ≡ valueOf (child k v)
 unfolding valueAt walk resultOr
@@ -46,7 +53,7 @@ value-here t v k h = value-on t [] v k h
 
 -- a change below a child that was put there
 pub below-put : (change : Text → Value.Value → Outcome Value.Value) (t u : Text) (ts : Tokens) (k : ℕ) (w v : Value.Value) → childAt t v ≡ ok k →
-    atParent change t (u ∷ ts) (put k w v) ≡ atParent change u ts w >>= λ w'. ok (put k w' v)
+    atParent change t (u ∷ ts) (put k w v) ≡ farther (atParent change u ts w) >>= λ w'. ok (put k w' v)
 unfolding atParent _>>=_
 below-put change t u ts k w v h =
     let c = child-there t v k h in
@@ -144,21 +151,21 @@ mended-child x t v w h =
 
 -- the same operation one token farther up
 module _ (t : Text) (k : ℕ) (w v : Value.Value) (h : childAt t v ≡ ok k) where
-  remove-below : (hs : Tokens) (l : Text) → removeAtPath (t ∷ (hs ++ (l ∷ []))) (put k w v) ≡ removeAtPath (hs ++ (l ∷ [])) w >>= λ y. ok (put k y v)
+  remove-below : (hs : Tokens) (l : Text) → removeAtPath (t ∷ (hs ++ (l ∷ []))) (put k w v) ≡ farther (removeAtPath (hs ++ (l ∷ [])) w) >>= λ y. ok (put k y v)
   unfolding removeAtPath
   remove-below [] l = below-put removeChild t l [] k w v h
   remove-below (s ∷ hs) l = below-put removeChild t s (hs ++ (l ∷ [])) k w v h
 
-  pub replace-below : (x : Value.Value) (s : Text) (ss : Tokens) → replaceAtPath (t ∷ s ∷ ss) x (put k w v) ≡ replaceAtPath (s ∷ ss) x w >>= λ y. ok (put k y v)
+  pub replace-below : (x : Value.Value) (s : Text) (ss : Tokens) → replaceAtPath (t ∷ s ∷ ss) x (put k w v) ≡ farther (replaceAtPath (s ∷ ss) x w) >>= λ y. ok (put k y v)
   unfolding replaceAtPath
   replace-below x s ss = below-put (replaceChild x) t s ss k w v h
 
   replace-at-last : (x : Value.Value) (hs : Tokens) (l : Text) →
-      replaceAtPath (t ∷ (hs ++ (l ∷ []))) x (put k w v) ≡ replaceAtPath (hs ++ (l ∷ [])) x w >>= λ y. ok (put k y v)
+      replaceAtPath (t ∷ (hs ++ (l ∷ []))) x (put k w v) ≡ farther (replaceAtPath (hs ++ (l ∷ [])) x w) >>= λ y. ok (put k y v)
   replace-at-last x [] l = replace-below x l []
   replace-at-last x (s ∷ hs) l = replace-below x s (hs ++ (l ∷ []))
 
-  mended-below : (hs : Tokens) (l : Text) (p : Value.Value) → perform (mendedIn (t ∷ hs) l p) (put k w v) ≡ perform (mendedIn hs l p) w >>= λ y. ok (put k y v)
+  mended-below : (hs : Tokens) (l : Text) (p : Value.Value) → perform (mendedIn (t ∷ hs) l p) (put k w v) ≡ farther (perform (mendedIn hs l p) w) >>= λ y. ok (put k y v)
   unfolding perform
   mended-below hs l p =
       by-test (isArray (p .label)) (λ a. rw (mended-element (t ∷ hs) l p a, mended-element hs l p a) (remove-below hs _)) λ a.
@@ -167,13 +174,13 @@ module _ (t : Text) (k : ℕ) (w v : Value.Value) (h : childAt t v ≡ ok k) whe
 
 -- A VALUE PUT IN, taken back
 mended-parent : (x : Value.Value) (t : Text) (ts : Tokens) (v w : Value.Value) → atParent (insertChild x) t ts v ≡ ok w → perform (mended (t ∷ ts) v) w ≡ ok v
-unfolding atParent mended parentTokens lastToken valueAt walk resultOr _>>=_
+unfolding atParent mended parentTokens lastToken valueAt walk farther resultOr _>>=_
 mended-parent x t [] v w h = mended-child x t v w h
 mended-parent x t (u ∷ ts) v w h =
     let (k, e, i) = both-ok (childAt t v) _ w h in
-    let (y, f, j) = both-ok (atParent (insertChild x) u ts (valueOf (child k v))) _ w i in
+    let (y, f, j) = both-ok (farther (atParent (insertChild x) u ts (valueOf (child k v)))) _ w i in
     let same : put k y v ≡ w = cc in
-    let ih = mended-parent x u ts (valueOf (child k v)) y f in
+    let ih = mended-parent x u ts (valueOf (child k v)) y (farther-ok _ f) in
     rw (← same, value-on t (parentTokens u ts) v k e, mended-below t k y v e (parentTokens u ts) (lastToken u ts) _, ih)
     (ap ok (put-child k v (child-there t v k e)))
 

@@ -18,9 +18,9 @@ use Rattle.spec.specs.Value.{Label, Members, isArray, isObject, isString, has, 
 use Rattle.spec.specs.Read.{blanks, spelled, roomFor, literalValue, numberValue, stringValue, scalar, fresh, nameFor, closingBracket, items, contents, container, value, read}
 use Rattle.spec.specs.Write.{write}
 use Rattle.spec.specs.Equality.{equal}
-use Rattle.spec.specs.Pointer.{Tokens, segments, tilde, unescape, unescapeAll, tokens, isIndex, isDash, elementBelow, memberNamed, childAt, child, walk}
+use Rattle.spec.specs.Pointer.{Tokens, segments, tilde, unescape, unescapeAll, tokens, isIndex, isDash, elementBelow, memberNamed, childAt, child, farther, walk}
 use Rattle.spec.specs.Operation.{Kind, Operation, atParent, insertElement, insertChild, removeChild, replaceChild, addAt, removeAtPath, replaceAtPath, moveTo, copyTo, testAt, perform, notTooDeep, notTooLarge, limited}
-use Rattle.spec.specs.Patch.{member, stringOf, stringMember, kindNamed, usesValue, usesFrom, isMove, valueFor, fromFor, membersFor, operationMembers, properPrefix, withPointers, operation, Run, finished, stopped, atOp, onFinish, operations, shape, run}
+use Rattle.spec.specs.Patch.{member, stringOf, stringMember, kindNamed, usesValue, usesFrom, isMove, valueFor, fromFor, membersFor, operationMembers, properPrefix, withPointers, operation, Stop, Run, finished, stopped, noPointer, atOp, onFinish, operations, shape, whichPointer, run}
 use Rattle.spec.specs.Answer.{Answer, Lent, answer, answerIn, success, refusal, workSuffices, fitting, answerOf, patched, onPatch, onDocument}
 
 pub data Numbered {A : Type 0} : Outcome A → Type 0 where
@@ -288,16 +288,22 @@ child-numbered t v =
     either (isArray (v .label)) (element-numbered (count (v .kids)) t)
     (either (isObject (v .label)) (either (has t (v .kids)) result (number refl)) (number refl))
 
+farther-numbered : {A : Type 0} {o : Outcome A} → Numbered o → Numbered (farther o)
+unfolding farther
+farther-numbered result = result
+farther-numbered (number h) = number h
+
 walk-numbered : (ts : Tokens) (v : Value.Value) → Numbered (walk ts v)
 unfolding walk
 walk-numbered [] v = result
-walk-numbered (t ∷ ts) v = next _ (child-numbered t v) λ k. walk-numbered ts (valueOf (child k v))
+walk-numbered (t ∷ ts) v = next _ (child-numbered t v) λ k. farther-numbered (walk-numbered ts (valueOf (child k v)))
 
 parent-numbered : (change : Text → Value.Value → Outcome Value.Value) → ((t : Text) (v : Value.Value) → Numbered (change t v)) →
     (t : Text) (ts : Tokens) (v : Value.Value) → Numbered (atParent change t ts v)
 unfolding atParent
 parent-numbered change h t [] v = h t v
-parent-numbered change h t (u ∷ ts) v = next _ (child-numbered t v) λ k. next _ (parent-numbered change h u ts (valueOf (child k v))) λ w. result
+parent-numbered change h t (u ∷ ts) v = next _ (child-numbered t v) λ k.
+    next _ (farther-numbered (parent-numbered change h u ts (valueOf (child k v)))) λ w. result
 
 insert-numbered : (x : Value.Value) (t : Text) (v : Value.Value) → Numbered (insertChild x t v)
 unfolding insertChild insertElement
@@ -355,12 +361,12 @@ limited-numbered o v =
 
 pub data NumberedRun {A : Type 0} : Run A → Type 0 where
   finishes : {a : A} → NumberedRun (finished a)
-  stops : {n op : ℕ} → eqb n 0 ≡ false → NumberedRun (stopped n op)
+  stops : {s : Stop} → eqb (s .number) 0 ≡ false → NumberedRun (stopped s)
 
-at-numbered : {A : Type 0} (op : ℕ) {o : Outcome A} → Numbered o → NumberedRun (atOp op o)
+at-numbered : {A : Type 0} (op : ℕ) (which : ℕ → ℕ) {o : Outcome A} → Numbered o → NumberedRun (atOp op which o)
 unfolding atOp
-at-numbered op result = finishes
-at-numbered op (number h) = stops h
+at-numbered op which result = finishes
+at-numbered op which (number h) = stops h
 
 next-run : {A B : Type 0} {r : Run A} (f : A → Run B) → NumberedRun r → ((a : A) → NumberedRun (f a)) → NumberedRun (onFinish r f)
 unfolding onFinish
@@ -375,7 +381,7 @@ operations-numbered : (op : ℕ) (f : Members) → NumberedRun (operations op f)
 unfolding operations
 operations-numbered op none = finishes
 operations-numbered op (tree e kids rest) =
-    next-run _ (at-numbered op (operation-numbered _)) λ o. next-run _ (operations-numbered (op + 1) rest) λ os. finishes
+    next-run _ (at-numbered op noPointer (operation-numbered _)) λ o. next-run _ (operations-numbered (op + 1) rest) λ os. finishes
 
 pub shape-numbered : (v : Value.Value) → NumberedRun (shape v)
 unfolding shape
@@ -385,13 +391,14 @@ shape-numbered v =
 pub run-numbered : (op : ℕ) (os : List Operation) (v : Value.Value) → NumberedRun (run limited op os v)
 unfolding run
 run-numbered op [] v = finishes
-run-numbered op (o ∷ os) v = next-run _ (at-numbered op (limited-numbered o v)) λ w. run-numbered (op + 1) os w
+run-numbered op (o ∷ os) v = next-run _ (at-numbered op (whichPointer o v) (limited-numbered o v)) λ w. run-numbered (op + 1) os w
 
 -- The answer
 
 pub data NumberedAnswer : Answer → Type 0 where
   done : {t : Bytes} → NumberedAnswer (success t)
-  refuses : {n text op place : ℕ} → eqb n 0 ≡ false → NumberedAnswer (refusal n text op place)
+  refuses : (n text op place pointer : ℕ) → eqb n 0 ≡ false →
+      NumberedAnswer (record { number = n; text = text; op = op; place = place; pointer = pointer; written = [] })
 
 either-answer : (test : Bool) {a b : Answer} → NumberedAnswer a → NumberedAnswer b → NumberedAnswer (if test then a else b)
 either-answer true h i = h
@@ -399,23 +406,23 @@ either-answer false h i = i
 
 run-answer : (room : ℕ) {r : Run Value.Value} → NumberedRun r → NumberedAnswer (answerOf room r)
 unfolding answerOf fitting
-run-answer room (finishes {a = v}) = either-answer (leb (length (write v)) room) done (refuses refl)
-run-answer room (stops h) = refuses h
+run-answer room (finishes {a = v}) = either-answer (leb (length (write v)) room) done (refuses _ _ _ _ _ refl)
+run-answer room (stops {s} h) = refuses (s .number) 0 (s .op) (s .place) (s .pointer) h
 
 patch-answer : (room : ℕ) (d : Value.Value) {o : Outcome Value.Value} → Numbered o → NumberedAnswer (onPatch room d o)
 unfolding onPatch patched
 patch-answer room d (result {a = p}) = run-answer room (next-run _ (shape-numbered p) λ os. run-numbered 1 os d)
-patch-answer room d (number h) = refuses h
+patch-answer room d (number h) = refuses _ _ _ _ _ h
 
 document-answer : (room : ℕ) {o : Outcome Value.Value} (patch : Bytes) → Numbered o → NumberedAnswer (onDocument room o patch)
 unfolding onDocument
 document-answer room patch (result {a = d}) = patch-answer room d (read-numbered patch)
-document-answer room patch (number h) = refuses h
+document-answer room patch (number h) = refuses _ _ _ _ _ h
 
 -- THE ANSWER'S NUMBER is 0 exactly where a text is written
 pub answer-numbered : (document patch : Bytes) (lent : Lent) → NumberedAnswer (answer document patch lent)
 unfolding answer answerIn
 answer-numbered document patch lent =
-    either-answer (not (workSuffices lent)) (refuses refl)
-    (either-answer (ltb maxBytes (length document)) (refuses refl)
-    (either-answer (ltb maxBytes (length patch)) (refuses refl) (document-answer (lent .output) patch (read-numbered document))))
+    either-answer (not (workSuffices lent)) (refuses _ _ _ _ _ refl)
+    (either-answer (ltb maxBytes (length document)) (refuses _ _ _ _ _ refl)
+    (either-answer (ltb maxBytes (length patch)) (refuses _ _ _ _ _ refl) (document-answer (lent .output) patch (read-numbered document))))

@@ -9,9 +9,10 @@ use Rattle.spec.specs.Bytes.{Text}
 use Rattle.spec.specs.Forest.{none, tree, Tree, count, size, before, from, removeAt, replaceAt, nth, _⧺_}
 use Rattle.spec.specs.Value as Value
 use Rattle.spec.specs.Value.{Label, Entry, Members, isContainer, levels, depths, depth, nodes, named, valueOf}
-use Rattle.spec.specs.Pointer.{Tokens, childAt, child}
+use Rattle.spec.specs.Pointer.{Tokens, childAt, child, farther}
 use Rattle.spec.specs.Operation.{withKids, put, atParent, removeChild, removeAtPath}
 use Rattle.spec.proofs.OutcomeLaws.{refused≢ok, both-ok}
+use Rattle.spec.proofs.FartherLaws.{farther-ok}
 use Rattle.spec.proofs.ChildLaws.{child-there}
 
 pub record NoLarger (w v : Value.Value) : Type 0 where
@@ -70,9 +71,9 @@ left-parent t [] v w h =
     subst (λ u. NoLarger u v) same (fewer-kids v _ (depths-removeAt k (v .kids)) (size-removeAt k (v .kids)))
 left-parent t (u ∷ ts) v w h =
     let (k, e, i) = both-ok (childAt t v) _ w h in
-    let (y, f, j) = both-ok (atParent removeChild u ts (valueOf (child k v))) _ w i in
+    let (y, f, j) = both-ok (farther (atParent removeChild u ts (valueOf (child k v)))) _ w i in
     let same : put k y v ≡ w = cc in
-    subst (λ u. NoLarger u v) same (put-smaller k y v (child-there t v k e) (left-parent u ts (valueOf (child k v)) y f))
+    subst (λ u. NoLarger u v) same (put-smaller k y v (child-there t v k e) (left-parent u ts (valueOf (child k v)) y (farther-ok _ f)))
 
 pub left-no-larger : (path : Tokens) (v w : Value.Value) → removeAtPath path v ≡ ok w → NoLarger w v
 unfolding removeAtPath

@@ -5,7 +5,7 @@ use Prim.Native.Nat.{ℕ, _+_}
 use Rattle.spec.specs.Outcome.{Outcome, ok, refused}
 use Rattle.spec.specs.Value as Value
 use Rattle.spec.specs.Operation.{Operation, limited}
-use Rattle.spec.specs.Patch.{finished, atOp, onFinish, run}
+use Rattle.spec.specs.Patch.{finished, atOp, onFinish, whichPointer, run}
 use Rattle.spec.proofs.OutcomeLaws.{refused≢ok}
 use Rattle.claims.specs.Proper.{Proper, Readable}
 use Rattle.claims.specs.Operations.{Same, both, neither}
@@ -67,7 +67,7 @@ unfolding run undoRun onFinish atOp
 undo-all op [] v w nothing r pw h = let same : v ≡ w = cc in rw (← same) (record { result = v; runs = stop; like = values-refl equal-labels v })
 undo-all op (o ∷ os) v w (first q a) r pw h = go (limited o v) refl h (λ u. undo-all (op + 1) os u w a)
   where
-    go : (x : Outcome Value.Value) → limited o v ≡ x → onFinish (atOp op x) (λ u. run limited (op + 1) os u) ≡ finished w →
+    go : (x : Outcome Value.Value) → limited o v ≡ x → onFinish (atOp op (whichPointer o v) x) (λ u. run limited (op + 1) os u) ≡ finished w →
         ((u : Value.Value) → Readable u → Proper w → run limited (op + 1) os u ≡ finished w → Undoes (undoRun os u) w u) → Undoes (undoRun (o ∷ os) v) w v
     go (ok u) e h ih =
         let within = limited-performs o v u e in

@@ -9,10 +9,11 @@ use Rattle.spec.specs.Bytes.{Text}
 use Rattle.spec.specs.Forest.{from}
 use Rattle.spec.specs.Value as Value
 use Rattle.spec.specs.Value.{isArray, valueOf, has, find, sameText}
-use Rattle.spec.specs.Pointer.{Tokens, childAt, child, walk}
+use Rattle.spec.specs.Pointer.{Tokens, childAt, child, farther, walk}
 use Rattle.spec.specs.Operation.{Kind, Operation, put, atParent, insertMember, insertChild, removeChild, replaceChild, addAt, removeAtPath, replaceAtPath, moveTo, copyTo, perform, limited}
 use Rattle.spec.specs.Patch.{properPrefix}
 use Rattle.spec.proofs.OutcomeLaws.{refused≢ok, both-ok}
+use Rattle.spec.proofs.FartherLaws.{farther-ok}
 use Rattle.spec.proofs.TextLaws.{both-true, sameText-true}
 use Rattle.spec.proofs.ChildLaws.{child-there, childAt-put, child-put, put-put, put-child}
 use Rattle.claims.specs.Proper.{Proper, Readable}
@@ -31,16 +32,16 @@ use Rattle.reversal.proofs.EqualDocuments.{Within, performs-limited}
 
 replaced-parent : (x : Value.Value) (t : Text) (ts : Tokens) (v w : Value.Value) → atParent (replaceChild x) t ts v ≡ ok w →
     replaceAtPath (t ∷ ts) (valueAt (t ∷ ts) v) w ≡ ok v
-unfolding atParent replaceAtPath replaceChild _>>=_
+unfolding atParent farther replaceAtPath replaceChild _>>=_
 replaced-parent x t [] v w h =
     let (k, e, i) = both-ok (childAt t v) _ w h in
     let same : put k x v ≡ w = cc in
     rw (← same, value-here t v k e) (replaced-back t v x k e)
 replaced-parent x t (u ∷ ts) v w h =
     let (k, e, i) = both-ok (childAt t v) _ w h in
-    let (y, f, j) = both-ok (atParent (replaceChild x) u ts (valueOf (child k v))) _ w i in
+    let (y, f, j) = both-ok (farther (atParent (replaceChild x) u ts (valueOf (child k v)))) _ w i in
     let same : put k y v ≡ w = cc in
-    let ih = replaced-parent x u ts (valueOf (child k v)) y f in
+    let ih = replaced-parent x u ts (valueOf (child k v)) y (farther-ok _ f) in
     rw (← same, value-on t (u ∷ ts) v k e, replace-below t k y v e (valueAt (u ∷ ts) (valueOf (child k v))) u ts, ih)
     (ap ok (put-child k v (child-there t v k e)))
 
@@ -58,7 +59,7 @@ child-again t v k e = rw (value-here t v k e, e) (ap ok (put-child k v (child-th
 below-again : (t u : Text) (ts : Tokens) (v : Value.Value) (k : ℕ) → childAt t v ≡ ok k →
     atParent (replaceChild (valueAt (u ∷ ts) (valueOf (child k v)))) u ts (valueOf (child k v)) ≡ ok (valueOf (child k v)) →
     atParent (replaceChild (valueAt (t ∷ u ∷ ts) v)) t (u ∷ ts) v ≡ ok v
-unfolding atParent _>>=_
+unfolding atParent farther _>>=_
 below-again t u ts v k e ih = rw (value-on t (u ∷ ts) v k e, e, ih) (ap ok (put-child k v (child-there t v k e)))
 
 same-again : (t : Text) (ts : Tokens) (v w : Value.Value) → atParent removeChild t ts v ≡ ok w → atParent (replaceChild (valueAt (t ∷ ts) v)) t ts v ≡ ok v
@@ -66,8 +67,8 @@ unfolding atParent removeChild
 same-again t [] v w h = let (k, e, i) = both-ok (childAt t v) _ w h in child-again t v k e
 same-again t (u ∷ ts) v w h =
     let (k, e, i) = both-ok (childAt t v) _ w h in
-    let (y, f, j) = both-ok (atParent removeChild u ts (valueOf (child k v))) _ w i in
-    below-again t u ts v k e (same-again u ts (valueOf (child k v)) y f)
+    let (y, f, j) = both-ok (farther (atParent removeChild u ts (valueOf (child k v)))) _ w i in
+    below-again t u ts v k e (same-again u ts (valueOf (child k v)) y (farther-ok _ f))
 
 -- a result like a document
 pub record Restored (o : Outcome Value.Value) (v : Value.Value) : Type 0 where
@@ -128,14 +129,14 @@ module _ (x : Value.Value) (t : Text) (v c : Value.Value) (k : ℕ) (e : childAt
       ((y : Value.Value) → isReplace (mended (s ∷ ss) c .kind) ≡ true → atParent (insertChild x) s ss c ≡ ok y →
       replaceAtPath (s ∷ ss) (valueAt (s ∷ ss) (valueOf (child k v))) y ≡ ok (valueOf (child k v))) →
       replaceAtPath (t ∷ s ∷ ss) (valueAt (t ∷ s ∷ ss) v) w ≡ ok v
-  unfolding mended parentTokens lastToken _>>=_
+  unfolding mended parentTokens lastToken farther _>>=_
   ancestor-below s ss w r h ih =
-      let (y, f, j) = both-ok (atParent (insertChild x) s ss c) _ w (sym (below-put (insertChild x) t s ss k c v e) ∙ h) in
+      let (y, f, j) = both-ok (farther (atParent (insertChild x) s ss c)) _ w (sym (below-put (insertChild x) t s ss k c v e) ∙ h) in
       let same : put k y v ≡ w = cc in
       let hs = parentTokens s ss in
       let kind : isReplace (mended (s ∷ ss) c .kind) ≡ true =
       sym (kind-below t hs (lastToken s ss) (valueAt hs c)) ∙ ap (λ p. isReplace (mendedIn (t ∷ hs) (lastToken s ss) p .kind)) (sym (value-put hs)) ∙ r in
-      rw (← same, value-on t (s ∷ ss) v k e, replace-below t k y v e (valueAt (s ∷ ss) (valueOf (child k v))) s ss, ih y kind f)
+      rw (← same, value-on t (s ∷ ss) v k e, replace-below t k y v e (valueAt (s ∷ ss) (valueOf (child k v))) s ss, ih y kind (farther-ok _ f))
       (ap ok (put-child k v (child-there t v k e)))
 
 ancestor-parent : (x : Value.Value) (t : Text) (ps us : Tokens) (v left w : Value.Value) → properPrefix ps us ≡ true → atParent removeChild t us v ≡ ok left →
@@ -145,17 +146,17 @@ ancestor-parent x t [] [] v left w q h r i = absurd (false≢true q)
 ancestor-parent x t (p ∷ ps) [] v left w q h r i = absurd (false≢true q)
 ancestor-parent x t [] (u ∷ us) v left w q h r i =
     let (k, e, h1) = both-ok (childAt t v) _ left h in
-    let (c, f, h2) = both-ok (atParent removeChild u us (valueOf (child k v))) _ left h1 in
+    let (c, f, h2) = both-ok (farther (atParent removeChild u us (valueOf (child k v)))) _ left h1 in
     let same : put k c v ≡ left = cc in
     ancestor-here x t v c k e w (rw (← same) at r) (rw (← same) at i)
 ancestor-parent x t (p ∷ ps) (u ∷ us) v left w q h r i =
     let (k, e, h1) = both-ok (childAt t v) _ left h in
-    let (c, f, h2) = both-ok (atParent removeChild u us (valueOf (child k v))) _ left h1 in
+    let (c, f, h2) = both-ok (farther (atParent removeChild u us (valueOf (child k v)))) _ left h1 in
     let same : put k c v ≡ left = cc in
     let (here-same, rest) = both-true (sameText p u) (properPrefix ps us) q in
     let token = ap (λ s. atParent removeChild s us (valueOf (child k v))) (sameText-true p u here-same) in
     ancestor-below x t v c k e p ps w (rw (← same) at r) (rw (← same) at i)
-    (λ y kind j. ancestor-parent x p ps us (valueOf (child k v)) c y rest (token ∙ f) kind j)
+    (λ y kind j. ancestor-parent x p ps us (valueOf (child k v)) c y rest (token ∙ farther-ok _ f) kind j)
 
 ancestor-back : (x : Value.Value) (path : Tokens) (t : Text) (ts : Tokens) (v left w : Value.Value) → properPrefix path (t ∷ ts) ≡ true →
     removeAtPath (t ∷ ts) v ≡ ok left → isReplace (mended path left .kind) ≡ true → addAt path x left ≡ ok w → replaceAtPath path (valueAt path v) w ≡ ok v

@@ -57,9 +57,8 @@ if-written : {C : Type 0} (test : Bool) {a b : UndoAnswer} {text undo : Bytes} �
 if-written true h f g = f refl h
 if-written false h f g = g h
 
-not-written : {C : Type 0} (number in-text op place : ℕ) {text undo : Bytes} → eqb number 0 ≡ false →
-    undoRefusal (refusal number in-text op place) ≡ undoSuccess text undo → C
-not-written number in-text op place n h = absurd (true≢false (sym (eq-eqb number 0 (ap (λ a. a .answer .number) h)) ∙ n))
+not-written : {C : Type 0} (a : Answer) {text undo : Bytes} → eqb (a .number) 0 ≡ false → undoRefusal a ≡ undoSuccess text undo → C
+not-written a n h = absurd (true≢false (sym (eq-eqb (a .number) 0 (ap (λ a. a .answer .number) h)) ∙ n))
 
 record Fitting (u : Value.Value) (undo : Bytes) : Type 0 where
   few-operations : leb (count (u .kids)) maxOperations ≡ true
@@ -96,24 +95,24 @@ written-fits room t u text undo h =
         is = same;
       };
     })
-    (not-written 16 0 0 0 refl))
-    (not-written 2 2 0 0 refl))
-    (not-written 6 2 0 0 refl))
-    (not-written 5 2 0 0 refl))
-    (not-written 9 2 0 0 refl)
+    (not-written (refusal 16 0 0 0) refl))
+    (not-written (refusal 2 2 0 0) refl))
+    (not-written (refusal 6 2 0 0) refl))
+    (not-written (refusal 5 2 0 0) refl))
+    (not-written (refusal 9 2 0 0) refl)
 
 after-fits : {a : Answer} (room : ℕ) (u : Value.Value) (text undo : Bytes) → NumberedAnswer a → afterPatch room a u ≡ undoSuccess text undo →
     BothWritten a u text undo
 unfolding afterPatch
 after-fits room u text undo (done {t = t}) h = written-fits room t u text undo h
-after-fits room u text undo (refuses {n = n} {text = in-text} {op = op} {place = place} q) h = not-written n in-text op place q (rw q at h)
+after-fits room u text undo (refuses n _ _ _ _ q) h = not-written _ q (rw q at h)
 
 both-written : (document patch text undo : Bytes) (lent : UndoLent) → undoAnswer document patch lent ≡ undoSuccess text undo →
     BothWritten (answer document patch (lent .patch)) (undoValue (undoOperations document patch)) text undo
 unfolding undoAnswer
 both-written document patch text undo lent h =
     if-written (leb maxBytes (lent .work)) h (λ _ i. after-fits (lent .undo) _ text undo (answer-numbered document patch (lent .patch)) i)
-    (not-written 1 0 0 0 refl)
+    (not-written (refusal 1 0 0 0) refl)
 
 -- The undo's text, read back
 
@@ -207,7 +206,7 @@ written-silent room t u =
 after-silent : {a : Answer} (room : ℕ) (u : Value.Value) → NumberedAnswer a → Silent (afterPatch room a u)
 unfolding afterPatch
 after-silent room u (done {t = t}) = written-silent room t u
-after-silent room u (refuses {n = n} {text = in-text} {op = op} {place = place} q) = rw q (refusal-silent n in-text op place)
+after-silent room u (refuses n _ _ _ _ q) = rw q (record { silent = λ _. (refl, refl) })
 
 undo-silent : (document patch : Bytes) (lent : UndoLent) → Silent (undoAnswer document patch lent)
 unfolding undoAnswer

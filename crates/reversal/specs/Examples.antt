@@ -9,7 +9,8 @@ use Rattle.spec.specs.Bytes.{Text, ascii}
 use Rattle.spec.specs.Forest.{none, tree}
 use Rattle.spec.specs.Value as Value
 use Rattle.spec.specs.Value.{Label, Members, leaf}
-use Rattle.spec.specs.Answer.{answer, success, refusal}
+use Rattle.spec.specs.Patch.{stop}
+use Rattle.spec.specs.Answer.{answer, success, refusal, failure}
 use Rattle.reversal.specs.UndoAnswer.{UndoLent, undoWritten, undoAnswer, undoSuccess, undoRefusal}
 use Rattle.reversal.specs.Statement.{Situation}
 
@@ -21,15 +22,17 @@ abbrev pub lent : UndoLent
 lent = lending 65_536 32_768 32_768
 
 -- A document and a patch with the text that is written, the undo beside it, and the text that the undo gives back; or, with what is lent, the
--- number of the refusal, text, op and place.
+-- number of the refusal, text, op and place, or of an operation's refusal op, place and pointer.
 pub data Example : Type 0 where
   gives : String → String → String → String → String → Example
   refuses : UndoLent → String → String → ℕ → ℕ → ℕ → ℕ → Example
+  fails : UndoLent → String → String → ℕ → ℕ → ℕ → ℕ → Example
 
 abbrev pub Holds : Example → Type 0
 Holds (gives d p text undo back) =
     (undoAnswer (ascii d) (ascii p) lent ≡ undoSuccess (ascii text) (ascii undo)) × (answer (ascii text) (ascii undo) (lent .patch) ≡ success (ascii back))
 Holds (refuses room d p number text op place) = undoAnswer (ascii d) (ascii p) room ≡ undoRefusal (refusal number text op place)
+Holds (fails room d p number op place pointer) = undoAnswer (ascii d) (ascii p) room ≡ undoRefusal (failure (stop number op place pointer))
 
 abbrev pub All : List Example → Type 0
 All [] = Unit {0}
@@ -75,7 +78,7 @@ undos =
     "[{\"op\":\"replace\",\"path\":\"\",\"value\":[[[[[[[[[[[[[[[[[[[[[[[[[[[[[[]]]]]]]]]]]]]]]]]]]]]]]]]]]]]]}]" "[[[[[[[[[[[[[[[[[[[[[[[[[[[[[[]]]]]]]]]]]]]]]]]]]]]]]]]]]]]]" ∷
     refuses lent "[[[[[[[[[[[[[[[[[[[[[[[[[[[[[[[]]]]]]]]]]]]]]]]]]]]]]]]]]]]]]]" "[{\"op\":\"replace\",\"path\":\"\",\"value\":1}]" 5 2 0 0 ∷
     -- refusals of the patch first, with a short output for the document among them
-    refuses lent "{}" "[{\"op\":\"remove\",\"path\":\"/a\"}]" 11 0 1 0 ∷
+    fails lent "{}" "[{\"op\":\"remove\",\"path\":\"/a\"}]" 11 1 0 1 ∷
     refuses (lending 0 32_768 32_768) "[[[[[[[[[[[[[[[[[[[[[[[[[[[[[[[]]]]]]]]]]]]]]]]]]]]]]]]]]]]]]]" "[{\"op\":\"replace\",\"path\":\"\",\"value\":1}]" 16 0 0 0 ∷
     -- a short output for the undo, and a short buffer
     refuses (lending 65_536 1 32_768) "1" "[]" 16 0 0 0 ∷

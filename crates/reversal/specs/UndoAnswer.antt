@@ -39,7 +39,7 @@ undoRefusal a = record { answer = a; undo = [] }
 -- the undo of the operations that a patch has; none of a patch that is not well formed
 unfoldable pub undoShaped : Value.Value → Run (List Operation) → List Operation
 undoShaped document (finished os) = undoRun os document
-undoShaped document (stopped number op) = []
+undoShaped document (stopped s) = []
 
 unfoldable pub undoRead : Outcome Value.Value → Outcome Value.Value → List Operation
 undoRead (ok document) (ok patch) = undoShaped document (shape patch)

@@ -15,13 +15,13 @@ use Rattle.spec.specs.Value as Value
 use Rattle.spec.specs.Read.{read}
 use Rattle.spec.specs.Write.{write}
 use Rattle.spec.specs.Operation.{Operation, limited}
-use Rattle.spec.specs.Patch.{Run, finished, stopped, run}
-use Rattle.spec.specs.Answer.{Answer, Lent, answer, answerIn, onDocument, answerOf, success, refusal, workSuffices}
+use Rattle.spec.specs.Patch.{Stop, stop, Run, finished, stopped, run}
+use Rattle.spec.specs.Answer.{Answer, Lent, answer, answerIn, onDocument, answerOf, success, failure, workSuffices}
 use Rattle.spec.specs.Region.{Accepted, WellFormed, Enough}
 use Rattle.spec.proofs.RegionTheorem.{called, work-enough, fits}
 use Rattle.claims.proofs.RoundTripTheorem.{round-trip}
 use Rattle.sequence.specs.Sequence as Sequence
-use Rattle.sequence.specs.Sequence.{OpLess, same-text, same-refusal, InARow, FirstRefused, SequenceStatement}
+use Rattle.sequence.specs.Sequence.{OpLess, later, same-text, same-refusal, InARow, FirstRefused, SequenceStatement}
 use Rattle.sequence.specs.Sequence.{AllElements, no-patch, patch, Row, last, next, AllInARow}
 use Rattle.sequence.proofs.RunLaws.{run-then, run-stays, run-further, stops-from, Further, finishes, stops}
 use Rattle.sequence.proofs.MeansLaws.{Means, nothing-means, elements-mean, means-length, means-after}
@@ -30,7 +30,7 @@ use Rattle.sequence.proofs.JoinedLaws.{joined-formed}
 -- an answer by the run that it comes from, whose operations are counted from n on
 data Comes (n : ℕ) : Answer → Run Value.Value → Type 0 where
   written : (w : Value.Value) → Comes n (success (write w)) (finished w)
-  ended : (number k : ℕ) → 1 ≤ k → Comes n (refusal number 0 k 0) (stopped number (k + n))
+  ended : (s : Stop) → 1 ≤ s .op → Comes n (failure s) (stopped (later n s))
 
 -- The answer to a well-formed patch, by the run of its operations.
 module _ {D P : Bytes} {d : Value.Value} {os : List Operation} (lent : Lent) (a : Accepted D d) (w : WellFormed P os) (e : Enough D P lent) where
@@ -43,35 +43,36 @@ module _ {D P : Bytes} {d : Value.Value} {os : List Operation} (lent : Lent) (a 
       let is = answer-run (finished v) h in
       is ∙ fits (lent .output) (write v) (λ short. e .output (ap (λ a. a .number) is ∙ short))
 
-  answer-stopped : (n k : ℕ) → run limited 1 os d ≡ stopped n k → answer D P lent ≡ refusal n 0 k 0
+  answer-stopped : (s : Stop) → run limited 1 os d ≡ stopped s → answer D P lent ≡ failure s
   unfolding answerOf
-  answer-stopped n k h = answer-run (stopped n k) h
+  answer-stopped s h = answer-run (stopped s) h
 
   comes : Comes 0 (answer D P lent) (run limited 1 os d)
   comes = go (run limited 1 os d) refl
     where
       go : (r : Run Value.Value) → run limited 1 os d ≡ r → Comes 0 (answer D P lent) r
       go (finished v) h = rw (answer-finished v h) (written v)
-      go (stopped n k) h =
-          let here : k + 0 ≡ k = omega arith in
-          rw (answer-stopped n k h) (subst (λ j. Comes 0 (refusal n 0 k 0) (stopped n j)) here (ended n k (stops-from os 1 d n k h)))
+      go (stopped s) h =
+          let here : s .op + 0 ≡ s .op = omega arith in
+          rw (answer-stopped s h)
+          (subst (λ k. Comes 0 (failure s) (stopped (stop (s .number) k (s .place) (s .pointer)))) here (ended s (stops-from os 1 d s h)))
 
   -- another answer that comes from that run
   opLess : {n : ℕ} {b : Answer} (r : Run Value.Value) → run limited 1 os d ≡ r → Comes n b r → OpLess n b (answer D P lent)
   opLess r h (written v) = rw (answer-finished v h) (same-text (write v))
-  opLess {n} r h (ended number k l) = rw (answer-stopped number (k + n) h) (same-refusal number 0 k 0 l)
+  opLess {n} r h (ended s l) = rw (answer-stopped (later n s) h) (same-refusal s l)
 
 further : {m k : ℕ} {a : Answer} {r s : Run Value.Value} → Comes m a r → Further k r s → Comes (k + m) a s
 further (written w) (finishes u) = written u
-further {m} {k} (ended number j l) (stops _ _) =
-    let count : j + (k + m) ≡ j + m + k = omega arith in
-    subst (λ i. Comes (k + m) (refusal number 0 j 0) (stopped number i)) count (ended number j l)
+further {m} {k} (ended s l) (stops _) =
+    let count : s .op + (k + m) ≡ s .op + m + k = omega arith in
+    subst (λ i. Comes (k + m) (failure s) (stopped (stop (s .number) i (s .place) (s .pointer)))) count (ended s l)
 
 -- a run that stops, with further operations behind it
 stays : {a : Answer} (d : Value.Value) (xs ys : List Operation) → (a .number ≡ 0 → ⊥) → (r : Run Value.Value) → run limited 1 xs d ≡ r →
     Comes 0 a r → Comes 0 a (run limited 1 (xs ++ ys) d)
 stays d xs ys no-text r h (written w) = absurd (no-text refl)
-stays d xs ys no-text r h (ended n k l) = rw (run-stays xs ys 1 d n (k + 0) h) (ended n k l)
+stays d xs ys no-text r h (ended s l) = rw (run-stays xs ys 1 d (later 0 s) h) (ended s l)
 
 nothing-left : {ys : List Operation} → Means [] ys → ys ≡ []
 nothing-left nothing-means = refl
@@ -136,7 +137,7 @@ two document first text second joined lent-first lent-second lent-joined c =
 
 none-less : {a b : Answer} → OpLess 0 a b → b ≡ a
 none-less (same-text t) = refl
-none-less (same-refusal number text op place l) = ap (λ k. refusal number text k place) (add-zero op)
+none-less (same-refusal s l) = ap (λ k. failure (stop (s .number) k (s .place) (s .pointer))) (add-zero (s .op))
 
 first-refused : (document first second joined : Bytes) (lent-first lent-joined : Lent) →
     FirstRefused document first second joined lent-first lent-joined → answer document joined lent-joined ≡ answer document first lent-first

@@ -3,7 +3,8 @@ use mathlib.Core.Path.{_≡_}
 use mathlib.Core.List.{List, [], _∷_}
 use Rattle.spec.specs.Bytes.{Bytes, ascii}
 use Rattle.spec.specs.Operation.{Operation}
-use Rattle.spec.specs.Answer.{answer, success, refusal}
+use Rattle.spec.specs.Patch.{stop}
+use Rattle.spec.specs.Answer.{answer, success, failure}
 use Rattle.spec.specs.Examples.{lent}
 use Rattle.sequence.specs.Sequence.{InARow, WithinLimits, FirstRefused, AllInARow}
 
@@ -44,7 +45,7 @@ pub record ExamplesStatement : Type 0 where
   pub two-writes : answer document two lent ≡ success twice
   pub two-within : (xs : List Operation) × (ys : List Operation) × WithinLimits first second two xs ys
   pub three-met : AllInARow document (first ∷ second ∷ third ∷ []) three 2 (answer twice third lent) lent
-  pub third-refused : answer twice third lent ≡ refusal 11 0 1 0
-  pub three-refused : answer document three lent ≡ refusal 11 0 3 0
+  pub third-refused : answer twice third lent ≡ failure (stop 11 1 1 1)
+  pub three-refused : answer document three lent ≡ failure (stop 11 3 1 1)
   pub other-met : FirstRefused twice third first other lent lent
-  pub other-refused : answer twice other lent ≡ refusal 11 0 1 0
+  pub other-refused : answer twice other lent ≡ failure (stop 11 1 1 1)

@@ -10,7 +10,8 @@ use Rattle.spec.specs.Bytes.{Bytes}
 use Rattle.spec.specs.Value as Value
 use Rattle.spec.specs.Value.{nodes}
 use Rattle.spec.specs.Operation.{Operation}
-use Rattle.spec.specs.Answer.{Answer, Lent, answer, success, refusal}
+use Rattle.spec.specs.Patch.{Stop, stop}
+use Rattle.spec.specs.Answer.{Answer, Lent, answer, success, failure}
 use Rattle.spec.specs.Elements.{ElementsOf}
 use Rattle.spec.specs.Region.{Accepted, WellFormed, Enough}
 
@@ -22,10 +23,14 @@ pub record JoinText (first second joined : Bytes) : Type 0 where
   pub second-elements : ElementsOf second seconds
   pub joined-elements : ElementsOf joined (firsts ++ seconds)
 
+-- the same refusal n operations later
+abbrev pub later : ℕ → Stop → Stop
+later n s = stop (s .number) (s .op + n) (s .place) (s .pointer)
+
 -- `OpLess n a b`: a has the text of b, or it is the refusal b with op less by n. The op of a refused operation is counted from 1.
 pub data OpLess (n : ℕ) : Answer → Answer → Type 0 where
   same-text : (t : Bytes) → OpLess n (success t) (success t)
-  same-refusal : (number text op place : ℕ) → 1 ≤ op → OpLess n (refusal number text op place) (refusal number text (op + n) place)
+  same-refusal : (s : Stop) → 1 ≤ s .op → OpLess n (failure s) (failure (later n s))
 
 -- Two patches in a row, and the joined one. Each call may be lent other buffers.
 pub record InARow (document first text second joined : Bytes) (lent-first lent-second lent-joined : Lent) : Type 0 where

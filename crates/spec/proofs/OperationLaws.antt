@@ -1,13 +1,13 @@
 -- An operation strictly inside a region is a change of what stands at the region.
 use mathlib.Core.Path.{_≡_, refl, ap, ap₂, sym, _∙_, fun-ext}
-use mathlib.Core.Bool.{Bool, true, false, _&&_, _||_, not, false≢true}
+use mathlib.Core.Bool.{Bool, true, false, _||_, not, false≢true}
 use mathlib.Core.List.{List, [], _∷_, _++_}
 use Prim.Native.Nat.{ℕ, _+_, _≤_}
 use native.Mathlib.Omega.{arith}
 use lib.ListN.{length}
-use lib.Dec.{leb, eqb}
+use lib.Dec.{leb}
 use borrow.Author.Tests.{leb-true, leb-false}
-use Rattle.spec.specs.Outcome.{Outcome, ok, refused, isRefused, _>>=_, if_then_else_}
+use Rattle.spec.specs.Outcome.{Outcome, ok, refused, _>>=_, if_then_else_}
 use Rattle.spec.specs.Bytes.{Text}
 use Rattle.spec.specs.Value.{valueOf, depth, sameText}
 use Rattle.spec.specs.Equality.{equal}
@@ -236,13 +236,11 @@ which-inside : (R : List Text) (o : Operation) → strictlyInside R o ≡ true �
     whichPointer o v n ≡ whichPointer o w n
 unfolding strictlyInside whichPointer
 which-inside R o h v w n same =
-    go (usesFrom (o .kind)) (both-true (properPrefix R (o .path)) (not (usesFrom (o .kind)) || properPrefix R (o .from)) h .1)
+    go (usesFrom (o .kind)) refl (both-true (properPrefix R (o .path)) (not (usesFrom (o .kind)) || properPrefix R (o .from)) h .1)
   where
-    go : (b : Bool) → (not b || properPrefix R (o .from)) ≡ true →
-        _≡_ {A = ℕ} (if eqb n 11 || eqb n 12 then (if b && isRefused (walk (o .from) v) then 2 else 1) else 0)
-        (if eqb n 11 || eqb n 12 then (if b && isRefused (walk (o .from) w) then 2 else 1) else 0)
-    go false inside = refl
-    go true inside = let (u, us, e) = under R (o .from) inside in rw (e, walk-inside R (u ∷ us) v, walk-inside R (u ∷ us) w, same)
+    go : (b : Bool) → usesFrom (o .kind) ≡ b → (not b || properPrefix R (o .from)) ≡ true → whichPointer o v n ≡ whichPointer o w n
+    go false q inside = rw q
+    go true q inside = let (u, us, e) = under R (o .from) inside in rw (q, e, walk-inside R (u ∷ us) v, walk-inside R (u ∷ us) w, same)
 
 pub bare-inside : (R : List Text) (o : Operation) → strictlyInside R o ≡ true → Local R o
 unfolding bare

@@ -3,10 +3,10 @@
 use crate::arguments::Arguments;
 use crate::command::Status;
 use crate::files::Name;
-use crate::found::found;
+use crate::found::{found, reached};
 use crate::patches::{Refused, Run};
 use crate::trouble::Trouble;
-use json_patch::{Kind, Paint, Refusal, Shown};
+use json_patch::{Kind, Paint, Refusal, Shown, Walked};
 use std::env;
 use std::io::{self, IsTerminal, Write};
 
@@ -29,21 +29,35 @@ pub fn refusal(arguments: &Arguments, run: &Run, refused: &Refused) -> Status {
 
 /// A refusal in words, as the library explains it, with what only the command
 /// can tell.
-fn in_words(run: &Run, Refused { refusal, index, document }: &Refused) -> String {
+fn in_words(run: &Run, refused: &Refused) -> String {
+    let Refused { refusal, index, document } = refused;
     let patch = &run.patches[*index];
     let (to, name) = (run.document_at(*index), Name(&patch.name));
-    let note = match refusal.kind() {
-        Some(Kind::TestDiffers) => found(document, &patch.bytes, refusal).map(|(found, wanted)| {
-            let shown = |bytes| Shown { bytes, most: SHOWN };
-            format!("found {} in {to}, expected {}", shown(&found), shown(&wanted))
-        }),
-        Some(Kind::OutputTooShort) => Some("at most 65,536 bytes are written".to_string()),
-        _ => None,
-    };
     let explanation = refusal.explain(document, &patch.bytes).named(&to, &name).painted(paint());
-    match &note {
-        Some(note) => format!("json-patch: {}\n", explanation.noted(note)),
+    match note(refused, &patch.bytes, &to, explanation.walked()) {
+        Some(note) => format!("json-patch: {}\n", explanation.noted(&note)),
         None => format!("json-patch: {explanation}\n"),
+    }
+}
+
+/// What only the command can tell of a refusal: values that it looks up.
+fn note(refused: &Refused, patch: &[u8], to: &str, walked: Option<Walked>) -> Option<String> {
+    let Refused { refusal, document, .. } = refused;
+    match refusal.kind()? {
+        Kind::LocationMissing | Kind::NoIndex => {
+            let walked = walked?;
+            let there = reached(document, patch, refusal, &walked)?;
+            Some(match walked.way {
+                [] => format!("found {} at the root of {to}", shown(&there)),
+                way => format!("found {} at {} in {to}", shown(&there), quoted(way)),
+            })
+        }
+        Kind::TestDiffers => {
+            let (found, wanted) = found(document, patch, refusal)?;
+            Some(format!("found {} in {to}, expected {}", shown(&found), shown(&wanted)))
+        }
+        Kind::OutputTooShort => Some("at most 65,536 bytes are written".to_string()),
+        _ => None,
     }
 }
 
@@ -63,13 +77,13 @@ pub struct Words<'a> {
 /// is the line at fault, or 0.
 pub fn other(arguments: &Arguments, number: u32, place: usize, words: &Words) -> Status {
     if arguments.has("porcelain") {
-        say(&format!("{}\n", Refusal { number, text: 0, op: 0, place }.line()));
+        say(&format!("{}\n", Refusal { number, text: 0, op: 0, place, pointer: 0 }.line()));
     } else if !arguments.has("quiet") {
         let Paint { name, fault, hint, off } = paint();
         let mut text =
             format!("json-patch: {name}{}:{off} {fault}{}{off}\n", words.name, words.fault);
         if let Some((number, bytes)) = words.line {
-            text += &format!("  {number} | {}\n", Shown { bytes, most: SHOWN });
+            text += &format!("  {number} | {}\n", shown(bytes));
         }
         if let Some(words) = &words.hint {
             text += &format!("  {hint}hint:{off} {words}\n");
@@ -79,9 +93,14 @@ pub fn other(arguments: &Arguments, number: u32, place: usize, words: &Words) ->
     Status::Refused
 }
 
-/// A text that was given on the command line, as it is said to a person.
+/// A text as it is said to a person.
 pub fn quoted(bytes: &[u8]) -> String {
-    format!("\"{}\"", Shown { bytes, most: SHOWN })
+    format!("\"{}\"", shown(bytes))
+}
+
+/// As much of a text as is shown.
+fn shown(bytes: &[u8]) -> Shown<'_> {
+    Shown { bytes, most: SHOWN }
 }
 
 /// Says what the trouble is.

@@ -108,7 +108,7 @@ fn a_text_over_the_limit_is_refused() {
     folder.run(["apply", "pack.json", "over.json"]).refused(words);
     folder
         .run(["check", "--porcelain", "pack.json", "over.json"])
-        .refused("refused 2 text 2 op 0 place 0\n");
+        .refused("refused 2 text 2 op 0 place 0 pointer 0\n");
     // Without end, and not read to it.
     folder
         .run(["apply", "/dev/zero", "fix.json"])

@@ -65,9 +65,13 @@ fn records_may_be_as_short_as_they_are() {
     folder.run(["unhex", "hex"]).done(&"A".repeat(65_536));
     // One more is refused, and so is what comes after the end, however much it is.
     folder.write("hex", format!("{records}:0100000041BE\r\n:00000001FF\r\n"));
-    folder.run(["unhex", "--porcelain", "hex"]).refused("refused 20 text 0 op 0 place 65537\n");
+    folder
+        .run(["unhex", "--porcelain", "hex"])
+        .refused("refused 20 text 0 op 0 place 65537 pointer 0\n");
     folder.write("hex", format!("{records}:00000001FF\r\n{records}"));
-    folder.run(["unhex", "--porcelain", "hex"]).refused("refused 21 text 0 op 0 place 65538\n");
+    folder
+        .run(["unhex", "--porcelain", "hex"])
+        .refused("refused 21 text 0 op 0 place 65538 pointer 0\n");
 }
 
 /// Runs `unhex` in every way of saying a refusal; nothing is written.
@@ -78,7 +82,7 @@ fn refused(records: &str, number: u32, line: usize, said: &str) {
     folder.write("out", "as it was");
     folder.run(["unhex", "x.hex"]).refused(&format!("json-patch: x.hex:{line}: {said}\n"));
     folder.run(["unhex", "-q", "x.hex"]).refused("");
-    let porcelain = format!("refused {number} text 0 op 0 place {line}\n");
+    let porcelain = format!("refused {number} text 0 op 0 place {line} pointer 0\n");
     folder.run(["unhex", "--porcelain", "x.hex"]).refused(&porcelain);
     folder.run(["unhex", "--porcelain", "-o", "out", "x.hex"]).refused(&porcelain);
     assert_eq!(folder.read("out"), "as it was");
@@ -130,13 +134,15 @@ fn a_text_over_the_limit_is_refused() {
     folder.write("long", "x".repeat(65_537));
     folder.run(["hex", "long"]).refused("json-patch: long: a text over 65,536 bytes\n");
     folder.run(["hex", "-q", "long"]).refused("");
-    folder.run(["hex", "--porcelain", "long"]).refused("refused 2 text 0 op 0 place 0\n");
+    folder.run(["hex", "--porcelain", "long"]).refused("refused 2 text 0 op 0 place 0 pointer 0\n");
     folder
         .run(["hex", "-o", "out", "long"])
         .refused("json-patch: long: a text over 65,536 bytes\n");
     // Without end, and not read to it.
     folder.run(["hex", "/dev/zero"]).refused("json-patch: /dev/zero: a text over 65,536 bytes\n");
-    folder.run(["unhex", "--porcelain", "/dev/zero"]).refused("refused 18 text 0 op 0 place 1\n");
+    folder
+        .run(["unhex", "--porcelain", "/dev/zero"])
+        .refused("refused 18 text 0 op 0 place 1 pointer 0\n");
     assert_eq!(folder.names(), ["long"]);
 }
 
@@ -185,9 +191,11 @@ fn committed_cases_give_their_answers() {
             let (status, output, error) = match words[..] {
                 ["16", ..] => continue,
                 [number, "place", line] => {
-                    (1, &b""[..], format!("refused {number} text 0 op 0 place {line}\n"))
+                    (1, &b""[..], format!("refused {number} text 0 op 0 place {line} pointer 0\n"))
                 }
-                [number] => (1, &b""[..], format!("refused {number} text 0 op 0 place 0\n")),
+                [number] => {
+                    (1, &b""[..], format!("refused {number} text 0 op 0 place 0 pointer 0\n"))
+                }
                 [] => (0, &expected[..], String::new()),
                 _ => panic!("{words:?}"),
             };

@@ -56,7 +56,7 @@ fn refused(words: [&OsStr; 2], number: u32, said: &str) {
     };
     run(&[]).refused(said);
     run(&["-q"]).refused("");
-    run(&["--porcelain"]).refused(&format!("refused {number} text 0 op 0 place 0\n"));
+    run(&["--porcelain"]).refused(&format!("refused {number} text 0 op 0 place 0 pointer 0\n"));
 }
 
 #[test]
@@ -158,7 +158,9 @@ fn committed_cases_give_their_answers() {
             let words = [OsStr::new(command), words[0], words[1], OsStr::from_bytes(&case.text)];
             let ran = folder.command(words).output().expect("the command ran");
             let (status, output, error) = match expected.starts_with(b"refused ") {
-                true => (1, Vec::new(), [expected, &b" text 0 op 0 place 0\n"[..]].concat()),
+                true => {
+                    (1, Vec::new(), [expected, &b" text 0 op 0 place 0 pointer 0\n"[..]].concat())
+                }
                 false => (0, [expected, &b"\n"[..]].concat(), Vec::new()),
             };
             let got = (ran.status.code(), ran.stdout, ran.stderr);

@@ -21,7 +21,7 @@ fn done_is_0() {
 #[test]
 fn refused_is_1_with_nothing_on_standard_output() {
     let folder = Folder::with_files();
-    let line = "refused 15 text 0 op 1 place 0\n";
+    let line = "refused 15 text 0 op 1 place 0 pointer 0\n";
     for command in ["apply", "check"] {
         let words = "json-patch: other.json: operation 1, test \"/mAh\": \
                      the test found a difference\n  \
@@ -67,7 +67,7 @@ fn of_several_patches_the_refused_one_is_named() {
     assert_eq!(folder.read("pack.json"), PACK, "none is applied where one is refused");
     folder
         .run(["apply", "--porcelain", "pack.json", "set.json", "set.json", "fix.json"])
-        .refused("refused 15 text 0 op 1 place 0\npatch 3\n");
+        .refused("refused 15 text 0 op 1 place 0 pointer 0\npatch 3\n");
     let copy = r#"{"op":"copy","from":"/x","path":"/y"}"#;
     let long = "x".repeat(20_000);
     folder.write("long.json", format!(r#"[{{"op":"add","path":"/x","value":"{long}"}},{copy}]"#));
@@ -145,7 +145,7 @@ fn standard_input_is_document_or_patch() {
     );
     folder
         .run_with(OTHER, &["check", "--porcelain", "pack.json", "-"])
-        .refused("refused 15 text 0 op 1 place 0\n");
+        .refused("refused 15 text 0 op 1 place 0 pointer 0\n");
 }
 
 /// Every committed case that lends what the command lends, put to the command:

@@ -26,11 +26,15 @@ fn an_operation_that_does_not_fit() {
     };
     said(
         r#"[{"op":"replace","path":"/cutoff","value":4.15}]"#,
-        r#"operation 1, replace "/cutoff": the location does not exist in pack.json"#,
+        "operation 1, replace \"/cutoff\": the location does not exist in pack.json\n  \
+         path: the root has no \"cutoff\"\n  \
+         found {\"mAh\":3000,\"cut\":[4.2,3.0]} at the root of pack.json",
     );
     said(
         r#"[{"op":"remove","path":"/cut/0"},{"op":"add","path":"/cut/x","value":1}]"#,
-        r#"operation 2, add "/cut/x": a token is not an array index"#,
+        "operation 2, add \"/cut/x\": a token is not an array index\n  \
+         path: \"/cut\" is an array, and \"x\" is no index\n  \
+         found [3.0] at \"/cut\" in pack.json",
     );
     said(
         r#"[{"op":"move","from":"/cut","path":"/cut/0"}]"#,
@@ -47,6 +51,74 @@ fn an_operation_that_does_not_fit() {
         r#"{"op":"copy","from":"/a","path":"/c"},"#
     );
     said(&long, "the result is longer than the lent output\n  at most 65,536 bytes are written");
+}
+
+#[test]
+fn a_pointer_shows_how_far_it_got() {
+    let folder = Folder::with_files();
+    folder.write("pack.json", r#"{"mAh":3000,"cut":[4.2,{"low":{"mV":3000}},"x"]}"#);
+    let said = |patch: &str, lines: &[&str]| {
+        folder.write("x.json", patch);
+        let error = folder.run(["apply", "pack.json", "x.json"]).error;
+        assert_eq!(
+            error.lines().skip(1).map(str::trim_start).collect::<Vec<_>>(),
+            lines,
+            "{error}"
+        );
+    };
+    said(
+        r#"[{"op":"replace","path":"/cut/1/low/mVolt/max","value":1}]"#,
+        &[
+            r#"path: "/cut/1/low" has no "mVolt""#,
+            r#"found {"mV":3000} at "/cut/1/low" in pack.json"#,
+        ],
+    );
+    said(
+        r#"[{"op":"add","path":"/mAh/max","value":1}]"#,
+        &[r#"path: "/mAh" has no "max""#, r#"found 3000 at "/mAh" in pack.json"#],
+    );
+    // In what the operations before it left, at the pointer as it is written.
+    said(
+        r#"[{"op":"add","path":"/a~1b","value":{ "c" : [ 1 ] }},
+            { "path":"\/a~1b\u002fc/-/x", "op" : "remove" }]"#,
+        &[r#"path: "\/a~1b\u002fc" has no "-""#, r#"found [1] at "\/a~1b\u002fc" in pack.json"#],
+    );
+    // The path of a move is walked in what is left.
+    said(
+        r#"[{"from":"/cut/0","op":"move","path":"/cut/1/low"}]"#,
+        &[
+            r#"path, once from is removed: "/cut/1" has no "low""#,
+            r#"found "x" at "/cut/1" in pack.json"#,
+        ],
+    );
+    said(
+        r#"[{"op":"move","from":"/cut/1/high","path":"/cut/1/low/x/y"}]"#,
+        &[
+            r#"from: "/cut/1" has no "high""#,
+            r#"found {"low":{"mV":3000}} at "/cut/1" in pack.json"#,
+        ],
+    );
+    said(
+        r#"[{"op":"copy","from":"/cut/1/low/mV","path":"/cut/x"}]"#,
+        &[
+            r#"path: "/cut" is an array, and "x" is no index"#,
+            r#"found [4.2,{"low":{"mV":3000}},"x"] at "/cut" in pack.json"#,
+        ],
+    );
+    // Where nothing can be found out, nothing is said of it.
+    let tests = r#"{"op":"test","path":"/mAh","value":3e3},"#.repeat(255);
+    said(
+        &format!(r#"[{tests}{{"op":"move","from":"/mAh","path":"/cut/9"}}]"#),
+        &[r#"path, once from is removed: "/cut" has no "9""#],
+    );
+    folder.write("x.json", r#"[{"op":"test","path":"/cut/01/low","value":1}]"#);
+    folder
+        .run(["apply", "--porcelain", "pack.json", "x.json"])
+        .refused("refused 12 text 0 op 1 place 1 pointer 1\n");
+    folder.write("x.json", r#"[{"op":"move","from":"/cut/1/low/x","path":"/y/z"}]"#);
+    folder
+        .run(["check", "--porcelain", "pack.json", "x.json"])
+        .refused("refused 11 text 0 op 1 place 3 pointer 2\n");
 }
 
 #[test]
