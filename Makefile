@@ -42,12 +42,14 @@ override JSON_PATCH_LIB := $(abspath $(or $(JSON_PATCH_LIB),target/staticlib))
 export JSON_PATCH_LIB
 
 out := target/make
-# As rt makes them: the call, the functions on one record, the links, and Intel HEX.
+# As rt makes them: the call, the functions on one record, the links, Intel HEX, and
+# the call with an undo.
 proved_call := $(JSON_PATCH_LIB)/libjson_patch.a
 proved_record := $(JSON_PATCH_LIB)/librecord.a
 links := $(JSON_PATCH_LIB)/libfragment.a
 hex := $(JSON_PATCH_LIB)/libhex.a
-# The library as it is installed: the call and the records.
+proved_undo := $(JSON_PATCH_LIB)/libundo.a
+# The library as it is installed: the two calls and the records.
 static := $(out)/libjson_patch.a
 shared := libjson_patch.so.$(VERSION)
 soname := libjson_patch.so.$(ABI)
@@ -77,13 +79,17 @@ $(links): $(proved_record)
 $(hex): $(links)
 	rt staticlib hex
 	@touch $@
+
+$(proved_undo): $(hex)
+	rt staticlib undo
+	@touch $@
 endif
 
 # The proved objects, unchanged, in one archive.
-$(static): $(proved_call) $(proved_record)
+$(static): $(proved_call) $(proved_record) $(proved_undo)
 	@rm -rf $(out)/objects $@
 	@mkdir -p $(out)/objects
-	cd $(out)/objects && $(AR) x $(proved_call) && $(AR) x $(proved_record)
+	cd $(out)/objects && $(AR) x $(proved_call) && $(AR) x $(proved_record) && $(AR) x $(proved_undo)
 	$(AR) rcs $@ $(out)/objects/*.o
 
 # The shared library is the archives, linked whole.
@@ -95,7 +101,7 @@ $(out)/$(shared): $(static) $(links) $(hex)
 $(out)/$(soname): $(out)/$(shared)
 	ln -sf $(shared) $@
 
-$(command): $(rust) $(proved_call) $(links) $(hex)
+$(command): $(rust) $(proved_call) $(links) $(hex) $(proved_undo)
 	@mkdir -p $(out)
 	$(CARGO) build --release $(CARGO_FLAGS) --manifest-path rust/Cargo.toml --package json-patch-cli --target-dir rust/target
 	cp rust/target/release/json-patch $@
