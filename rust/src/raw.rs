@@ -69,7 +69,7 @@ pub struct Answer {
 
 impl Answer {
     /// The written length, or the refusal.
-    fn result(self) -> Result<usize, Refusal> {
+    pub(crate) fn result(self) -> Result<usize, Refusal> {
         let Answer { number, text, op, place, pointer, length } = self;
         match number {
             0 => Ok(length as usize),
@@ -126,8 +126,8 @@ extern "C" {
 #[derive(Clone, Debug)]
 #[repr(C)]
 pub struct Work {
-    nodes: [Node; WORK_NODES],
-    index: [u16; WORK_ENTRIES],
+    pub(crate) nodes: [Node; WORK_NODES],
+    pub(crate) index: [u16; WORK_ENTRIES],
 }
 
 impl Work {
