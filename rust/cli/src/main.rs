@@ -20,6 +20,7 @@ mod pointer;
 mod replace;
 mod report;
 mod trouble;
+mod undo;
 mod unhex;
 
 use command::{Command, Status};
@@ -32,6 +33,7 @@ use trouble::Trouble;
 pub const COMMANDS: &[&Command] = &[
     &apply::COMMAND,
     &check::COMMAND,
+    &undo::COMMAND,
     &link::COMMAND,
     &pointer::COMMAND,
     &hex::COMMAND,

@@ -7,5 +7,6 @@ mod links;
 mod replacing;
 mod statuses;
 mod support;
+mod undo;
 mod usage;
 mod words;

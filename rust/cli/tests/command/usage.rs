@@ -3,7 +3,8 @@
 use crate::support::{file_of_root, left_out, program, words, Folder, Ran, COMMAND};
 use std::process::Command;
 
-const COMMANDS: [&str; 7] = ["apply", "check", "link", "pointer", "hex", "unhex", "completion"];
+const COMMANDS: [&str; 8] =
+    ["apply", "check", "undo", "link", "pointer", "hex", "unhex", "completion"];
 
 /// The help of a subcommand.
 fn help(name: &str) -> String {
