@@ -7,12 +7,12 @@ use mathlib.Core.List.{List, [], _∷_, _++_}
 use lib.ListN.{length, getD}
 use Rattle.spec.specs.Outcome.{Outcome, ok, refused, _>>=_}
 use Rattle.spec.specs.Refusal.{location-missing}
-use Rattle.spec.specs.Limits.{maxNodes}
+use Rattle.spec.specs.Limits.{maxDepth, maxNodes}
 use Rattle.spec.specs.Bytes.{Text}
 use Rattle.spec.specs.Forest.{Forest, Tree, count, size, before, from, nth, replaceAt}
 use Rattle.spec.specs.Value as Value
 use Rattle.spec.specs.Value.{valueOf, depth, nodes}
-use Rattle.spec.specs.Pointer.{Tokens, childAt, child}
+use Rattle.spec.specs.Pointer.{Tokens, childAt, child, farther}
 use Rattle.spec.specs.Operation.{put, atParent, removeChild, replaceChild}
 use Rattle.spec.proofs.ChildLaws.{depth-child}
 use Rattle.tape.specs.Layout.{arrayKind, objectKind, values}
@@ -35,6 +35,7 @@ use Rattle.table.proofs.AllLaws.{all-first, all-kids, all-single, all-replaceAt
 use Rattle.pointer.specs.declared.answers.Token.{Token}
 use Rattle.pointer.specs.declared.answers.Token.the-variants as Token
 use Rattle.pointer.proofs.WalkLaws.{next-order}
+use Rattle.walk.specs.Path.{fartherBy}
 use Rattle.walk.specs.Step.{StepIs}
 use Rattle.walk.specs.declared.steps.Child.{Child}
 use Rattle.walk.specs.declared.steps.Child.the-variants as Child
@@ -42,7 +43,7 @@ use Rattle.walk.proofs.Children.{child-meant, sound-child}
 use Rattle.walk.proofs.StepLaws.{child-scalar}
 use Rattle.changes.specs.Limited.{limitedTo}
 use Rattle.changes.specs.Site.{Surroundings, Standing, Site}
-use Rattle.changes.specs.Rows.{SameBehind, Frame, framed, unchanged, resized}
+use Rattle.changes.specs.Rows.{SameBehind, Frame, framed, unchanged, walkedTo, resized}
 use Rattle.changes.specs.Change.{ByToken, Answers, done, refusal, SiteOf, Makes, adds, removes, replaces, ChangeChildIs, Alters, AlterIs}
 use Rattle.changes.specs.declared.trees.Parent.{Parent}
 use Rattle.changes.specs.declared.answers.Change.{Change}
@@ -79,10 +80,10 @@ module _ (w : Table) (c : Cell) (kids : Forest Cell) (fit : Fit c kids) (scalar 
   scalar-alters makes t (u ∷ ts) = rw (scalar-child t)
 
 -- a node that nests no container is one
-alter-scalar : {w : Table} {used row : ℕ} (z : Site w used row 0) {nodes' : List Row} {path : Spelling} {at : ℕ} {change : Change}
-    → Alters z nodes' path at change (Refused location-missing)
-alter-scalar {w} z f t ts makes short inside from =
-    answers-refused (scalar-alters w (z .c) (z .kids) (site-fit z) (go (decLt (z .c .kind) arrayKind)) makes t ts)
+alter-scalar : {w : Table} {used row : ℕ} (z : Site w used row 0) {nodes' : List Row} {path : Spelling} {at walked place : ℕ} {change : Change}
+    → place ≡ walked → Alters walked z nodes' path at change (Refused location-missing place)
+alter-scalar {w} z e f t ts makes short inside from =
+    answers-refused (scalar-alters w (z .c) (z .kids) (site-fit z) (go (decLt (z .c .kind) arrayKind)) makes t ts) e
   where
     go : Dec (z .c .kind < arrayKind) → z .c .kind < arrayKind
     go (yes l) = l
@@ -95,8 +96,8 @@ alter-scalar {w} z f t ts makes short inside from =
         ))
 
 -- ---- a parent outside the rows in use is none
-pub alter-outside : {w : Table} {p : Parent} {path : Spelling} {at : ℕ} {change : Change} → p .used ≤ p .row
-    → AlterIs w (w .nodes) p path at change (Refused location-missing)
+pub alter-outside : {w : Table} {p : Parent} {path : Spelling} {at place : ℕ} {change : Change} → p .used ≤ p .row
+    → AlterIs w (w .nodes) p path at change (Refused location-missing place)
 alter-outside h = record { frame = unchanged refl; held = λ z f t ts makes short inside from. absurd (omega (arith, site-inside z)) }
 
 -- ---- the last token
@@ -111,19 +112,19 @@ module _ {w : Table} {p : Parent} {path : Spelling} {at : ℕ} {name : Name} {t 
             let o = one-left read short inside from end e in
             let v = meant (w .texts) (z .c) (z .kids) in
             let only : atParent f u us v ≡ f (nameText (w .texts) name) v = rw (o .0, o .1) in
-            same-answers only (changed .held f makes z (read .named .names short inside .token));
+            same-answers (ap (fartherBy (walkedTo p)) only) (changed .held f makes z (read .named .names short inside .token));
       }
 
   -- ---- a token that names no child
   pub alter-refused : {end next : ℕ} (s : Child) → StepIs w (p .row) name s → t ≡ Token.Next end next → (number : ℕ) → s ≡ Child.Refused number
-      → AlterIs w (w .nodes) p path at change (Refused number)
+      → (place : ℕ) → place ≡ walkedTo p → AlterIs w (w .nodes) p path at change (Refused number place)
   unfolding atParent _>>=_
-  alter-refused {end} {next} s is e number g =
+  alter-refused {end} {next} s is e number g place walked =
       record {
         frame = unchanged refl;
         held = λ z f u us makes short inside from.
             more-left read short inside from end next e λ v vs more first later.
-            answers-refused (rw (more, first, no-child s is z (read .named .names short inside .token) g));
+            answers-refused (rw (more, first, no-child s is z (read .named .names short inside .token) g)) walked;
       }
 
 -- ---- down to a child
@@ -174,9 +175,16 @@ module _ {w : Table} {used row levels : ℕ} (z : Site w used row levels) (t : T
 
   -- ---- and up again
   -- what the definitions say of the child, put in its place
-  pub child-outcome : (f : ByToken) (u : Text) (us : Tokens) → atParent f t (u ∷ us) v ≡ put-back (atParent f u us (meant (w .texts) (b .root) (b .kids)))
+  pub child-outcome : (f : ByToken) (u : Text) (us : Tokens)
+      → atParent f t (u ∷ us) v ≡ put-back (farther (atParent f u us (meant (w .texts) (b .root) (b .kids))))
   unfolding atParent _>>=_
-  child-outcome f u us = rw named (ap (λ x. put-back (atParent f u us x)) value-child)
+  child-outcome f u us = rw named (ap (λ x. put-back (farther (atParent f u us x))) value-child)
+
+  -- behind the tokens that lead to the parent, and to the child
+  pub farther-back : (n : ℕ) (o : Outcome Value.Value) → fartherBy n (put-back (farther o)) ≡ put-back (fartherBy (n + 1) o)
+  unfolding fartherBy farther _>>=_
+  farther-back n (ok x) = refl
+  farther-back n (refused number walked) = let e : n + suc walked ≡ n + 1 + walked = omega arith in ap (refused number) e
 
   limits : (o : Outcome Value.Value) → limitedTo levels (z .room) (put-back o) ≡ put-back (limitedTo below (child-site .room) o)
   unfolding child-site
@@ -236,7 +244,7 @@ module _ {w : Table} {used row levels : ℕ} (z : Site w used row levels) (t : T
         limits o ∙ ap put-back e ∙ ap ok (put-meant (w .texts) k (z .c) (z .kids) (b .root) changed) in
         done passed (up-standing few same stands)
 
-    up-refused : {number : ℕ} → Answers child-site nodes' o (Refused number) → Answers z nodes' (put-back o) (Refused number)
+    up-refused : {number place : ℕ} → Answers child-site nodes' o (Refused number place) → Answers z nodes' (put-back o) (Refused number place)
     unfolding child-site _>>=_
     up-refused (refusal e) = refusal (limits o ∙ ap put-back e)
 
@@ -254,10 +262,11 @@ module _ {w : Table} {p : Parent} {path : Spelling} {at : ℕ} {name : Name} {en
     (read : TokenRead (w .texts) path at t name) (e : t ≡ Token.Next end next) (below : ℕ) (one-less : p .below ≡ below) (s : Child)
     (is : StepIs w (p .row) name s) (inner : ℕ) (there : s ≡ Child.At inner) where
   -- what is done with the child's answer
-  through : {nodes' ended : List Row} {r : Altered} (z : SiteOf w p) → ((y : Site w (p .used) inner below) → Alters y nodes' path next change r)
+  through : {nodes' ended : List Row} {r : Altered} (z : SiteOf w p)
+      → ((y : Site w (p .used) inner below) → Alters (walkedTo p + 1) y nodes' path next change r)
       → ((k : ℕ) (n : ChildOf w p name inner z k) (o : Outcome Value.Value) → Answers (down w p name inner below one-less z k n) nodes' o r
       → Answers z ended (o >>= λ x. ok (put k x (meant (w .texts) (z .c) (z .kids)))) r)
-      → Alters z ended path at change r
+      → Alters (walkedTo p) z ended path at change r
   unfolding child-site
   through {nodes'} {ended} {r} z alters up f u us makes short inside from =
       more-left read short inside from end next e λ v vs more first later.
@@ -266,33 +275,40 @@ module _ {w : Table} {p : Parent} {path : Spelling} {at : ℕ} {name : Name} {en
       let o = atParent f v vs (meant (w .texts) (nth blank k (z .kids) .root) (nth blank k (z .kids) .kids)) in
       let within = next-order (partOf (w .texts) path) at t (read .is) end next e .2 in
       let y = down w p name inner below one-less z k n in
-      let answer : Answers y nodes' o r = alters y f v vs makes short within later in
-      let same : atParent f u us (meant (w .texts) (z .c) (z .kids)) ≡ o >>= λ x. ok (put k x (meant (w .texts) (z .c) (z .kids))) =
+      let answer : Answers y nodes' (fartherBy (walkedTo p + 1) o) r = alters y f v vs makes short within later in
+      let same : atParent f u us (meant (w .texts) (z .c) (z .kids)) ≡ farther o >>= λ x. ok (put k x (meant (w .texts) (z .c) (z .kids))) =
       rw (more, first) (child-outcome z (nameText (w .texts) name) k below (ap suc one-less) named kth inner place f v vs) in
-      same-answers same (up k n o answer)
+      let behind = farther-back z (nameText (w .texts) name) k below (ap suc one-less) named kth inner place (walkedTo p) o in
+      same-answers (ap (fartherBy (walkedTo p)) same ∙ behind) (up k n (fartherBy (walkedTo p + 1) o) answer)
 
-  back-refused : {nodes' : List Row} {number : ℕ} (z : SiteOf w p) (k : ℕ) (n : ChildOf w p name inner z k) (o : Outcome Value.Value)
-      → Answers (down w p name inner below one-less z k n) nodes' o (Refused number)
-      → Answers z nodes' (o >>= λ x. ok (put k x (meant (w .texts) (z .c) (z .kids)))) (Refused number)
+  back-refused : {nodes' : List Row} {number told : ℕ} (z : SiteOf w p) (k : ℕ) (n : ChildOf w p name inner z k) (o : Outcome Value.Value)
+      → Answers (down w p name inner below one-less z k n) nodes' o (Refused number told)
+      → Answers z nodes' (o >>= λ x. ok (put k x (meant (w .texts) (z .c) (z .kids)))) (Refused number told)
   back-refused z k n o answer = up-refused z (nameText (w .texts) name) k below (ap suc one-less) (n .0) (n .1) inner (n .2) answer
 
   -- a child that nests no container has none of its own
-  pub alter-flat : below ≡ 0 → AlterIs w (w .nodes) p path at change (Refused location-missing)
-  alter-flat none =
+  pub alter-flat : below ≡ 0 → (place : ℕ) → place ≡ walkedTo p → AlterIs w (w .nodes) p path at change (Refused location-missing (place + 1))
+  alter-flat none place walked =
       record {
         frame = unchanged refl;
         held = λ z. through z (flat below none) (back-refused z);
       }
     where
-      flat : (n : ℕ) → n ≡ 0 → (y : Site w (p .used) inner n) → Alters y (w .nodes) path next change (Refused location-missing)
-      flat n none = subst (λ m. (y : Site w (p .used) inner m) → Alters y (w .nodes) path next change (Refused location-missing)) (sym none) λ y. alter-scalar y
+      Flat : ℕ → Type 0
+      Flat n = (y : Site w (p .used) inner n) → Alters (walkedTo p + 1) y (w .nodes) path next change (Refused location-missing (place + 1))
 
-  module _ (lower : ℕ) (lower-is : below ≡ suc lower) {nodes' : List Row} (r : Altered)
+      flat : (n : ℕ) → n ≡ 0 → Flat n
+      flat n none = subst Flat (sym none) λ y. alter-scalar y (ap (λ m. m + 1) walked)
+
+  module _ (lower : ℕ) (lower-is : below ≡ suc lower) (levels : p .below < maxDepth) {nodes' : List Row} (r : Altered)
       (alters : AlterIs w nodes' (record { used = p .used; row = inner; below = lower }) path next change r) where
-    at-child : {q : Altered} → r ≡ q → (y : Site w (p .used) inner below) → Alters y nodes' path next change q
+    at-child : {q : Altered} → r ≡ q → (y : Site w (p .used) inner below) → Alters (walkedTo p + 1) y nodes' path next change q
     at-child {q} g =
-        subst (λ m. (y : Site w (p .used) inner m) → Alters y nodes' path next change q) (sym lower-is)
-        λ y. subst (λ a. Alters y nodes' path next change a) g (alters .held y)
+        let one-more : maxDepth - 1 - lower ≡ walkedTo p + 1 = omega arith in
+        subst (λ m. (y : Site w (p .used) inner m) → Alters (walkedTo p + 1) y nodes' path next change q) (sym lower-is)
+        λ y.
+        subst (λ n. Alters n y nodes' path next change q) one-more
+        (subst (λ a. Alters (maxDepth - 1 - lower) y nodes' path next change a) g (alters .held y))
 
     pub alter-done : p .used ≤ maxNodes → p .row < p .used → (now : ℕ) → r ≡ Done now → {ended : List Row} → ended ≡ resized nodes' (p .row) (p .used) now
         → AlterIs w ended p path at change (Done now)
@@ -305,5 +321,5 @@ module _ {w : Table} {p : Parent} {path : Spelling} {at : ℕ} {name : Name} {en
               rw is-ended (up-done z (nameText (w .texts) name) k below (ap suc one-less) (n .0) (n .1) inner (n .2) (kept .0) (kept .1) answer);
         }
 
-    pub alter-not : (number : ℕ) → r ≡ Refused number → AlterIs w nodes' p path at change r
-    alter-not number g = rw g (record { frame = unchanged (frame-refused g (alters .frame)); held = λ z. through z (at-child g) (back-refused z) })
+    pub alter-not : (number place : ℕ) → r ≡ Refused number place → AlterIs w nodes' p path at change r
+    alter-not number place g = rw g (record { frame = unchanged (frame-refused g (alters .frame)); held = λ z. through z (at-child g) (back-refused z) })

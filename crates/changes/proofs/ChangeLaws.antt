@@ -8,7 +8,7 @@ use borrow.Author.Tests.{lt-ltb, le-ltb, eq-eqb, ne-eqb}
 use Rattle.spec.specs.Outcome.{Outcome, ok, refused, _>>=_, if_then_else_}
 use Rattle.spec.specs.Refusal.{location-missing, no-index}
 use Rattle.spec.specs.Bytes.{Text}
-use Rattle.spec.specs.Forest.{Forest, count, before, from, nth, insertAt, replaceAt}
+use Rattle.spec.specs.Forest.{Forest, count, before, from, nth, insertAt, removeAt, replaceAt}
 use Rattle.spec.specs.Value as Value
 use Rattle.spec.specs.Value.{find, named}
 use Rattle.spec.specs.Pointer.{childAt, elementBelow, isDash}
@@ -36,13 +36,14 @@ use Rattle.pointer.specs.declared.answers.Index.{Index}
 use Rattle.pointer.specs.declared.answers.Index.the-variants as Index
 use Rattle.pointer.proofs.IndexLaws.{insertion}
 use Rattle.walk.specs.Names.{IsToken, noName}
+use Rattle.walk.specs.Path.{fartherBy}
 use Rattle.walk.specs.Step.{Stepped, stepped, missed, StepIs}
 use Rattle.walk.specs.declared.steps.Child.{Child}
 use Rattle.walk.specs.declared.steps.Child.the-variants as Child
 use Rattle.walk.proofs.StepLaws.{few-children, asked}
 use Rattle.changes.specs.Cut.{renamed}
 use Rattle.changes.specs.Site.{Site, Offered, table}
-use Rattle.changes.specs.Rows.{Frame, unchanged}
+use Rattle.changes.specs.Rows.{Frame, unchanged, walkedTo}
 use Rattle.changes.specs.Limited.{limitedTo}
 use Rattle.changes.specs.Change.{ByToken, Answers, refusal, SiteOf, PutIs, TakeOutIs, Placed, placed, unplaced, InsertionIs, Replaced, ReplaceTreeIs}
 use Rattle.changes.specs.Change.{AddElementIs, AddMemberIs, AddIs, RemoveIs, ReplaceIs, Changed, Makes, adds, removes, replaces, ChangeChildIs}
@@ -60,9 +61,15 @@ module _ {w : Table} {used row levels : ℕ} {z : Site w used row levels} {nodes
   pub same-answers : {o p : Outcome Value.Value} {r : Altered} → o ≡ p → Answers z nodes' p r → Answers z nodes' o r
   same-answers {r = r} e a = subst (λ o. Answers z nodes' o r) (sym e) a
 
-  -- what the definitions refuse is refused
-  pub answers-refused : {o : Outcome Value.Value} {number : ℕ} → o ≡ refused number 0 → Answers z nodes' o (Refused number)
-  answers-refused {o} {number} e = refusal (ap (limitedTo levels (z .room)) e ∙ limited-refused levels (z .room) number 0)
+  -- what the definitions refuse is refused, with the tokens that were walked before
+  pub answers-refused : {o : Outcome Value.Value} {number walked place : ℕ} → o ≡ refused number 0 → place ≡ walked
+      → Answers z nodes' (fartherBy walked o) (Refused number place)
+  unfolding fartherBy
+  answers-refused {o} {number} {walked} {place} e f =
+      let here : walked + 0 ≡ place = omega arith in
+      refusal (
+      ap (λ p. limitedTo levels (z .room) (fartherBy walked p)) e ∙ limited-refused levels (z .room) number (walked + 0) ∙ ap (refused number) here
+      )
 
 -- ---- the child in a row replaced, its name kept
 module _ {nodes nodes' : List Row} {p : Parent} {at source : ℕ} {r : Altered} where
@@ -150,7 +157,7 @@ module _ {T : Texts} {token : Name} (i : Index) (index-of : IsToken T token → 
 -- what the definitions say of a new element, and of a new member
 module _ (w : Table) (p : Parent) (token : Name) (z : SiteOf w p) (x : Cell) (kids : Forest Cell) where
   abbrev with-element : Outcome Value.Value
-  with-element = insertElement (meant (w .texts) x kids) (nameText (w .texts) token) (meant (w .texts) (z .c) (z .kids))
+  with-element = fartherBy (walkedTo p) (insertElement (meant (w .texts) x kids) (nameText (w .texts) token) (meant (w .texts) (z .c) (z .kids)))
 
   abbrev with-member : Outcome Value.Value
   with-member = ok (insertMember (meant (w .texts) x kids) (nameText (w .texts) token) (meant (w .texts) (z .c) (z .kids)))
@@ -160,20 +167,20 @@ module _ {w : Table} {p : Parent} {token : Name} (i : Index) (index-of : IsToken
   element-put : {nodes' : List Row} {source : ℕ} {r : Altered} (at : ℕ) → PutIs (w .nodes) nodes' p at 0 source noName r → z .c .kind ≡ arrayKind
       → Offered w source x kids → {q : Child} → Placed (p .row) (z .kids) (insertionAt (count (z .kids)) i) q → q ≡ Child.At at
       → Answers z nodes' (with-element w p token z x kids) r
-  unfolding insertAt
+  unfolding insertAt fartherBy
   element-put at put-is kind offered (placed k at' f l place) g =
       let same : at' ≡ at = cc in
-      same-answers (element-placed i index-of (z .c) x (z .kids) kids (site-fit z) t k f)
+      same-answers (ap (fartherBy (walkedTo p)) (element-placed i index-of (z .c) x (z .kids) kids (site-fit z) t k f))
       (put-is .held (w .texts) z x kids (before k (z .kids)) (from k (z .kids)) (omega (arith, kind)) offered (no-name-fits (w .texts)) no-name-told
       (cut-before k (sym same ∙ place)))
   element-put at put-is kind offered (unplaced n f) g = absurd (let w : _≡_ {A = ℕ} 0 1 = cc in omega arith)
 
-  element-not : {nodes' : List Row} {number : ℕ} {q : Child} → Placed (p .row) (z .kids) (insertionAt (count (z .kids)) i) q → q ≡ Child.Refused number
-      → Answers z nodes' (with-element w p token z x kids) (Refused number)
-  element-not (placed k at' f l place) g = absurd (let w : _≡_ {A = ℕ} 0 1 = cc in omega arith)
-  element-not {number = number} (unplaced n f) g =
+  element-not : {nodes' : List Row} {number place : ℕ} {q : Child} → Placed (p .row) (z .kids) (insertionAt (count (z .kids)) i) q
+      → q ≡ Child.Refused number → place ≡ walkedTo p → Answers z nodes' (with-element w p token z x kids) (Refused number place)
+  element-not (placed k at' f l at) g walked = absurd (let w : _≡_ {A = ℕ} 0 1 = cc in omega arith)
+  element-not {number = number} (unplaced n f) g walked =
       let same : n ≡ number = cc in
-      answers-refused (element-unplaced i index-of (z .c) x (z .kids) kids (site-fit z) t number (f ∙ ap (λ m. refused m 0) same))
+      answers-refused (element-unplaced i index-of (z .c) x (z .kids) kids (site-fit z) t number (f ∙ ap (λ m. refused m 0) same)) walked
 
 module _ {w : Table} {p : Parent} {token : Name} {source : ℕ} (i : Index) (index-of : IsToken (w .texts) token → indexOf (nameText (w .texts) token) ≡ i)
     (q : Child) (is : InsertionIs (w .nodes) (p .row) i q) where
@@ -187,11 +194,12 @@ module _ {w : Table} {p : Parent} {token : Name} {source : ℕ} (i : Index) (ind
             element-put i index-of z x kids t at without kind offered (is (z .c) (z .kids) (held-node (site-held z .held))) e;
       }
 
-  pub element-refused : (number : ℕ) → q ≡ Child.Refused number → AddElementIs w (w .nodes) p token source (Refused number)
-  element-refused number e =
+  pub element-refused : (number : ℕ) → q ≡ Child.Refused number → (place : ℕ) → place ≡ walkedTo p
+      → AddElementIs w (w .nodes) p token source (Refused number place)
+  element-refused number e place walked =
       record {
         frame = unchanged refl;
-        held = λ z x kids kind offered t. element-not i index-of z x kids t (is (z .c) (z .kids) (held-node (site-held z .held))) e;
+        held = λ z x kids kind offered t. element-not i index-of z x kids t (is (z .c) (z .kids) (held-node (site-held z .held))) e walked;
       }
 
 -- ---- a member added
@@ -286,28 +294,35 @@ module _ {w : Table} {p : Parent} {token : Name} {source : ℕ} (k : ℕ) (kind 
           frame = is .frame;
           held = λ x kids offered z t.
               let array = sym (here kind z) ∙ e in
-              same-answers (insert-array (w .texts) (z .c) (z .kids) (site-fit z .kind) (meant (w .texts) x kids) (nameText (w .texts) token) array)
+              same-answers
+              (ap (fartherBy (walkedTo p))
+              (insert-array (w .texts) (z .c) (z .kids) (site-fit z .kind) (meant (w .texts) x kids) (nameText (w .texts) token) array))
               (is .held z x kids array offered t);
         }
 
     pub add-object : k ≡ objectKind → AddMemberIs w nodes' p token source r → AddIs w nodes' p token source r
+    unfolding fartherBy
     add-object e is =
         record {
           frame = is .frame;
           held = λ x kids offered z t.
               let object = sym (here kind z) ∙ e in
-              same-answers (insert-object (w .texts) (z .c) (z .kids) (site-fit z .kind) (meant (w .texts) x kids) (nameText (w .texts) token) object)
+              same-answers
+              (ap (fartherBy (walkedTo p))
+              (insert-object (w .texts) (z .c) (z .kids) (site-fit z .kind) (meant (w .texts) x kids) (nameText (w .texts) token) object))
               (is .held z x kids object offered t);
         }
 
-  pub add-scalar : (k ≡ arrayKind → ⊥) → (k ≡ objectKind → ⊥) → AddIs w (w .nodes) p token source (Refused location-missing)
-  add-scalar e f =
+  pub add-scalar : (k ≡ arrayKind → ⊥) → (k ≡ objectKind → ⊥) → (place : ℕ) → place ≡ walkedTo p
+      → AddIs w (w .nodes) p token source (Refused location-missing place)
+  add-scalar e f place walked =
       record {
         frame = unchanged refl;
         held = λ x kids offered z t.
             answers-refused
             (insert-scalar (w .texts) (z .c) (z .kids) (site-fit z .kind) (meant (w .texts) x kids) (nameText (w .texts) token) (λ g. e (here kind z ∙ g))
-            (λ g. f (here kind z ∙ g)));
+            (λ g. f (here kind z ∙ g)))
+            walked;
       }
 
 -- ---- a child removed and replaced
@@ -332,32 +347,40 @@ module _ {w : Table} {row : ℕ} {token : Name} (s : Child) (is : StepIs w row t
       go (missed n f) g = absurd (let w : _≡_ {A = ℕ} 0 1 = cc in omega arith)
 
 module _ {w : Table} {p : Parent} {token : Name} (s : Child) (is : StepIs w (p .row) token s) where
-  pub remove-refused : (number : ℕ) → s ≡ Child.Refused number → RemoveIs w (w .nodes) p token (Refused number)
+  pub remove-refused : (number : ℕ) → s ≡ Child.Refused number → (place : ℕ) → place ≡ walkedTo p
+      → RemoveIs w (w .nodes) p token (Refused number place)
   unfolding removeChild _>>=_
-  remove-refused number e = record { frame = unchanged refl; held = λ z t. answers-refused (rw (no-child s is z t e)) }
+  remove-refused number e place walked = record { frame = unchanged refl; held = λ z t. answers-refused (rw (no-child s is z t e)) walked }
 
-  pub replace-refused : {source : ℕ} (number : ℕ) → s ≡ Child.Refused number → ReplaceIs w (w .nodes) p token source (Refused number)
+  pub replace-refused : {source : ℕ} (number : ℕ) → s ≡ Child.Refused number → (place : ℕ) → place ≡ walkedTo p
+      → ReplaceIs w (w .nodes) p token source (Refused number place)
   unfolding replaceChild _>>=_
-  replace-refused number e = record { frame = unchanged refl; held = λ x kids offered z t. answers-refused (rw (no-child s is z t e)) }
+  replace-refused number e place walked =
+      record { frame = unchanged refl; held = λ x kids offered z t. answers-refused (rw (no-child s is z t e)) walked }
 
   module _ {nodes' : List Row} {r : Altered} (at : ℕ) (e : s ≡ Child.At at) where
     pub remove-done : TakeOutIs (w .nodes) nodes' p at r → RemoveIs w nodes' p token r
-    unfolding removeChild _>>=_
+    unfolding removeChild _>>=_ fartherBy
     remove-done out =
         record {
           frame = out .frame;
           held = λ z t.
               the-child s is z t e λ k f l place.
-              same-answers (rw f (ap ok (removed-meant (w .texts) k (z .c) (z .kids)))) (out .held (w .texts) z k l place);
+              let gives : removeChild (nameText (w .texts) token) (meant (w .texts) (z .c) (z .kids)) ≡ ok (meant (w .texts) (z .c) (removeAt k (z .kids))) =
+              rw f (ap ok (removed-meant (w .texts) k (z .c) (z .kids))) in
+              same-answers (ap (fartherBy (walkedTo p)) gives) (out .held (w .texts) z k l place);
         }
 
     pub replace-done : {source : ℕ} → ReplaceTreeIs (w .nodes) nodes' p at source r → ReplaceIs w nodes' p token source r
-    unfolding replaceChild _>>=_
+    unfolding replaceChild _>>=_ fartherBy
     replace-done replaced =
         record {
           frame = replaced .frame;
           held = λ x kids offered z t.
-              the-child s is z t e λ k f l place. same-answers (rw f) (replaced .held (w .texts) z x kids k offered l place);
+              the-child s is z t e λ k f l place.
+              let v = meant (w .texts) (z .c) (z .kids) in
+              let gives : replaceChild (meant (w .texts) x kids) (nameText (w .texts) token) v ≡ ok (put k (meant (w .texts) x kids) v) = rw f in
+              same-answers (ap (fartherBy (walkedTo p)) gives) (replaced .held (w .texts) z x kids k offered l place);
         }
 
 -- ---- by the kind of change

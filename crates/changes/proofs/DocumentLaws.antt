@@ -25,8 +25,8 @@ use Rattle.table.specs.Sound.{NodeHeld}
 use Rattle.table.proofs.MeaningLaws.{nodes-meant}
 use Rattle.walk.specs.Names.{Short}
 use Rattle.walk.specs.Path.{PathIs, Walked, reached, lost, WalkIs}
-use Rattle.walk.specs.declared.steps.Child.{Child}
-use Rattle.walk.specs.declared.steps.Child.the-variants as Child
+use Rattle.walk.specs.declared.path.Reached.{Reached}
+use Rattle.walk.specs.declared.path.Reached.the-variants as Reached
 use Rattle.changes.specs.Site.{Surroundings, Standing, Site, table}
 use Rattle.changes.specs.Rows.{Frame}
 use Rattle.changes.specs.Change.{Answers, done, refusal}
@@ -101,24 +101,27 @@ module _ {w : Table} {used : ℕ} {v : Value.Value} (d : Document w used v) wher
   document-fits = judged-fits v (d .shallow) few-nodes
 
 -- ---- the value at a location of the document
-module _ {w : Table} {used : ℕ} {path : Spelling} {v : Value.Value} {ts : Tokens} (s : Child) (is : WalkIs w documentRow path s) (d : Document w used v)
+module _ {w : Table} {used : ℕ} {path : Spelling} {v : Value.Value} {ts : Tokens} (s : Reached) (is : WalkIs w documentRow path s) (d : Document w used v)
     (short : Short (w .texts)) (path-is : PathIs (w .texts) path ts) where
   walked : Walked w documentRow (size (d .kids)) (walk ts v) s
   walked = subst (λ u. Walked w documentRow (size (d .kids)) (walk ts u) s) (d .means) (is .held ts short path-is (d .c) (d .kids) (d .held))
 
-  pub the-value : {C : Type 0} {row : ℕ} → s ≡ Child.At row
+  pub the-value : {C : Type 0} {row : ℕ} → s ≡ Reached.At row
       → ((c : Cell) (kids : Forest Cell) → walk ts v ≡ ok (meant (w .texts) c kids) → NodeHeld w row c kids → row + size kids < used → C) → C
   the-value {C} {row} e then-it = go walked e
     where
-      go : {q : Child} → Walked w documentRow (size (d .kids)) (walk ts v) q → q ≡ Child.At row → C
+      go : {q : Reached} → Walked w documentRow (size (d .kids)) (walk ts v) q → q ≡ Reached.At row → C
       go (reached {at} {c} {kids} f node low high) g =
           let same : at ≡ row = cc in
           then-it c kids f (rw same at node) (omega (arith, d .ends))
       go (lost f) g = absurd (let z : _≡_ {A = ℕ} 0 1 = cc in omega arith)
 
-  pub no-value : {number : ℕ} → s ≡ Child.Refused number → walk ts v ≡ refused number 0
-  no-value {number} e = go walked e
+  pub no-value : {number place : ℕ} → s ≡ Reached.Lost number place → walk ts v ≡ refused number place
+  no-value {number} {place} e = go walked e
     where
-      go : {q : Child} → Walked w documentRow (size (d .kids)) (walk ts v) q → q ≡ Child.Refused number → walk ts v ≡ refused number 0
+      go : {q : Reached} → Walked w documentRow (size (d .kids)) (walk ts v) q → q ≡ Reached.Lost number place → walk ts v ≡ refused number place
       go (reached f node low high) g = absurd (let z : _≡_ {A = ℕ} 0 1 = cc in omega arith)
-      go (lost {number = n} f) g = let same : n ≡ number = cc in f ∙ ap (λ m. refused m 0) same
+      go (lost {number = n} {walked = k} f) g =
+          let number-same : n ≡ number = cc in
+          let place-same : k ≡ place = cc in
+          f ∙ ap (λ m. refused m k) number-same ∙ ap (refused number) place-same

@@ -112,7 +112,7 @@ module _ {nodes nodes' : List Row} where
   frame-done {now = now} e (framed {now = n} few same) = let i : n ≡ now = cc in (omega arith, same)
   frame-done e (unchanged f) = absurd (let z : _≡_ {A = ℕ} 0 1 = cc in omega arith)
 
-  pub frame-refused : {r : Altered} {number : ℕ} → r ≡ Refused number → Frame nodes nodes' r → nodes' ≡ nodes
+  pub frame-refused : {r : Altered} {number place : ℕ} → r ≡ Refused number place → Frame nodes nodes' r → nodes' ≡ nodes
   frame-refused e (framed few same) = absurd (let z : _≡_ {A = ℕ} 0 1 = cc in omega arith)
   frame-refused e (unchanged f) = f
 

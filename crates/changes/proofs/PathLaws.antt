@@ -35,7 +35,7 @@ use Rattle.pointer.specs.Tokens.{tokensFrom, FirstOf}
 use Rattle.pointer.specs.declared.answers.First.{First}
 use Rattle.pointer.specs.declared.answers.First.the-variants as First
 use Rattle.pointer.proofs.WalkLaws.{first-root, first-at, first-inside, first-malformed}
-use Rattle.walk.proofs.PathLaws.{first-of}
+use Rattle.walk.proofs.PathLaws.{farther-none, first-of}
 use Rattle.changes.specs.Site.{Standing, Offered, table}
 use Rattle.changes.specs.Rows.{Frame, framed, unchanged}
 use Rattle.changes.specs.Change.{ByToken, Makes, adds, removes, replaces, AlterIs}
@@ -48,6 +48,7 @@ use Rattle.changes.specs.declared.answers.Altered.the-variants.{Done, Re
 use Rattle.changes.proofs.LimitLaws.{judged-deep, judged-large, judged-fits}
 use Rattle.changes.proofs.KeptLaws.{formed-alone, behind-long, behind-spliced}
 use Rattle.changes.proofs.PutLaws.{offered-size, offered-room}
+use Rattle.changes.proofs.ChangeLaws.{same-answers}
 use Rattle.changes.proofs.TokenLaws.{some-token}
 use Rattle.changes.proofs.DocumentLaws.{nothing-around, document-site, standing-document, document-answers}
 
@@ -78,7 +79,7 @@ module _ {w : Table} {source : ℕ} {x : Cell} {kids : Forest Cell} (offered : O
   depth-offered = depth-meant (w .texts) x kids (formed-fit (offered .held .held .formed) .kind) (formed-kids (offered .held .held .formed))
 
   pub replace-deep : {nodes' : List Row} {r : Bool} → WithinIs (w .nodes) source maxDepth r → r ≡ false
-      → Results (w .texts) nodes' (judged (ok new-value)) (Refused too-deep)
+      → Results (w .texts) nodes' (judged (ok new-value)) (Refused too-deep 0)
   replace-deep is e =
       let l = leb-false (level x (deep kids)) maxDepth (sym (is x kids (held-node (offered .held .held))) ∙ e) in
       refusal (judged-deep new-value (omega (arith, depth-offered)))
@@ -92,7 +93,7 @@ module _ {w : Table} {source : ℕ} {x : Cell} {kids : Forest Cell} (offered : O
     count-size : count ≡ suc (size kids)
     count-size = omega (arith, offered-size offered)
 
-    pub replace-large : {nodes' : List Row} → maxNodes < count → Results (w .texts) nodes' (judged (ok new-value)) (Refused too-many-nodes)
+    pub replace-large : {nodes' : List Row} → maxNodes < count → Results (w .texts) nodes' (judged (ok new-value)) (Refused too-many-nodes 0)
     replace-large h = refusal (judged-large new-value shallow (omega (arith, nodes-meant (w .texts) x kids, count-size)))
 
     pub replace-done : {nodes' : List Row} {used : ℕ} {v : Value.Value} → Document w used v → count ≤ maxNodes
@@ -139,13 +140,13 @@ module _ {nodes nodes' : List Row} {used : ℕ} {r : Altered} (change : Change) 
 
 -- the root is not removed
 root-kept : {T : Texts} {nodes nodes' : List Row} {change : Change} (v : Value.Value) (f : AtLocation) → MakesAt (table T nodes) change f → change ≡ Remove
-    → Results T nodes' (judged (f [] v)) (Refused remove-of-root)
+    → Results T nodes' (judged (f [] v)) (Refused remove-of-root 0)
 unfolding removeAtPath _>>=_
 root-kept v f (adds-at source' x kids offered) e = absurd (let w : _≡_ {A = ℕ} 0 1 = cc in omega arith)
 root-kept v f removes-at e = refusal refl
 root-kept v f (replaces-at source' x kids offered) e = absurd (let w : _≡_ {A = ℕ} 0 1 = cc in omega arith)
 
-pub document-kept : {nodes : List Row} {used : ℕ} (change : Change) → change ≡ Remove → ChangeDocumentIs nodes nodes used change (Refused remove-of-root)
+pub document-kept : {nodes : List Row} {used : ℕ} (change : Change) → change ≡ Remove → ChangeDocumentIs nodes nodes used change (Refused remove-of-root 0)
 document-kept change e = record { frame = unchanged refl; held = λ T v d f makes. root-kept v f makes e }
 
 -- ---- a change below the root is one at a parent
@@ -159,7 +160,7 @@ below-root {w = w} (replaces-at source x kids offered) t ts v then-it = then-it 
 -- ---- a change at a location
 -- a table with more rows in use than a document may have holds none
 pub change-too-many : {w : Table} {used : ℕ} {path : Spelling} {change : Change} → maxNodes < used
-    → ChangeAtIs w (w .nodes) used path change (Refused too-many-nodes)
+    → ChangeAtIs w (w .nodes) used path change (Refused too-many-nodes 0)
 change-too-many h = record { frame = unchanged refl; held = λ v d short ts p f makes. absurd (omega (arith, d .few)) }
 
 -- by where the pointer's tokens begin
@@ -189,10 +190,10 @@ module _ {w : Table} {used : ℕ} {path : Spelling} {change : Change} (pointer :
             let inside = first-inside (partOf (w .texts) path) first first-is at e in
             let answers = alters .held (document-site d) g t us made short inside (record { is = from ∙ ap ok some }) in
             let outcome : f ts v ≡ atParent g t us (meant (w .texts) (d .c) (d .kids)) = ap (λ l. f l v) some ∙ same ∙ ap (atParent g t us) (sym (d .means)) in
-            rw outcome (document-answers d (alters .frame) answers);
+            rw outcome (document-answers d (alters .frame) (same-answers (sym (farther-none _)) answers));
       }
 
-  pub change-malformed : first ≡ First.Malformed → ChangeAtIs w (w .nodes) used path change (Refused malformed-pointer)
+  pub change-malformed : first ≡ First.Malformed → ChangeAtIs w (w .nodes) used path change (Refused malformed-pointer 0)
   change-malformed e =
       record {
         frame = unchanged refl;

@@ -181,7 +181,7 @@ module _ {w : Table} {source : ℕ} {x : Cell} {kids : Forest Cell} (offered : O
       abbrev outcome : Outcome Value.Value
       outcome = ok (meant (w .texts) (z .c) (left ⧺ new ⧺ right))
 
-      pub put-deep : {nodes' : List Row} {r : Bool} → WithinIs (w .nodes) source below r → r ≡ false → Answers z nodes' outcome (Refused too-deep)
+      pub put-deep : {nodes' : List Row} {r : Bool} → WithinIs (w .nodes) source below r → r ≡ false → Answers z nodes' outcome (Refused too-deep 0)
       put-deep is e =
           let l = leb-false (level x (deep kids)) below (sym (is x kids (held-node (offered .held .held))) ∙ e) in
           refusal (changed-deep z container cut new new-formed (omega (arith, deep-new)))
@@ -196,7 +196,7 @@ module _ {w : Table} {source : ℕ} {x : Cell} {kids : Forest Cell} (offered : O
         count-size : count ≡ size new
         count-size = omega (arith, offered-size, size-new)
 
-        pub put-large : {nodes' : List Row} → maxNodes - kept < count → Answers z nodes' outcome (Refused too-many-nodes)
+        pub put-large : {nodes' : List Row} → maxNodes - kept < count → Answers z nodes' outcome (Refused too-many-nodes 0)
         put-large h = refusal (changed-large z container cut new new-formed levels-fit (omega (arith, count-size)))
 
         module _ (now : ℕ) (now-is : now ≡ kept + count) (few : now ≤ maxNodes) where

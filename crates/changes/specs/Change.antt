@@ -24,10 +24,10 @@ use Rattle.pointer.specs.declared.answers.Index.{Index}
 use Rattle.walk.specs.declared.steps.Child.{Child}
 use Rattle.walk.specs.declared.steps.Child.the-variants as Child
 use Rattle.walk.specs.Names.{IsToken, Short}
-use Rattle.walk.specs.Path.{TokensFrom}
+use Rattle.walk.specs.Path.{fartherBy, TokensFrom}
 use Rattle.changes.specs.Limited.{limitedTo}
 use Rattle.changes.specs.Site.{Standing, Site, Offered, table}
-use Rattle.changes.specs.Rows.{Frame, PutRows, TakenRows}
+use Rattle.changes.specs.Rows.{Frame, walkedTo, PutRows, TakenRows}
 use Rattle.changes.specs.Cut.{Cut, renamed}
 use Rattle.changes.specs.declared.trees.Parent.{Parent}
 use Rattle.changes.specs.declared.answers.Change.{Change}
@@ -44,7 +44,7 @@ ByToken = Text → Value.Value → Outcome Value.Value
 pub data Answers {w : Table} {used row levels : ℕ} (z : Site w used row levels) (nodes' : List Row) (o : Outcome Value.Value) : Altered → Type 0 where
   done : {now : ℕ} {kids : Forest Cell} → limitedTo levels (z .room) o ≡ ok (meant (w .texts) (z .c) kids)
       → Standing (w .texts) nodes' now row (z .around) (z .c) kids → Answers z nodes' o (Done now)
-  refusal : {number : ℕ} → limitedTo levels (z .room) o ≡ refused number 0 → Answers z nodes' o (Refused number)
+  refusal : {number place : ℕ} → limitedTo levels (z .room) o ≡ refused number place → Answers z nodes' o (Refused number place)
 
 -- the parent of children that change
 abbrev pub SiteOf : Table → Parent → Type 0
@@ -87,16 +87,17 @@ pub record ReplaceTreeIs (nodes nodes' : List Row) (p : Parent) (at source : ℕ
   pub frame : Frame nodes nodes' r
   pub held : (T : Texts) → Replaced (table T nodes) nodes' p at source r
 
--- what the definitions say of a change by a token, on the value of the node
+-- what the definitions say of a change by a token, on the value of the node, behind the tokens that lead to it
 abbrev pub Changed : Table → List Row → Parent → Name → ByToken → Altered → Type 0
 Changed w nodes' p token f r =
-    (z : SiteOf w p) → IsToken (w .texts) token → Answers z nodes' (f (nameText (w .texts) token) (meant (w .texts) (z .c) (z .kids))) r
+    (z : SiteOf w p) → IsToken (w .texts) token
+    → Answers z nodes' (fartherBy (walkedTo p) (f (nameText (w .texts) token) (meant (w .texts) (z .c) (z .kids)))) r
 
 module _ (w : Table) (nodes' : List Row) (p : Parent) (token : Name) (source : ℕ) (r : Altered) where
   pub record AddElementIs : Type 0 where
     pub frame : Frame (w .nodes) nodes' r
     pub held : (z : SiteOf w p) (x : Cell) (kids : Forest Cell) → z .c .kind ≡ arrayKind → Offered w source x kids → IsToken (w .texts) token
-        → Answers z nodes' (insertElement (meant (w .texts) x kids) (nameText (w .texts) token) (meant (w .texts) (z .c) (z .kids))) r
+        → Answers z nodes' (fartherBy (walkedTo p) (insertElement (meant (w .texts) x kids) (nameText (w .texts) token) (meant (w .texts) (z .c) (z .kids)))) r
 
   pub record AddMemberIs : Type 0 where
     pub frame : Frame (w .nodes) nodes' r
@@ -125,12 +126,12 @@ pub record ChangeChildIs (w : Table) (nodes' : List Row) (p : Parent) (token : N
   pub frame : Frame (w .nodes) nodes' r
   pub held : (f : ByToken) → Makes w change f → Changed w nodes' p token f r
 
--- ---- a change at the parent of a location, along the tokens from a place of the pointer on
-abbrev pub Alters : {w : Table} {used row levels : ℕ} → Site w used row levels → List Row → Spelling → ℕ → Change → Altered → Type 0
-Alters {w} z nodes' path at change r =
+-- ---- a change at the parent of a location, along the tokens from a place of the pointer on, behind so many that were walked
+abbrev pub Alters : {w : Table} {used row levels : ℕ} → ℕ → Site w used row levels → List Row → Spelling → ℕ → Change → Altered → Type 0
+Alters {w} walked z nodes' path at change r =
     (f : ByToken) (t : Text) (ts : Tokens) → Makes w change f → Short (w .texts) → at ≤ length (partOf (w .texts) path)
-    → TokensFrom (w .texts) path at (t ∷ ts) → Answers z nodes' (atParent f t ts (meant (w .texts) (z .c) (z .kids))) r
+    → TokensFrom (w .texts) path at (t ∷ ts) → Answers z nodes' (fartherBy walked (atParent f t ts (meant (w .texts) (z .c) (z .kids)))) r
 
 pub record AlterIs (w : Table) (nodes' : List Row) (p : Parent) (path : Spelling) (at : ℕ) (change : Change) (r : Altered) : Type 0 where
   pub frame : Frame (w .nodes) nodes' r
-  pub held : (z : SiteOf w p) → Alters z nodes' path at change r
+  pub held : (z : SiteOf w p) → Alters (walkedTo p) z nodes' path at change r

@@ -41,10 +41,11 @@ pub record Document (w : Table) (used : ℕ) (v : Value.Value) : Type 0 where
 abbrev pub judged : Outcome Value.Value → Outcome Value.Value
 judged o = o >>= notTooDeep >>= notTooLarge
 
--- The outcome of a change of the document, given what it is by the definitions: the document is then the result; or the refusal's number.
+-- The outcome of a change of the document, given what it is by the definitions: the document is then the result; or the refusal's number
+-- and its place.
 pub data Results (T : Texts) (nodes' : List Row) (o : Outcome Value.Value) : Altered → Type 0 where
   results : {used : ℕ} {v : Value.Value} → o ≡ ok v → Document (table T nodes') used v → Results T nodes' o (Done used)
-  refusal : {number : ℕ} → o ≡ refused number 0 → Results T nodes' o (Refused number)
+  refusal : {number place : ℕ} → o ≡ refused number place → Results T nodes' o (Refused number place)
 
 -- a value changed at a location, as the definitions have it
 abbrev pub AtLocation : Type 0

@@ -3,7 +3,7 @@ use Prim.Native.Nat.{ℕ, _+_, _-_, _%_, _≤_, _<_}
 use mathlib.Core.Path.{_≡_}
 use mathlib.Core.List.{List, []}
 use lib.ListN.{getD, set, drop}
-use Rattle.spec.specs.Limits.{maxNodes}
+use Rattle.spec.specs.Limits.{maxDepth, maxNodes}
 use Rattle.tape.specs.Layout.{patchRow, values}
 use Rattle.tape.specs.Columns.{spliced, usedAfter}
 use Rattle.tape.specs.Fields.{Row, noNode, kindOf, valueOf, originOf, spanOf, withSpan, rowWith}
@@ -19,11 +19,15 @@ pub record SameBehind (xs ys : List Row) : Type 0 where
 -- A refusal changes nothing. Otherwise no row from the patch's first on changes, and the document gets no more rows than it may have.
 pub data Frame (nodes nodes' : List Row) : Altered → Type 0 where
   framed : {now : ℕ} → now ≤ maxNodes → SameBehind nodes nodes' → Frame nodes nodes' (Done now)
-  unchanged : {number : ℕ} → nodes' ≡ nodes → Frame nodes nodes' (Refused number)
+  unchanged : {number place : ℕ} → nodes' ≡ nodes → Frame nodes nodes' (Refused number place)
 
--- a node among the document's rows, which are no more than it may have
+-- a node among the document's rows, which are no more than it may have, and no deeper than one may be
 abbrev pub Low : Parent → Type 0
-Low p = (p .used ≤ maxNodes) × (p .row < p .used)
+Low p = (p .used ≤ maxNodes) × (p .row < p .used) × (p .below < maxDepth)
+
+-- the number of tokens that lead to it from the document: with each a child may nest one container less
+abbrev pub walkedTo : Parent → ℕ
+walkedTo p = maxDepth - 1 - p .below
 
 -- ---- one row changed
 -- the row of the same node under another name
@@ -39,7 +43,7 @@ resized nodes row used now = set nodes row (withSpan (getD nodes row []) ((spanO
 
 -- ---- nothing has changed, or the rows are spliced, the new child is named, and the parent's span is set
 pub data PutRows (nodes nodes' : List Row) (p : Parent) (at removed source : ℕ) (name : Name) : Altered → Type 0 where
-  put-nothing : {number : ℕ} → nodes' ≡ nodes → PutRows nodes nodes' p at removed source name (Refused number)
+  put-nothing : {number place : ℕ} → nodes' ≡ nodes → PutRows nodes nodes' p at removed source name (Refused number place)
   put-rows : (count now : ℕ) → count ≡ spanOf (getD nodes source []) + 1 → now ≡ usedAfter (p .used) removed count
       → nodes' ≡ resized (renamedAt (spliced nodes (p .used) at removed source count) at name) (p .row) (p .used) now
       → PutRows nodes nodes' p at removed source name (Done now)

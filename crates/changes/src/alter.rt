@@ -4,6 +4,7 @@ use crate::answers::Change;
 use crate::children::change_child;
 use crate::trees::Parent;
 use crate::trees::resize;
+use crate::trees::walked;
 use pointer::Token;
 use pointer::token;
 use spec::refusal;
@@ -14,7 +15,7 @@ use tape::layout::Texts;
 use walk::Child;
 use walk::step;
 use walk::token_name;
-ghost use Prim.Native.Nat.{_≤_};
+ghost use Prim.Native.Nat.{_≤_, _<_};
 ghost use Rattle.tape.specs.Lent.{before};
 ghost use Rattle.changes.specs.Change.{AlterIs};
 
@@ -28,12 +29,12 @@ pub fn alter<'a>(
     at: usize,
     change: Change,
 ) -> Altered
-    requires { ⌜ parent .used ≤ 2048 ⌝ }
+    requires { ⌜ (parent .used ≤ 2048) × (parent .below < 32) ⌝ }
     ensures { λ r. ⌜ AlterIs (before texts nodes) (now (nodes .exit)) parent path at change r ⌝ }
 {
     // where the table holds no document, a step may lead elsewhere
     if parent.used <= parent.row {
-        return Altered::Refused(refusal::LOCATION_MISSING);
+        return Altered::Refused(refusal::LOCATION_MISSING, 0);
     }
     let t = token(part(texts, path), at);
     let name = token_name(texts, path, at, t);
@@ -44,7 +45,7 @@ pub fn alter<'a>(
         Child::At(child) => {
             // a child that may nest no container is a scalar, and has no children
             if parent.below == 0 {
-                return Altered::Refused(refusal::LOCATION_MISSING);
+                return Altered::Refused(refusal::LOCATION_MISSING, walked(parent) + 1);
             }
             let inner = Parent {
                 used: parent.used,
@@ -58,6 +59,6 @@ pub fn alter<'a>(
             resize(nodes, parent.row, parent.used, rows);
             return r;
         }
-        Child::Refused(n) => return Altered::Refused(n),
+        Child::Refused(n) => return Altered::Refused(n, walked(parent)),
     }
 }

@@ -10,6 +10,6 @@ pub enum Change {
 pub enum Altered {
     // the document's rows from now on
     Done(usize),
-    // the number of the refusal; nothing has changed
-    Refused(u8),
+    // the number of the refusal, and its place; nothing has changed
+    Refused(u8, usize),
 }

@@ -3,6 +3,7 @@ use crate::answers::Altered;
 use crate::answers::Change;
 use crate::trees;
 use crate::trees::Parent;
+use crate::trees::walked;
 use pointer::Index;
 use pointer::index;
 use spec::refusal;
@@ -67,7 +68,7 @@ fn add_element<'a>(
     let i = index(part(texts, token.text));
     match insertion(nodes, parent.row, i) {
         Child::At(at) => return trees::put(nodes, parent, at, 0, source, no_name()),
-        Child::Refused(n) => return Altered::Refused(n),
+        Child::Refused(n) => return Altered::Refused(n, walked(parent)),
     }
 }
 
@@ -116,7 +117,7 @@ fn add<'a>(
     if k == layout::OBJECT {
         return add_member(texts, nodes, parent, token, source);
     }
-    Altered::Refused(refusal::LOCATION_MISSING)
+    Altered::Refused(refusal::LOCATION_MISSING, walked(parent))
 }
 
 fn remove<'a>(texts: Texts<'a>, nodes: &mut [Node], parent: Parent, token: Name) -> Altered
@@ -125,7 +126,7 @@ fn remove<'a>(texts: Texts<'a>, nodes: &mut [Node], parent: Parent, token: Name)
 {
     match step(texts, nodes, parent.row, token) {
         Child::At(at) => return trees::take_out(nodes, parent, at),
-        Child::Refused(n) => return Altered::Refused(n),
+        Child::Refused(n) => return Altered::Refused(n, walked(parent)),
     }
 }
 
@@ -141,7 +142,7 @@ fn replace<'a>(
 {
     match step(texts, nodes, parent.row, token) {
         Child::At(at) => return replace_child(nodes, parent, at, source),
-        Child::Refused(n) => return Altered::Refused(n),
+        Child::Refused(n) => return Altered::Refused(n, walked(parent)),
     }
 }
 

@@ -3,8 +3,8 @@
 //
 // What is proved: of a document that the table holds (`Document` of specs), of a pointer and of a change, `change_at`
 // answers as the definitions of the change do, with the limits judged. Then the document is the result, or the answer
-// is the refusal's number. Whatever the table holds, no row from the patch's first on changes, and a refusal changes
-// nothing.
+// is the refusal's number with its place. Whatever the table holds, no row from the patch's first on changes, and a
+// refusal changes nothing.
 //
 // What a caller should know: every public function is total. The limits are judged before anything moves, 5 before 6.
 // The new value of an addition or a replacement stands in rows behind the document's, and is copied from there.

@@ -25,11 +25,11 @@ fn replace_document(nodes: &mut [Node], used: usize, source: usize) -> Altered
     ensures { λ r. ⌜ ReplaceDocumentIs (now (nodes .entry)) (now (nodes .exit)) used source r ⌝ }
 {
     if !nodes::within(nodes, source, limits::MAX_DEPTH) {
-        return Altered::Refused(refusal::TOO_DEEP);
+        return Altered::Refused(refusal::TOO_DEEP, 0);
     }
     let count = size(nodes, source);
     if limits::MAX_NODES < count {
-        return Altered::Refused(refusal::TOO_MANY_NODES);
+        return Altered::Refused(refusal::TOO_MANY_NODES, 0);
     }
     moves::splice(nodes, used, layout::DOCUMENT, used, source, count);
     Altered::Done(count)
@@ -42,7 +42,7 @@ fn change_document(nodes: &mut [Node], used: usize, change: Change) -> Altered
 {
     match change {
         Change::Add(source) => return replace_document(nodes, used, source),
-        Change::Remove => return Altered::Refused(refusal::REMOVE_OF_ROOT),
+        Change::Remove => return Altered::Refused(refusal::REMOVE_OF_ROOT, 0),
         Change::Replace(source) => return replace_document(nodes, used, source),
     }
 }
@@ -58,7 +58,7 @@ pub fn change_at<'a>(
     ensures { λ r. ⌜ ChangeAtIs (before texts nodes) (now (nodes .exit)) used path change r ⌝ }
 {
     if limits::MAX_NODES < used {
-        return Altered::Refused(refusal::TOO_MANY_NODES);
+        return Altered::Refused(refusal::TOO_MANY_NODES, 0);
     }
     match first(part(texts, path)) {
         First::Root => return change_document(nodes, used, change),
@@ -70,6 +70,6 @@ pub fn change_at<'a>(
             };
             return alter(texts, nodes, root, path, at, change);
         }
-        First::Malformed => return Altered::Refused(refusal::MALFORMED_POINTER),
+        First::Malformed => return Altered::Refused(refusal::MALFORMED_POINTER, 0),
     }
 }

@@ -17,7 +17,7 @@ ghost use Prim.Native.Nat.{_+_, _-_, _≤_, _<_};
 ghost use lib.ListN.{getD};
 ghost use Rattle.tape.specs.Layout.{values};
 ghost use Rattle.tape.specs.Fields.{spanOf};
-ghost use Rattle.changes.specs.Rows.{renamedAt, resized, Low};
+ghost use Rattle.changes.specs.Rows.{renamedAt, resized, Low, walkedTo};
 ghost use Rattle.changes.specs.Change.{PutIs, TakeOutIs};
 
 // A node whose children change: the document's rows, the node's own row, and how many containers a child may nest.
@@ -25,6 +25,14 @@ pub struct Parent {
     pub used: usize,
     pub row: usize,
     pub below: u32,
+}
+
+// How many tokens lead from the document to the parent: with each a child may nest one container less.
+pub fn walked(parent: Parent) -> usize
+    requires { ⌜ parent .below < 32 ⌝ }
+    ensures { λ r. ⌜ r ≡ walkedTo parent ⌝ }
+{
+    (limits::MAX_DEPTH - 1 - parent.below) as usize
 }
 
 // The difference of two numbers, and 0 where the second is greater.
@@ -93,16 +101,16 @@ pub fn put(
     ensures { λ r. ⌜ PutIs (now (nodes .entry)) (now (nodes .exit)) parent at removed source name r ⌝ }
 {
     if !nodes::within(nodes, source, parent.below) {
-        return Altered::Refused(refusal::TOO_DEEP);
+        return Altered::Refused(refusal::TOO_DEEP, 0);
     }
     let count = size(nodes, source);
     let kept = minus(parent.used, removed);
     if limits::MAX_NODES - kept < count {
-        return Altered::Refused(refusal::TOO_MANY_NODES);
+        return Altered::Refused(refusal::TOO_MANY_NODES, 0);
     }
     // where the table holds no document, the children may lie elsewhere
     if kept < at {
-        return Altered::Refused(refusal::LOCATION_MISSING);
+        return Altered::Refused(refusal::LOCATION_MISSING, 0);
     }
     moves::splice(nodes, parent.used, at, removed, source, count);
     rename(nodes, at, name);

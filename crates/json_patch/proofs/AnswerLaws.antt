@@ -8,20 +8,25 @@ use borrow.Author.Tests.{le-leb, lt-leb, le-ltb, lt-ltb}
 use Rattle.spec.specs.Refusal.{work-too-short, input-too-long, output-too-short}
 use Rattle.spec.specs.Limits.{maxBytes, workNodes, workEntries}
 use Rattle.spec.specs.Bytes.{Bytes}
+use Rattle.spec.specs.Patch.{stop}
 use Rattle.spec.specs.Answer as Spec
 use Rattle.spec.specs.Answer.{Lent, workSuffices, fitting, onDocument, answerIn, answer}
 use Rattle.spec.specs.Read.{read}
-use Rattle.json_patch.specs.Call.{Answered, SuccessIs, RefusalIs}
+use Rattle.json_patch.specs.Call.{Answered, SuccessIs, RefusalIs, FailureIs}
 use Rattle.json_patch.specs.declared.answer.Answer.{Answer}
 
 -- ---- a refusal leaves the output as it was; a success has the text in front
 pub answered-refusal : {number text op place : ℕ} {out : Bytes} {r : Answer} → RefusalIs number text op place r → Answered (Spec.refusal number text op place)
     out out r
-answered-refusal (n, t, o, p, l) = record { number = n; text = t; op = o; place = p; written = l; output = refl }
+answered-refusal (n, t, o, p, q, l) = record { number = n; text = t; op = o; place = p; pointer = q; written = l; output = refl }
+
+pub answered-failure : {number op place pointer : ℕ} {out : Bytes} {r : Answer} → FailureIs number op place pointer r
+    → Answered (Spec.failure (stop number op place pointer)) out out r
+answered-failure (n, t, o, p, q, l) = record { number = n; text = t; op = o; place = p; pointer = q; written = l; output = refl }
 
 pub answered-success : {t before after : Bytes} {r : Answer} → SuccessIs (length t) r → after ≡ t ++ drop (length t) before → Answered (Spec.success t)
     before after r
-answered-success (n, t, o, p, l) whole = record { number = n; text = t; op = o; place = p; written = l; output = whole }
+answered-success (n, t, o, p, q, l) whole = record { number = n; text = t; op = o; place = p; pointer = q; written = l; output = whole }
 
 -- an answer by another name
 pub answered-as : {a b : Spec.Answer} {before after : Bytes} {r : Answer} → a ≡ b → Answered b before after r → Answered a before after r

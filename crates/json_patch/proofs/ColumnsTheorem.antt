@@ -36,6 +36,7 @@ same-calls e f x y =
             text = x .text ∙ ap (λ a. a .text) e ∙ sym (y .text);
             op = x .op ∙ ap (λ a. a .op) e ∙ sym (y .op);
             place = x .place ∙ ap (λ a. a .place) e ∙ sym (y .place);
+            pointer = x .pointer ∙ ap (λ a. a .pointer) e ∙ sym (y .pointer);
             written = x .written ∙ ap (λ a. length (a .written)) e ∙ sym (y .written);
           };
       outputs = x .output ∙ rw (e, f) (sym (y .output));

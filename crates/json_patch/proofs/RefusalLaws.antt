@@ -10,7 +10,7 @@ use Rattle.reader.specs.declared.values.Read.the-variants as Read
 use Rattle.operations.specs.declared.runs.Ran.{Ran}
 use Rattle.operations.specs.declared.runs.Ran.the-variants as Ran
 use Rattle.json_patch.specs.Stages.{UnreadIs, MisshapenIs, StoppedIs}
-use Rattle.json_patch.specs.Call.{RefusalIs}
+use Rattle.json_patch.specs.Call.{RefusalIs, FailureIs}
 use Rattle.json_patch.specs.declared.answer.Answer.{Answer}
 
 module _ {text : ℕ} {read : Read} {r : Answer} where
@@ -35,10 +35,12 @@ module _ {shape : Shape} {r : Answer} where
 
 module _ {ran : Ran} {r : Answer} where
   pub stopped-not : {rows : ℕ} → ran ≡ Ran.Done rows → StoppedIs ran r
-  stopped-not e number op f = absurd (let z : _≡_ {A = ℕ} 0 1 = cc in omega arith)
+  stopped-not e number op place pointer f = absurd (let z : _≡_ {A = ℕ} 0 1 = cc in omega arith)
 
-  pub stopped-as : {number op : ℕ} → ran ≡ Ran.Refused number op → RefusalIs number 0 op 0 r → StoppedIs ran r
-  stopped-as {number} {op} e is n p f =
-      let same : number ≡ n = cc in
-      let there : op ≡ p = cc in
-      subst (λ m. RefusalIs m 0 p 0 r) same (subst (λ q. RefusalIs number 0 q 0 r) there is)
+  pub stopped-as : {number op place pointer : ℕ} → ran ≡ Ran.Refused number op place pointer → FailureIs number op place pointer r → StoppedIs ran r
+  stopped-as {number} {op} {place} {pointer} e (a, b, c, d, f, g) n o p q h =
+      let number-same : number ≡ n = cc in
+      let op-same : op ≡ o = cc in
+      let place-same : place ≡ p = cc in
+      let pointer-same : pointer ≡ q = cc in
+      (a ∙ number-same, b, c ∙ op-same, d ∙ place-same, f ∙ pointer-same, g)

@@ -2,6 +2,7 @@
 use Prim.Native.Nat.{ℕ}
 use mathlib.Core.Path.{_≡_, subst}
 use Rattle.spec.specs.Bytes.{Bytes}
+use Rattle.spec.specs.Patch.{Stop}
 use Rattle.spec.specs.Answer as Spec
 use Rattle.spec.proofs.RegionTheorem.{region-theorem}
 use Rattle.json_patch.specs.Call.{Answered}
@@ -10,15 +11,17 @@ use Rattle.json_patch.specs.declared.answer.Answer.{Answer}
 
 -- an answer of the definitions, as the call gives it
 module _ {a : Spec.Answer} {before after : Bytes} {r : Answer} (is : Answered a before after r) where
-  refuses : {number op : ℕ} → a ≡ Spec.refusal number 0 op 0 → Refuses number op before after r
+  refuses : {s : Stop} → a ≡ Spec.failure s → Refuses s before after r
   refuses e = let n = subst (λ b. Answered b before after r) e is in record {
     answers =
-        (n .number, n .text, n .op, n .place, n .written);
+        (n .number, n .text, n .op, n .place, n .pointer, n .written);
     unchanged = n .output;
   }
 
   writes : {text : Bytes} → a ≡ Spec.success text → Writes text before after r
-  writes e = let n = subst (λ b. Answered b before after r) e is in record { answers = (n .number, n .text, n .op, n .place, n .written); laid = n .output }
+  writes e =
+      let n = subst (λ b. Answered b before after r) e is in
+      record { answers = (n .number, n .text, n .op, n .place, n .pointer, n .written); laid = n .output }
 
 pub call-in-regions : CallInRegions
 call-in-regions D P Q Z m m' R S document xs ys zs c r is =
@@ -27,6 +30,6 @@ call-in-regions D P Q Z m m' R S document xs ys zs c r is =
     record {
       runs = theorem;
       too-large = λ op large. refuses told (theorem .call-too-large op large);
-      refused = λ number op small stops. refuses told (theorem .call-refused number op small stops);
+      refused = λ s small stops. refuses told (theorem .call-refused s small stops);
       succeeds = λ text small succeeds. writes told (theorem .call-succeeds text small succeeds);
     }

@@ -45,7 +45,7 @@ use Rattle.json_patch.specs.Stages.{UnreadIs, MisshapenIs, StoppedIs, Pa
 use Rattle.json_patch.specs.Call.{Answered, SuccessIs, RefusalIs}
 use Rattle.json_patch.specs.declared.answer.Answer.{Answer}
 use Rattle.json_patch.proofs.TextLaws.{read-into, text-value, text-refusal, patch-held, document-held, document-kept}
-use Rattle.json_patch.proofs.AnswerLaws.{answered-refusal, answered-success, answered-as, fitting-short, fitting-whole}
+use Rattle.json_patch.proofs.AnswerLaws.{answered-refusal, answered-failure, answered-success, answered-as, fitting-short, fitting-whole}
 
 -- ---- the document written
 module _ {w : Table} {used : ℕ} {v : Value.Value} (d : Document w used v) where
@@ -98,7 +98,7 @@ ran-told {v = v} runs d held short os shaped =
 
 module _ {w : Table} {s : Shape} (shaped : PatchIs w patchRow s) (e : s ≡ Shape.Right) {nodes' : List Row} {used : ℕ} {told : Ran}
     (runs : RunIs w nodes' used told) {out : Bytes} {r : Answer} where
-  pub patch-stopped : {number op : ℕ} → told ≡ Ran.Refused number op → StoppedIs told r → RunPatchIs w out out used r
+  pub patch-stopped : {number op place pointer : ℕ} → told ≡ Ran.Refused number op place pointer → StoppedIs told r → RunPatchIs w out out used r
   unfolding patched onFinish answerOf
   patch-stopped t is v p d held short =
       let (os, right-shape) = shape-right (shape-told shaped held) e in
@@ -106,7 +106,7 @@ module _ {w : Table} {s : Shape} (shaped : PatchIs w patchRow s) (e : s ≡ Shap
     where
       go : {o : Run Value.Value} {q : Ran} → RanTo (w .texts) nodes' o q → told ≡ q → Answered (answerOf (length out) o) out out r
       go (ran is d) f = absurd (let z : _≡_ {A = ℕ} 0 1 = cc in omega arith)
-      go (halted {number = n} {op} stops) f = rw stops (answered-refusal (is n op f))
+      go (halted {number = n} {op} {place} {pointer} stops) f = rw stops (answered-failure (is n op place pointer f))
 
   pub patch-done : {rows : ℕ} {out' : Bytes} → told ≡ Ran.Done rows → WriteOutIs (table (w .texts) nodes') out out' r → RunPatchIs w out out' used r
   unfolding patched onFinish answerOf

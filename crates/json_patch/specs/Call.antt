@@ -50,6 +50,7 @@ pub record Answered (a : Spec.Answer) (before after : Bytes) (r : Answer) : Type
   pub text : r .text ≡ a .text
   pub op : r .op ≡ a .op
   pub place : r .place ≡ a .place
+  pub pointer : r .pointer ≡ a .pointer
   pub written : r .length ≡ length (a .written)
   pub output : after ≡ a .written ++ drop (length (a .written)) before
 
@@ -69,12 +70,18 @@ pub record ApplyIs (T : Texts) (m m' : Memory) (r : Answer) : Type 0 where
 pub record ExportIs (T : Texts) (m m' : Memory) (fields : List ℕ) (number : ℕ) : Type 0 where
   pub answer : Answer
   pub applies : ApplyIs T m m' answer
-  pub fields-are : fields ≡ answer .number ∷ answer .text ∷ answer .op ∷ answer .place ∷ answer .length ∷ []
+  pub fields-are : fields ≡ answer .number ∷ answer .text ∷ answer .op ∷ answer .place ∷ answer .pointer ∷ answer .length ∷ []
   pub number-is : number ≡ answer .number
 
--- ---- the two kinds of answers
+-- ---- the kinds of answers
 abbrev pub SuccessIs : ℕ → Answer → Type 0
-SuccessIs written r = (r .number ≡ 0) × (r .text ≡ 0) × (r .op ≡ 0) × (r .place ≡ 0) × (r .length ≡ written)
+SuccessIs written r = (r .number ≡ 0) × (r .text ≡ 0) × (r .op ≡ 0) × (r .place ≡ 0) × (r .pointer ≡ 0) × (r .length ≡ written)
 
 abbrev pub RefusalIs : ℕ → ℕ → ℕ → ℕ → Answer → Type 0
-RefusalIs number text op place r = (r .number ≡ number) × (r .text ≡ text) × (r .op ≡ op) × (r .place ≡ place) × (r .length ≡ 0)
+RefusalIs number text op place r =
+    (r .number ≡ number) × (r .text ≡ text) × (r .op ≡ op) × (r .place ≡ place) × (r .pointer ≡ 0) × (r .length ≡ 0)
+
+-- the refusal of an operation
+abbrev pub FailureIs : ℕ → ℕ → ℕ → ℕ → Answer → Type 0
+FailureIs number op place pointer r =
+    (r .number ≡ number) × (r .text ≡ 0) × (r .op ≡ op) × (r .place ≡ place) × (r .pointer ≡ pointer) × (r .length ≡ 0)

@@ -43,6 +43,7 @@ pub record SameAnswer (r q : Answer) : Type 0 where
   pub text : r .text ≡ q .text
   pub op : r .op ≡ q .op
   pub place : r .place ≡ q .place
+  pub pointer : r .pointer ≡ q .pointer
   pub written : r .length ≡ q .length
 
 pub record SameCalls (r q : Answer) (output output' : Bytes) : Type 0 where

@@ -10,15 +10,15 @@ use Rattle.spec.specs.Bytes.{Bytes}
 use Rattle.spec.specs.Value as Value
 use Rattle.spec.specs.Pointer.{Tokens}
 use Rattle.spec.specs.Operation.{Operation}
-use Rattle.spec.specs.Patch.{stopped}
+use Rattle.spec.specs.Patch.{Stop, stop, stopped}
 use Rattle.spec.specs.Answer.{Lent}
 use Rattle.spec.specs.Region.{Situation, RegionStatement, SucceedsWith, bareRun, firstTooLarge}
-use Rattle.json_patch.specs.Call.{Memory, SuccessIs, RefusalIs, lentOf, ApplyIs}
+use Rattle.json_patch.specs.Call.{Memory, SuccessIs, FailureIs, lentOf, ApplyIs}
 use Rattle.json_patch.specs.declared.answer.Answer.{Answer}
 
--- the call answers this number with this op, and nothing else; the output is as it was
-pub record Refuses (number op : ℕ) (before after : Bytes) (r : Answer) : Type 0 where
-  pub answers : RefusalIs number 0 op 0 r
+-- the call answers as the run stops, with its number, op, place and pointer, and with nothing else; the output is as it was
+pub record Refuses (s : Stop) (before after : Bytes) (r : Answer) : Type 0 where
+  pub answers : FailureIs (s .number) (s .op) (s .place) (s .pointer) r
   pub unchanged : after ≡ before
 
 -- the call answers 0 and writes this text: the output begins with it, and is otherwise unchanged
@@ -33,9 +33,9 @@ pub record CallStatement {D P Q Z : Bytes} {lent : Lent} {R S : Tokens} {documen
   -- fields `both-succeed` and `otherwise`
   pub runs : RegionStatement c
   -- "If an operation of the shuffle's bare run leaves more than 2,048 nodes, the call on the shuffle answers 6 with the op of the first such one."
-  pub too-large : (op : ℕ) → firstTooLarge 1 zs document ≡ some op → Refuses too-many-nodes op before after r
+  pub too-large : (op : ℕ) → firstTooLarge 1 zs document ≡ some op → Refuses (stop too-many-nodes op 0 0) before after r
   -- "Otherwise it answers the bare run's number and op,
-  pub refused : (number op : ℕ) → firstTooLarge 1 zs document ≡ none → bareRun zs document ≡ stopped number op → Refuses number op before after r
+  pub refused : (s : Stop) → firstTooLarge 1 zs document ≡ none → bareRun zs document ≡ stopped s → Refuses s before after r
   -- or answers 0 and writes the run's text."
   pub succeeds : (text : Bytes) → firstTooLarge 1 zs document ≡ none → SucceedsWith (bareRun zs document) text → Writes text before after r
 

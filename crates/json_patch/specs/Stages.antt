@@ -22,7 +22,7 @@ use Rattle.reader.specs.declared.values.Read.the-variants as Read
 use Rattle.changes.specs.Document.{Document}
 use Rattle.operations.specs.declared.runs.Ran.{Ran}
 use Rattle.operations.specs.declared.runs.Ran.the-variants as Ran
-use Rattle.json_patch.specs.Call.{Memory, lentOf, Answered, RefusalIs}
+use Rattle.json_patch.specs.Call.{Memory, lentOf, Answered, RefusalIs, FailureIs}
 use Rattle.json_patch.specs.declared.answer.Answer.{Answer}
 
 -- ---- a refusal of one stage as the call's; of anything else the answer is free
@@ -33,7 +33,7 @@ abbrev pub MisshapenIs : Shape → Answer → Type 0
 MisshapenIs shape r = (number op : ℕ) → shape ≡ Shape.Refused number op → RefusalIs number 0 op 0 r
 
 abbrev pub StoppedIs : Ran → Answer → Type 0
-StoppedIs ran r = (number op : ℕ) → ran ≡ Ran.Refused number op → RefusalIs number 0 op 0 r
+StoppedIs ran r = (number op place pointer : ℕ) → ran ≡ Ran.Refused number op place pointer → FailureIs number op place pointer r
 
 -- ---- the patch is a value as texts are read: its tree begins in the first row of the patch's part, and ends in it
 pub record PatchHeld (w : Table) (p : Value.Value) : Type 0 where

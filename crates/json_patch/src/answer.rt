@@ -3,17 +3,19 @@ use operations::Ran;
 use reader::Read;
 use shape::Shape;
 use spec::refusal;
-ghost use Rattle.json_patch.specs.Call.{SuccessIs, RefusalIs};
+ghost use Rattle.json_patch.specs.Call.{SuccessIs, RefusalIs, FailureIs};
 ghost use Rattle.json_patch.specs.Stages.{UnreadIs, MisshapenIs, StoppedIs};
 
 // The number is 0 where the patch was applied, and that of the refusal otherwise. `text` is 1 for the document and 2
-// for the patch, `op` counts the operations from 1, and `place` is a byte offset. What a refusal does not set is 0,
-// and so is `length` after a refusal.
+// for the patch, and `op` counts the operations from 1. With 11 and 12 `pointer` is 1 for `path` and 2 for `from`, and
+// `place` the count of tokens walked before the one that failed; with 3 to 7 `place` is a byte offset. What a refusal
+// does not set is 0, and so is `length` after a refusal.
 pub struct Answer {
     pub number: u8,
     pub text: u8,
     pub op: usize,
     pub place: usize,
+    pub pointer: u8,
     pub length: usize,
 }
 
@@ -25,6 +27,7 @@ pub fn success(length: usize) -> Answer
         text: 0,
         op: 0,
         place: 0,
+        pointer: 0,
         length,
     }
 }
@@ -37,6 +40,21 @@ pub fn refused(number: u8, text: u8, op: usize, place: usize) -> Answer
         text,
         op,
         place,
+        pointer: 0,
+        length: 0,
+    }
+}
+
+// The refusal of an operation.
+pub fn failed(number: u8, op: usize, place: usize, pointer: u8) -> Answer
+    ensures { λ r. ⌜ FailureIs number op place pointer r ⌝ }
+{
+    Answer {
+        number,
+        text: 0,
+        op,
+        place,
+        pointer,
         length: 0,
     }
 }
@@ -67,6 +85,6 @@ pub fn stopped(ran: Ran) -> Answer
 {
     match ran {
         Ran::Done(_) => return success(0),
-        Ran::Refused(number, op) => return refused(number, 0, op, 0),
+        Ran::Refused(number, op, place, pointer) => return failed(number, op, place, pointer),
     }
 }

@@ -12,7 +12,7 @@ pub extern "C" fn json_patch_apply<'a>(
     output: &mut [u8],
     nodes: &mut [Node],
     index: &mut [u16],
-    answer: &mut [u64; 5],
+    answer: &mut [u64; 6],
 ) -> u32
     ensures { λ r. ⌜ ExportIs (given document patch) (memoryBefore output nodes index) (memoryAfter output nodes index) (now (answer .exit)) r ⌝ }
 {
@@ -22,6 +22,7 @@ pub extern "C" fn json_patch_apply<'a>(
         r.text as u64,
         r.op as u64,
         r.place as u64,
+        r.pointer as u64,
         r.length as u64,
     ];
     r.number as u32

@@ -1,4 +1,5 @@
 pub mod PatchLaws
+pub mod AnswerLaws
 pub mod RemovalLaws
 pub mod AsideLaws
 pub mod TransferLaws

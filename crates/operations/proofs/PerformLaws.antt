@@ -32,8 +32,8 @@ use Rattle.table.specs.declared.find.Member.{Member}
 use Rattle.table.specs.declared.find.Member.the-variants as Member
 use Rattle.walk.specs.Names.{Short}
 use Rattle.walk.specs.Path.{PathIs, WalkIs}
-use Rattle.walk.specs.declared.steps.Child.{Child}
-use Rattle.walk.specs.declared.steps.Child.the-variants as Child
+use Rattle.walk.specs.declared.path.Reached.{Reached}
+use Rattle.walk.specs.declared.path.Reached.the-variants as Reached
 use Rattle.equality.specs.Compare.{EqualIs}
 use Rattle.shape.specs.Kinds.{kindOutcome}
 use Rattle.shape.specs.Members.{TextIs, MemberIs, StringIs}
@@ -49,8 +49,11 @@ use Rattle.changes.specs.declared.answers.Change.the-variants.{Add, Remove, Rep
 use Rattle.changes.specs.declared.answers.Altered.{Altered}
 use Rattle.changes.specs.declared.answers.Altered.the-variants.{Done, Refused}
 use Rattle.changes.proofs.DocumentLaws.{document-fits, the-value, no-value}
+use Rattle.operations.specs.Answers.{atPath}
+use Rattle.operations.specs.declared.answers.Performed.{Performed}
 use Rattle.operations.specs.Perform.{CopyIs, MoveIs, EqualToIs, Listed, OperationIs, PerformIs}
 use Rattle.operations.proofs.PatchLaws.{patch-same, patch-framed}
+use Rattle.operations.proofs.AnswerLaws.{which-path, which-from, same-performs, path-performs}
 use Rattle.operations.proofs.TransferLaws.{same-results}
 use Rattle.operations.proofs.ToldLaws.{told}
 
@@ -59,12 +62,12 @@ use Rattle.operations.proofs.ToldLaws.{told}
 depth-walk : (ts : Tokens) (v w : Value.Value) → walk ts v ≡ ok w → depth w ≤ depth v
 depth-walk ts v w e = omega (arith, depth-plant ts v w e w, ap depth (plant-walk ts v w e))
 
-module _ {w : Table} {path : Spelling} {s : Child} (walked : WalkIs w documentRow path s) where
-  pub test-lost : {used value : ℕ} (number : ℕ) → s ≡ Child.Refused number → EqualToIs w used path value (Refused number)
+module _ {w : Table} {path : Spelling} {s : Reached} (walked : WalkIs w documentRow path s) where
+  pub test-lost : {used value : ℕ} (number place : ℕ) → s ≡ Reached.Lost number place → EqualToIs w used path value (Refused number place)
   unfolding testAt _>>=_
-  test-lost number e v d short ts p x kids held distinct = refusal {number = number} (rw (no-value s walked d short p e))
+  test-lost number place e v d short ts p x kids held distinct = refusal {number = number} {place = place} (rw (no-value s walked d short p e))
 
-  module _ (at : ℕ) (e : s ≡ Child.At at) {value : ℕ} {same : Bool} (compared : EqualIs w at value maxDepth same) where
+  module _ (at : ℕ) (e : s ≡ Reached.At at) {value : ℕ} {same : Bool} (compared : EqualIs w at value maxDepth same) where
     test-found : {used : ℕ} {v : Value.Value} → Document w used v → Short (w .texts) → (ts : Tokens) → PathIs (w .texts) path ts
         → (x : Cell) (kids : Forest Cell) → NodeHeld w value x kids → Distinct (meant (w .texts) x kids)
         → testAt ts (meant (w .texts) x kids) v ≡ (if same then ok v else refused test-differs 0)
@@ -77,9 +80,9 @@ module _ {w : Table} {path : Spelling} {s : Child} (walked : WalkIs w documentRo
     pub test-equal : {used : ℕ} → same ≡ true → EqualToIs w used path value (Done used)
     test-equal is v d short ts p x kids held distinct = results {v = v} (rw (test-found d short ts p x kids held distinct, is) (document-fits d)) d
 
-    pub test-unequal : {used : ℕ} → same ≡ false → EqualToIs w used path value (Refused test-differs)
+    pub test-unequal : {used : ℕ} → same ≡ false → EqualToIs w used path value (Refused test-differs 0)
     unfolding _>>=_
-    test-unequal is v d short ts p x kids held distinct = refusal {number = test-differs} (rw (test-found d short ts p x kids held distinct, is))
+    test-unequal is v d short ts p x kids held distinct = refusal {number = test-differs} {place = 0} (rw (test-found d short ts p x kids held distinct, is))
 
 -- ---- an operation by its kind
 -- each kind is its own function, judged
@@ -122,7 +125,7 @@ module _ {w : Table} {row : ℕ} {m : Member} (is : MemberIs w row (ascii "value
 
 module _ {w : Table} {used row : ℕ} {path : Spelling} {m : Member} (is : MemberIs w row (ascii "value") m) where
   -- an operation that uses a value has one
-  pub value-missing : {k : Operation.Kind} {r : Altered} → usesValue k ≡ true → m ≡ Member.Missing → OperationIs w (w .nodes) used row path k r
+  pub value-missing : {k : Operation.Kind} {r : Performed} → usesValue k ≡ true → m ≡ Member.Missing → OperationIs w (w .nodes) used row path k r
   value-missing uses e =
       record {
         patch = patch-same;
@@ -132,37 +135,42 @@ module _ {w : Table} {used row : ℕ} {path : Spelling} {m : Member} (is : Membe
       }
 
   module _ (at : ℕ) (e : m ≡ Member.At at) where
-    pub add-done : {nodes' : List Row} {r : Altered} → ChangeAtIs w nodes' used path (Add at) r → OperationIs w nodes' used row path Operation.add r
-    unfolding usesValue
-    add-done changed =
+    pub add-done : {nodes' : List Row} {q : Altered} {r : Performed} → ChangeAtIs w nodes' used path (Add at) q → r ≡ atPath q
+        → OperationIs w nodes' used row path Operation.add r
+    unfolding usesValue usesFrom
+    add-done changed from-path =
         record {
           patch = patch-framed (changed .frame);
           held = λ v d short o l kind p.
               operand is at e l (ap usesValue kind) λ x kids offered means distinct.
-              same-results (add-is o v kind ∙ ap (λ u. judged (addAt (o .path) u v)) (sym means))
-              (changed .held v d short (o .path) p _ (adds-at at x kids offered));
+              path-performs (which-path o v (ap usesFrom kind)) from-path
+              (same-results (add-is o v kind ∙ ap (λ u. judged (addAt (o .path) u v)) (sym means))
+              (changed .held v d short (o .path) p _ (adds-at at x kids offered)));
         }
 
-    pub replace-done : {nodes' : List Row} {r : Altered} → ChangeAtIs w nodes' used path (Replace at) r → OperationIs w nodes' used row path Operation.replace r
-    unfolding usesValue
-    replace-done changed =
+    pub replace-done : {nodes' : List Row} {q : Altered} {r : Performed} → ChangeAtIs w nodes' used path (Replace at) q → r ≡ atPath q
+        → OperationIs w nodes' used row path Operation.replace r
+    unfolding usesValue usesFrom
+    replace-done changed from-path =
         record {
           patch = patch-framed (changed .frame);
           held = λ v d short o l kind p.
               operand is at e l (ap usesValue kind) λ x kids offered means distinct.
-              same-results (replace-is o v kind ∙ ap (λ u. judged (replaceAtPath (o .path) u v)) (sym means))
-              (changed .held v d short (o .path) p _ (replaces-at at x kids offered));
+              path-performs (which-path o v (ap usesFrom kind)) from-path
+              (same-results (replace-is o v kind ∙ ap (λ u. judged (replaceAtPath (o .path) u v)) (sym means))
+              (changed .held v d short (o .path) p _ (replaces-at at x kids offered)));
         }
 
-    pub test-done : {r : Altered} → EqualToIs w used path at r → OperationIs w (w .nodes) used row path Operation.test r
-    unfolding usesValue
-    test-done tested =
+    pub test-done : {q : Altered} {r : Performed} → EqualToIs w used path at q → r ≡ atPath q → OperationIs w (w .nodes) used row path Operation.test r
+    unfolding usesValue usesFrom
+    test-done tested from-path =
         record {
           patch = patch-same;
           held = λ v d short o l kind p.
               operand is at e l (ap usesValue kind) λ x kids offered means distinct.
-              same-results (test-is o v kind ∙ ap (λ u. judged (testAt (o .path) u v)) (sym means))
-              (tested v d short (o .path) p x kids (offered .held) distinct);
+              path-performs (which-path o v (ap usesFrom kind)) from-path
+              (same-results (test-is o v kind ∙ ap (λ u. judged (testAt (o .path) u v)) (sym means))
+              (tested v d short (o .path) p x kids (offered .held) distinct));
         }
 
 -- ---- with a string that spells a pointer
@@ -183,7 +191,7 @@ module _ {w : Table} {row : ℕ} {s : Spelled} (is : StringIs w row (ascii "from
       spelled-path (is .held (l .c) (l .kids) (l .held)) (t .from-there uses) e (t .from-is)
 
 module _ {w : Table} {used row : ℕ} {path : Spelling} {s : Spelled} (is : StringIs w row (ascii "from") s) where
-  pub from-missing : {k : Operation.Kind} {r : Altered} → usesFrom k ≡ true → s ≡ Spelled.Not → OperationIs w (w .nodes) used row path k r
+  pub from-missing : {k : Operation.Kind} {r : Performed} → usesFrom k ≡ true → s ≡ Spelled.Not → OperationIs w (w .nodes) used row path k r
   from-missing uses e =
       record {
         patch = patch-same;
@@ -192,32 +200,39 @@ module _ {w : Table} {used row : ℕ} {path : Spelling} {s : Spelled} (is : Stri
       }
 
   module _ (from : Spelling) (e : s ≡ Spelled.As from) where
-    pub move-done : {nodes' : List Row} {r : Altered} → MoveIs w nodes' used from path r → OperationIs w nodes' used row path Operation.move r
+    pub move-done : {nodes' : List Row} {r : Performed} → MoveIs w nodes' used from path r → OperationIs w nodes' used row path Operation.move r
     unfolding usesFrom
     move-done moved =
         record {
           patch = moved .patch;
-          held = λ v d short o l kind p. same-results (move-is o v kind) (moved .held v d short (o .from) (source is from e l (ap usesFrom kind)) (o .path) p);
+          held = λ v d short o l kind p.
+              same-performs (move-is o v kind) (which-from o v (ap usesFrom kind))
+              (moved .held v d short (o .from) (source is from e l (ap usesFrom kind)) (o .path) p);
         }
 
-    pub copy-done : {nodes' : List Row} {r : Altered} → CopyIs w nodes' used from path r → OperationIs w nodes' used row path Operation.copy r
+    pub copy-done : {nodes' : List Row} {r : Performed} → CopyIs w nodes' used from path r → OperationIs w nodes' used row path Operation.copy r
     unfolding usesFrom
     copy-done copied =
         record {
           patch = copied .patch;
-          held = λ v d short o l kind p. same-results (copy-is o v kind) (copied .held v d short (o .from) (source is from e l (ap usesFrom kind)) (o .path) p);
+          held = λ v d short o l kind p.
+              same-performs (copy-is o v kind) (which-from o v (ap usesFrom kind))
+              (copied .held v d short (o .from) (source is from e l (ap usesFrom kind)) (o .path) p);
         }
 
-pub remove-done : {w : Table} {nodes' : List Row} {used row : ℕ} {path : Spelling} {r : Altered} → ChangeAtIs w nodes' used path Remove r
-    → OperationIs w nodes' used row path Operation.remove r
-remove-done changed =
+pub remove-done : {w : Table} {nodes' : List Row} {used row : ℕ} {path : Spelling} {q : Altered} {r : Performed} → ChangeAtIs w nodes' used path Remove q
+    → r ≡ atPath q → OperationIs w nodes' used row path Operation.remove r
+unfolding usesFrom
+remove-done changed from-path =
     record {
       patch = patch-framed (changed .frame);
-      held = λ v d short o l kind p. same-results (remove-is o v kind) (changed .held v d short (o .path) p removeAtPath removes-at);
+      held = λ v d short o l kind p.
+          path-performs (which-path o v (ap usesFrom kind)) from-path
+          (same-results (remove-is o v kind) (changed .held v d short (o .path) p removeAtPath removes-at));
     }
 
 -- ---- the path and the kind, which every operation has
-module _ {w : Table} {used row : ℕ} {r : Altered} {s : Spelled} (is : StringIs w row (ascii "path") s) where
+module _ {w : Table} {used row : ℕ} {r : Performed} {s : Spelled} (is : StringIs w row (ascii "path") s) where
   pub path-missing : s ≡ Spelled.Not → PerformIs w (w .nodes) used row r
   path-missing e =
       record { patch = patch-same; held = λ v d short o l. absurd (spelled-not (is .held (l .c) (l .kids) (l .held)) (told _ o (l .is) .path-there) e) }

@@ -10,9 +10,10 @@ use Rattle.spec.specs.Bytes.{Text}
 use Rattle.spec.specs.Forest.{none, tree, before, from, removeAt, _⧺_}
 use Rattle.spec.specs.Value as Value
 use Rattle.spec.specs.Value.{Label, Members, leaf, named, valueOf, isContainer, levels, depths, depth, nodes}
-use Rattle.spec.specs.Pointer.{Tokens, childAt, child}
+use Rattle.spec.specs.Pointer.{Tokens, childAt, child, farther}
 use Rattle.spec.specs.Operation.{put, withKids, atParent, removeChild, removeAtPath}
 use Rattle.spec.proofs.OutcomeLaws.{refused≢ok, both-ok}
+use Rattle.spec.proofs.FartherLaws.{farther-ok}
 use Rattle.spec.proofs.ChildLaws.{child-there, depth-child, depth-put}
 use Rattle.tape.specs.Lent.{Table}
 use Rattle.tape.proofs.Forests.{size-removeAt}
@@ -63,9 +64,9 @@ unfolding atParent
 parent-removed t [] v w h = child-removed t v w h
 parent-removed t (u ∷ ts) v w h =
     let (k, there, e) = both-ok (childAt t v) _ w h in
-    let (x, f, g) = both-ok (atParent removeChild u ts (valueOf (child k v))) _ w e in
+    let (x, f, g) = both-ok (farther (atParent removeChild u ts (valueOf (child k v)))) _ w e in
     let same : put k x v ≡ w = cc in
-    subst (λ y. NoLarger y v) same (child-put t v k x there (parent-removed u ts (valueOf (child k v)) x f))
+    subst (λ y. NoLarger y v) same (child-put t v k x there (parent-removed u ts (valueOf (child k v)) x (farther-ok _ f)))
 
 removed-no-larger : (ts : Tokens) (v w : Value.Value) → removeAtPath ts v ≡ ok w → NoLarger w v
 unfolding removeAtPath

@@ -14,7 +14,7 @@ use Rattle.spec.specs.Value as Value
 use Rattle.spec.specs.Value.{isArray}
 use Rattle.spec.specs.Operation as Operation
 use Rattle.spec.specs.Operation.{limited}
-use Rattle.spec.specs.Patch.{Run, finished, stopped, atOp, onFinish, operation, operations, shape, run}
+use Rattle.spec.specs.Patch.{Stop, stop, Run, finished, stopped, atOp, noPointer, onFinish, operation, operations, shape, whichPointer, run}
 use Rattle.claims.specs.Proper.{ProperItems}
 use Rattle.claims.proofs.ProperPatch.{proper-first}
 use Rattle.tape.specs.Layout.{patchRow, scratchRow}
@@ -30,9 +30,10 @@ use Rattle.table.specs.Meaning.{members, meant}
 use Rattle.walk.specs.Names.{Short}
 use Rattle.shape.proofs.RunLaws.{rows-children, rows-first, first-node, rows-next}
 use Rattle.changes.specs.Site.{table}
-use Rattle.changes.specs.Document.{Document, Results, results, refusal}
-use Rattle.changes.specs.declared.answers.Altered.{Altered}
-use Rattle.changes.specs.declared.answers.Altered.the-variants as Altered
+use Rattle.changes.specs.Document.{Document}
+use Rattle.operations.specs.Answers.{Performs, performs, fails}
+use Rattle.operations.specs.declared.answers.Performed.{Performed}
+use Rattle.operations.specs.declared.answers.Performed.the-variants as Performed
 use Rattle.operations.specs.Perform.{SamePatch, Listed, PerformIs}
 use Rattle.operations.specs.Run.{RanTo, ran, halted, ForRun, ElementsRunIs, RunIs}
 use Rattle.operations.specs.declared.runs.Ran.{Ran}
@@ -50,10 +51,10 @@ record Begins (first : Outcome Operation.Operation) (others : Run (List Operatio
   pub whole : os ≡ o ∷ later
 
 begins : (op : ℕ) (first : Outcome Operation.Operation) (others : Run (List Operation.Operation)) (os : List Operation.Operation)
-    → onFinish (atOp op first) (λ o. onFinish others (λ os. finished (o ∷ os))) ≡ finished os → Begins first others os
+    → onFinish (atOp op noPointer first) (λ o. onFinish others (λ os. finished (o ∷ os))) ≡ finished os → Begins first others os
 unfolding onFinish atOp
 begins op (ok o) (finished later) os e = record { o = o; later = later; is = refl; are = refl; whole = cc }
-begins op (ok o) (stopped number place) os e = absurd (let z : _≡_ {A = ℕ} 0 1 = cc in omega arith)
+begins op (ok o) (stopped s) os e = absurd (let z : _≡_ {A = ℕ} 0 1 = cc in omega arith)
 begins op (refused number place) others os e = absurd (let z : _≡_ {A = ℕ} 0 1 = cc in omega arith)
 
 first-operation : (T : Texts) (op : ℕ) (c : Cell) (kids rest : Forest Cell) (os : List Operation.Operation) → operations op (members T (tree c kids rest))
@@ -72,7 +73,7 @@ module _ (op : ℕ) (o : Operation.Operation) (os : List Operation.Operation) (v
   unfolding run atOp onFinish
   run-ok e = rw e
 
-  run-refused : {number : ℕ} → limited o v ≡ refused number 0 → run limited op (o ∷ os) v ≡ stopped number op
+  run-refused : {number place : ℕ} → limited o v ≡ refused number place → run limited op (o ∷ os) v ≡ stopped (stop number op place (whichPointer o v number))
   unfolding run atOp onFinish
   run-refused e = rw e
 
@@ -155,22 +156,27 @@ module _ {w : Table} {used row end op : ℕ} {whole : Run Value.Value} (g : Goin
           whole = b .whole;
         })
 
+  -- it is performed
+  abbrev First-performs : First w row end op (g .object) (g .os) → List Row → Performed → Type 0
+  First-performs first nodes' r = Performs (w .texts) nodes' (limited (first .o) (g .now)) (whichPointer (first .o) (g .now)) r
+
   module _ (first : First w row end op (g .object) (g .os)) {nodes' : List Row} where
-    -- it is performed
-    going-performs : {r s : Altered} → PerformIs w nodes' used row r → r ≡ s → Results (w .texts) nodes' (limited (first .o) (g .now)) s
-    going-performs is e = subst (Results (w .texts) nodes' (limited (first .o) (g .now))) e
+    going-performs : {r s : Performed} → PerformIs w nodes' used row r → r ≡ s → First-performs first nodes' s
+    going-performs is e = subst (First-performs first nodes') e
         (is .held (g .now) (g .document) (g .short) (first .o) (first .listed))
 
     -- where it is refused, and where it is done
-    going-refused : {number : ℕ} → Results (w .texts) nodes' (limited (first .o) (g .now)) (Altered.Refused number)
-        → RanTo (w .texts) nodes' whole (Ran.Refused number (op + 1))
-    going-refused (refusal e) =
-        halted (sym (g .gives) ∙ ap (λ os. run limited (op + 1) os (g .now)) (first .whole) ∙ run-refused (op + 1) (first .o) (first .later) (g .now) e)
+    going-refused : {number place pointer : ℕ} → First-performs first nodes' (Performed.Refused number place pointer)
+        → RanTo (w .texts) nodes' whole (Ran.Refused number (op + 1) place pointer)
+    going-refused {number} {place} (fails e f) =
+        halted
+        (sym (g .gives) ∙ ap (λ os. run limited (op + 1) os (g .now)) (first .whole) ∙ run-refused (op + 1) (first .o) (first .later) (g .now) e
+        ∙ ap (λ p. stopped (stop number (op + 1) place p)) (sym f))
 
-    going-done : {used' : ℕ} → SamePatch (w .nodes) nodes' → (next : ℕ) → next ≡ endOf nodes' row → Results (w .texts) nodes' (limited (first .o) (g .now))
-        (Altered.Done used')
+    going-done : {used' : ℕ} → SamePatch (w .nodes) nodes' → (next : ℕ) → next ≡ endOf nodes' row
+        → First-performs first nodes' (Performed.Done used')
         → Going (table (w .texts) nodes') used' next end (op + 1) whole
-    going-done same next at (results {v = u} e document) =
+    going-done same next at (performs {v = u} e document) =
         let kept = rows-kept same (g .behind) (g .before) (first .rows) in
         record {
           now = u;
@@ -232,8 +238,9 @@ module _ {w₀ : Table} {nodes : List Row} {used₀ start end used row op : ℕ}
               going-inside (any .held v document short f rows behind before object proper os are) more h;
         }
 
-    module _ {nodes' : List Row} {r : Altered} (is : PerformIs (table (w₀ .texts) nodes) nodes' used row r) where
-      pub run-halts : {number : ℕ} → r ≡ Altered.Refused number → ElementsRunIs w₀ nodes' used₀ start end (Ran.Refused number (op + 1))
+    module _ {nodes' : List Row} {r : Performed} (is : PerformIs (table (w₀ .texts) nodes) nodes' used row r) where
+      pub run-halts : {number place pointer : ℕ} → r ≡ Performed.Refused number place pointer
+          → ElementsRunIs w₀ nodes' used₀ start end (Ran.Refused number (op + 1) place pointer)
       run-halts e =
           record {
             patch = patch-then (any .patch) (is .patch);
@@ -243,7 +250,7 @@ module _ {w₀ : Table} {nodes : List Row} {used₀ start end used row op : ℕ}
                 going-refused g first (going-performs g first is e);
           }
 
-      pub run-next : {used' : ℕ} → r ≡ Altered.Done used' → (next : ℕ) → next ≡ endOf nodes' row
+      pub run-next : {used' : ℕ} → r ≡ Performed.Done used' → (next : ℕ) → next ≡ endOf nodes' row
           → GoingAny w₀ used₀ start end nodes' used' next (op + 1)
       run-next e next at =
           record {
@@ -257,7 +264,7 @@ module _ {w₀ : Table} {nodes : List Row} {used₀ start end used row op : ℕ}
 -- ---- before the loop
 -- a patch of the right shape has the operations of its elements
 right-shape : (array few : Bool) {r : Run (List Operation.Operation)} (os : List Operation.Operation)
-    → (if array then (if few then r else stopped too-many-operations 0) else stopped wrong-shape 0) ≡ finished os → r ≡ finished os
+    → (if array then (if few then r else stopped (stop too-many-operations 0 0 0)) else stopped (stop wrong-shape 0 0 0)) ≡ finished os → r ≡ finished os
 right-shape true true os e = e
 right-shape true false os e = absurd (let z : _≡_ {A = ℕ} 0 1 = cc in omega arith)
 right-shape false few os e = absurd (let z : _≡_ {A = ℕ} 0 1 = cc in omega arith)

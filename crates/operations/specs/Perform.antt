@@ -12,7 +12,7 @@ use Rattle.spec.specs.Value as Value
 use Rattle.spec.specs.Pointer.{Tokens}
 use Rattle.spec.specs.Operation as Operation
 use Rattle.spec.specs.Operation.{addAt, removeAtPath, moveTo, copyTo, testAt, limited}
-use Rattle.spec.specs.Patch.{operation}
+use Rattle.spec.specs.Patch.{operation, whichPointer}
 use Rattle.claims.specs.Proper.{Proper}
 use Rattle.claims.specs.Equality.{Distinct}
 use Rattle.tape.specs.Layout.{patchRow, scratchRow}
@@ -28,6 +28,8 @@ use Rattle.walk.specs.Path.{PathIs}
 use Rattle.changes.specs.Site.{Offered}
 use Rattle.changes.specs.Document.{Document, judged, Results}
 use Rattle.changes.specs.declared.answers.Altered.{Altered}
+use Rattle.operations.specs.Answers.{fromOrPath, Performs}
+use Rattle.operations.specs.declared.answers.Performed.{Performed}
 
 -- a list of nodes, and the same with other rows for the document and for scratch: those of the patch are kept
 pub record SamePatch (xs ys : List Row) : Type 0 where
@@ -40,22 +42,22 @@ SetAsideIs nodes nodes' row = nodes' ≡ moved nodes scratchRow row (spanOf (get
 
 -- from one location to another
 pub record Transfers (f : Tokens → Tokens → Value.Value → Outcome Value.Value) (w : Table) (nodes' : List Row) (used : ℕ) (from path : Spelling)
-    (r : Altered) : Type 0 where
+    (r : Performed) : Type 0 where
   pub patch : SamePatch (w .nodes) nodes'
   pub held : (v : Value.Value) → Document w used v → Short (w .texts) → (gs : Tokens) → PathIs (w .texts) from gs → (ts : Tokens) → PathIs (w .texts) path ts
-      → Results (w .texts) nodes' (judged (f gs ts v)) r
+      → Performs (w .texts) nodes' (judged (f gs ts v)) (fromOrPath gs v) r
 
-abbrev pub CopyIs : Table → List Row → ℕ → Spelling → Spelling → Altered → Type 0
+abbrev pub CopyIs : Table → List Row → ℕ → Spelling → Spelling → Performed → Type 0
 CopyIs w nodes' used from path r = Transfers copyTo w nodes' used from path r
 
-abbrev pub MoveIs : Table → List Row → ℕ → Spelling → Spelling → Altered → Type 0
+abbrev pub MoveIs : Table → List Row → ℕ → Spelling → Spelling → Performed → Type 0
 MoveIs w nodes' used from path r = Transfers moveTo w nodes' used from path r
 
 -- from another location than the root
-pub record MoveBelowIs (w : Table) (nodes' : List Row) (used : ℕ) (from path : Spelling) (r : Altered) : Type 0 where
+pub record MoveBelowIs (w : Table) (nodes' : List Row) (used : ℕ) (from path : Spelling) (r : Performed) : Type 0 where
   pub patch : SamePatch (w .nodes) nodes'
   pub held : (v : Value.Value) → Document w used v → Short (w .texts) → (g : Text) (gs : Tokens) → PathIs (w .texts) from (g ∷ gs)
-      → (ts : Tokens) → PathIs (w .texts) path ts → Results (w .texts) nodes' (judged (moveTo (g ∷ gs) ts v)) r
+      → (ts : Tokens) → PathIs (w .texts) path ts → Performs (w .texts) nodes' (judged (moveTo (g ∷ gs) ts v)) (fromOrPath (g ∷ gs) v) r
 
 -- where the value is set aside
 pub record MoveAsideIs (w : Table) (nodes' : List Row) (used : ℕ) (from path : Spelling) (r : Altered) : Type 0 where
@@ -83,13 +85,13 @@ pub record Listed (w : Table) (row : ℕ) (o : Operation.Operation) : Type 0 whe
   pub is : operation (meant (w .texts) c kids) ≡ ok o
 
 -- of a kind, and with a path
-pub record OperationIs (w : Table) (nodes' : List Row) (used row : ℕ) (path : Spelling) (k : Operation.Kind) (r : Altered) : Type 0 where
+pub record OperationIs (w : Table) (nodes' : List Row) (used row : ℕ) (path : Spelling) (k : Operation.Kind) (r : Performed) : Type 0 where
   pub patch : SamePatch (w .nodes) nodes'
   pub held : (v : Value.Value) → Document w used v → Short (w .texts) → (o : Operation.Operation) → Listed w row o → o .kind ≡ k
-      → PathIs (w .texts) path (o .path) → Results (w .texts) nodes' (limited o v) r
+      → PathIs (w .texts) path (o .path) → Performs (w .texts) nodes' (limited o v) (whichPointer o v) r
 
 -- any
-pub record PerformIs (w : Table) (nodes' : List Row) (used row : ℕ) (r : Altered) : Type 0 where
+pub record PerformIs (w : Table) (nodes' : List Row) (used row : ℕ) (r : Performed) : Type 0 where
   pub patch : SamePatch (w .nodes) nodes'
   pub held : (v : Value.Value) → Document w used v → Short (w .texts) → (o : Operation.Operation) → Listed w row o
-      → Results (w .texts) nodes' (limited o v) r
+      → Performs (w .texts) nodes' (limited o v) (whichPointer o v) r

@@ -7,7 +7,7 @@ use Rattle.spec.specs.Forest.{Forest, size}
 use Rattle.spec.specs.Value as Value
 use Rattle.spec.specs.Operation as Operation
 use Rattle.spec.specs.Operation.{limited}
-use Rattle.spec.specs.Patch.{Run, finished, stopped, operations, shape, run}
+use Rattle.spec.specs.Patch.{stop, Run, finished, stopped, operations, shape, run}
 use Rattle.claims.specs.Proper.{Proper, ProperItems}
 use Rattle.tape.specs.Layout.{patchRow, scratchRow}
 use Rattle.tape.specs.Fields.{Row}
@@ -22,10 +22,10 @@ use Rattle.operations.specs.Perform.{SamePatch}
 use Rattle.operations.specs.declared.runs.Ran.{Ran}
 use Rattle.operations.specs.declared.runs.Ran.the-variants.{Done, Refused}
 
--- the document is then the result, or the refusal's number with the operation
+-- the document is then the result, or the refusal's number with the operation, the place and the pointer
 pub data RanTo (T : Texts) (nodes' : List Row) (o : Run Value.Value) : Ran → Type 0 where
   ran : {used : ℕ} {v : Value.Value} → o ≡ finished v → Document (table T nodes') used v → RanTo T nodes' o (Done used)
-  halted : {number op : ℕ} → o ≡ stopped number op → RanTo T nodes' o (Refused number op)
+  halted : {number op place pointer : ℕ} → o ≡ stopped (stop number op place pointer) → RanTo T nodes' o (Refused number op place pointer)
 
 -- what holds of the run of the operations that are elements in the rows from one to another, values as texts are read
 abbrev pub ForRun : Table → ℕ → ℕ → ℕ → (Run Value.Value → Type 0) → Type 0

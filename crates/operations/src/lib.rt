@@ -2,11 +2,13 @@
 //
 // What is proved: of a document (`Document` of changes) and of a patch that was read and whose shape is right, `run`
 // answers as the definitions' run of its operations does, each with the limits judged. Either the document is then
-// the result and the patch's rows are as they were, or the answer is the first refusal with its operation.
+// the result and the patch's rows are as they were, or the answer is the first refusal with its operation, its place
+// and its pointer.
 //
 // What a caller should know: `run` is total. After a refusal, and where the table holds no document and no patch, the
 // nodes are free. So is the index after every answer.
 
+mod answers; // what an operation answers
 mod transfers; // a value moved and copied
 mod perform; // one operation of the patch
 mod runs; // the operations one after another

@@ -1,4 +1,6 @@
 // One operation of the patch, in a row of it. Its members are found again there.
+use crate::answers::Performed;
+use crate::answers::at_path;
 use crate::transfers::copy_value;
 use crate::transfers::move_value;
 use changes::Altered;
@@ -17,7 +19,7 @@ use tape::fields::Spelling;
 use tape::layout;
 use tape::layout::Node;
 use tape::layout::Texts;
-use walk::Child;
+use walk::Reached;
 use walk::walk;
 ghost use mathlib.Core.Path.{_≡_};
 ghost use Rattle.spec.specs.Operation as Operation;
@@ -25,13 +27,19 @@ ghost use Rattle.tape.specs.Lent.{before};
 ghost use Rattle.operations.specs.Perform.{OperationIs, EqualToIs, PerformIs};
 
 // RFC 6902, section 4.1: the value is added at `path`.
-fn add<'a>(texts: Texts<'a>, nodes: &mut [Node], used: usize, row: usize, path: Spelling) -> Altered
+fn add<'a>(
+    texts: Texts<'a>,
+    nodes: &mut [Node],
+    used: usize,
+    row: usize,
+    path: Spelling,
+) -> Performed
     ensures { λ r. ⌜ OperationIs (before texts nodes) (now (nodes .exit)) used row path Operation.add r ⌝ }
 {
     let Member::At(value) = member(texts, nodes, row, b"value") else {
-        return Altered::Refused(refusal::WRONG_SHAPE);
+        return Performed::Refused(refusal::WRONG_SHAPE, 0, 0);
     };
-    change_at(texts, nodes, used, path, Change::Add(value))
+    at_path(change_at(texts, nodes, used, path, Change::Add(value)))
 }
 
 // Section 4.3: the value at `path` is replaced.
@@ -41,13 +49,13 @@ fn replace<'a>(
     used: usize,
     row: usize,
     path: Spelling,
-) -> Altered
+) -> Performed
     ensures { λ r. ⌜ OperationIs (before texts nodes) (now (nodes .exit)) used row path Operation.replace r ⌝ }
 {
     let Member::At(value) = member(texts, nodes, row, b"value") else {
-        return Altered::Refused(refusal::WRONG_SHAPE);
+        return Performed::Refused(refusal::WRONG_SHAPE, 0, 0);
     };
-    change_at(texts, nodes, used, path, Change::Replace(value))
+    at_path(change_at(texts, nodes, used, path, Change::Replace(value)))
 }
 
 // Section 4.4: the value at `from` is removed, then added at `path`.
@@ -57,11 +65,11 @@ fn move_to<'a>(
     used: usize,
     row: usize,
     path: Spelling,
-) -> Altered
+) -> Performed
     ensures { λ r. ⌜ OperationIs (before texts nodes) (now (nodes .exit)) used row path Operation.move r ⌝ }
 {
     let Spelled::As(from) = string_member(texts, nodes, row, b"from") else {
-        return Altered::Refused(refusal::WRONG_SHAPE);
+        return Performed::Refused(refusal::WRONG_SHAPE, 0, 0);
     };
     move_value(texts, nodes, used, from, path)
 }
@@ -73,11 +81,11 @@ fn copy<'a>(
     used: usize,
     row: usize,
     path: Spelling,
-) -> Altered
+) -> Performed
     ensures { λ r. ⌜ OperationIs (before texts nodes) (now (nodes .exit)) used row path Operation.copy r ⌝ }
 {
     let Spelled::As(from) = string_member(texts, nodes, row, b"from") else {
-        return Altered::Refused(refusal::WRONG_SHAPE);
+        return Performed::Refused(refusal::WRONG_SHAPE, 0, 0);
     };
     copy_value(texts, nodes, used, from, path)
 }
@@ -94,13 +102,13 @@ fn equal_to<'a>(
     ensures { λ r. ⌜ EqualToIs (before texts nodes) used path value r ⌝ }
 {
     match walk(texts, nodes, layout::DOCUMENT, path) {
-        Child::At(row) => {
+        Reached::At(row) => {
             if compare(texts, nodes, index, row, value, limits::MAX_DEPTH) {
                 return Altered::Done(used);
             }
-            return Altered::Refused(refusal::TEST_DIFFERS);
+            return Altered::Refused(refusal::TEST_DIFFERS, 0);
         }
-        Child::Refused(number) => return Altered::Refused(number),
+        Reached::Lost(number, walked) => return Altered::Refused(number, walked),
     }
 }
 
@@ -112,13 +120,13 @@ fn test<'a>(
     used: usize,
     row: usize,
     path: Spelling,
-) -> Altered
+) -> Performed
     ensures { λ r. ⌜ OperationIs (before texts nodes) (now (nodes .entry)) used row path Operation.test r ⌝ }
 {
     let Member::At(value) = member(texts, nodes, row, b"value") else {
-        return Altered::Refused(refusal::WRONG_SHAPE);
+        return Performed::Refused(refusal::WRONG_SHAPE, 0, 0);
     };
-    equal_to(texts, nodes, index, used, path, value)
+    at_path(equal_to(texts, nodes, index, used, path, value))
 }
 
 // The operation in a row of the patch.
@@ -128,20 +136,20 @@ pub fn perform<'a>(
     index: &mut [u16],
     used: usize,
     row: usize,
-) -> Altered
+) -> Performed
     ensures { λ r. ⌜ PerformIs (before texts nodes) (now (nodes .exit)) used row r ⌝ }
 {
     let Spelled::As(path) = string_member(texts, nodes, row, b"path") else {
-        return Altered::Refused(refusal::WRONG_SHAPE);
+        return Performed::Refused(refusal::WRONG_SHAPE, 0, 0);
     };
     let kind = kind_of(texts, nodes, row);
     match kind {
         Kind::Add => return add(texts, nodes, used, row, path),
-        Kind::Remove => return change_at(texts, nodes, used, path, Change::Remove),
+        Kind::Remove => return at_path(change_at(texts, nodes, used, path, Change::Remove)),
         Kind::Replace => return replace(texts, nodes, used, row, path),
         Kind::Move => return move_to(texts, nodes, used, row, path),
         Kind::Copy => return copy(texts, nodes, used, row, path),
         Kind::Test => return test(texts, nodes, index, used, row, path),
-        Kind::Unknown => return Altered::Refused(refusal::WRONG_SHAPE),
+        Kind::Unknown => return Performed::Refused(refusal::WRONG_SHAPE, 0, 0),
     }
 }

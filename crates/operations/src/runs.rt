@@ -1,6 +1,6 @@
 // The operations of a patch, one after another.
+use crate::answers::Performed;
 use crate::perform::perform;
-use changes::Altered;
 use tape::layout;
 use tape::layout::Node;
 use tape::layout::Texts;
@@ -11,8 +11,8 @@ ghost use Rattle.operations.specs.Run.{ElementsRunIs, RunIs};
 pub enum Ran {
     // the document's number of rows then
     Done(usize),
-    // the number of the refusal, and the operation
-    Refused(u8, usize),
+    // the number of the refusal, the operation, the place and the pointer
+    Refused(u8, usize, usize, u8),
 }
 
 // The operations in the rows from `start` up to `end`, the first of which is operation 1; the first that fails ends
@@ -36,11 +36,13 @@ fn elements<'a>(
         }
         op += 1;
         match perform(texts, nodes, index, rows, row) {
-            Altered::Done(n) => {
+            Performed::Done(n) => {
                 rows = n;
                 row = end_of(nodes, row);
             }
-            Altered::Refused(number) => return Ran::Refused(number, op),
+            Performed::Refused(number, place, pointer) => {
+                return Ran::Refused(number, op, place, pointer);
+            }
         }
     }
     Ran::Done(rows)

@@ -1,4 +1,7 @@
 // A value of the document moved or copied to another location, by way of the scratch rows.
+use crate::answers::Performed;
+use crate::answers::at_from;
+use crate::answers::at_path;
 use changes::Altered;
 use changes::Change;
 use changes::change_at;
@@ -12,7 +15,7 @@ use tape::layout;
 use tape::layout::Node;
 use tape::layout::Texts;
 use tape::moves::slide;
-use walk::Child;
+use walk::Reached;
 use walk::walk;
 ghost use Rattle.tape.specs.Lent.{before};
 ghost use Rattle.operations.specs.Perform.{SetAsideIs, CopyIs, MoveAsideIs, MoveBelowIs, MoveIs};
@@ -32,15 +35,15 @@ pub fn copy_value<'a>(
     used: usize,
     from: Spelling,
     path: Spelling,
-) -> Altered
+) -> Performed
     ensures { λ r. ⌜ CopyIs (before texts nodes) (now (nodes .exit)) used from path r ⌝ }
 {
     match walk(texts, nodes, layout::DOCUMENT, from) {
-        Child::At(row) => {
+        Reached::At(row) => {
             set_aside(nodes, row);
-            return change_at(texts, nodes, used, path, Change::Add(layout::SCRATCH));
+            return at_path(change_at(texts, nodes, used, path, Change::Add(layout::SCRATCH)));
         }
-        Child::Refused(number) => return Altered::Refused(number),
+        Reached::Lost(number, walked) => return at_from(number, walked),
     }
 }
 
@@ -68,15 +71,15 @@ fn move_below<'a>(
     used: usize,
     from: Spelling,
     path: Spelling,
-) -> Altered
+) -> Performed
     ensures { λ r. ⌜ MoveBelowIs (before texts nodes) (now (nodes .exit)) used from path r ⌝ }
 {
     match walk(texts, nodes, layout::DOCUMENT, from) {
-        Child::At(row) => {
+        Reached::At(row) => {
             set_aside(nodes, row);
-            return move_aside(texts, nodes, used, from, path);
+            return at_path(move_aside(texts, nodes, used, from, path));
         }
-        Child::Refused(number) => return Altered::Refused(number),
+        Reached::Lost(number, walked) => return at_from(number, walked),
     }
 }
 
@@ -87,12 +90,12 @@ pub fn move_value<'a>(
     used: usize,
     from: Spelling,
     path: Spelling,
-) -> Altered
+) -> Performed
     ensures { λ r. ⌜ MoveIs (before texts nodes) (now (nodes .exit)) used from path r ⌝ }
 {
     match first(part(texts, from)) {
-        First::Root => return Altered::Done(used),
+        First::Root => return Performed::Done(used),
         First::At(_) => return move_below(texts, nodes, used, from, path),
-        First::Malformed => return Altered::Refused(refusal::MALFORMED_POINTER),
+        First::Malformed => return Performed::Refused(refusal::MALFORMED_POINTER, 0, 0),
     }
 }

@@ -1,13 +1,19 @@
--- Document 01: "With 3001 for 3e3 it is `refused 15 text 0 op 1 place 0`."; and numbers around a change of the number of digits.
+-- Document 01: "With 3001 for 3e3 it is `refused 15 text 0 op 1 place 0`.", with the pointer of document 02, T-01; and numbers around a change of
+-- the number of digits.
 use mathlib.Core.Path.{_≡_, refl}
 use mathlib.Core.List.{_++_}
 use Rattle.spec.specs.Bytes.{ascii}
-use Rattle.spec.specs.Answer.{success, refusal}
-use Rattle.report.specs.Line.{digit, decimalFrom, decimal, newline, refusalLine, lineOf}
+use Rattle.spec.specs.Patch.{stop}
+use Rattle.spec.specs.Answer.{success, failure}
+use Rattle.report.specs.Line.{digit, decimalFrom, decimal, newline, lastField, refusalLine, lineOf}
 
-refused : lineOf (refusal 15 0 1 0) ≡ ascii "refused 15 text 0 op 1 place 0" ++ newline
-unfolding lineOf refusalLine decimal decimalFrom digit ascii
+refused : lineOf (failure (stop 15 1 0 0)) ≡ ascii "refused 15 text 0 op 1 place 0 pointer 0" ++ newline
+unfolding lineOf refusalLine lastField decimal decimalFrom digit ascii
 refused = refl
+
+lost : lineOf (failure (stop 11 2 1 1)) ≡ ascii "refused 11 text 0 op 2 place 1 pointer 1" ++ newline
+unfolding lineOf refusalLine lastField decimal decimalFrom digit ascii
+lost = refl
 
 patched : lineOf (success (ascii "{\"mAh\":3000,\"cut\":[4.2,3.0,2.8]}")) ≡ ascii "{\"mAh\":3000,\"cut\":[4.2,3.0,2.8]}" ++ newline
 unfolding lineOf

@@ -21,7 +21,7 @@ use Rattle.writer.proofs.PlacedLaws.{placed-as, placed-on, placed-whole}
 use Rattle.json_patch.specs.Call.{Memory, Answered, ApplyIs, lentOf, wiped}
 use Rattle.json_patch.specs.declared.answer.Answer.{Answer}
 use Rattle.json_patch.proofs.AnswerLaws.{answered-as}
-use Rattle.report.specs.Line.{decimal, newline, refusalLine, lineOf}
+use Rattle.report.specs.Line.{decimal, newline, lastField, refusalLine, lineOf}
 use Rattle.report.specs.Report.{ending, lentTo, lineLimit, RunIs}
 use Rattle.report.proofs.DecimalLaws.{decimal-short}
 
@@ -38,27 +38,33 @@ pub placed-past : (bytes before : Bytes) (at : ℕ) → length before < at → P
 placed-past bytes before at h = record { next-is = omega arith; after-is = sym (sets-out before at bytes (omega arith)) }
 
 -- ---- the refusal's line
-module _ (number text op place : ℕ) where
-  pub refusal-pieces : refusalLine number text op place ≡
+pub last-pieces : (pointer : ℕ) → lastField pointer ≡ (ascii " pointer " ++ decimal pointer) ++ newline
+unfolding lastField
+last-pieces pointer = simp append-assoc
+
+module _ (number text op place pointer : ℕ) where
+  pub refusal-pieces : refusalLine number text op place pointer ≡
       (((ascii "refused " ++ decimal number) ++ (ascii " text " ++ decimal text)) ++ ((ascii " op " ++ decimal op) ++ (ascii " place " ++ decimal place)))
-      ++ newline
+      ++ lastField pointer
   unfolding refusalLine
   refusal-pieces = simp append-assoc
 
--- the fields of an answer fit their types, so that they have at most 3, 3, 20 and 20 digits
+-- the fields of an answer fit their types, so that they have at most 3, 3, 20, 20 and 3 digits
 pub record Fits (r : Answer) : Type 0 where
   pub number : r .number < 256
   pub text : r .text < 256
   pub op : r .op < 0x1_0000_0000_0000_0000
   pub place : r .place < 0x1_0000_0000_0000_0000
+  pub pointer : r .pointer < 256
 
-refusal-short : {r : Answer} → Fits r → length (refusalLine (r .number) (r .text) (r .op) (r .place)) ≤ lineLimit
-unfolding refusalLine ascii
+refusal-short : {r : Answer} → Fits r → length (refusalLine (r .number) (r .text) (r .op) (r .place) (r .pointer)) ≤ lineLimit
+unfolding refusalLine lastField ascii
 refusal-short {r} fit =
     let a = decimal-short 2 (r .number) (omega arith) in
     let b = decimal-short 2 (r .text) (omega arith) in
     let c = decimal-short 19 (r .op) (omega arith) in
     let d = decimal-short 19 (r .place) (omega arith) in
+    let e = decimal-short 2 (r .pointer) (omega arith) in
     simp length-append (omega arith)
 
 -- ---- what ends the line
@@ -67,7 +73,7 @@ module _ (a : Answer) where
   unfolding ending
   ending-done e = rw (eq-eqb (a .number) 0 e)
 
-  pub ending-refused : (a .number ≡ 0 → ⊥) → ending a ≡ refusalLine (a .number) (a .text) (a .op) (a .place)
+  pub ending-refused : (a .number ≡ 0 → ⊥) → ending a ≡ refusalLine (a .number) (a .text) (a .op) (a .place) (a .pointer)
   unfolding ending
   ending-refused h = rw (ne-eqb (a .number) 0 h)
 
@@ -98,9 +104,9 @@ module _ {A : Spec.Answer} {r : Answer} {before after : Bytes} (h : Answered A b
   unfolding lineOf
   line-done e = rw (eq-eqb (A .number) 0 e)
 
-  line-refused : (A .number ≡ 0 → ⊥) → lineOf A ≡ refusalLine (r .number) (r .text) (r .op) (r .place)
+  line-refused : (A .number ≡ 0 → ⊥) → lineOf A ≡ refusalLine (r .number) (r .text) (r .op) (r .place) (r .pointer)
   unfolding lineOf
-  line-refused e = rw (ne-eqb (A .number) 0 e, h .number, h .text, h .op, h .place)
+  line-refused e = rw (ne-eqb (A .number) 0 e, h .number, h .text, h .op, h .place, h .pointer)
 
   line-is : lineOf A ≡ A .written ++ ending r
   line-is = go (ℕ-discrete (A .number) 0)

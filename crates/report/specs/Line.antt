@@ -1,5 +1,5 @@
 -- The line that the patch tool prints: document 01, "It prints the written text and a newline, or `refused`, the number, `text`, its value, `op`,
--- its value, `place`, its value, on one line".
+-- its value, `place`, its value, on one line". Document 02, T-01: "the refusal line ends in `pointer` and its value, on every line".
 use Prim.Native.Nat.{ℕ, zero, suc, _+_, _/_, _%_}
 use Prim.Native.Char.{code}
 use mathlib.Core.List.{[], _∷_, _++_}
@@ -24,15 +24,19 @@ decimal n = decimalFrom (suc n) n
 abbrev pub newline : Bytes
 newline = 0x0A ∷ []
 
--- the line of a refusal with this number, text, op and place
-unfoldable pub refusalLine : ℕ → ℕ → ℕ → ℕ → Bytes
-refusalLine number text op place =
+-- what a refusal's line ends in
+unfoldable pub lastField : ℕ → Bytes
+lastField pointer = ascii " pointer " ++ decimal pointer ++ newline
+
+-- the line of a refusal with this number, text, op, place and pointer
+unfoldable pub refusalLine : ℕ → ℕ → ℕ → ℕ → ℕ → Bytes
+refusalLine number text op place pointer =
     ascii "refused " ++ decimal number
     ++ ascii " text " ++ decimal text
     ++ ascii " op " ++ decimal op
     ++ ascii " place " ++ decimal place
-    ++ newline
+    ++ lastField pointer
 
 -- the line of an answer
 unfoldable pub lineOf : Answer → Bytes
-lineOf a = if eqb (a .number) done then a .written ++ newline else refusalLine (a .number) (a .text) (a .op) (a .place)
+lineOf a = if eqb (a .number) done then a .written ++ newline else refusalLine (a .number) (a .text) (a .op) (a .place) (a .pointer)

@@ -17,15 +17,15 @@ use Rattle.report.specs.Line.{newline, refusalLine, lineOf}
 
 -- what stands in the line behind the written text: a newline, or all of a refusal's line
 unfoldable pub ending : Answer → Bytes
-ending a = if eqb (a .number) done then newline else refusalLine (a .number) (a .text) (a .op) (a .place)
+ending a = if eqb (a .number) done then newline else refusalLine (a .number) (a .text) (a .op) (a .place) (a .pointer)
 
 -- a line has room for as many bytes of output as it has beside its newline
 abbrev pub lentTo : Memory → Lent
 lentTo m = record { output = length (m .output) - 1; nodes = length (m .nodes); index = length (m .index) }
 
--- no refusal's line is longer: 26 bytes are the same in each, and its four numbers have at most 3, 3, 20 and 20 digits
+-- no refusal's line is longer: 35 bytes are the same in each, and its five numbers have at most 3, 3, 20, 20 and 3 digits
 abbrev pub lineLimit : ℕ
-lineLimit = 80
+lineLimit = 84
 
 -- what `run` answers, and all lent memory afterwards; the line is the memory's output
 pub record RunIs (T : Texts) (m m' : Memory) (r : ℕ) : Type 0 where

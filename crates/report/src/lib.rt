@@ -3,7 +3,7 @@
 //
 // What is proved: the bytes laid down are those of the definition `lineOf` (specs/Line), of the answer that the
 // definition `answer` of crate `spec` gives, as many as there is room for; behind them the buffer is as it was. Where
-// it has 80 bytes or more, there is room for every line.
+// it has 84 bytes or more, there is room for every line.
 mod pieces; // the pieces of the line
 
 use json_patch::Answer;

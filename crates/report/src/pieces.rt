@@ -4,7 +4,7 @@ ghost use mathlib.Core.Path.{_≡_};
 ghost use mathlib.Core.List.{_++_};
 ghost use Prim.Native.Nat.{min};
 ghost use Rattle.writer.specs.Writing.{Placed};
-ghost use Rattle.report.specs.Line.{decimal, refusalLine};
+ghost use Rattle.report.specs.Line.{decimal, lastField, refusalLine};
 ghost use Rattle.report.specs.Report.{ending};
 use json_patch::Answer;
 use tape::fields::long;
@@ -52,17 +52,27 @@ fn put_two_fields(first: &[u8], m: u64, second: &[u8], n: u64, out: &mut [u8]) -
     put + more
 }
 
+// The last of them, and the newline.
+fn put_last_field(n: u64, out: &mut [u8]) -> usize
+    ensures { λ r. ⌜ Placed (lastField n) 0 (now (out .entry)) (now (out .exit)) r ⌝ }
+{
+    let put = put_field(b" pointer ", n, out);
+    let more = put_bytes(b"\n", &mut out[put..]);
+    put + more
+}
+
 fn put_refusal(answer: Answer, out: &mut [u8]) -> usize
-    ensures { λ r. ⌜ Placed (refusalLine (answer .number) (answer .text) (answer .op) (answer .place)) 0 (now (out .entry)) (now (out .exit)) r ⌝ }
+    ensures { λ r. ⌜ Placed (refusalLine (answer .number) (answer .text) (answer .op) (answer .place) (answer .pointer)) 0 (now (out .entry)) (now (out .exit)) r ⌝ }
 {
     let number = answer.number as u64;
     let text = answer.text as u64;
     let op = answer.op as u64;
     let place = answer.place as u64;
+    let pointer = answer.pointer as u64;
     let mut put = put_two_fields(b"refused ", number, b" text ", text, out);
     let n = put_two_fields(b" op ", op, b" place ", place, &mut out[put..]);
     put += n;
-    let last = put_bytes(b"\n", &mut out[put..]);
+    let last = put_last_field(pointer, &mut out[put..]);
     put + last
 }
 

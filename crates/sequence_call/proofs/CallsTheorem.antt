@@ -2,22 +2,22 @@
 use mathlib.Core.Path.{_≡_}
 use Prim.Native.Nat.{ℕ}
 use Rattle.spec.specs.Bytes.{Bytes}
+use Rattle.spec.specs.Patch.{Stop}
 use Rattle.spec.specs.Answer as Spec
 use Rattle.sequence.specs.Sequence as Sequence
-use Rattle.sequence.specs.Sequence.{OpLess}
+use Rattle.sequence.specs.Sequence.{later, OpLess}
 use Rattle.sequence.proofs.SequenceTheorem.{sequence}
 use Rattle.sequence_call.specs.Calls.{Called, Promises, Writes, Refuses, Agree, same-text, same-refusal, CallsStatement}
 
 writes : (t : Bytes) {call : Called} → Promises (Spec.success t) call → Writes t call
-writes t p = record { answers = (p .number, p .text, p .op, p .place, p .written); laid = p .output }
+writes t p = record { answers = (p .number, p .text, p .op, p .place, p .pointer, p .written); laid = p .output }
 
-refuses : (number text op place : ℕ) {call : Called} → Promises (Spec.refusal number text op place) call → Refuses number text op place call
-refuses number text op place p = record { answers = (p .number, p .text, p .op, p .place, p .written); unchanged = p .output }
+refuses : (s : Stop) {call : Called} → Promises (Spec.failure s) call → Refuses s call
+refuses s p = record { answers = (p .number, p .text, p .op, p .place, p .pointer, p .written); unchanged = p .output }
 
 agree : {n : ℕ} {a b : Spec.Answer} {c d : Called} → OpLess n a b → Promises a c → Promises b d → Agree n c d
 agree (Sequence.same-text t) p q = same-text t (writes t p) (writes t q)
-agree (Sequence.same-refusal number text op place l) p q =
-    same-refusal number text op place l (refuses number text op place p) (refuses number text _ place q)
+agree {n} (Sequence.same-refusal s l) p q = same-refusal s l (refuses s p) (refuses (later n s) q)
 
 pub calls : CallsStatement
 calls =

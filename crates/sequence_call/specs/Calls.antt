@@ -5,10 +5,11 @@ use Prim.Native.Nat.{ℕ, _+_, _≤_}
 use mathlib.Core.List.{List, _++_}
 use lib.ListN.{length, drop}
 use Rattle.spec.specs.Bytes.{Bytes}
+use Rattle.spec.specs.Patch.{Stop}
 use Rattle.spec.specs.Answer as Spec
 use Rattle.spec.specs.Answer.{Lent, answer}
-use Rattle.sequence.specs.Sequence.{InARow, AllInARow}
-use Rattle.json_patch.specs.Call.{SuccessIs, RefusalIs, Answered}
+use Rattle.sequence.specs.Sequence.{later, InARow, AllInARow}
+use Rattle.json_patch.specs.Call.{SuccessIs, FailureIs, Answered}
 use Rattle.json_patch.specs.declared.answer.Answer.{Answer}
 
 -- an answer, with the output as it was before the call and as it is after
@@ -26,14 +27,14 @@ pub record Writes (text : Bytes) (call : Called) : Type 0 where
   pub laid : call .after ≡ text ++ drop (length text) (call .before)
 
 -- the call answers this refusal, and the output is unchanged
-pub record Refuses (number text op place : ℕ) (call : Called) : Type 0 where
-  pub answers : RefusalIs number text op place (call .answer)
+pub record Refuses (s : Stop) (call : Called) : Type 0 where
+  pub answers : FailureIs (s .number) (s .op) (s .place) (s .pointer) (call .answer)
   pub unchanged : call .after ≡ call .before
 
 -- `Agree n c d`: both calls write one text, or both are refused alike, c with op less by n.
 pub data Agree (n : ℕ) (c d : Called) : Type 0 where
   same-text : (t : Bytes) → Writes t c → Writes t d → Agree n c d
-  same-refusal : (number text op place : ℕ) → 1 ≤ op → Refuses number text op place c → Refuses number text (op + n) place d → Agree n c d
+  same-refusal : (s : Stop) → 1 ≤ s .op → Refuses s c → Refuses (later n s) d → Agree n c d
 
 pub record CallsStatement : Type 0 where
   pub two : (document first text second joined : Bytes) (lent-first lent-second lent-joined : Lent) →

@@ -10,7 +10,7 @@ use Rattle.spec.specs.Outcome.{ok, refused}
 use Rattle.spec.specs.Forest.{Forest, none, tree, count}
 use Rattle.spec.specs.Value.{isArray}
 use Rattle.spec.specs.Operation as Operation
-use Rattle.spec.specs.Patch.{Run, finished, stopped, atOp, onFinish, operation, operations, shape}
+use Rattle.spec.specs.Patch.{stop, Run, finished, stopped, atOp, noPointer, onFinish, operation, operations, shape}
 use Rattle.tape.specs.Fields.{kindOf}
 use Rattle.tape.specs.declared.fields.Cell.{Cell}
 use Rattle.tape.specs.Rows.{endOf, ArityIs}
@@ -53,8 +53,8 @@ module _ {w : Table} where
 
 -- ---- the first of the operations
 module _ (T : Texts) (op : ℕ) (c : Cell) (kids rest : Forest Cell) where
-  first-refused : (n : ℕ) → operation (meant T c kids) ≡ refused n 0 → operations op (members T (tree c kids rest)) ≡ stopped n op
-  unfolding operations mapForest atOp onFinish
+  first-refused : (n : ℕ) → operation (meant T c kids) ≡ refused n 0 → operations op (members T (tree c kids rest)) ≡ stopped (stop n op 0 0)
+  unfolding operations mapForest atOp noPointer onFinish
   first-refused n e = rw e
 
   first-right : {o : Operation.Operation} → operation (meant T c kids) ≡ ok o

@@ -6,7 +6,7 @@ use lib.ListN.{getD}
 use Rattle.spec.specs.Refusal.{wrong-shape, too-many-operations}
 use Rattle.spec.specs.Forest.{Forest}
 use Rattle.spec.specs.Operation as Operation
-use Rattle.spec.specs.Patch.{Run, finished, stopped, operations, shape}
+use Rattle.spec.specs.Patch.{stop, Run, finished, stopped, operations, shape}
 use Rattle.tape.specs.Layout.{arrayKind}
 use Rattle.tape.specs.Fields.{kindOf}
 use Rattle.tape.specs.declared.fields.Cell.{Cell}
@@ -21,7 +21,7 @@ use Rattle.shape.specs.declared.patch.Shape.the-variants as Shape
 -- whether there are operations, or the refusal and the op at which it is given
 pub data ShapeIs : Run (List Operation.Operation) → Shape → Type 0 where
   right : (os : List Operation.Operation) → ShapeIs (finished os) Shape.Right
-  wrong : (number op : ℕ) → ShapeIs (stopped number op) (Shape.Refused number op)
+  wrong : (number op : ℕ) → ShapeIs (stopped (stop number op 0 0)) (Shape.Refused number op)
 
 -- whatever the table holds, an operation is refused with a number that is answered of one
 pub data ElementNumber : Shape → Type 0 where

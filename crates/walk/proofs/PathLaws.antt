@@ -1,17 +1,17 @@
 -- Laws of a walk along a pointer, token by token.
-use Prim.Native.Nat.{ℕ, _+_, _-_, _<_, _≤_}
+use Prim.Native.Nat.{ℕ, suc, _+_, _-_, _<_, _≤_}
 use native.Mathlib.Omega.{arith}
 use mathlib.Core.Path.{_≡_, refl, ap, sym, _∙_, subst}
 use mathlib.Core.Bool.{Bool, true, false, true≢false}
 use mathlib.Core.List.{List, [], _∷_}
 use lib.ListN.{length}
-use Rattle.spec.specs.Outcome.{Outcome, ok}
+use Rattle.spec.specs.Outcome.{Outcome, ok, refused}
 use Rattle.spec.specs.Refusal.{malformed-pointer}
 use Rattle.spec.specs.Bytes.{Bytes}
 use Rattle.spec.specs.Forest.{Forest, size, nth}
 use Rattle.spec.specs.Value as Value
 use Rattle.spec.specs.Value.{valueOf}
-use Rattle.spec.specs.Pointer.{Tokens, tokens, childAt, walk}
+use Rattle.spec.specs.Pointer.{Tokens, tokens, childAt, walk, farther}
 use Rattle.spec.proofs.PlaceLaws.{walk-on, walk-off}
 use Rattle.text.specs.Decode.{decode, textOf}
 use Rattle.tape.specs.declared.fields.Spelling.{Spelling}
@@ -31,57 +31,90 @@ use Rattle.pointer.proofs.WalkLaws.{Unfolds, first-token, next-order, tokensBeh
 use Rattle.walk.specs.Names.{Short, NamesToken, tokenName, TokenNameIs}
 use Rattle.table.specs.Sound.{NodeHeld, ForHeld}
 use Rattle.walk.specs.Step.{Stepped, stepped, missed, StepRows, StepIs}
-use Rattle.walk.specs.Path.{TokensFrom, Walked, reached, lost, WalkFromIs, WalkIs}
+use Rattle.walk.specs.Path.{fartherBy, reachedBehind, TokensFrom, Walked, reached, lost, WalkFromIs, WalkIs}
 use Rattle.walk.specs.Path.{WalkRows, walk-lost, walk-last, walk-next, path-root, path-below, isPointer}
 use Rattle.walk.specs.declared.steps.Child.{Child}
-use Rattle.walk.specs.declared.steps.Child.the-variants.{At, Refused}
+use Rattle.walk.specs.declared.steps.Child.the-variants as Child
+use Rattle.walk.specs.declared.path.Reached.{Reached}
+use Rattle.walk.specs.declared.path.Reached.the-variants.{At, Lost}
 use Rattle.walk.proofs.Children.{child-meant, child-held, child-inside}
 use Rattle.tape.specs.Lent.{Table}
 
--- ---- a walk on its way: the node in a row, from which the tokens that are left lead to the same value as all did from the first node
-pub record Underway (w : Table) (start span : ℕ) (left : Outcome Tokens) (row : ℕ) (o : Outcome Value.Value) : Type 0 where
+-- ---- behind tokens that were walked
+pub farther-none : {A : Type 0} (o : Outcome A) → fartherBy 0 o ≡ o
+unfolding fartherBy
+farther-none (ok a) = refl
+farther-none (refused number walked) = let e : 0 + walked ≡ walked = omega arith in ap (refused number) e
+
+-- behind one token more
+pub farther-more : {A : Type 0} (n : ℕ) (o : Outcome A) → fartherBy n (farther o) ≡ fartherBy (n + 1) o
+unfolding fartherBy farther
+farther-more n (ok a) = refl
+farther-more n (refused number walked) = let e : n + suc walked ≡ n + 1 + walked = omega arith in ap (refused number) e
+
+reached-none : (r : Reached) → reachedBehind 0 r ≡ r
+unfolding reachedBehind
+reached-none (At row) = refl
+reached-none (Lost number walked) = let e : 0 + walked ≡ walked = omega arith in ap (Lost number) e
+
+reached-more : (n : ℕ) (r : Reached) → reachedBehind n (reachedBehind 1 r) ≡ reachedBehind (n + 1) r
+unfolding reachedBehind
+reached-more n (At row) = refl
+reached-more n (Lost number walked) = let e : n + (1 + walked) ≡ n + 1 + walked = omega arith in ap (Lost number) e
+
+-- ---- a walk on its way: the node in a row, from which the tokens that are left lead to the same value as all did from the first node, once the
+-- tokens walked so far are counted
+pub record Underway (w : Table) (start span : ℕ) (left : Outcome Tokens) (walked row : ℕ) (o : Outcome Value.Value) : Type 0 where
   pub c : Cell
   pub kids : Forest Cell
   pub ts : Tokens
   pub tokens : left ≡ ok ts
   pub held : NodeHeld w row c kids
-  pub same : o ≡ walk ts (meant (w .texts) c kids)
+  pub same : o ≡ fartherBy walked (walk ts (meant (w .texts) c kids))
   pub low : start ≤ row
   pub high : row + size kids ≤ start + span
 
 pub underway-all : {w : Table} {start : ℕ} {path : Spelling} {at : ℕ} {c : Cell} {kids : Forest Cell} {ts : Tokens} → TokensFrom (w .texts) path at ts
-    → NodeHeld w start c kids → Underway w start (size kids) (tokensFrom (partOf (w .texts) path) at) start (walk ts (meant (w .texts) c kids))
+    → NodeHeld w start c kids → Underway w start (size kids) (tokensFrom (partOf (w .texts) path) at) 0 start (walk ts (meant (w .texts) c kids))
 underway-all {c = c} {kids} {ts} t n =
-    record { c = c; kids = kids; ts = ts; tokens = t .is; held = n; same = refl; low = omega arith; high = omega arith }
+    record { c = c; kids = kids; ts = ts; tokens = t .is; held = n; same = sym (farther-none _); low = omega arith; high = omega arith }
 
-module _ {w : Table} {start span : ℕ} {row : ℕ} {o : Outcome Value.Value} where
+module _ {w : Table} {start span : ℕ} {walked row : ℕ} {o : Outcome Value.Value} where
   -- no token is left
-  pub underway-done : {left : Outcome Tokens} → left ≡ ok [] → Underway w start span left row o → Walked w start span o (At row)
-  unfolding walk
+  pub underway-done : {left : Outcome Tokens} → left ≡ ok [] → Underway w start span left walked row o → Walked w start span o (At row)
+  unfolding walk fartherBy
   underway-done e u =
       let same : ok [] ≡ ok (u .ts) = sym e ∙ u .tokens in
       let none : u .ts ≡ [] = cc in
-      reached (u .same ∙ ap (λ ts. walk ts (meant (w .texts) (u .c) (u .kids))) none) (u .held) (u .low) (u .high)
+      reached (u .same ∙ ap (λ ts. fartherBy walked (walk ts (meant (w .texts) (u .c) (u .kids)))) none) (u .held) (u .low) (u .high)
 
   -- one token more
   module _ {s : Bytes} {at : ℕ} {t : Token} {name : Name} (is : TokenAt s at t) (named : NamesToken (w .texts) name (textOf 3 (tokenBytes s at t)))
-      (u : Underway w start span (tokensFrom s at) row o) where
+      (u : Underway w start span (tokensFrom s at) walked row o) where
     first : Unfolds (textOf 3 (tokenBytes s at t)) (tokensBehind s t) (u .ts)
     first = first-token s at t (u .ts) is (u .tokens)
 
     -- where the first of the tokens that are left leads
-    outcome : o ≡ walk (nameText (w .texts) name ∷ first .rest) (meant (w .texts) (u .c) (u .kids))
-    outcome = u .same ∙ ap (λ ts. walk ts (meant (w .texts) (u .c) (u .kids))) (first .is ∙ ap (λ n. n ∷ first .rest) (sym (named .says)))
+    outcome : o ≡ fartherBy walked (walk (nameText (w .texts) name ∷ first .rest) (meant (w .texts) (u .c) (u .kids)))
+    outcome =
+        u .same
+        ∙ ap (λ ts. fartherBy walked (walk ts (meant (w .texts) (u .c) (u .kids)))) (first .is ∙ ap (λ n. n ∷ first .rest) (sym (named .says)))
 
     -- the step to a child
     abbrev Step : Child → Type 0
     Step r = Stepped row (u .kids) (childAt (nameText (w .texts) name) (meant (w .texts) (u .c) (u .kids))) r
 
-    step-lost : {r : Child} → Step r → (number : ℕ) → r ≡ Refused number → Walked w start span o r
+    step-lost : {r : Child} → Step r → (number : ℕ) → r ≡ Child.Refused number → Walked w start span o (Lost number walked)
+    unfolding fartherBy
     step-lost (stepped k at' e l p) number f = absurd (let z : _≡_ {A = ℕ} 0 1 = cc in omega arith)
-    step-lost (missed n e) number f = lost (outcome ∙ walk-off (nameText (w .texts) name) (first .rest) (meant (w .texts) (u .c) (u .kids)) n 0 e)
+    step-lost (missed n e) number f =
+        let same : n ≡ number = cc in
+        let here : walked + 0 ≡ walked = omega arith in
+        lost
+        (outcome ∙ ap (fartherBy walked) (walk-off (nameText (w .texts) name) (first .rest) (meant (w .texts) (u .c) (u .kids)) n 0 e)
+        ∙ ap (λ m. refused m (walked + 0)) same ∙ ap (refused number) here)
 
-    step-next : {r : Child} → Step r → (child : ℕ) → r ≡ At child → Underway w start span (tokensBehind s t) child o
+    step-next : {r : Child} → Step r → (child : ℕ) → r ≡ Child.At child → Underway w start span (tokensBehind s t) (walked + 1) child o
     step-next (stepped k at' e l p) child f =
         let same : at' ≡ child = cc in
         let place : child ≡ childRow row k (u .kids) = sym same ∙ p in
@@ -93,31 +126,40 @@ module _ {w : Table} {start span : ℕ} {row : ℕ} {o : Outcome Value.Value} wh
           tokens = first .from;
           held = rw place (child-held (u .held) k l);
           same =
-              outcome ∙ walk-on (nameText (w .texts) name) (first .rest) (meant (w .texts) (u .c) (u .kids)) k e
-              ∙ ap (λ b. walk (first .rest) (valueOf b)) (child-meant (w .texts) k (u .c) (u .kids));
+              outcome ∙ ap (fartherBy walked) (walk-on (nameText (w .texts) name) (first .rest) (meant (w .texts) (u .c) (u .kids)) k e)
+              ∙ farther-more walked _ ∙ ap (λ b. fartherBy (walked + 1) (walk (first .rest) (valueOf b))) (child-meant (w .texts) k (u .c) (u .kids));
           low = omega (arith, u .low, inside .0);
           high = omega (arith, u .high, inside .1);
         }
     step-next (missed n e) child f = absurd (let z : _≡_ {A = ℕ} 0 1 = cc in omega arith)
 
     module _ (r : Child) (step-is : StepIs w row name r) where
-      pub underway-lost : (number : ℕ) → r ≡ Refused number → Walked w start span o r
+      pub underway-lost : (number : ℕ) → r ≡ Child.Refused number → Walked w start span o (Lost number walked)
       underway-lost number e = step-lost (step-is .held (named .token) (u .c) (u .kids) (u .held)) number e
 
-      pub underway-next : (child : ℕ) → r ≡ At child → Underway w start span (tokensBehind s t) child o
+      pub underway-next : (child : ℕ) → r ≡ Child.At child → Underway w start span (tokensBehind s t) (walked + 1) child o
       underway-next child e = step-next (step-is .held (named .token) (u .c) (u .kids) (u .held)) child e
 
 -- ---- the loop: its state, of whatever node the table holds in the row where it began
-pub record Walking (w : Table) (start : ℕ) (path : Spelling) (first at row : ℕ) : Type 0 where
-  pub so-far : (r : Child) → WalkRows w path at row r → WalkRows w path first start r
+pub record Walking (w : Table) (start : ℕ) (path : Spelling) (first at row walked : ℕ) : Type 0 where
+  pub so-far : (r : Reached) → WalkRows w path at row r → WalkRows w path first start (reachedBehind walked r)
+  -- a token walked is a slash at least
+  pub counted : walked ≤ at
   pub inside : first ≤ length (partOf (w .texts) path) → at ≤ length (partOf (w .texts) path)
   pub on : (ts : Tokens) → Short (w .texts) → first ≤ length (partOf (w .texts) path) → TokensFrom (w .texts) path first ts
-      → ForHeld w start (λ c kids. Underway w start (size kids) (tokensFrom (partOf (w .texts) path) at) row (walk ts (meant (w .texts) c kids)))
+      → ForHeld w start λ c kids.
+      Underway w start (size kids) (tokensFrom (partOf (w .texts) path) at) walked row (walk ts (meant (w .texts) c kids))
 
-pub walking-all : (w : Table) (start : ℕ) (path : Spelling) (first : ℕ) → Walking w start path first first start
-walking-all w start path first = record { so-far = λ r s. s; inside = λ h. h; on = λ ts short i from c kids n. underway-all from n }
+pub walking-all : (w : Table) (start : ℕ) (path : Spelling) (first : ℕ) → Walking w start path first first start 0
+walking-all w start path first =
+    record {
+      so-far = λ r s. subst (WalkRows w path first start) (sym (reached-none r)) s;
+      counted = omega arith;
+      inside = λ h. h;
+      on = λ ts short i from c kids n. underway-all from n;
+    }
 
-module _ {w : Table} {start : ℕ} {path : Spelling} {first at row : ℕ} {name : Name} {t : Token} (g : Walking w start path first at row)
+module _ {w : Table} {start : ℕ} {path : Spelling} {first at row walked : ℕ} {name : Name} {t : Token} (g : Walking w start path first at row walked)
     (pointer : Bytes) (pointer-is : pointer ≡ partOf (w .texts) path) (is : TokenAt pointer at t)
     (named : TokenNameIs (w .texts) path at t name) (r : Child) (step-is : StepIs w row name r) where
   token-is : TokenAt (partOf (w .texts) path) at t
@@ -127,38 +169,49 @@ module _ {w : Table} {start : ℕ} {path : Spelling} {first at row : ℕ} {name 
   named-step : StepRows w row (tokenName (w .texts) path at t) r
   named-step = subst (λ n. StepRows w row n r) (named .is) (step-is .rows)
 
-  pub walking-lost : (number : ℕ) → r ≡ Refused number → WalkFromIs w start path first r
+  pub walking-lost : (number : ℕ) → r ≡ Child.Refused number → WalkFromIs w start path first (Lost number walked)
+  unfolding reachedBehind
   walking-lost number e =
+      let here : walked + 0 ≡ walked = omega arith in
       record {
-        rows = rw e (g .so-far (Refused number) (walk-lost t token-is (rw e at named-step)));
+        rows = subst (λ n. WalkRows w path first start (Lost number n)) here (g .so-far (Lost number 0) (walk-lost t token-is (rw e at named-step)));
         held = λ ts short i from c kids n. underway-lost token-is (named .names short (g .inside i)) (g .on ts short i from c kids n) r step-is number e;
       }
 
-  module _ (child : ℕ) (e : r ≡ At child) where
+  module _ (child : ℕ) (e : r ≡ Child.At child) where
     onward : (ts : Tokens) → Short (w .texts) → first ≤ length (partOf (w .texts) path) → TokensFrom (w .texts) path first ts
-        → ForHeld w start (λ c kids. Underway w start (size kids) (tokensBehind (partOf (w .texts) path) t) child (walk ts (meant (w .texts) c kids)))
+        → ForHeld w start λ c kids.
+        Underway w start (size kids) (tokensBehind (partOf (w .texts) path) t) (walked + 1) child (walk ts (meant (w .texts) c kids))
     onward ts short i from c kids n =
         underway-next token-is (named .names short (g .inside i)) (g .on ts short i from c kids n) r step-is child e
 
-    stepped-to : {u : Token} → t ≡ u → StepRows w row (tokenName (w .texts) path at u) (At child)
+    stepped-to : {u : Token} → t ≡ u → StepRows w row (tokenName (w .texts) path at u) (Child.At child)
     stepped-to {u} f =
-        subst (λ v. StepRows w row (tokenName (w .texts) path at v) (At child)) f
+        subst (λ v. StepRows w row (tokenName (w .texts) path at v) (Child.At child)) f
         (subst (StepRows w row (tokenName (w .texts) path at t)) e named-step)
 
     pub walking-done : (end : ℕ) → t ≡ Token.Last end → WalkFromIs w start path first (At child)
+    unfolding reachedBehind
     walking-done end f =
         record {
           rows = g .so-far (At child) (walk-last end (subst (λ u. TokenAt (partOf (w .texts) path) at u) f token-is) (stepped-to f));
           held = λ ts short i from c kids n. underway-done (behind-last (partOf (w .texts) path) t end f) (onward ts short i from c kids n);
         }
 
-    pub walking-next : (end next : ℕ) → t ≡ Token.Next end next → Walking w start path first next child
+    pub walking-next : (end next : ℕ) → t ≡ Token.Next end next → Walking w start path first next child (walked + 1)
     walking-next end next f =
         record {
-          so-far = λ q s. g .so-far q (walk-next end next (subst (λ u. TokenAt (partOf (w .texts) path) at u) f token-is) (stepped-to f) s);
+          so-far = λ q s.
+              subst (WalkRows w path first start) (reached-more walked q)
+              (g .so-far (reachedBehind 1 q) (walk-next end next (subst (λ u. TokenAt (partOf (w .texts) path) at u) f token-is) (stepped-to f) s));
+          counted = let o = next-order (partOf (w .texts) path) at t token-is end next f in omega (arith, g .counted, o .0, o .1);
           inside = λ h. next-order (partOf (w .texts) path) at t token-is end next f .2;
           on = λ ts short i from c kids n. rw (behind-next (partOf (w .texts) path) t end next f) at (onward ts short i from c kids n);
         }
+
+    -- the count is no number too great: what is behind it is a place
+    pub walking-count : (end next : ℕ) → t ≡ Token.Next end next → walked + 1 ≤ next
+    walking-count end next f = let o = next-order pointer at t is end next f in omega (arith, g .counted, o .0, o .1)
 
     -- a token leaves less of the pointer
     pub walking-less : (end next : ℕ) → t ≡ Token.Next end next → length pointer - next < length pointer - at
@@ -170,7 +223,7 @@ first-of {f} pointer e is = subst (λ s. FirstOf s f) e is
 
 module _ {w : Table} {start : ℕ} {path : Spelling} (pointer : Bytes) (pointer-is : pointer ≡ partOf (w .texts) path) where
   -- a text without tokens is no pointer
-  pub walk-malformed : accepted (tokens (decode pointer)) ≡ false → WalkIs w start path (Refused malformed-pointer)
+  pub walk-malformed : accepted (tokens (decode pointer)) ≡ false → WalkIs w start path (Lost malformed-pointer 0)
   unfolding accepted
   walk-malformed h =
       let no : isPointer (w .texts) path ≡ false = rw (← pointer-is) h in
@@ -194,7 +247,7 @@ module _ {w : Table} {start : ℕ} {path : Spelling} (pointer : Bytes) (pointer-
               reached (ap (λ us. walk us (meant (w .texts) c kids)) none) n (omega arith) (omega arith);
         }
 
-    pub walk-at : (at : ℕ) → f ≡ First.At at → {r : Child} → WalkFromIs w start path at r → WalkIs w start path r
+    pub walk-at : (at : ℕ) → f ≡ First.At at → {r : Reached} → WalkFromIs w start path at r → WalkIs w start path r
     walk-at at e {r} g =
         let first-is = first-of pointer pointer-is is in
         let is-pointer : isPointer (w .texts) path ≡ true = rw (← pointer-is) well in
@@ -208,7 +261,7 @@ module _ {w : Table} {start : ℕ} {path : Spelling} (pointer : Bytes) (pointer-
         }
 
     -- a pointer begins with a slash, or is empty
-    pub walk-never : f ≡ First.Malformed → {r : Child} → WalkIs w start path r
+    pub walk-never : f ≡ First.Malformed → {r : Reached} → WalkIs w start path r
     walk-never e =
         let some = accepted-ok (tokens (decode pointer)) well in
         absurd (WalkLaws.first-malformed pointer f is (some .0) e (some .1))

@@ -19,8 +19,9 @@ use Rattle.pointer.specs.declared.answers.Token.the-variants as Token
 use Rattle.walk.specs.Names.{Short, tokenName}
 use Rattle.walk.specs.Step.{StepRows}
 use Rattle.table.specs.Sound.{NodeHeld, ForHeld}
-use Rattle.walk.specs.declared.steps.Child.{Child}
-use Rattle.walk.specs.declared.steps.Child.the-variants.{At, Refused}
+use Rattle.walk.specs.declared.steps.Child.the-variants as Child
+use Rattle.walk.specs.declared.path.Reached.{Reached}
+use Rattle.walk.specs.declared.path.Reached.the-variants.{At, Lost}
 use Rattle.tape.specs.Lent.{Texts, Table}
 
 -- a path spells a pointer that has these tokens
@@ -31,39 +32,49 @@ pub record PathIs (T : Texts) (path : Spelling) (ts : Tokens) : Type 0 where
 pub record TokensFrom (T : Texts) (path : Spelling) (at : ℕ) (ts : Tokens) : Type 0 where
   pub is : tokensFrom (partOf T path) at ≡ ok ts
 
+-- An outcome, and an answer, behind so many tokens more; `farther` is behind one.
+unfoldable pub fartherBy : {A : Type 0} → ℕ → Outcome A → Outcome A
+fartherBy n (ok a) = ok a
+fartherBy n (refused number walked) = refused number (n + walked)
+
+unfoldable pub reachedBehind : ℕ → Reached → Reached
+reachedBehind n (At row) = At row
+reachedBehind n (Lost number walked) = Lost number (n + walked)
+
 -- The outcome of a walk from a node with so many nodes below it: the row of a node that is the value reached, and that lies in the tree where
--- the walk began; or the refusal's number.
-pub data Walked (w : Table) (row span : ℕ) (o : Outcome Value.Value) : Child → Type 0 where
+-- the walk began; or the refusal's number, and the count of tokens walked before the one that failed.
+pub data Walked (w : Table) (row span : ℕ) (o : Outcome Value.Value) : Reached → Type 0 where
   reached : {at : ℕ} {c : Cell} {kids : Forest Cell} → o ≡ ok (meant (w .texts) c kids) → NodeHeld w at c kids → row ≤ at
       → at + size kids ≤ row + span → Walked w row span o (At at)
-  lost : {number : ℕ} → o ≡ refused number 0 → Walked w row span o (Refused number)
+  lost : {number walked : ℕ} → o ≡ refused number walked → Walked w row span o (Lost number walked)
 
 -- ---- whatever the records hold: token after token from a place of the pointer on, each a step, up to the first refusal or the last token
-pub data WalkRows (w : Table) (path : Spelling) : ℕ → ℕ → Child → Type 0 where
+pub data WalkRows (w : Table) (path : Spelling) : ℕ → ℕ → Reached → Type 0 where
   walk-lost : {at row number : ℕ} (t : Token) → TokenAt (partOf (w .texts) path) at t
-      → StepRows w row (tokenName (w .texts) path at t) (Refused number) → WalkRows w path at row (Refused number)
+      → StepRows w row (tokenName (w .texts) path at t) (Child.Refused number) → WalkRows w path at row (Lost number 0)
   walk-last : {at row child : ℕ} (end : ℕ) → TokenAt (partOf (w .texts) path) at (Token.Last end)
-      → StepRows w row (tokenName (w .texts) path at (Token.Last end)) (At child) → WalkRows w path at row (At child)
-  walk-next : {at row child : ℕ} {r : Child} (end next : ℕ) → TokenAt (partOf (w .texts) path) at (Token.Next end next)
-      → StepRows w row (tokenName (w .texts) path at (Token.Next end next)) (At child) → WalkRows w path next child r → WalkRows w path at row r
+      → StepRows w row (tokenName (w .texts) path at (Token.Last end)) (Child.At child) → WalkRows w path at row (At child)
+  walk-next : {at row child : ℕ} {r : Reached} (end next : ℕ) → TokenAt (partOf (w .texts) path) at (Token.Next end next)
+      → StepRows w row (tokenName (w .texts) path at (Token.Next end next)) (Child.At child) → WalkRows w path next child r
+      → WalkRows w path at row (reachedBehind 1 r)
 
 -- along all tokens, where the pointer has any; the empty pointer leads to the node itself
-pub data PathRows (w : Table) (row : ℕ) (path : Spelling) : Child → Type 0 where
+pub data PathRows (w : Table) (row : ℕ) (path : Spelling) : Reached → Type 0 where
   path-root : FirstOf (partOf (w .texts) path) First.Root → PathRows w row path (At row)
-  path-below : {at : ℕ} {r : Child} → FirstOf (partOf (w .texts) path) (First.At at) → WalkRows w path at row r → PathRows w row path r
+  path-below : {at : ℕ} {r : Reached} → FirstOf (partOf (w .texts) path) (First.At at) → WalkRows w path at row r → PathRows w row path r
 
 -- whether a path spells a pointer
 abbrev pub isPointer : Texts → Spelling → Bool
 isPointer T path = accepted (tokens (decode (partOf T path)))
 
 -- ---- from a node in a row, along the tokens from a place of the pointer on, or along all
-pub record WalkFromIs (w : Table) (row : ℕ) (path : Spelling) (at : ℕ) (r : Child) : Type 0 where
+pub record WalkFromIs (w : Table) (row : ℕ) (path : Spelling) (at : ℕ) (r : Reached) : Type 0 where
   pub rows : WalkRows w path at row r
   pub held : (ts : Tokens) → Short (w .texts) → at ≤ length (partOf (w .texts) path) → TokensFrom (w .texts) path at ts
       → ForHeld w row (λ c kids. Walked w row (size kids) (walk ts (meant (w .texts) c kids)) r)
 
-pub record WalkIs (w : Table) (row : ℕ) (path : Spelling) (r : Child) : Type 0 where
-  pub malformed : isPointer (w .texts) path ≡ false → r ≡ Refused malformed-pointer
+pub record WalkIs (w : Table) (row : ℕ) (path : Spelling) (r : Reached) : Type 0 where
+  pub malformed : isPointer (w .texts) path ≡ false → r ≡ Lost malformed-pointer 0
   pub rows : isPointer (w .texts) path ≡ true → PathRows w row path r
   pub held : (ts : Tokens) → Short (w .texts) → PathIs (w .texts) path ts
       → ForHeld w row (λ c kids. Walked w row (size kids) (walk ts (meant (w .texts) c kids)) r)

@@ -6,6 +6,7 @@ pub mod path; // from a value to the one that a pointer leads to
 
 pub use names::no_name;
 pub use names::token_name;
+pub use path::Reached;
 pub use path::walk;
 pub use steps::Child;
 pub use steps::step;

@@ -15,6 +15,13 @@ use tape::layout::Texts;
 ghost use Rattle.tape.specs.Lent.{before};
 ghost use Rattle.walk.specs.Path.{WalkFromIs, WalkIs};
 
+pub enum Reached {
+    // the row of the value
+    At(usize),
+    // the number of the refusal, and how many tokens were walked before the one that failed
+    Lost(u8, usize),
+}
+
 // From the node in the row `start`, along the tokens from a place of the pointer on, one after another.
 fn walk_from<'a>(
     texts: Texts<'a>,
@@ -22,39 +29,42 @@ fn walk_from<'a>(
     start: usize,
     path: Spelling,
     first: usize,
-) -> Child
+) -> Reached
     ensures { λ r. ⌜ WalkFromIs (before texts nodes) start path first r ⌝ }
 {
     let pointer = part(texts, path);
     let mut at = first;
     let mut row = start;
+    let mut walked = 0;
     loop {
         let t = token(pointer, at);
         let name = token_name(texts, path, at, t);
-        let r = step(texts, nodes, row, name);
-        let Child::At(child) = r else {
-            return r;
-        };
-        let Token::Next { end: _, next } = t else {
-            return r;
-        };
-        row = child;
-        at = next;
+        match step(texts, nodes, row, name) {
+            Child::At(child) => {
+                let Token::Next { end: _, next } = t else {
+                    return Reached::At(child);
+                };
+                row = child;
+                at = next;
+                walked += 1;
+            }
+            Child::Refused(number) => return Reached::Lost(number, walked),
+        }
     }
 }
 
 // From the node in the row `start`, along the pointer that `path` spells. A text that is no pointer is refused with
 // 10.
-pub fn walk<'a>(texts: Texts<'a>, nodes: &[Node], start: usize, path: Spelling) -> Child
+pub fn walk<'a>(texts: Texts<'a>, nodes: &[Node], start: usize, path: Spelling) -> Reached
     ensures { λ r. ⌜ WalkIs (before texts nodes) start path r ⌝ }
 {
     let pointer = part(texts, path);
     if !is_pointer(pointer) {
-        return Child::Refused(refusal::MALFORMED_POINTER);
+        return Reached::Lost(refusal::MALFORMED_POINTER, 0);
     }
     match first(pointer) {
-        First::Root => Child::At(start),
+        First::Root => Reached::At(start),
         First::At(at) => walk_from(texts, nodes, start, path, at),
-        First::Malformed => Child::Refused(refusal::MALFORMED_POINTER),
+        First::Malformed => Reached::Lost(refusal::MALFORMED_POINTER, 0),
     }
 }

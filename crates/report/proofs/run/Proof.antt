@@ -39,4 +39,5 @@ run-spec =
       op = omega
           (arith, ok);
       place = omega (arith, ok);
+      pointer = omega (arith, ok);
     })))

@@ -13,6 +13,7 @@ use Rattle.changes.proofs.alter.alter.Kinds as alter-kinds
 use Rattle.changes.proofs.alter.+alter.Lts-alter as alter-lts
 use Rattle.changes.proofs.children.change_child.Reads as change-child-reads
 use Rattle.changes.proofs.trees.resize.Reads as resize-reads
+use Rattle.changes.proofs.trees.walked.Reads as walked-reads
 use Rattle.pointer.proofs.token.Reads as token-reads
 use Rattle.table.proofs.spellings.part.Reads as part-reads
 use Rattle.walk.proofs.token_name.Reads as token-name-reads
@@ -41,6 +42,8 @@ pub +alter-spec : {M : Type 1} → statement M
   change-child-reads.Learnt,
   step-reads.Asked,
   step-reads.Learnt,
+  walked-reads.Asked,
+  walked-reads.Learnt,
   alter-below t,
   alter.Post,
   resize-reads.Asked,
@@ -77,19 +80,24 @@ pub +alter-spec : {M : Type 1} → statement M
     (λ c κs. search needs)
     -- enum-known-child
     (λ c. search needs)
+    -- walked-requires
+    (λ c κs. search needs)
+    -- add-t28
+    (λ c. search needs)
     -- same-length-2
     (λ c. search needs)
     -- returns-3
     (λ c.
-    let at-child = c .before .before .before in
+    let at-if2 = c .before in
+    let at-child = at-if2 .before .before .before in
     let at-step = at-child .before .before in
     let at-t = at-step .before .before .before in
     let at-token-name = at-t .before .before in
     let at-token = at-token-name .before in
     let at-part = at-token .before in
     let read = token-read _ (at-part .part .ensures) (at-token .token .ensures) (at-token-name .token-name .ensures) in
-    alter-flat _ read (at-t .t .given .1) _ refl _ (at-step .step .ensures) _ (at-child .child .given .1) (c .if2 .taken))
-    -- sub-t27
+    alter-flat _ read (at-t .t .given .1) _ refl _ (at-step .step .ensures) _ (at-child .child .given .1) (at-if2 .if2 .taken) _ (c .walked .ensures))
+    -- sub-t29
     (λ c. search needs)
     -- alter-requires
     (λ c κs. search needs)
@@ -109,12 +117,16 @@ pub +alter-spec : {M : Type 1} → statement M
     let at-token-name = at-t .before .before in
     let at-token = at-token-name .before in
     let at-part = at-token .before in
+    let at-pre = at-part .before .before .before in
     let read = token-read _ (at-part .part .ensures) (at-token .token .ensures) (at-token-name .token-name .ensures) in
-    alter-not _ read (at-t .t .given .1) _ refl _ (at-step .step .ensures) _ (at-child .child .given .1) _ (omega (arith, at-if2 .if2 .left)) _
-    (at-alter .alter .ensures) _
+    alter-not _ read (at-t .t .given .1) _ refl _ (at-step .step .ensures) _ (at-child .child .given .1) _ (omega (arith, at-if2 .if2 .left))
+    (at-pre .pre .1 .1) _ (at-alter .alter .ensures) _ _
     (c .enum-told2 .given .1))
     -- resize-requires
-    (λ c κs. frame-done (c .before .before .r .given .1) (c .before .before .before .before .before .alter .ensures .frame) .0)
+    (λ c κs.
+    let at-r = c .before .before in
+    let at-alter = at-r .before .before .before in
+    frame-done (at-r .r .given .1) (at-alter .alter .ensures .frame) .0)
     -- same-length-4
     (λ c. search needs)
     -- returns-5
@@ -132,20 +144,22 @@ pub +alter-spec : {M : Type 1} → statement M
     let at-if1 = at-part .before in
     let at-pre = at-if1 .before .before in
     let read = token-read _ (at-part .part .ensures) (at-token .token .ensures) (at-token-name .token-name .ensures) in
-    alter-done _ read (at-t .t .given .1) _ refl _ (at-step .step .ensures) _ (at-child .child .given .1) _ (omega (arith, at-if2 .if2 .left)) _
-    (at-alter .alter .ensures) (at-pre .pre .1) (omega (arith, at-if1 .if1 .left)) _
+    alter-done _ read (at-t .t .given .1) _ refl _ (at-step .step .ensures) _ (at-child .child .given .1) _ (omega (arith, at-if2 .if2 .left))
+    (at-pre .pre .1 .1) _ (at-alter .alter .ensures) (at-pre .pre .1 .0) (omega (arith, at-if1 .if1 .left)) _
     (at-r .r .given .1) (at-resize .resize .ensures))
     -- enum-known-n
     (λ c. search needs)
+    -- walked-requires-2
+    (λ c κs. search needs)
     -- same-length-5
     (λ c. search needs)
     -- returns-6
     (λ c.
-    let at-n = c .before in
+    let at-n = c .before .before in
     let at-step = at-n .before .before in
     let at-t = at-step .before .before .before in
     let at-token-name = at-t .before .before in
     let at-token = at-token-name .before in
     let at-part = at-token .before in
     let read = token-read _ (at-part .part .ensures) (at-token .token .ensures) (at-token-name .token-name .ensures) in
-    alter-refused read _ (at-step .step .ensures) (at-t .t .given .1) _ (at-n .n .given .1))
+    alter-refused read _ (at-step .step .ensures) (at-t .t .given .1) _ (at-n .n .given .1) _ (c .walked2 .ensures))

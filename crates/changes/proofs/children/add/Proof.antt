@@ -30,7 +30,9 @@ add-spec =
     let at-if2 = at-add-member .before .before in
     let at-kind = at-if2 .before .before in
     add-object _ (at-kind .kind .ensures) (at-if2 .if2 .taken) (at-add-member .add-member .ensures))
+    -- walked-requires
+    (λ c κs. search needs)
     -- same-length-3
     (λ c. search needs)
     -- returns-3
-    (λ c. add-scalar _ (c .before .before .kind .ensures) (c .before .if1 .left) (c .if2 .left)))
+    (λ c. add-scalar _ (c .before .before .before .kind .ensures) (c .before .before .if1 .left) (c .before .if2 .left) _ (c .walked .ensures)))

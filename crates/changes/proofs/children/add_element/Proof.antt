@@ -36,13 +36,15 @@ add-element-spec =
     (at-no-name .no-name .ensures) (at-put .put .ensures))
     -- enum-known-n
     (λ c. search needs)
+    -- walked-requires
+    (λ c κs. search needs)
     -- same-length-2
     (λ c. search needs)
     -- returns-2
     (λ c.
-    let at-n = c .before in
+    let at-n = c .before .before in
     let at-insertion = at-n .before .before in
     let at-index = at-insertion .before .before in
     let at-part = at-index .before in
     element-refused _ (index-is _ _ _ (at-part .part .ensures) _ (at-index .index .ensures)) _ (at-insertion .insertion .ensures) _
-    (at-n .n .given .1)))
+    (at-n .n .given .1) _ (c .walked .ensures)))

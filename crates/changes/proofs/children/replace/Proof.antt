@@ -24,7 +24,12 @@ replace-spec =
     replace-done _ (at-step .step .ensures) _ (at-at .at .given .1) (at-replace-child .replace-child .ensures))
     -- enum-known-n
     (λ c. search needs)
+    -- walked-requires
+    (λ c κs. search needs)
     -- same-length-2
     (λ c. search needs)
     -- returns-2
-    (λ c. replace-refused _ (c .before .before .before .step .ensures) _ (c .before .n .given .1)))
+    (λ c.
+    let at-n = c .before .before in
+    let at-step = at-n .before .before in
+    replace-refused _ (at-step .step .ensures) _ (at-n .n .given .1) _ (c .walked .ensures)))

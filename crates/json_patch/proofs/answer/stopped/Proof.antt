@@ -18,7 +18,7 @@ stopped-spec =
     (λ c. stopped-not (c .before .enum-told .given .1))
     -- enum-known-ran
     (λ c. search needs)
-    -- refused-requires
+    -- failed-requires
     (λ c κs. search needs)
     -- returns-2
-    (λ c. stopped-as (c .before .before .ran .given .1) (c .refused .ensures)))
+    (λ c. stopped-as (c .before .before .ran .given .1) (c .failed .ensures)))

@@ -18,14 +18,22 @@ equal-to-spec =
     -- same-length
     (λ c. search needs)
     -- returns
-    (λ c. test-equal (c .before .before .before .before .before .before .before .before .walk .ensures) _
-    (c .before .before .before .before .before .before .row .given .1) (c .before .before .before .compare .ensures) (c .if1 .taken))
+    (λ c.
+    let at-compare = c .before .before .before in
+    let at-row = at-compare .before .before .before in
+    let at-walk = at-row .before .before in
+    test-equal (at-walk .walk .ensures) _
+    (at-row .row .given .1) (at-compare .compare .ensures) (c .if1 .taken))
     -- same-length-2
     (λ c. search needs)
     -- returns-2
-    (λ c. test-unequal (c .before .before .before .before .before .before .before .before .walk .ensures) _
-    (c .before .before .before .before .before .before .row .given .1) (c .before .before .before .compare .ensures) (c .if1 .left))
+    (λ c.
+    let at-compare = c .before .before .before in
+    let at-row = at-compare .before .before .before in
+    let at-walk = at-row .before .before in
+    test-unequal (at-walk .walk .ensures) _
+    (at-row .row .given .1) (at-compare .compare .ensures) (c .if1 .left))
     -- enum-known-number
     (λ c. search needs)
     -- returns-3
-    (λ c. test-lost (c .before .before .before .walk .ensures) _ (c .before .number .given .1)))
+    (λ c. test-lost (c .before .before .before .walk .ensures) _ _ (c .before .number .given .1)))

@@ -25,8 +25,13 @@ test-spec =
     (λ c. value-missing (c .before .before .member .ensures) refl (c .enum-told .given .1))
     -- equal-to-requires
     (λ c κs. search needs)
+    -- at-path-requires
+    (λ c κs. search needs)
     -- same-length
     (λ c. search needs)
     -- returns-2
-    (λ c. test-done (c .before .before .before .before .before .before .before .member .ensures) _
-    (c .before .before .before .before .before .value .given .1) (c .before .before .equal-to .ensures)))
+    (λ c.
+    let at-equal-to = c .before .before .before in
+    let at-value = at-equal-to .before .before .before in
+    let at-member = at-value .before .before in
+    test-done (at-member .member .ensures) _ (at-value .value .given .1) (at-equal-to .equal-to .ensures) (c .at-path .ensures)))

@@ -15,6 +15,8 @@ put-refusal-spec =
     (λ c. search needs)
     -- cast-text
     (λ c. search needs)
+    -- cast-pointer
+    (λ c. search needs)
     -- slice-aggregate-put-two-fields
     (λ c. search needs)
     -- slice-aggregate-put-two-fields-2
@@ -35,15 +37,13 @@ put-refusal-spec =
     (λ c κs. search needs)
     -- add-put
     (λ c. search needs)
-    -- slice-aggregate-put-bytes
+    -- sub-put-last-field
     (λ c. search needs)
-    -- sub-put-bytes
+    -- part-put-last-field-start
     (λ c. search needs)
-    -- part-put-bytes-start
+    -- part-put-last-field-end
     (λ c. search needs)
-    -- part-put-bytes-end
-    (λ c. search needs)
-    -- put-bytes-requires
+    -- put-last-field-requires
     (λ c κs. search needs)
     -- add-result
     (λ c. search needs)
@@ -51,6 +51,10 @@ put-refusal-spec =
     (λ c. search needs)
     -- returns
     (λ c.
-    let a = c .before .before .before .before .before .before .before .before .before .before .before .before .before .before .before .before .before .before .before .before .args .answer in
-    placed-as (refusal-pieces (a .number) (a .text) (a .op) (a .place))
-    (placed-then (placed-then (c .before .before .before .before .before .before .before .before .before .before .before .before .before .put-two-fields .ensures) (c .before .before .before .before .before .before .before .put-two-fields2 .ensures)) (c .before .before .put-bytes .ensures))))
+    let at-put-last-field = c .before .before in
+    let at-put-two-fields2 = at-put-last-field .before .before .before .before in
+    let at-put-two-fields = at-put-two-fields2 .before .before .before .before .before .before in
+    let at-args = at-put-two-fields .before .before .before .before .before .before .before .before in
+    let a = at-args .args .answer in
+    placed-as (refusal-pieces (a .number) (a .text) (a .op) (a .place) (a .pointer))
+    (placed-then (placed-then (at-put-two-fields .put-two-fields .ensures) (at-put-two-fields2 .put-two-fields2 .ensures)) (at-put-last-field .put-last-field .ensures))))

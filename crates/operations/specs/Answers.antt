@@ -1,0 +1,40 @@
+-- What an operation answers: the document's rows then, or the refusal with its place and its pointer.
+use Prim.Native.Nat.{ℕ}
+use mathlib.Core.Path.{_≡_}
+use mathlib.Core.Bool.{_||_}
+use mathlib.Core.List.{List}
+use lib.Dec.{eqb}
+use Rattle.spec.specs.Outcome.{Outcome, ok, refused, isRefused, if_then_else_}
+use Rattle.spec.specs.Refusal.{location-missing, no-index}
+use Rattle.spec.specs.Value as Value
+use Rattle.spec.specs.Pointer.{Tokens, walk}
+use Rattle.tape.specs.Fields.{Row}
+use Rattle.tape.specs.Lent.{Texts}
+use Rattle.changes.specs.Site.{table}
+use Rattle.changes.specs.Document.{Document}
+use Rattle.changes.specs.declared.answers.Altered.{Altered}
+use Rattle.changes.specs.declared.answers.Altered.the-variants as Altered
+use Rattle.operations.specs.declared.answers.Performed.{Performed}
+use Rattle.operations.specs.declared.answers.Performed.the-variants.{Done, Refused}
+
+-- the pointer that belongs to a refusal's number, given which it is where one leads nowhere
+unfoldable pub pointerOf : ℕ → ℕ → ℕ
+pointerOf which number = if eqb number location-missing || eqb number no-index then which else 0
+
+-- of an operation with a `from`: that is walked first
+unfoldable pub fromOrPath : Tokens → Value.Value → ℕ → ℕ
+fromOrPath from v number = pointerOf (if isRefused (walk from v) then 2 else 1) number
+
+-- the answer of a change at `path`, and of a walk along `from` that is lost
+unfoldable pub atPath : Altered → Performed
+atPath (Altered.Done used) = Done used
+atPath (Altered.Refused number place) = Refused number place (pointerOf 1 number)
+
+unfoldable pub atFrom : ℕ → ℕ → Performed
+atFrom number place = Refused number place (pointerOf 2 number)
+
+-- The outcome of an operation, given what it is by the definitions and the pointer that belongs to a number: the document is then the result; or
+-- the refusal's number, its place and its pointer.
+pub data Performs (T : Texts) (nodes' : List Row) (o : Outcome Value.Value) (pointer : ℕ → ℕ) : Performed → Type 0 where
+  performs : {used : ℕ} {v : Value.Value} → o ≡ ok v → Document (table T nodes') used v → Performs T nodes' o pointer (Done used)
+  fails : {number place which : ℕ} → o ≡ refused number place → which ≡ pointer number → Performs T nodes' o pointer (Refused number place which)
