@@ -25,12 +25,16 @@ const USAGE: &str = "usage:
   second undo DOC PATCH
   second undo-cases
   second undo-answers FILE
+  second undo-vectors FILE
   second undo-generate SEED COUNT
 ";
 
 /// The line of a call whose work area is too short. This program has none, so
 /// no case can say it.
 const SHORT_WORK: &[u8] = b"work-a-record-short: refused 1 text 0 op 0 place 0 pointer 0\n";
+
+/// The same for the buffer of a call with an undo.
+const SHORT_BUFFER: &[u8] = b"buffer-a-byte-short: refused 1 text 0 op 0 place 0 pointer 0\n";
 
 /// How a command ends when it does not end well.
 enum Trouble {
@@ -123,10 +127,10 @@ fn run(arguments: &[OsString]) -> Result<(), Trouble> {
                 out.write_all(&vector.case.file())?;
             }
         }
-        (Some("undo-answers"), [file]) => {
-            for case in undo::cases::parse(&fs::read(file)?).map_err(Trouble::Message)? {
-                out.write_all(&case.lines())?;
-            }
+        (Some("undo-answers"), [file]) => undo_answers(file, &mut out)?,
+        (Some("undo-vectors"), [file]) => {
+            undo_answers(file, &mut out)?;
+            out.write_all(SHORT_BUFFER)?;
         }
         (Some("undo-generate"), [seed, count]) => {
             let seed = number(seed)?;
@@ -156,6 +160,14 @@ fn answers(file: &OsString, out: &mut impl Write) -> Result<(), Trouble> {
         write!(out, "{}: ", case.name)?;
         out.write_all(&case.line(case.room))?;
         out.write_all(b"\n")?;
+    }
+    Ok(())
+}
+
+/// The lines of each case of undos in a file.
+fn undo_answers(file: &OsString, out: &mut impl Write) -> Result<(), Trouble> {
+    for case in undo::cases::parse(&fs::read(file)?).map_err(Trouble::Message)? {
+        out.write_all(&case.lines())?;
     }
     Ok(())
 }
