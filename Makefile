@@ -45,14 +45,15 @@ export JSON_PATCH_LIB
 
 out := target/make
 # As rt makes them: the call, the call with a region, the functions on one record,
-# the links, Intel HEX, and the inspection.
+# the links, Intel HEX, the inspection, and the call with an undo.
 proved_call := $(JSON_PATCH_LIB)/libjson_patch.a
 proved_region := $(JSON_PATCH_LIB)/libregion_call.a
 proved_record := $(JSON_PATCH_LIB)/librecord.a
 links := $(JSON_PATCH_LIB)/libfragment.a
 hex := $(JSON_PATCH_LIB)/libhex.a
 inspect := $(JSON_PATCH_LIB)/libinspect.a
-# The library as it is installed: the two calls and the records.
+proved_undo := $(JSON_PATCH_LIB)/libundo.a
+# The library as it is installed: the three calls and the records.
 static := $(out)/libjson_patch.a
 shared := libjson_patch.so.$(VERSION)
 soname := libjson_patch.so.$(ABI)
@@ -90,13 +91,18 @@ $(hex): $(links)
 $(inspect): $(hex)
 	rt staticlib inspect
 	@touch $@
+
+$(proved_undo): $(inspect)
+	rt staticlib undo
+	@touch $@
 endif
 
 # The proved objects, unchanged, in one archive.
-$(static): $(proved_call) $(proved_region) $(proved_record)
+$(static): $(proved_call) $(proved_region) $(proved_record) $(proved_undo)
 	@rm -rf $(out)/objects $@
 	@mkdir -p $(out)/objects
-	cd $(out)/objects && $(AR) x $(proved_call) && $(AR) x $(proved_region) && $(AR) x $(proved_record)
+	cd $(out)/objects && $(AR) x $(proved_call) && $(AR) x $(proved_region) && $(AR) x $(proved_record) && \
+		$(AR) x $(proved_undo)
 	$(AR) rcs $@ $(out)/objects/*.o
 
 # The shared library is the archives, linked whole.
@@ -108,7 +114,7 @@ $(out)/$(shared): $(static) $(links) $(hex) $(inspect)
 $(out)/$(soname): $(out)/$(shared)
 	ln -sf $(shared) $@
 
-$(command): $(rust) $(proved_call) $(proved_region) $(links) $(hex) $(inspect)
+$(command): $(rust) $(proved_call) $(proved_region) $(links) $(hex) $(inspect) $(proved_undo)
 	@mkdir -p $(out)
 	$(CARGO) build --release $(CARGO_FLAGS) --manifest-path rust/Cargo.toml --package json-patch-cli --target-dir rust/target
 	cp rust/target/release/json-patch $@

@@ -101,7 +101,16 @@ stack)
         python3 "$here/growth.py" --cases
         "$second" cases
         "$second" generate 1 "${COUNT:-3000}"
-    } | "$bin/stack"
+    } >"$out/stack.cases"
+    "$bin/stack" <"$out/stack.cases"
+    undo=${library%/*}/libundo.a
+    if [ -f "$undo" ]; then
+        cc stack-undo "$here/stack.c" -D_GNU_SOURCE -DWITH_UNDO -Wl,-z,now -Wl,--push-state,--whole-archive "$undo" -Wl,--pop-state
+        echo "with an undo:"
+        "$bin/stack-undo" <"$out/stack.cases"
+    else
+        echo "left out: the call with an undo (no $undo: run 'rt staticlib undo')"
+    fi
     ;;
 *)
     sed -n '2,9p' "$0"

@@ -4,7 +4,8 @@
  *
  * The depth is counted from the frame of the function that calls, so it has the
  * arguments and the return address in it. Link with -z now, since the dynamic
- * linker's own frames would be measured otherwise. */
+ * linker's own frames would be measured otherwise. With -DWITH_UNDO it is the call
+ * with an undo. */
 #include "json_patch.h"
 
 #include <stdio.h>
@@ -20,14 +21,26 @@ static json_patch_node nodes[JSON_PATCH_WORK_NODES];
 static uint16_t entries[JSON_PATCH_WORK_ENTRIES];
 static uint8_t document[MOST], patch[MOST], output[MOST];
 static size_t document_length, patch_length, room;
+#ifdef WITH_UNDO
+static uint8_t undo[JSON_PATCH_MAX_BYTES], text[JSON_PATCH_UNDO_BYTES];
+static json_patch_undo_answer both;
+#define ANSWER both.answer
+#else
 static json_patch_answer answer;
+#define ANSWER answer
+#endif
 static ucontext_t here, there;
 static const uint64_t *frame;
 
 static void call(void) {
     frame = (const uint64_t *)__builtin_frame_address(0);
+#ifdef WITH_UNDO
+    json_patch_apply_with_undo(document, document_length, patch, patch_length, output, room, undo, sizeof undo, nodes,
+                               JSON_PATCH_WORK_NODES, entries, JSON_PATCH_WORK_ENTRIES, text, sizeof text, &both);
+#else
     json_patch_apply(document, document_length, patch, patch_length, output, room, nodes, JSON_PATCH_WORK_NODES, entries,
                      JSON_PATCH_WORK_ENTRIES, &answer);
+#endif
 }
 
 static size_t depth(void) {
@@ -64,7 +77,7 @@ int main(void) {
         if (now > most) {
             most = now;
             snprintf(deepest, sizeof deepest, "%s", name);
-            printf("%6zu bytes: %s (answer %d)\n", now, name, (int)answer.number);
+            printf("%6zu bytes: %s (answer %d)\n", now, name, (int)ANSWER.number);
         }
     }
     printf("%zu cases; at most %zu bytes of stack, by %s\n", count, most, deepest);

@@ -1,18 +1,22 @@
 #!/bin/sh
 # Compiles the C examples under AddressSanitizer and UndefinedBehaviorSanitizer,
 # with gcc and as C++, runs them and compares what they print.
-#   examples/run.sh        the libraries are target/staticlib/libjson_patch.a and libfragment.a
+#   examples/run.sh        the libraries are target/staticlib/libjson_patch.a, libfragment.a and libundo.a
 #   JSON_PATCH_LIB=DIR     or in that folder
 set -eu
 here=$(cd "$(dirname "$0")" && pwd)
 root=$(dirname "$here")
 library=${JSON_PATCH_LIB:-$root/target/staticlib}/libjson_patch.a
 links=${JSON_PATCH_LIB:-$root/target/staticlib}/libfragment.a
+undos=${JSON_PATCH_LIB:-$root/target/staticlib}/libundo.a
 out=$root/target/examples
-if [ ! -f "$library" ] || [ ! -f "$links" ]; then
-    echo "no $library or no $links: run 'rt staticlib json_patch' and 'rt staticlib fragment' first" >&2
-    exit 2
-fi
+for archive in "$library" "$links" "$undos"; do
+    name=${archive##*/lib}
+    if [ ! -f "$archive" ]; then
+        echo "no $archive: run 'rt staticlib ${name%.a}' first" >&2
+        exit 2
+    fi
+done
 mkdir -p "$out"
 strict="-O1 -g -Wall -Wextra -Wpedantic -Werror -fsanitize=address,undefined -fno-sanitize-recover=all -I$root/include"
 failed=0
@@ -32,5 +36,7 @@ try apply-c ${CC:-gcc} -std=c99 $strict "$here/apply.c" "$library"
 try apply-c++ ${CXX:-g++} -std=c++11 $strict -x c++ "$here/apply.c" -x none "$library"
 try link-c ${CC:-gcc} -std=c99 $strict "$here/link.c" "$links" "$library"
 try link-c++ ${CXX:-g++} -std=c++11 $strict -x c++ "$here/link.c" -x none "$links" "$library"
+try undo-c ${CC:-gcc} -std=c99 $strict "$here/undo.c" "$undos" "$library"
+try undo-c++ ${CXX:-g++} -std=c++11 $strict -x c++ "$here/undo.c" -x none "$undos" "$library"
 cat "$out/apply-c.out"
 exit $failed

@@ -6,18 +6,21 @@
  *                           output, sizeof output, &work, &answer);
  *
  * The call is json_patch_apply, proved to answer as the definitions say on every
- * input. It allocates nothing, keeps no state and may be called from several
- * threads at once, each with buffers of its own. Three small functions look at
- * one record of the work area and clear it; they are proved too. The inline
- * functions are not part of the proof: one work area in place of buffers, words
- * for an answer, the parts of a record's tags.
+ * input. json_patch_apply_with_undo does the same and also writes a patch that
+ * takes the result back; it is proved too. Both allocate nothing, keep no state
+ * and may be called from several threads at once, each with buffers of its own.
+ * Three small functions look at one record of the work area and clear it; they
+ * are proved too. The inline functions are not part of the proof: one work area
+ * in place of buffers, words for an answer, the parts of a record's tags.
  *
  * Link with -ljson_patch (`pkg-config --cflags --libs json_patch`), which has all
- * four. As `rt staticlib` makes them, json_patch_apply is in
- * target/staticlib/libjson_patch.a (`rt staticlib json_patch`), and
- * json_patch_node_read, _store and _clear are in target/staticlib/librecord.a
+ * of them. As `rt staticlib` makes them, json_patch_apply is in
+ * target/staticlib/libjson_patch.a (`rt staticlib json_patch`),
+ * json_patch_apply_with_undo in target/staticlib/libundo.a (`rt staticlib undo`),
+ * and json_patch_node_read, _store and _clear are in target/staticlib/librecord.a
  * (`rt staticlib record`). The library needs memcpy and memset and nothing else.
- * examples/apply.c is a worked example, json_patch(3) the manual.
+ * examples/apply.c and examples/undo.c are worked examples, json_patch(3) is the
+ * manual.
  *
  * C99, and C++. */
 #ifndef JSON_PATCH_H
@@ -36,6 +39,9 @@ extern "C" {
 /* The work area: records of 16 bytes, and entries of 2. 114,688 bytes in all. */
 #define JSON_PATCH_WORK_NODES 6144
 #define JSON_PATCH_WORK_ENTRIES 8192
+
+/* The buffer that the call with an undo takes beside it, in bytes. */
+#define JSON_PATCH_UNDO_BYTES 32768
 
 /* The numbers that bound the work. */
 #define JSON_PATCH_MAX_BYTES 32768    /* bytes of a document, and of a patch */
@@ -156,6 +162,42 @@ typedef struct json_patch_work {
     uint16_t index[JSON_PATCH_WORK_ENTRIES];
 } json_patch_work;
 
+/* The answer of json_patch_apply_with_undo: that of the plain call, and the undo's
+ * length, 0 on refusal. */
+typedef struct json_patch_undo_answer {
+    json_patch_answer answer;
+    uint64_t undo;
+} json_patch_undo_answer;
+
+/* As json_patch_apply. Beside the result a patch is written to `undo` that takes it
+ * back: applied to the result, if that is at most JSON_PATCH_MAX_BYTES bytes, with
+ * buffers enough, it succeeds and gives a document equal to the one before; the
+ * two differ in the order of members alone. An undo has at most
+ * JSON_PATCH_MAX_BYTES bytes; it is `[]` where there is nothing to take back.
+ *
+ * work is a buffer of JSON_PATCH_UNDO_BYTES or more, in which the undo's text is
+ * made. It is part of the work area: it may hold anything before, after a 1 it has
+ * not changed, and after any other answer that many bytes of it are zero.
+ *
+ * Order of refusals: 1 for nodes, index or work; all others of json_patch_apply,
+ * with 16 for a short output; then, for an undo that could not be read back as a
+ * patch, 9, 5, 6 and 2, each with text 2 and all other fields 0; then 16 for a
+ * short `undo`. A refusal leaves both outputs unchanged. */
+uint32_t json_patch_apply_with_undo(const uint8_t *document, size_t document_length,
+                                    const uint8_t *patch, size_t patch_length,
+                                    uint8_t *output, size_t output_length,
+                                    uint8_t *undo, size_t undo_length,
+                                    json_patch_node *nodes, size_t nodes_count,
+                                    uint16_t *index, size_t index_count,
+                                    uint8_t *work, size_t work_length,
+                                    json_patch_undo_answer *answer);
+
+/* The work area of the call with an undo as one object: 147,456 bytes. */
+typedef struct json_patch_undo_work {
+    json_patch_work work;
+    uint8_t text[JSON_PATCH_UNDO_BYTES];
+} json_patch_undo_work;
+
 /* The rows of the work area where the document begins, the patch, and the value
  * on its way in a move or a copy. */
 #define JSON_PATCH_ROW_DOCUMENT 0
@@ -247,6 +289,35 @@ static inline uint32_t json_patch_apply_within_with(const void *document, size_t
                                    work->nodes, JSON_PATCH_WORK_NODES, work->index, JSON_PATCH_WORK_ENTRIES, answer);
 }
 
+/* json_patch_apply_with_undo in a work area. A pointer may be null where its length
+ * is 0. */
+static inline uint32_t json_patch_undo_with(const void *document, size_t document_length,
+                                            const void *patch, size_t patch_length,
+                                            void *output, size_t output_length,
+                                            void *undo, size_t undo_length,
+                                            json_patch_undo_work *work, json_patch_undo_answer *answer) {
+    uint8_t none = 0, nothing = 0;
+    return json_patch_apply_with_undo(document_length ? JSON_PATCH_AS_(const uint8_t *, document) : &none, document_length,
+                                      patch_length ? JSON_PATCH_AS_(const uint8_t *, patch) : &none, patch_length,
+                                      output_length ? JSON_PATCH_AS_(uint8_t *, output) : &none, output_length,
+                                      undo_length ? JSON_PATCH_AS_(uint8_t *, undo) : &nothing, undo_length,
+                                      work->work.nodes, JSON_PATCH_WORK_NODES, work->work.index, JSON_PATCH_WORK_ENTRIES,
+                                      work->text, JSON_PATCH_UNDO_BYTES, answer);
+}
+
+/* Whether the undo is refused and not the patch: it could not be read back. The
+ * length is that of the patch. */
+static inline int json_patch_undo_refused(const json_patch_undo_answer *answer, size_t patch_length) {
+    if (answer->answer.text != JSON_PATCH_TEXT_PATCH || answer->answer.place != 0) return 0;
+    switch (answer->answer.number) {
+    case JSON_PATCH_TOO_MANY_OPERATIONS:
+    case JSON_PATCH_TOO_DEEP:
+    case JSON_PATCH_TOO_MANY_NODES: return 1;
+    case JSON_PATCH_INPUT_TOO_LONG: return patch_length <= JSON_PATCH_MAX_BYTES;
+    default: return 0;
+    }
+}
+
 /* What a number means, in a few words. Never null. */
 static inline const char *json_patch_message(uint64_t number) {
     switch (number) {
@@ -327,6 +398,31 @@ static inline size_t json_patch_describe(const json_patch_answer *answer, char *
         }
         at = json_patch_put_text_(buffer, room, at, ": ");
         at = json_patch_put_text_(buffer, room, at, json_patch_message(answer->number));
+    }
+    if (size) buffer[at < room ? at : room] = '\0';
+    return at;
+}
+
+/* The same for an answer with an undo, such as
+ *     done: 32 bytes written, undo of 29 bytes
+ *     refused 5: undo: more than 32 nested containers
+ * The length is that of the patch. */
+static inline size_t json_patch_undo_describe(const json_patch_undo_answer *answer, size_t patch_length,
+                                              char *buffer, size_t size) {
+    const int done = answer->answer.number == JSON_PATCH_DONE;
+    const size_t room = size ? size - 1 : 0;
+    size_t at = 0;
+    if (!done && !json_patch_undo_refused(answer, patch_length)) return json_patch_describe(&answer->answer, buffer, size);
+    if (done) {
+        at = json_patch_describe(&answer->answer, buffer, size);
+        at = json_patch_put_text_(buffer, room, at, ", undo of ");
+        at = json_patch_put_number_(buffer, room, at, answer->undo);
+        at = json_patch_put_text_(buffer, room, at, " bytes");
+    } else {
+        at = json_patch_put_text_(buffer, room, at, "refused ");
+        at = json_patch_put_number_(buffer, room, at, answer->answer.number);
+        at = json_patch_put_text_(buffer, room, at, ": undo: ");
+        at = json_patch_put_text_(buffer, room, at, json_patch_message(answer->answer.number));
     }
     if (size) buffer[at < room ? at : room] = '\0';
     return at;

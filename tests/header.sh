@@ -1,8 +1,9 @@
 #!/bin/sh
-# Compiles tests/header.c and tests/inspect.c with every compiler that is here, as C99, C11, C++11
-# and C++17, with many warnings as errors and under both sanitizers, and runs it.
-#   JSON_PATCH_LIB=DIR   where libjson_patch.a, libregion_call.a, librecord.a and libinspect.a are,
-#                        if not in target/staticlib
+# Compiles tests/header.c, tests/inspect.c and tests/undo.c with every compiler that is
+# here, as C99, C11, C++11 and C++17, with many warnings as errors and under both
+# sanitizers, and runs them.
+#   JSON_PATCH_LIB=DIR   where libjson_patch.a, libregion_call.a, librecord.a, libinspect.a
+#                        and libundo.a are, if not in target/staticlib
 set -eu
 here=$(cd "$(dirname "$0")" && pwd)
 root=$(dirname "$here")
@@ -11,16 +12,22 @@ out=$root/target/make/header
 mkdir -p "$out"
 warnings="-Wall -Wextra -Wpedantic -Werror -Wshadow -Wconversion -Wsign-conversion -Wcast-qual -Wundef"
 sanitizers="-O1 -g -fsanitize=address,undefined -fno-sanitize-recover=all"
+one() { # SOURCE NAME ARCHIVES COMPILER..
+    source=$1
+    name=$2
+    archives=$3
+    shift 3
+    "$@" $warnings $sanitizers -I"$root/include" -c "$here/$source.c" -o "$out/$source-$name.o"
+    (cd "$folder" && "$1" $sanitizers "$out/$source-$name.o" $archives -o "$out/$source-$name")
+    printf '%s: ' "$name"
+    "$out/$source-$name"
+}
 try() { # NAME COMPILER..
     name=$1
     shift
-    for file in header inspect; do
-        "$@" $warnings $sanitizers -I"$root/include" -c "$here/$file.c" -o "$out/$name.o"
-        "$1" $sanitizers "$out/$name.o" "$folder/libjson_patch.a" "$folder/libregion_call.a" "$folder/librecord.a" \
-            "$folder/libinspect.a" -o "$out/$name"
-        printf '%s: ' "$name"
-        "$out/$name"
-    done
+    one header "$name" "libjson_patch.a libregion_call.a librecord.a" "$@"
+    one inspect "$name" "libjson_patch.a libinspect.a" "$@"
+    one undo "$name" "libjson_patch.a libundo.a" "$@"
 }
 for compiler in gcc clang; do
     if ! command -v $compiler >/dev/null; then

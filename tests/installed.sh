@@ -17,9 +17,9 @@ quietly() {
         failed "$*"
     }
 }
-# NAME: what a program printed is what the example is to print
+# NAME [EXAMPLE]: what a program printed is what the example is to print
 as_expected() {
-    cmp "$place/$1.out" examples/apply.expected || failed "$1 prints something else"
+    cmp "$place/$1.out" "examples/${2:-apply}.expected" || failed "$1 prints something else"
     echo "$1: as expected"
 }
 
@@ -41,6 +41,12 @@ as_expected static
 $CXX -std=c++11 $strict -x c++ examples/apply.c -x none $flags -o "$place/cxx"
 LD_LIBRARY_PATH="$prefix/lib" "$place/cxx" >"$place/cxx.out"
 as_expected cxx
+$CC -std=c99 $strict examples/undo.c $flags -o "$place/undo"
+LD_LIBRARY_PATH="$prefix/lib" "$place/undo" >"$place/undo.out"
+as_expected undo undo
+$CC -std=c99 $strict examples/undo.c $(pkg-config --cflags json_patch) "$prefix/lib/libjson_patch.a" -o "$place/undo-static"
+"$place/undo-static" >"$place/undo-static.out"
+as_expected undo-static undo
 exported=$(nm -D --defined-only "$prefix/lib/libjson_patch.so" | grep -v ' json_patch_' || true)
 [ -z "$exported" ] || failed "the shared library exports more than its functions: $exported"
 
@@ -70,6 +76,9 @@ if command -v bash >/dev/null; then
 fi
 [ -s "$prefix/share/zsh/site-functions/_json-patch" ] || failed "the completions for zsh"
 [ -s "$prefix/share/fish/vendor_completions.d/json-patch.fish" ] || failed "the completions for fish"
+"$prefix/bin/json-patch" undo examples/document.json examples/patch.json >"$place/undo.json"
+"$prefix/bin/json-patch" apply "$place/command.out" "$place/undo.json" >"$place/back.out"
+"$prefix/bin/json-patch" check -q "$place/back.out" examples/patch.json || failed "the undo takes nothing back"
 echo "the command: as expected"
 
 # The module for Python finds the library that is installed beside it.

@@ -11,7 +11,8 @@ How it differs from the package ``jsonpatch``:
   so are a repeated member name, NaN and all else that RFC 8259 does not have.
 * A refusal is an exception with the number of the refusal, the operation, the
   place, and how far a pointer got that leads nowhere: `Refusal`.
-* It only applies patches. ``jsonpatch`` also makes them from two documents.
+* It applies patches, and makes the one that takes a patch back. ``jsonpatch`` also
+  makes them from two documents.
 
 The work is done by a shared library in which every function is proved to meet
 its contract; this module calls it by ctypes and is not part of the proof. It
@@ -38,6 +39,14 @@ TEST_DIFFERS 15 1
 patch: operation 1, remove "/cut/2/max": the location does not exist: path: "/cut" has no "2"
 PATH 1
 
+`apply_with_undo` also returns the patch that takes the result back:
+
+>>> patched, undo = apply_with_undo(document, b'[{"op": "remove", "path": "/cut/0"}]')
+>>> undo
+b'[{"op":"add","path":"/cut/0","value":4.2}]'
+>>> apply(patched, undo)
+b'{"mAh":3000,"cut":[4.2,3.0]}'
+
 The library is looked for at $JSON_PATCH_LIBRARY, beside this package as
 ``make`` and ``make install`` lay it down, and where the system's loader looks.
 """
@@ -52,7 +61,10 @@ import threading
 from pathlib import Path
 from typing import Any, List, NamedTuple, Tuple, Union
 
-__all__ = ["Counts", "Kind", "Pointer", "Refusal", "apply", "inspect", "MAX_BYTES", "OUTPUT", "__version__"]
+__all__ = [
+    "Counts", "Kind", "Patched", "Pointer", "Refusal", "UndoRefusal", "apply", "apply_with_undo",
+    "inspect", "MAX_BYTES", "OUTPUT", "__version__",
+]
 __version__ = "0.2.0"
 
 Bytes = Union[bytes, bytearray, memoryview]
@@ -68,6 +80,7 @@ _SONAME = "libjson_patch.so.0"
 # All that this module knows of the work area.
 _NODES = 6_144
 _ENTRIES = 8_192
+_UNDO_BYTES = 32_768
 
 
 class _Node(ctypes.Structure):
@@ -94,12 +107,30 @@ class _Work(ctypes.Structure):
         return (self.nodes, _NODES, self.index, _ENTRIES)
 
 
+class _UndoWork(ctypes.Structure):
+    """The work area of a call with an undo: it is all zero between calls."""
+
+    _fields_ = [("work", _Work), ("text", ctypes.c_uint8 * _UNDO_BYTES)]
+
+    types = [*_Work.types, ctypes.POINTER(ctypes.c_uint8), ctypes.c_size_t]
+
+    def lent(self) -> Tuple[Any, ...]:
+        """What is passed to the library, in the order of `types`."""
+        return (*self.work.lent(), self.text, _UNDO_BYTES)
+
+
 class _Answer(ctypes.Structure):
     """The answer, as in json_patch.h."""
 
     _fields_ = [
         (name, ctypes.c_uint64) for name in ("number", "text", "op", "place", "pointer", "length")
     ]
+
+
+class _UndoAnswer(ctypes.Structure):
+    """The answer of a call with an undo, as in json_patch.h."""
+
+    _fields_ = [("answer", _Answer), ("undo", ctypes.c_uint64)]
 
 
 class _Inspection(ctypes.Structure):
@@ -222,6 +253,22 @@ class Refusal(ValueError):
         return f"refused {int(self.number)} {where}"
 
 
+class UndoRefusal(Refusal):
+    """The patch applies, but its undo could not be read back as a patch.
+
+    The number is 9, 5, 6 or 2, with text 2 and all else 0.
+    """
+
+
+class Patched(NamedTuple):
+    """What a call with an undo returns."""
+
+    document: bytes
+    """The patched document, compact."""
+    undo: bytes
+    """The patch that takes it back, compact."""
+
+
 def apply(
     document: Bytes, patch: Bytes, *, region: Union[str, Bytes, None] = None, room: int = OUTPUT
 ) -> bytes:
@@ -264,6 +311,54 @@ def apply(
         return ctypes.string_at(output, answer.length)
     fields = (answer.number, answer.text, answer.op, answer.place, answer.pointer)
     raise Refusal(*fields, _words(*fields, *texts))
+
+
+def apply_with_undo(
+    document: Bytes, patch: Bytes, *, room: int = OUTPUT, undo_room: int = MAX_BYTES
+) -> Patched:
+    """Applies the patch to the document; returns the result and its undo.
+
+    The undo is a patch. If the result is at most 32,768 bytes long, the undo
+    applies to it and gives a document equal to the one before; the two differ in
+    the order of members alone.
+
+    Raises `Refusal` where the patch cannot be applied, and `UndoRefusal` where its
+    undo would be no patch within the limits. `room` and `undo_room` are the
+    lengths that the two texts may have; a longer one is refused with 16.
+
+    >>> apply_with_undo(b'{"a": 1}', b'[{"op": "add", "path": "/b", "value": [2]}]')
+    Patched(document=b'{"a":1,"b":[2]}', undo=b'[{"op":"remove","path":"/b"}]')
+    >>> apply_with_undo(31 * b'[' + 31 * b']', b'[{"op": "add", "path": "", "value": 0}]')
+    Traceback (most recent call last):
+    ...
+    json_patch.UndoRefusal: undo: more than 32 nested containers
+    """
+    texts = _octets(document, "document"), _octets(patch, "patch")
+    if room < 0 or undo_room < 0:
+        raise ValueError("room is less than 0")
+    laid_down = _UndoAnswer()
+    answer = laid_down.answer
+    output, undo = (ctypes.create_string_buffer(max(length, 1)) for length in (room, undo_room))
+    _apply_with_undo(
+        texts[0], len(texts[0]), texts[1], len(texts[1]), output, room, undo, undo_room,
+        *_undo_work().lent(), laid_down,
+    )
+    if answer.number == 0:
+        lengths = answer.length, laid_down.undo
+        return Patched(*map(ctypes.string_at, (output, undo), lengths))
+    fields = (answer.number, answer.text, answer.op, answer.place, answer.pointer)
+    if _of_undo(*fields[:2], answer.place, texts[1]):
+        raise UndoRefusal(*fields, f"undo: {Kind(answer.number).meaning}")
+    raise Refusal(*fields, _words(*fields, *texts))
+
+
+def _of_undo(number: int, text: int, place: int, patch: bytes) -> bool:
+    """Whether a refusal is the undo's: a patch that was read is refused with a
+    place, and one that was not was too long."""
+    if number == Kind.INPUT_TOO_LONG and len(patch) > MAX_BYTES:
+        return False
+    limits = (Kind.TOO_MANY_OPERATIONS, Kind.TOO_DEEP, Kind.TOO_MANY_NODES, Kind.INPUT_TOO_LONG)
+    return number in limits and text == 2 and place == 0
 
 
 def inspect(patch: Bytes) -> Counts:
@@ -363,6 +458,15 @@ def _work() -> _Work:
         return _local.work
 
 
+def _undo_work() -> _UndoWork:
+    """The work area of this thread for calls with an undo."""
+    try:
+        return _local.undo_work
+    except AttributeError:
+        _local.undo_work = _UndoWork()
+        return _local.undo_work
+
+
 def _library() -> ctypes.CDLL:
     """The shared library."""
     named = os.environ.get("JSON_PATCH_LIBRARY")
@@ -381,24 +485,20 @@ def _library() -> ctypes.CDLL:
         raise ImportError(f"no {_SONAME}: run 'make install', or set JSON_PATCH_LIBRARY") from error
 
 
-def _call(name: str, buffers: int) -> Any:
+def _call(name: str, buffers: int, work: List[Any], answer: Any) -> Any:
     """A call of the library, by the number of its buffers beside the work area."""
     call = getattr(_shared, name)
     call.restype = ctypes.c_uint32
     call.argtypes = [
         *[ctypes.c_char_p, ctypes.c_size_t] * buffers,
-        *_Work.types,
-        ctypes.POINTER(_Answer),
+        *work,
+        ctypes.POINTER(answer),
     ]
     return call
 
 
 _shared = _library()
-_apply = _call("json_patch_apply", 3)
-_apply_within = _call("json_patch_apply_within", 4)
-
-_inspect = _shared.json_patch_inspect
-_inspect.restype = ctypes.c_uint32
-_inspect.argtypes = [
-    ctypes.c_char_p, ctypes.c_size_t, *_Work.types, ctypes.POINTER(_Inspection)
-]
+_apply = _call("json_patch_apply", 3, _Work.types, _Answer)
+_apply_within = _call("json_patch_apply_within", 4, _Work.types, _Answer)
+_apply_with_undo = _call("json_patch_apply_with_undo", 4, _UndoWork.types, _UndoAnswer)
+_inspect = _call("json_patch_inspect", 1, _Work.types, _Inspection)

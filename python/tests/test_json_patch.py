@@ -10,7 +10,9 @@ import unittest
 from pathlib import Path
 
 import json_patch
-from json_patch import Counts, Kind, Pointer, Refusal, apply, inspect
+from json_patch import (
+    Counts, Kind, Patched, Pointer, Refusal, UndoRefusal, apply, apply_with_undo, inspect,
+)
 
 ROOT = Path(__file__).resolve().parents[2]
 
@@ -168,6 +170,74 @@ class Refusals(unittest.TestCase):
         self.assertEqual((again.pointer, again.line), (Pointer.PATH, lost.line))
 
 
+class Undos(unittest.TestCase):
+    def test_there_and_back(self):
+        document = b'{"a":{"b":1,"c":2},"d":[1.50]}'
+        patch = b'[{"op":"move","from":"/a/b","path":"/a"},{"op":"add","path":"/d/-","value":2}]'
+        patched, undo = apply_with_undo(bytearray(document), memoryview(patch))
+        self.assertEqual(patched, b'{"a":1,"d":[1.50,2]}')
+        self.assertEqual(apply(patched, undo), document)
+        self.assertEqual(apply_with_undo(b" 1 ", b"[]"), Patched(b"1", b"[]"))
+
+    def test_rooms(self):
+        patch = b'[{"op":"add","path":"/a","value":1}]'
+        both = apply_with_undo(b"{}", patch, room=7, undo_room=29)
+        self.assertEqual(both, (b'{"a":1}', b'[{"op":"remove","path":"/a"}]'))
+        for rooms in ({"room": 6}, {"undo_room": 28}, {"room": 0}, {"undo_room": 0}):
+            with self.assertRaises(Refusal) as refused:
+                apply_with_undo(b"{}", patch, **rooms)
+            self.assertEqual(refused.exception.number, Kind.OUTPUT_TOO_SHORT)
+        with self.assertRaises(ValueError):
+            apply_with_undo(b"{}", patch, undo_room=-1)
+
+    def test_refusals_of_the_undo_and_of_the_patch(self):
+        swap = b'{"op":"move","from":"/0","path":"/1"}'
+        for count, kind in ((129, UndoRefusal), (257, Refusal)):
+            with self.assertRaises(Refusal) as refused:
+                apply_with_undo(b"[1,2]", b"[" + b",".join([swap] * count) + b"]")
+            self.assertIs(type(refused.exception), kind)
+            self.assertEqual(refused.exception.number, Kind.TOO_MANY_OPERATIONS)
+        long = b'"' + 32_766 * b"a" + b'"'
+        with self.assertRaises(UndoRefusal) as refused:
+            apply_with_undo(long, b'[{"op":"replace","path":"","value":1}]')
+        self.assertEqual(str(refused.exception), "undo: the text is longer than 32,768 bytes")
+        self.assertEqual(refused.exception.line, "refused 2 text 2 op 0 place 0 pointer 0")
+        again = pickle.loads(pickle.dumps(refused.exception))
+        self.assertEqual((type(again), again.args), (UndoRefusal, refused.exception.args))
+        with self.assertRaises(Refusal) as refused:
+            apply_with_undo(b"1", 32_769 * b" ")
+        self.assertIs(type(refused.exception), Refusal)
+        self.assertEqual(str(refused.exception), "patch: the text is longer than 32,768 bytes")
+
+    def test_the_committed_cases(self):
+        folder = ROOT / "crates" / "undo_vectors"
+        cases = (folder / "data" / "cases").read_bytes()
+        lines = iter((folder / "stdout").read_bytes().split(b"\n"))
+        at = count = 0
+        while at < len(cases):
+            end = cases.index(b"\n", at)
+            _, name, *numbers = cases[at:end].split(b" ")
+            room, undo_room, first, second = map(int, numbers)
+            document = cases[end + 1 : end + 1 + first]
+            patch = cases[end + 2 + first : end + 2 + first + second]
+            at = end + first + second + 3
+            try:
+                patched, undo = apply_with_undo(document, patch, room=room, undo_room=undo_room)
+                said = [b": " + patched, b" undo: " + undo, b" back: " + self.back(patched, undo)]
+            except Refusal as refusal:
+                said = [b": " + refusal.line.encode()]
+            for line in said:
+                self.assertEqual(name + line, next(lines))
+            count += 1
+        self.assertGreater(count, 250)
+
+    def back(self, patched, undo):
+        try:
+            return apply(patched, undo)
+        except Refusal as refusal:
+            return refusal.line.encode()
+
+
 class Agreement(unittest.TestCase):
     header = (ROOT / "include" / "json_patch.h").read_text()
 
@@ -194,11 +264,19 @@ class Agreement(unittest.TestCase):
         self.assertEqual(self.defined("TOOL_OUTPUT"), json_patch.OUTPUT)
         self.assertEqual(self.defined("WORK_NODES"), json_patch._NODES)
         self.assertEqual(self.defined("WORK_ENTRIES"), json_patch._ENTRIES)
+        self.assertEqual(self.defined("UNDO_BYTES"), json_patch._UNDO_BYTES)
         self.assertIn(f'#define JSON_PATCH_VERSION "{json_patch.__version__}"', self.header)
 
     def test_the_header_has_the_same_structs(self):
-        types = {"uint64_t": ctypes.c_uint64, "uint16_t": ctypes.c_uint16, "json_patch_node": json_patch._Node}
-        structs = {"answer": json_patch._Answer, "node": json_patch._Node, "work": json_patch._Work}
+        types = {
+            "uint64_t": ctypes.c_uint64, "uint16_t": ctypes.c_uint16, "uint8_t": ctypes.c_uint8,
+            "json_patch_node": json_patch._Node, "json_patch_work": json_patch._Work,
+            "json_patch_answer": json_patch._Answer,
+        }
+        structs = {
+            "answer": json_patch._Answer, "node": json_patch._Node, "work": json_patch._Work,
+            "undo_answer": json_patch._UndoAnswer, "undo_work": json_patch._UndoWork,
+        }
         for name, here in structs.items():
             body = re.search(rf"typedef struct json_patch_{name} {{(.*?)}}", self.header, re.S)[1]
             fields = []

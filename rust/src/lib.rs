@@ -2,8 +2,8 @@
 //!
 //! The work is done by a static library in which every function is proved to
 //! meet its contract: on every input the answer is that of the definitions, and
-//! all lent memory is afterwards as they say. This crate declares its one
-//! function, makes it safe to call, and puts refusals into words. No allocation,
+//! all lent memory is afterwards as they say. This crate declares its
+//! functions, makes them safe to call, and puts refusals into words. No allocation,
 //! no global state, no dependencies, no `std`.
 //!
 //! ```
@@ -36,6 +36,7 @@
 //! ```
 //!
 //! [`Refusal::explain`] shows a person where and why, given the two texts.
+//! [`undo`] also writes the patch that takes the result back.
 
 #![no_std]
 #![warn(missing_docs)]
@@ -48,6 +49,7 @@ pub mod link;
 mod place;
 pub mod raw;
 mod refusal;
+pub mod undo;
 
 pub use explain::{Explanation, Paint, Walked};
 pub use json::elements;

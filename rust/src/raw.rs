@@ -147,8 +147,8 @@ extern "C" {
 #[derive(Clone, Debug)]
 #[repr(C)]
 pub struct Work {
-    nodes: [Node; WORK_NODES],
-    index: [u16; WORK_ENTRIES],
+    pub(crate) nodes: [Node; WORK_NODES],
+    pub(crate) index: [u16; WORK_ENTRIES],
 }
 
 impl Work {

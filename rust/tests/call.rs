@@ -67,9 +67,9 @@ fn refusals_print_in_words_and_as_their_line() {
         let line = format!("refused {} text 0 op 0 place 0 pointer 0", kind.number());
         assert_eq!(refusal.line().to_string(), line);
     }
-    let none = refusal(17, 0, 0, 0, 0);
+    let none = refusal(18, 0, 0, 0, 0);
     assert_eq!(none.kind(), None);
-    assert_eq!(none.to_string(), "refused 17: unknown answer");
+    assert_eq!(none.to_string(), "refused 18: unknown answer");
 }
 
 /// A record with every field the same.

@@ -46,8 +46,8 @@ fn typed(item: &str) -> (String, String) {
 
 /// As the library's source has it: a slice is a pointer and a length, or a count
 /// where it is no slice of bytes.
-fn of_source(krate: &str, name: &str) -> Signature {
-    let source = file(&format!("crates/{krate}/src/exports.rt"));
+fn of_source(name: &str, source: &str) -> Signature {
+    let source = file(source);
     let text = between(&source, &format!("pub extern \"C\" fn {name}<"), "{");
     let mut parameters = Vec::new();
     for (name, kind) in items(between(text, "(", ")")).into_iter().map(typed) {
@@ -73,12 +73,14 @@ fn of_source(krate: &str, name: &str) -> Signature {
 /// As the header has it.
 fn of_header(name: &str) -> Signature {
     let header = header();
+    let answer = fields_of_header("answer", "uint64_t").len();
     let words = |name: &str| match name {
         "uint8_t" => "u8".to_string(),
         "uint16_t" => "u16".to_string(),
         "size_t" => "usize".to_string(),
         "json_patch_node" => "Node".to_string(),
-        "json_patch_answer" => answer_in_words(fields_of_header("answer", "uint64_t").len()),
+        "json_patch_answer" => answer_in_words(answer),
+        "json_patch_undo_answer" => answer_in_words(answer + 1),
         other => panic!("a type of C: {other}"),
     };
     let parameters = items(between(&header, &format!("uint32_t {name}("), ")"))
@@ -98,15 +100,18 @@ fn of_header(name: &str) -> Signature {
 }
 
 /// As the declaration in Rust has it.
-fn of_rust(name: &str) -> Signature {
-    let source = file("rust/src/raw.rs");
+fn of_rust(name: &str, source: &str) -> Signature {
+    let source = file(source);
     let text = between(&source, &format!("pub fn {name}("), ";");
     let text = &format!("({text}");
-    let answer = answer_in_words(fields_of("rust/src/raw.rs", "Answer", "u64").len());
+    let answer = fields_of("rust/src/raw.rs", "Answer", "u64").len();
+    let (plain, with_undo) = (answer_in_words(answer), answer_in_words(answer + 1));
     let parameters = items(between(text, "(", ")"))
         .into_iter()
         .map(typed)
-        .map(|(name, kind)| (name, kind.replace("Answer", &answer)))
+        .map(|(name, kind)| {
+            (name, kind.replace("UndoAnswer", &with_undo).replace("Answer", &plain))
+        })
         .collect();
     Signature { parameters, result: text[text.find("->").expect("a result") + 2..].trim().into() }
 }
@@ -145,14 +150,39 @@ fn fields_of(source: &str, name: &str, kind: &str) -> Vec<String> {
 
 #[test]
 fn the_functions_are_declared_alike() {
-    let calls =
-        [("json_patch", "json_patch_apply", 11), ("region_call", "json_patch_apply_within", 13)];
-    for (krate, name, parameters) in calls {
-        let source = of_source(krate, name);
+    let calls = [
+        ("json_patch_apply", "crates/json_patch/src/exports.rt", "rust/src/raw.rs", 11),
+        ("json_patch_apply_within", "crates/region_call/src/exports.rt", "rust/src/raw.rs", 13),
+        ("json_patch_apply_with_undo", "crates/undo/src/exports.rt", "rust/src/undo.rs", 15),
+    ];
+    for (name, source, rust, parameters) in calls {
+        let source = of_source(name, source);
         assert_eq!(of_header(name), source);
-        assert_eq!(of_rust(name), source);
+        assert_eq!(of_rust(name, rust), source);
         assert_eq!(source.parameters.len(), parameters);
     }
+}
+
+#[test]
+fn the_undos_length_is_the_last_field() {
+    let header = header();
+    let fields = "\n    json_patch_answer answer;\n    uint64_t undo;\n";
+    assert_eq!(between(&header, "typedef struct json_patch_undo_answer {", "}"), fields);
+    let export = file("crates/undo/src/exports.rt");
+    let laid_down: Vec<&str> = items(between(&export, "*answer = [", "]"))
+        .into_iter()
+        .map(|item| between(item, ".", " as u64"))
+        .collect();
+    let mut wanted = fields_of_header("answer", "uint64_t");
+    wanted.push("undo".to_string());
+    assert_eq!(laid_down, wanted);
+}
+
+#[test]
+fn an_undos_buffer_is_as_long_as_a_patch_may_be() {
+    let limits = defined("crates/spec/specs/Limits.antt");
+    assert_eq!(in_header()["UNDO_BYTES"], limits["MAX_BYTES"]);
+    assert_eq!(json_patch::undo::UNDO_BYTES as u64, limits["MAX_BYTES"]);
 }
 
 #[test]
@@ -314,7 +344,7 @@ fn in_header() -> BTreeMap<String, u64> {
 #[test]
 fn refusals_have_the_numbers_and_names_of_the_definitions() {
     let mut refusals = defined("crates/spec/specs/Refusal.antt");
-    assert_eq!(refusals.len(), 17);
+    assert_eq!(refusals.len(), 18);
     assert_eq!(enumeration("number"), refusals);
     refusals.remove("DONE");
     let here: BTreeMap<String, u64> = Kind::ALL
@@ -378,7 +408,7 @@ fn the_version_is_that_of_the_header() {
 #[test]
 fn the_manual_has_the_headers_structs_prototypes_and_numbers() {
     let (header, manual) = (header(), file("man/json_patch.3"));
-    for name in ["answer", "node"] {
+    for name in ["answer", "node", "undo_answer"] {
         let (begin, end) =
             (format!("typedef struct json_patch_{name} {{"), format!("}} json_patch_{name};"));
         let body = between(&header, &begin, &end);
@@ -395,7 +425,9 @@ fn the_manual_has_the_headers_structs_prototypes_and_numbers() {
     }
     let synopsis = plain(&synopsis).replace("* ", "*").replace(" ,", ",");
     let on_a_record = ["node_read", "node_store", "node_clear"];
-    for function in ["apply", "apply_with", "message", "describe"].into_iter().chain(on_a_record) {
+    let with_undo = ["apply_with_undo", "undo_with", "undo_refused", "undo_describe"];
+    let functions = ["apply", "apply_with", "message", "describe"].into_iter();
+    for function in functions.chain(on_a_record).chain(with_undo) {
         let begin = format!("json_patch_{function}(");
         let code = &header[header.find("extern \"C\"").expect("declarations")..];
         let wanted = format!("{begin}{})", plain(between(code, &begin, ")")));

@@ -2,6 +2,7 @@
 
 use crate::limits::LONGEST_TEXT;
 use crate::refusals::{NO_ROOM, TOO_LONG};
+use crate::value::Value;
 use crate::{operations, patch, reader, writer};
 
 /// What the engine answers.
@@ -28,14 +29,22 @@ pub(crate) const PATCH: u32 = 2;
 
 /// Applies a patch to a document, to be written in an output of that room.
 pub fn apply(document: &[u8], patch: &[u8], room: usize) -> Answer {
-    match attempt(document, patch, room) {
-        Ok(written) => Answer { written, ..plain(0) },
+    match applied(document, patch, room) {
+        Ok(Applied { written, .. }) => Answer { written, ..plain(0) },
         Err(refusal) => refusal,
     }
 }
 
-/// The written text, or the refusal as an answer.
-fn attempt(document: &[u8], patch: &[u8], room: usize) -> Result<Vec<u8>, Answer> {
+/// A patch that succeeds: the document as read, its operations, and the written
+/// text.
+pub(crate) struct Applied {
+    pub document: Value,
+    pub operations: Vec<patch::Operation>,
+    pub written: Vec<u8>,
+}
+
+/// What comes of a patch, or the refusal as an answer.
+pub(crate) fn applied(document: &[u8], patch: &[u8], room: usize) -> Result<Applied, Answer> {
     if document.len() > LONGEST_TEXT {
         return Err(in_text(TOO_LONG, DOCUMENT, 0));
     }
@@ -45,12 +54,12 @@ fn attempt(document: &[u8], patch: &[u8], room: usize) -> Result<Vec<u8>, Answer
     let document = reader::read(document).map_err(|r| in_text(r.number, DOCUMENT, r.place))?;
     let patch = reader::read(patch).map_err(|r| in_text(r.number, PATCH, r.place))?;
     let operations = patch::shape(&patch).map_err(at_op)?;
-    let result = operations::run(document, &operations).map_err(at_op)?;
+    let result = operations::run(document.clone(), &operations).map_err(at_op)?;
     let written = writer::write(&result);
     if written.len() > room {
         return Err(plain(NO_ROOM));
     }
-    Ok(written)
+    Ok(Applied { document, operations, written })
 }
 
 /// A refusal that says nothing but its number; with 0, the answer of a text that

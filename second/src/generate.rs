@@ -17,8 +17,9 @@ use crate::value::{Member, Value};
 use damage::damage;
 use drafts::{bend, drafts, patch, slot, target, Draft};
 use random::Random;
-use spelling::{spell, Style};
-use trees::{equal_to, nearly, tree};
+pub(crate) use spelling::{spell, Style};
+use trees::{equal_to, nearly};
+pub(crate) use trees::{nest, tree};
 
 /// A document and a patch.
 type Texts = (Vec<u8>, Vec<u8>);
@@ -64,7 +65,7 @@ pub fn case(seed: u64, index: u64) -> Case {
 }
 
 /// Two texts of some kind.
-fn texts(random: &mut Random) -> Texts {
+pub(crate) fn texts(random: &mut Random) -> Texts {
     let mut left = random.below(KINDS.iter().map(|(share, _)| share).sum());
     for (share, kind) in KINDS {
         if left < *share {

@@ -27,6 +27,7 @@ pub mod reader;
 pub mod refusals;
 mod strings;
 pub mod tool;
+pub mod undo;
 pub mod value;
 pub mod vectors;
 pub mod walk;

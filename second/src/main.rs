@@ -2,7 +2,7 @@
 
 #![forbid(unsafe_code)]
 
-use second::{cases, compare, count, generate, hex, links, makers, tool, vectors};
+use second::{cases, compare, count, generate, hex, links, makers, tool, undo, vectors};
 use std::env;
 use std::ffi::OsString;
 use std::fs;
@@ -31,11 +31,19 @@ const USAGE: &str = "usage:
   second inspect FILE...
   second count-folder SEED COUNT FOLDER
   second count-cases FOLDER
+  second undo DOC PATCH
+  second undo-cases
+  second undo-answers FILE
+  second undo-vectors FILE
+  second undo-generate SEED COUNT
 ";
 
 /// The line of a call whose work area is too short. This program has none, so
 /// no case can say it.
 const SHORT_WORK: &[u8] = b"work-a-record-short: refused 1 text 0 op 0 place 0 pointer 0\n";
+
+/// The same for the buffer of a call with an undo.
+const SHORT_BUFFER: &[u8] = b"buffer-a-byte-short: refused 1 text 0 op 0 place 0 pointer 0\n";
 
 /// How a command ends when it does not end well.
 enum Trouble {
@@ -154,6 +162,23 @@ fn run(arguments: &[OsString]) -> Result<(), Trouble> {
         (Some("count-cases"), [folder]) => {
             out.write_all(&count::cases::write(Path::new(folder))?)?;
         }
+        (Some("undo"), files) => out.write_all(&tool::undo_output(files))?,
+        (Some("undo-cases"), []) => {
+            for vector in undo::vectors::all() {
+                out.write_all(&vector.case.file())?;
+            }
+        }
+        (Some("undo-answers"), [file]) => undo_answers(file, &mut out)?,
+        (Some("undo-vectors"), [file]) => {
+            undo_answers(file, &mut out)?;
+            out.write_all(SHORT_BUFFER)?;
+        }
+        (Some("undo-generate"), [seed, count]) => {
+            let seed = number(seed)?;
+            for index in 0..number(count)? {
+                out.write_all(&undo::generate::case(seed, index).file())?;
+            }
+        }
         (Some("compare"), [seed, count, dashes, command @ ..])
             if dashes == "--" && !command.is_empty() =>
         {
@@ -186,6 +211,14 @@ fn region_answers(file: &OsString, out: &mut impl Write) -> Result<(), Trouble> 
         write!(out, "{}: ", case.name)?;
         out.write_all(&case.line())?;
         out.write_all(b"\n")?;
+    }
+    Ok(())
+}
+
+/// The lines of each case of undos in a file.
+fn undo_answers(file: &OsString, out: &mut impl Write) -> Result<(), Trouble> {
+    for case in undo::cases::parse(&fs::read(file)?).map_err(Trouble::Message)? {
+        out.write_all(&case.lines())?;
     }
     Ok(())
 }

@@ -67,7 +67,7 @@ impl Fault {
 
 /// Performs one operation. After a refusal the document is of no more use: a
 /// move may have taken a value out of it already.
-fn perform(document: &mut Value, operation: &Operation) -> Result<(), Fault> {
+pub(crate) fn perform(document: &mut Value, operation: &Operation) -> Result<(), Fault> {
     match operation {
         Operation::Add { path, value } => add(document, path, value.clone()).map_err(Fault::Path),
         Operation::Remove { path } if path.is_empty() => Err(Fault::Other(ROOT_REMOVED)),
@@ -127,7 +127,7 @@ fn add(document: &mut Value, path: &[String], value: Value) -> Result<(), Lost> 
 }
 
 /// Takes the value at the path out of the document; a root leaves null.
-fn take(document: &mut Value, path: &[String]) -> Result<Value, Lost> {
+pub(crate) fn take(document: &mut Value, path: &[String]) -> Result<Value, Lost> {
     let Some((last, parents)) = path.split_last() else {
         return Ok(std::mem::replace(document, Value::Null));
     };

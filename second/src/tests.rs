@@ -11,4 +11,5 @@ mod parts;
 mod regions;
 mod round_trip;
 mod tool;
+mod undo;
 mod vectors;

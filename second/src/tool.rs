@@ -1,6 +1,7 @@
 //! The patch tool: two file names in, one line out.
 
-use crate::limits::{TOOL_READS, TOOL_ROOM};
+use crate::limits::{LONGEST_TEXT, TOOL_READS, TOOL_ROOM};
+use crate::undo::apply_with_undo;
 use crate::{apply, line};
 use std::ffi::OsString;
 use std::fs::File;
@@ -11,6 +12,24 @@ use std::path::Path;
 pub fn output(arguments: &[OsString]) -> Vec<u8> {
     let mut printed = match inputs(arguments) {
         Some((document, patch)) => line(&apply(&document, &patch, TOOL_ROOM)),
+        None => b"unreadable".to_vec(),
+    };
+    printed.push(b'\n');
+    printed
+}
+
+/// The undo of the patch on the document, or the line of a refusal; the newline
+/// included.
+pub fn undo_output(arguments: &[OsString]) -> Vec<u8> {
+    let mut printed = match inputs(arguments) {
+        Some((document, patch)) => {
+            let answered = apply_with_undo(&document, &patch, TOOL_ROOM, LONGEST_TEXT);
+            if answered.answer.number == 0 {
+                answered.undo
+            } else {
+                line(&answered.answer)
+            }
+        }
         None => b"unreadable".to_vec(),
     };
     printed.push(b'\n');

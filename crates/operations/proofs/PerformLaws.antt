@@ -99,7 +99,7 @@ module _ (o : Operation.Operation) (v : Value.Value) where
   unfolding limited perform
   replace-is e = rw e
 
-  move-is : o .kind ≡ Operation.move → limited o v ≡ judged (moveTo (o .from) (o .path) v)
+  pub move-is : o .kind ≡ Operation.move → limited o v ≡ judged (moveTo (o .from) (o .path) v)
   unfolding limited perform
   move-is e = rw e
 
@@ -175,17 +175,17 @@ module _ {w : Table} {used row : ℕ} {path : Spelling} {m : Member} (is : Membe
 
 -- ---- with a string that spells a pointer
 module _ {T : Texts} {o : Outcome Text} {s : Spelled} {t : Text} (is : TextIs T o s) (there : o ≡ ok t) where
-  spelled-not : s ≡ Spelled.Not → ⊥
+  pub spelled-not : s ≡ Spelled.Not → ⊥
   spelled-not e = refused≢ok (sym (text-refused is e) ∙ there)
 
-  spelled-path : {path : Spelling} {ts : Tokens} → s ≡ Spelled.As path → tokens t ≡ ok ts → PathIs T path ts
+  pub spelled-path : {path : Spelling} {ts : Tokens} → s ≡ Spelled.As path → tokens t ≡ ok ts → PathIs T path ts
   spelled-path {path} e f =
       let g = text-decoded is path e in
       let same : decode (partOf T path) ≡ t = cc in
       record { is = ap tokens same ∙ f }
 
 module _ {w : Table} {row : ℕ} {s : Spelled} (is : StringIs w row (ascii "from") s) (from : Spelling) (e : s ≡ Spelled.As from) where
-  source : {o : Operation.Operation} → Listed w row o → usesFrom (o .kind) ≡ true → PathIs (w .texts) from (o .from)
+  pub source : {o : Operation.Operation} → Listed w row o → usesFrom (o .kind) ≡ true → PathIs (w .texts) from (o .from)
   source {o} l uses =
       let t = told _ o (l .is) in
       spelled-path (is .held (l .c) (l .kids) (l .held)) (t .from-there uses) e (t .from-is)

@@ -69,7 +69,7 @@ no-operations T op os e = cc
 
 -- the run of it and of those behind it
 module _ (op : ℕ) (o : Operation.Operation) (os : List Operation.Operation) (v : Value.Value) where
-  run-ok : {w : Value.Value} → limited o v ≡ ok w → run limited op (o ∷ os) v ≡ run limited (op + 1) os w
+  pub run-ok : {w : Value.Value} → limited o v ≡ ok w → run limited op (o ∷ os) v ≡ run limited (op + 1) os w
   unfolding run atOp onFinish
   run-ok e = rw e
 
@@ -99,7 +99,7 @@ pub record Going (w : Table) (used row end op : ℕ) (whole : Run Value.Value) :
   pub gives : run limited (op + 1) os now ≡ whole
 
 -- the first of the elements that are left is an operation
-record First (w : Table) (row end op : ℕ) (object : Bool) (os : List Operation.Operation) : Type 0 where
+pub record First (w : Table) (row end op : ℕ) (object : Bool) (os : List Operation.Operation) : Type 0 where
   pub c : Cell
   pub kids : Forest Cell
   pub rest : Forest Cell
@@ -113,7 +113,7 @@ record First (w : Table) (row end op : ℕ) (object : Bool) (os : List Operation
 
 module _ {w : Table} {used row end op : ℕ} {whole : Run Value.Value} (g : Going w used row end op whole) where
   -- where none is left
-  going-none : end ≤ row → RanTo (w .texts) (w .nodes) whole (Ran.Done used)
+  pub going-none : end ≤ row → RanTo (w .texts) (w .nodes) whole (Ran.Done used)
   going-none h =
       let none-left : g .left ≡ none = size-none (g .left) (omega (arith, g .rows .ends)) in
       let e : operations (op + 1) (members (w .texts) none) ≡ finished (g .os) = subst (λ f. operations (op + 1) (members (w .texts) f) ≡ finished (g .os))
@@ -123,10 +123,10 @@ module _ {w : Table} {used row end op : ℕ} {whole : Run Value.Value} (g : Goin
 
   module _ (more : row < end) where
     -- the row is in the table
-    going-inside : {C : Type 0} → length (w .nodes) ≤ row → C
+    pub going-inside : {C : Type 0} → length (w .nodes) ≤ row → C
     going-inside h = rows-first (g .rows) more (λ c kids rest e r. no-node (held-node (r .held)) h)
 
-    going-first : First w row end op (g .object) (g .os)
+    pub going-first : First w row end op (g .object) (g .os)
     unfolding size mapForest
     going-first =
         rows-first (g .rows) more
@@ -157,7 +157,7 @@ module _ {w : Table} {used row end op : ℕ} {whole : Run Value.Value} (g : Goin
         })
 
   -- it is performed
-  abbrev First-performs : First w row end op (g .object) (g .os) → List Row → Performed → Type 0
+  abbrev pub First-performs : First w row end op (g .object) (g .os) → List Row → Performed → Type 0
   First-performs first nodes' r = Performs (w .texts) nodes' (limited (first .o) (g .now)) (whichPointer (first .o) (g .now)) r
 
   module _ (first : First w row end op (g .object) (g .os)) {nodes' : List Row} where
@@ -166,14 +166,14 @@ module _ {w : Table} {used row end op : ℕ} {whole : Run Value.Value} (g : Goin
         (is .held (g .now) (g .document) (g .short) (first .o) (first .listed))
 
     -- where it is refused, and where it is done
-    going-refused : {number place pointer : ℕ} → First-performs first nodes' (Performed.Refused number place pointer)
+    pub going-refused : {number place pointer : ℕ} → First-performs first nodes' (Performed.Refused number place pointer)
         → RanTo (w .texts) nodes' whole (Ran.Refused number (op + 1) place pointer)
     going-refused {number} {place} (fails e f) =
         halted
         (sym (g .gives) ∙ ap (λ os. run limited (op + 1) os (g .now)) (first .whole) ∙ run-refused (op + 1) (first .o) (first .later) (g .now) e
         ∙ ap (λ p. stopped (stop number (op + 1) place p)) (sym f))
 
-    going-done : {used' : ℕ} → SamePatch (w .nodes) nodes' → (next : ℕ) → next ≡ endOf nodes' row
+    unfoldable pub going-done : {used' : ℕ} → SamePatch (w .nodes) nodes' → (next : ℕ) → next ≡ endOf nodes' row
         → First-performs first nodes' (Performed.Done used')
         → Going (table (w .texts) nodes') used' next end (op + 1) whole
     going-done same next at (performs {v = u} e document) =
@@ -199,7 +199,7 @@ pub record GoingAny (w₀ : Table) (used₀ start end : ℕ) (nodes : List Row) 
   pub patch : SamePatch (w₀ .nodes) nodes
   pub held : ForRun w₀ used₀ start end (Going (table (w₀ .texts) nodes) used row end op)
 
-pub going-all : (w : Table) (used start end : ℕ) → GoingAny w used start end (w .nodes) used start 0
+unfoldable pub going-all : (w : Table) (used start end : ℕ) → GoingAny w used start end (w .nodes) used start 0
 going-all w used start end =
     record {
       patch = patch-same;
@@ -269,7 +269,7 @@ right-shape true true os e = e
 right-shape true false os e = absurd (let z : _≡_ {A = ℕ} 0 1 = cc in omega arith)
 right-shape false few os e = absurd (let z : _≡_ {A = ℕ} 0 1 = cc in omega arith)
 
-shape-operations : (v : Value.Value) (os : List Operation.Operation) → shape v ≡ finished os → operations 1 (v .kids) ≡ finished os
+pub shape-operations : (v : Value.Value) (os : List Operation.Operation) → shape v ≡ finished os → operations 1 (v .kids) ≡ finished os
 unfolding shape
 shape-operations v os e = right-shape (isArray (v .label)) (leb (count (v .kids)) maxOperations) os e
 

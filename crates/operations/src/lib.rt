@@ -10,8 +10,11 @@
 
 mod answers; // what an operation answers
 mod transfers; // a value moved and copied
-mod perform; // one operation of the patch
+pub mod perform; // one operation of the patch
 mod runs; // the operations one after another
 
+pub use answers::Performed;
+pub use answers::at_path;
 pub use runs::Ran;
 pub use runs::run;
+pub use transfers::set_aside;

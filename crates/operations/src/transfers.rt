@@ -21,7 +21,7 @@ ghost use Rattle.tape.specs.Lent.{before};
 ghost use Rattle.operations.specs.Perform.{SetAsideIs, CopyIs, MoveAsideIs, MoveBelowIs, MoveIs};
 
 // The tree in a row is copied to the scratch rows.
-fn set_aside(nodes: &mut [Node], row: usize)
+pub fn set_aside(nodes: &mut [Node], row: usize)
     ensures { λ _. ⌜ SetAsideIs (now (nodes .entry)) (now (nodes .exit)) row ⌝ }
 {
     let count = size(nodes, row);

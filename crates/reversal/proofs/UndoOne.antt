@@ -90,7 +90,7 @@ added-back t ts v w p h = restored (rw (same-again t ts v w h, h) at (operations
 
 -- A move over a value that held `from`
 
-kind-below : (t : Text) (hs : Tokens) (l : Text) (p : Value.Value) → isReplace (mendedIn (t ∷ hs) l p .kind) ≡ isReplace (mendedIn hs l p .kind)
+pub kind-below : (t : Text) (hs : Tokens) (l : Text) (p : Value.Value) → isReplace (mendedIn (t ∷ hs) l p .kind) ≡ isReplace (mendedIn hs l p .kind)
 kind-below t hs l p =
     by-test (isArray (p .label)) (λ a. rw (mended-element (t ∷ hs) l p a, mended-element hs l p a)) λ a.
     by-test (has l (p .kids)) (λ b. rw (mended-old (t ∷ hs) l p a b, mended-old hs l p a b)) λ b.
@@ -110,7 +110,7 @@ put-old x t v w k r h e =
     (λ b. absurd (false≢true (rw (mended-new [] t v a b) at r)))
 
 module _ (x : Value.Value) (t : Text) (v c : Value.Value) (k : ℕ) (e : childAt t v ≡ ok k) where
-  still-there : childAt t (put k c v) ≡ ok k
+  pub still-there : childAt t (put k c v) ≡ ok k
   still-there = childAt-put k c v (child-there t v k e) t ∙ e
 
   ancestor-here : (w : Value.Value) → isReplace (mended (t ∷ []) (put k c v) .kind) ≡ true → insertChild x t (put k c v) ≡ ok w →
@@ -121,7 +121,7 @@ module _ (x : Value.Value) (t : Text) (v c : Value.Value) (k : ℕ) (e : childAt
       let once : put k x v ≡ w = sym (put-put k c v (child-there t v k e) x) ∙ same in
       rw (← once, value-here t v k e) (replaced-back t v x k e)
 
-  value-put : (hs : Tokens) → valueAt (t ∷ hs) (put k c v) ≡ valueAt hs c
+  pub value-put : (hs : Tokens) → valueAt (t ∷ hs) (put k c v) ≡ valueAt hs c
   value-put hs = value-on t hs (put k c v) k still-there ∙ ap (λ n. valueAt hs (valueOf n)) (child-put k c v (child-there t v k e))
 
   ancestor-below : (s : Text) (ss : Tokens) (w : Value.Value) → isReplace (mended (t ∷ s ∷ ss) (put k c v) .kind) ≡ true →

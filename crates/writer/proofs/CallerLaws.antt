@@ -20,7 +20,7 @@ use Rattle.tape.specs.Lent.{Table}
 
 module _ {W : Table} {at levels : ℕ} {c : Cell} {kids : Forest Cell} (n : NodeHeld W at c kids)
     (low : depth (meant (W .texts) c kids) ≤ levels) where
-  writable : Writable W at levels c kids
+  pub writable : Writable W at levels c kids
   writable =
       let o = n .held .formed in
       record { node = n; nested = subst (λ d. d ≤ levels) (depth-meant (W .texts) c kids (formed-fit o .kind) (formed-kids o)) low }

@@ -16,5 +16,8 @@ mod lengths; // how long the pieces of a text are
 mod pieces; // the pieces of a text laid down
 mod output; // bytes laid down, as many as there is room for
 
+pub use output::put_byte;
+pub use output::put_part;
 pub use room::fits;
+pub use values::measure;
 pub use values::write;

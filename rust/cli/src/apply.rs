@@ -2,7 +2,7 @@
 
 use crate::arguments::{wrong, Arguments};
 use crate::command::{Command, Opt, Status, Takes, OUTPUT, PORCELAIN, QUIET, REGION};
-use crate::files::{deliver, Target};
+use crate::files::{deliver, deliver_with_undo, Target, Undo};
 use crate::patches::Run;
 use crate::report;
 use crate::trouble::Trouble;
@@ -16,11 +16,14 @@ pub const COMMAND: Command = Command {
 Applies each JSON Patch to the text that the one before left, and writes the
 result to standard output. Either all patches are applied or none is. A file
 that is written appears whole or not at all; its permissions stay, and a
-symbolic link is followed. The name - is standard input.
+symbolic link is followed. The name - is standard input. With --undo a patch is
+written too that takes all of them back; its file appears before the document
+does, and is never one that is there already.
 
 With --region each patch must be one that a pack maker may send: only test,
 replace and add, a test first, and every path inside the region, which is a
-JSON Pointer, and not the region itself. '' is the whole document.",
+JSON Pointer, and not the region itself. '' is the whole document. An undo need
+not be such a patch: apply it without --region.",
     options: &[
         OUTPUT,
         Opt {
@@ -30,6 +33,12 @@ JSON Pointer, and not the region itself. '' is the whole document.",
             summary: "write the result to DOCUMENT",
         },
         REGION,
+        Opt {
+            short: None,
+            long: "undo",
+            value: Some("FILE"),
+            summary: "write what takes it back to FILE, a new file",
+        },
         PORCELAIN,
         QUIET,
     ],
@@ -57,8 +66,20 @@ fn run(arguments: &Arguments) -> Result<Status, Trouble> {
         (true, None) => Target::File(&run.document.name),
         (false, output) => Target::of(output),
     };
-    match run.result() {
-        Ok(text) => deliver(text, target).map(|()| Status::Done),
+    let Some(name) = arguments.value("undo") else {
+        return match run.result() {
+            Ok(text) => deliver(text, target).map(|()| Status::Done),
+            Err(refused) => Ok(report::refusal(arguments, &run, &refused)),
+        };
+    };
+    if name == "-" {
+        return Err(wrong(&COMMAND, "--undo takes a file, not standard output"));
+    }
+    match run.result_with_undo() {
+        Ok((text, undo)) => {
+            let undo = Undo { text: undo, name, mode: Undo::mode_for(&run.document.name) };
+            deliver_with_undo(text, target, undo).map(|()| Status::Done)
+        }
         Err(refused) => Ok(report::refusal(arguments, &run, &refused)),
     }
 }

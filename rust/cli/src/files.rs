@@ -1,13 +1,14 @@
 //! Texts read from files and results written to them.
 
-use crate::replace::replace;
+use crate::replace::{anew, ready, replace, Made};
 use crate::trouble::Trouble;
 use json_patch::MAX_BYTES;
 use std::ffi::{OsStr, OsString};
 use std::fmt::{self, Write as _};
-use std::fs::File;
+use std::fs::{self, File};
 use std::io::{self, Read, Write};
 use std::os::fd::AsFd;
+use std::os::unix::fs::PermissionsExt;
 use std::path::Path;
 
 /// The name of a file as it is said to a person; `-` is standard input. What a
@@ -90,11 +91,71 @@ impl<'a> Target<'a> {
 
 /// Writes a result and the newline behind it. A text of just the length that can
 /// be read again gets no newline, which would make it too long.
-pub fn deliver(mut text: Vec<u8>, target: Target) -> Result<(), Trouble> {
+pub fn deliver(text: Vec<u8>, target: Target) -> Result<(), Trouble> {
+    put(&ended(text), target)
+}
+
+fn ended(mut text: Vec<u8>) -> Vec<u8> {
     if text.len() != MAX_BYTES {
         text.push(b'\n');
     }
-    put(&text, target)
+    text
+}
+
+/// A patch that takes a result back, the new file that it goes to, and the
+/// permissions of that.
+pub struct Undo<'a> {
+    /// The patch.
+    pub text: Vec<u8>,
+    /// The file's name.
+    pub name: &'a OsStr,
+    /// The permissions, less what the user's mask takes.
+    pub mode: u32,
+}
+
+impl Undo<'_> {
+    /// The permissions of an undo: it holds old values, so no one may read it who may
+    /// not read the document.
+    pub fn mode_for(document: &OsStr) -> u32 {
+        let of_document = fs::metadata(document).ok().filter(|it| it.is_file());
+        of_document.map_or(0o666, |it| it.permissions().mode() & 0o666 | 0o600)
+    }
+
+    /// Writes it alone.
+    pub fn deliver(self) -> Result<(), Trouble> {
+        let Undo { text, name, mode } = self;
+        let made = anew(Path::new(name), &ended(text), mode).and_then(|new| new.appear());
+        made.map(|_| ()).map_err(|reason| Trouble::file(name, reason))
+    }
+}
+
+/// Writes a result, and its undo to a file of its own that must not be there yet.
+/// Each appears whole or not at all, and the undo first: whatever comes between,
+/// there is no new document without its undo. Where the document cannot be written,
+/// the undo goes again.
+pub fn deliver_with_undo(text: Vec<u8>, target: Target, undo: Undo) -> Result<(), Trouble> {
+    let (text, patch) = (ended(text), ended(undo.text));
+    let of_undo = |reason| Trouble::file(undo.name, reason);
+    let new = anew(Path::new(undo.name), &patch, undo.mode).map_err(of_undo)?;
+    let back = |made: Made, trouble| {
+        made.take_away();
+        trouble
+    };
+    let Target::File(name) = target else {
+        let made = new.appear().map_err(of_undo)?;
+        return print(&text).map_err(|trouble| back(made, trouble));
+    };
+    let of_target = |reason| Trouble::file(name, reason);
+    let ready = ready(Path::new(name), &text).map_err(of_target)?;
+    let made = new.appear().map_err(of_undo)?;
+    if made.is(Path::new(name)) {
+        let words = format!("the document and its undo are both {}", Name(name));
+        return Err(back(made, Trouble::usage(words)));
+    }
+    match ready.appear() {
+        Ok(appeared) => appeared.sync().map_err(of_target),
+        Err(reason) => Err(back(made, of_target(reason))),
+    }
 }
 
 /// Writes bytes as they are.

@@ -20,8 +20,8 @@ pub fn overview() -> String {
         "\
 Usage: json-patch COMMAND [OPTION]... [OPERAND]...
 
-JSON Patch (RFC 6902), applied by a library that is proved; pointers as web
-links, and texts as Intel HEX.
+JSON Patch (RFC 6902), applied by a library that is proved, and taken back;
+pointers as web links, and texts as Intel HEX.
 
 Commands:
 {commands}  {:<12} show the help of a command

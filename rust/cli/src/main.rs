@@ -21,6 +21,7 @@ mod pointer;
 mod replace;
 mod report;
 mod trouble;
+mod undo;
 mod unhex;
 
 use command::{Command, Status};
@@ -33,6 +34,7 @@ use trouble::Trouble;
 pub const COMMANDS: &[&Command] = &[
     &apply::COMMAND,
     &check::COMMAND,
+    &undo::COMMAND,
     &inspect::COMMAND,
     &link::COMMAND,
     &pointer::COMMAND,

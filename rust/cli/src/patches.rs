@@ -4,7 +4,8 @@ use crate::arguments::{wrong, Arguments};
 use crate::command::Command;
 use crate::files::{Name, Text};
 use crate::trouble::Trouble;
-use json_patch::{apply, apply_within, Refusal, Work, TOOL_OUTPUT};
+use json_patch::undo::{self, apply_with_undo, UndoWork, Written};
+use json_patch::{apply, apply_within, elements, Kind, Refusal, Work, MAX_BYTES, TOOL_OUTPUT};
 use std::os::unix::ffi::OsStrExt;
 
 /// A document, and the patches for it.
@@ -25,6 +26,9 @@ pub struct Refused {
     pub index: usize,
     /// The text that the patches before it left.
     pub document: Vec<u8>,
+    /// Whether the patch applies and only its undo was refused, with that of the
+    /// patches before it.
+    pub undo: bool,
 }
 
 impl Run {
@@ -55,10 +59,48 @@ impl Run {
             };
             text = match result {
                 Ok(next) => next,
-                Err(refusal) => return Err(Refused { refusal, index, document: text }),
+                Err(refusal) => {
+                    return Err(Refused { refusal, index, document: text, undo: false })
+                }
             };
         }
         Ok(text)
+    }
+
+    /// The same, with a patch that takes all of them back.
+    pub fn result_with_undo(&self) -> Result<(Vec<u8>, Vec<u8>), Refused> {
+        let (mut text, mut undo) = (self.document.bytes.clone(), b"[]".to_vec());
+        for (index, patch) in self.patches.iter().enumerate() {
+            let (refusal, of_undo) = match self.step_with_undo(&text, &patch.bytes) {
+                Ok((next, first)) => {
+                    undo = joined(&first, &undo);
+                    match unreadable(&undo) {
+                        None => {
+                            text = next;
+                            continue;
+                        }
+                        Some(refusal) => (refusal, true),
+                    }
+                }
+                Err(undo::Refused::Patch(refusal)) => (refusal, false),
+                Err(undo::Refused::Undo(refusal)) => (refusal, true),
+            };
+            return Err(Refused { refusal, index, document: text, undo: of_undo });
+        }
+        Ok((text, undo))
+    }
+
+    /// One patch applied with its undo. Where a region is given, the patch must keep to
+    /// it, and is then applied as any patch is.
+    fn step_with_undo(
+        &self,
+        text: &[u8],
+        patch: &[u8],
+    ) -> Result<(Vec<u8>, Vec<u8>), undo::Refused> {
+        if let Some(region) = &self.region {
+            applied_within(text, patch, region).map_err(undo::Refused::Patch)?;
+        }
+        applied_with_undo(text, patch)
     }
 
     /// What the patch with this index is applied to, in words.
@@ -86,4 +128,29 @@ fn applied_within(document: &[u8], patch: &[u8], region: &[u8]) -> Result<Vec<u8
     let length = apply_within(document, patch, region, &mut output, &mut Work::new())?;
     output.truncate(length);
     Ok(output)
+}
+
+/// The same with its undo.
+fn applied_with_undo(document: &[u8], patch: &[u8]) -> Result<(Vec<u8>, Vec<u8>), undo::Refused> {
+    let (mut output, mut undo) = (vec![0; TOOL_OUTPUT], vec![0; MAX_BYTES]);
+    let mut work = UndoWork::new();
+    let Written { document: length, undo: of_undo } =
+        apply_with_undo(document, patch, &mut output, &mut undo, &mut work)?;
+    output.truncate(length);
+    undo.truncate(of_undo);
+    Ok((output, undo))
+}
+
+/// Two patches in a row as one.
+fn joined(first: &[u8], second: &[u8]) -> Vec<u8> {
+    let all: Vec<&[u8]> = elements(first).chain(elements(second)).collect();
+    [b"[", &all.join(&b","[..])[..], b"]"].concat()
+}
+
+/// Why a patch could not be read, if it could not: the library is asked, with any
+/// document.
+fn unreadable(patch: &[u8]) -> Option<Refusal> {
+    let refusal = applied(b"null", patch).err()?;
+    let many = refusal.kind() == Some(Kind::TooManyOperations);
+    (many || refusal.text == 2).then_some(Refusal { text: 2, op: 0, place: 0, ..refusal })
 }

@@ -30,14 +30,27 @@ pub fn refusal(arguments: &Arguments, run: &Run, refused: &Refused) -> Status {
 /// A refusal in words, as the library explains it, with what only the command
 /// can tell.
 fn in_words(run: &Run, refused: &Refused) -> String {
-    let Refused { refusal, index, document } = refused;
+    let Refused { refusal, index, document, undo } = refused;
     let patch = &run.patches[*index];
     let (to, name) = (run.document_at(*index), Name(&patch.name));
+    if *undo {
+        return of_undo(refusal, &to, &name);
+    }
     let explanation = refusal.explain(document, &patch.bytes).named(&to, &name).painted(paint());
     match note(refused, &patch.bytes, &to, explanation.walked()) {
         Some(note) => format!("json-patch: {}\n", explanation.noted(&note)),
         None => format!("json-patch: {explanation}\n"),
     }
+}
+
+/// The undo of a patch refused, in words: the patch itself applies.
+fn of_undo(refusal: &Refusal, to: &str, patch: &Name) -> String {
+    let Paint { name, fault, hint, off } = paint();
+    let meaning = refusal.kind().map_or("unknown answer", Kind::meaning);
+    format!(
+        "json-patch: {name}{patch}:{off} {fault}its undo would be no patch: {meaning}{off}\n  \
+         {hint}hint:{off} the patch applies to {to}; keep a copy of the document in place of an undo\n"
+    )
 }
 
 /// What only the command can tell of a refusal: values that it looks up.

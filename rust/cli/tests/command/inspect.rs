@@ -32,15 +32,15 @@ fn a_refused_patch_has_no_line() {
     assert!(ran.error.starts_with("json-patch: bad.json: operation 2"), "{}", ran.error);
     let ran = folder.run(["inspect", "--porcelain", "fix.json", "bad.json"]);
     assert_eq!((ran.status, &ran.output[..]), (1, LINE));
-    assert_eq!(ran.error, "refused 10 text 0 op 2 place 0\n");
+    assert_eq!(ran.error, "refused 10 text 0 op 2 place 0 pointer 0\n");
     let ran = folder.run(["inspect", "-q", "bad.json"]);
     assert_eq!((ran.status, &ran.output[..], &ran.error[..]), (1, "", ""));
     folder.write("cut.json", "[");
     let ran = folder.run(["inspect", "--porcelain", "cut.json"]);
-    assert_eq!((ran.status, &ran.error[..]), (1, "refused 3 text 2 op 0 place 1\n"));
+    assert_eq!((ran.status, &ran.error[..]), (1, "refused 3 text 2 op 0 place 1 pointer 0\n"));
     folder.write("long.json", " ".repeat(40_000));
     let ran = folder.run(["inspect", "--porcelain", "long.json"]);
-    assert_eq!((ran.status, &ran.error[..]), (1, "refused 2 text 2 op 0 place 0\n"));
+    assert_eq!((ran.status, &ran.error[..]), (1, "refused 2 text 2 op 0 place 0 pointer 0\n"));
 }
 
 #[test]

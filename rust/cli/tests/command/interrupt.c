@@ -2,7 +2,7 @@
  * power cut or SIGKILL would, or takes nameless files away from it.
  *   INTERRUPT=before:rename   killed before its first call of that function
  *   INTERRUPT=after:fsync     killed after it
- *   INTERRUPT=second:fsync    killed before the second
+ *   INTERRUPT=second:fsync    killed before the second; third and fourth alike
  *   NAMELESS=no               open fails with EOPNOTSUPP for O_TMPFILE
  *   FAIL=rename               the function fails with ENOSPC */
 #define _GNU_SOURCE
@@ -31,6 +31,8 @@ static void stop(const char *moment, const char *name) {
         type result;                                                          \
         stop("before:", #name);                                               \
         if (++calls == 2) stop("second:", #name);                             \
+        if (calls == 3) stop("third:", #name);                                \
+        if (calls == 4) stop("fourth:", #name);                               \
         if (asked("FAIL", "", #name)) {                                       \
             errno = ENOSPC;                                                   \
             return -1;                                                        \
@@ -44,6 +46,8 @@ STEP(ssize_t, write, (int file, const void *bytes, size_t length), (file, bytes,
 STEP(int, fsync, (int file), (file))
 STEP(int, fchmod, (int file, mode_t mode), (file, mode))
 STEP(int, linkat, (int a, const char *from, int b, const char *to, int flags), (a, from, b, to, flags))
+STEP(int, link, (const char *from, const char *to), (from, to))
+STEP(int, unlink, (const char *path), (path))
 STEP(int, rename, (const char *from, const char *to), (from, to))
 
 int open64(const char *path, int flags, ...) {

@@ -9,5 +9,6 @@ mod regions;
 mod replacing;
 mod statuses;
 mod support;
+mod undo;
 mod usage;
 mod words;

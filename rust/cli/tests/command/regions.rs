@@ -37,6 +37,34 @@ fn a_patch_that_breaks_the_rule_is_refused() {
 }
 
 #[test]
+fn a_makers_patch_is_applied_with_its_undo() {
+    let folder = Folder::with_files();
+    folder.write("cut.json", CUT);
+    let within = |region: &str| {
+        let line =
+            format!("apply -i --porcelain --region {region} --undo u.json pack.json cut.json");
+        folder.run(line.split(' '))
+    };
+    let before = folder.names();
+    for (region, line) in [
+        ("/mAh", "refused 17 text 0 op 1 place 0 pointer 0\n"),
+        ("cut", "refused 10 text 0 op 0 place 0 pointer 0\n"),
+    ] {
+        within(region).refused(line);
+        assert_eq!((folder.read("pack.json"), folder.names()), (PACK.into(), before.clone()));
+    }
+    within("/cut").done("");
+    assert_eq!(folder.read("pack.json"), FIXED);
+    assert_eq!(folder.read("u.json"), "[{\"op\":\"remove\",\"path\":\"/cut/2\"}]\n");
+    // The undo is no patch that a maker may send.
+    folder
+        .run(["apply", "--porcelain", "--region", "/cut", "pack.json", "u.json"])
+        .refused("refused 17 text 0 op 1 place 0 pointer 0\n");
+    folder.run(["apply", "-i", "pack.json", "u.json"]).done("");
+    assert_eq!(folder.read("pack.json"), PACK);
+}
+
+#[test]
 fn a_region_that_is_no_pointer_is_refused() {
     let folder = Folder::with_files();
     folder.write("cut.json", CUT);

@@ -94,7 +94,7 @@ fn the_document_may_be_the_output_or_the_patch() {
 }
 
 /// The library that ends the command at a step.
-fn interrupter(folder: &Folder) -> Option<PathBuf> {
+pub fn interrupter(folder: &Folder) -> Option<PathBuf> {
     let source = Path::new(env!("CARGO_MANIFEST_DIR")).join("tests/command/interrupt.c");
     let library = folder.path("interrupt.so");
     let mut compiler = Command::new("cc");

@@ -3,8 +3,8 @@
 use crate::support::{file_of_root, left_out, program, words, Folder, Ran, COMMAND};
 use std::process::Command;
 
-const COMMANDS: [&str; 8] =
-    ["apply", "check", "inspect", "link", "pointer", "hex", "unhex", "completion"];
+const COMMANDS: [&str; 9] =
+    ["apply", "check", "undo", "inspect", "link", "pointer", "hex", "unhex", "completion"];
 
 /// The help of a subcommand.
 fn help(name: &str) -> String {

@@ -1,0 +1,11 @@
+pub mod SlashLaws
+pub mod PathLaws
+pub mod MendLaws
+pub mod SiteLaws
+pub mod AncestorLaws
+pub mod MoveLaws
+pub mod StepLaws
+pub mod RunLaws
+pub mod AnswerLaws
+pub mod StageLaws
+pub mod CallLaws

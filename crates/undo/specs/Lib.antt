@@ -1,0 +1,5 @@
+pub mod Mend
+pub mod Step
+pub mod Run
+pub mod Call
+pub mod Stages

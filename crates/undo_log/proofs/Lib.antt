@@ -1,0 +1,4 @@
+pub mod LogLaws
+pub mod DigitLaws
+pub mod OperationLaws
+pub mod NoteLaws
