@@ -15,6 +15,13 @@ use Rattle.json_patch.proofs.RegionTheorem.{call-in-regions}
 use Rattle.json_patch.proofs.ColumnsTheorem.{columns}
 use Rattle.json_patch.proofs.apply.Met as Apply
 use Rattle.json_patch.proofs.json_patch_apply.Met as Export
+use Rattle.region.proofs.ClaimTheorems as Region
+use Rattle.isolation.proofs.IsolationTheorem.{isolation}
+use Rattle.isolation.proofs.ExampleTheorem as Isolation
+use Rattle.merging.proofs.MergeTheorem.{merging}
+use Rattle.merging.proofs.ExamplesTheorem as Merging
+use Rattle.comparison.proofs.ComparisonTheorem.{comparison}
+use Rattle.comparison.proofs.ExamplesTheorem as Counting
 use Rattle.fragment.proofs.ClaimTheorems as Link
 use Rattle.hex.proofs.ClaimTheorems as Hex
 use Rattle.theorems.specs.Theorems.{Theorems}
@@ -64,5 +71,20 @@ theorems =
             link-names = Link.names-pointer;
             link-accepted = Link.all-accepted;
             link-percents = Link.differ-in-percents;
+          };
+      more-requests =
+          record {
+            maker-shape = Region.shaped-within;
+            maker-rule = Region.rule-broken;
+            maker-inside = Region.strictly-inside;
+            maker-all-inside = Region.all-inside;
+            maker-passes = Region.passes-plain;
+            isolation = isolation;
+            isolation-example = Isolation.example;
+            merging = merging;
+            merging-appendix = Merging.appendix-holds;
+            merging-positions = Merging.positions-hold;
+            comparison = comparison;
+            comparison-examples = Counting.counted;
           };
     }

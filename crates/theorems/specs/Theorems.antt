@@ -20,6 +20,13 @@ use Rattle.json_patch.proofs.apply.Statement as Apply
 use Rattle.json_patch.proofs.json_patch_apply.Statement as Export
 use Rattle.json_patch.specs.Region.{CallInRegions}
 use Rattle.json_patch.specs.Columns.{ColumnsStatement}
+use Rattle.region.specs.Claims as Region
+use Rattle.isolation.specs.Isolation.{IsolationStatement}
+use Rattle.isolation.specs.Example as Isolation
+use Rattle.merging.specs.Claims.{MergeStatement}
+use Rattle.merging.specs.Examples as Merging
+use Rattle.comparison.specs.Comparison.{ComparisonStatement}
+use Rattle.comparison.specs.Examples as Counting
 use Rattle.fragment.specs.Claims as Link
 use Rattle.hex.specs.Claims as Hex
 
@@ -97,8 +104,29 @@ pub record Requests : Type 0 where
   pub link-accepted : Link.AllAccepted
   pub link-percents : Link.DifferInPercents
 
+-- ---- more of the requests: within a region, merge patches, and how many names equality compares
+pub record MoreRequests : Type 0 where
+  -- T-05: a maker's patch is refused exactly where the rule says, its paths are strictly inside its region, and what passes gives the answer of a
+  -- plain patch
+  pub maker-shape : Region.ShapeWithinStatement
+  pub maker-rule : Region.RuleStatement
+  pub maker-inside : Region.InsideStatement
+  pub maker-all-inside : Region.AllInsideStatement
+  pub maker-passes : Region.PassesStatement
+  -- T-06: nobody else's shelf decides, with two documents that meet the premises
+  pub isolation : IsolationStatement
+  pub isolation-example : Isolation.ExampleStatement
+  -- T-02: a merge patch is RFC 7396's; its fifteen examples, and two of positions
+  pub merging : MergeStatement
+  pub merging-appendix : Merging.All Merging.appendix
+  pub merging-positions : Merging.All Merging.positions
+  -- T-10: the count's verdict is equality's, and the count is at most a times b
+  pub comparison : ComparisonStatement
+  pub comparison-examples : Counting.All Counting.examples
+
 pub record Theorems : Type 2 where
   pub demands : Demands
   pub grammar : Grammar
   pub meanings : Meanings
   pub requests : Requests
+  pub more-requests : MoreRequests
