@@ -1,10 +1,15 @@
 -- What each answer of the code stands for: the outcome of the definition that it is held to.
-use Prim.Native.Nat.{ℕ}
+use Prim.Native.Nat.{ℕ, _+_}
+use mathlib.Core.Path.{_≡_}
 use mathlib.Core.Bool.{Bool}
-use Rattle.spec.specs.Outcome.{Outcome, ok, refused}
+use lib.Dec.{ltb}
+use lib.ListN.{length}
+use Rattle.spec.specs.Outcome.{Outcome, ok, refused, if_then_else_}
 use Rattle.spec.specs.Refusal.{not-json}
+use Rattle.spec.specs.Bytes.{Bytes, byte}
 use Rattle.lexer.specs.declared.cursor.Bounded.{Bounded}
 use Rattle.lexer.specs.declared.cursor.Bounded.the-variants as Bounded
+use Rattle.lexer.specs.declared.cursor.ByteRead.{ByteRead}
 use Rattle.lexer.specs.declared.cursor.Scan.{Scan}
 use Rattle.lexer.specs.declared.cursor.Scan.the-variants as Scan
 use Rattle.lexer.specs.declared.characters.Character.{Character}
@@ -13,6 +18,15 @@ use Rattle.lexer.specs.declared.strings.Name.{Name}
 use Rattle.lexer.specs.declared.strings.Name.the-variants as Name
 use Rattle.lexer.specs.declared.strings.Quoted.{Quoted}
 use Rattle.lexer.specs.declared.strings.Quoted.the-variants as Quoted
+
+-- the place after a byte; past the end of the text there is none, and the place stays
+unfoldable pub afterByte : Bytes → ℕ → ℕ
+afterByte s at = if ltb at (length s) then at + 1 else at
+
+-- a byte that was read, and the place after it
+pub record ReadIs (s : Bytes) (at : ℕ) (r : ByteRead) : Type 0 where
+  pub byte-is : r .byte ≡ byte s at
+  pub next-is : r .next .at ≡ afterByte s at
 
 -- of a number that was asked for at a place
 unfoldable pub boundedOutcome : ℕ → Bounded → Outcome ℕ

@@ -1,7 +1,7 @@
 // A place in a text, and the answers that readers share.
 ghost use mathlib.Core.Path.{_≡_};
 ghost use Rattle.spec.specs.Bytes.{byte, byteIn};
-ghost use Rattle.lexer.specs.Answers.{boundedOutcome};
+ghost use Rattle.lexer.specs.Answers.{boundedOutcome, ReadIs};
 
 // The numbers of the refusals that readers of this crate give.
 pub const NOT_JSON: u8 = 3;
@@ -30,6 +30,31 @@ pub fn peek(s: &[u8], at: usize) -> u8
     ensures { λ r. ⌜ r ≡ byte (now (s .entry)) at ⌝ }
 {
     if at < s.len() { s[at] } else { 0 }
+}
+
+// A byte that was read, and the cursor after it.
+pub struct ByteRead {
+    pub byte: u8,
+    pub next: Cursor,
+}
+
+impl Cursor {
+    // The byte here, with the cursor after it. Past the end of the text the byte is 0, and the cursor stays.
+    pub fn read(self, s: &[u8]) -> ByteRead
+        ensures { λ r. ⌜ ReadIs (now (s .entry)) (self .at) r ⌝ }
+    {
+        let at = self.at;
+        if s.len() <= at {
+            return ByteRead {
+                byte: 0,
+                next: self,
+            };
+        }
+        ByteRead {
+            byte: s[at],
+            next: Cursor { at: at + 1 },
+        }
+    }
 }
 
 // The byte at a place, which must lie between two bounds.

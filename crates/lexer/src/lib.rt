@@ -17,6 +17,7 @@ mod verbatim; // characters that stand in a text as they are written
 
 pub use characters::Character;
 pub use cursor::Bounded;
+pub use cursor::ByteRead;
 pub use cursor::Cursor;
 pub use cursor::NOT_JSON;
 pub use cursor::NUMBER_OVER_LIMIT;

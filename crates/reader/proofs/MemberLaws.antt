@@ -43,7 +43,7 @@ use Rattle.reader.specs.Work.{Work}
 use Rattle.reader.specs.Words.{nameless, Titles}
 use Rattle.reader.specs.Filled.{Noted, Filled, Reached, Marked, marked-none, marked-tree}
 use Rattle.reader.specs.Names.{Lent, Inside, afterColon, Holding, Leading, LeadsNext, RepeatedIs, NameIs, name-read, name-refused, Having, NamedIs}
-use Rattle.reader.specs.Items.{afterComma, nextName, begun, itemOf, nextItem, ItemIs, item-begins, item-closed, item-refused, NextItemIs}
+use Rattle.reader.specs.Items.{closed, afterComma, nextName, begun, itemOf, nextItem, ItemIs, item-begins, item-closed, item-refused, NextItemIs}
 use Rattle.reader.specs.declared.names.Container.{Container}
 use Rattle.reader.specs.declared.words.Named.{Named}
 use Rattle.reader.specs.declared.words.Named.the-variants.{Read, Refused}
@@ -271,12 +271,12 @@ module _ (s : Bytes) (k : Container) (w : Work) (at : ℕ) (first : Bool) (first
 
 -- ---- each way out of `next_item`
 module _ (s : Bytes) (k : Container) (w : Work) (at place : ℕ) (place-is : place ≡ blanks s at) where
-  pub item-close : byte s place ≡ closingBracket (k .object) → NextItemIs s k w (w .index) at (Closed (record { at = place + 1 }))
+  pub item-close : (next : Cursor) → next .at ≡ place + 1 → byte s place ≡ closingBracket (k .object) → NextItemIs s k w (w .index) at (Closed next)
   unfolding nextItem
-  item-close e =
+  item-close next next-is e =
       record {
         answer = λ all f m.
-            item-closed (record { at = place + 1 }) (rw (← place-is, eq-eqb (byte s place) (closingBracket (k .object)) e));
+            item-closed next (rw (← place-is, eq-eqb (byte s place) (closingBracket (k .object)) e) (ap (λ n. ok (closed n)) (sym next-is)));
         noted = noted-none;
       }
 

@@ -72,11 +72,12 @@ pub record Opened (s : Bytes) (start levels base row kind : ℕ) : Type 0 where
   pub begun : Begun s at levels base row kind
   pub container : arrayKind ≤ kind
 
-pub opened : {s : Bytes} {at levels base row kind : ℕ} → Begun s at levels base row kind → arrayKind ≤ kind → Opened s (at + 1) levels base row kind
-opened {at = at} b c = record { at = at; here = refl; begun = b; container = c }
+pub opened : {s : Bytes} {at levels base row kind start : ℕ} → Begun s at levels base row kind → arrayKind ≤ kind → start ≡ at + 1
+    → Opened s start levels base row kind
+opened {at = at} b c e = record { at = at; here = e; begun = b; container = c }
 
-opened-begun : {s : Bytes} {at levels base row kind : ℕ} → Opened s (at + 1) levels base row kind → Begun s at levels base row kind
-opened-begun {s} {at} {levels} {base} {row} {kind} o =
+opened-begun : {s : Bytes} {at levels base row kind start : ℕ} → start ≡ at + 1 → Opened s start levels base row kind → Begun s at levels base row kind
+opened-begun {s} {at} {levels} {base} {row} {kind} e o =
     let same : o .at ≡ at = omega (arith, o .here) in subst (λ n. Begun s n levels base row kind) same (o .begun)
 
 pub opened-levels : {s : Bytes} {start levels base row kind : ℕ} → Opened s start levels base row kind → levels ≡ suc (levels - 1)
@@ -426,18 +427,19 @@ module _ {source : ℕ} {s : Bytes} {at base row kind : ℕ} {w : Spelled} (b : 
           refusal n' place' (by-scalar levels ∙ q) (unchanged row (base + maxNodes) nodes) beyond-none
 
 -- ---- a container's items
-module _ {s : Bytes} {levels base row kind : ℕ} (at : ℕ) (o : Opened s (at + 1) levels base row kind) where
-  by-items : (source : ℕ) (r : Outcome (Members × ℕ)) → allItems source s (at + 1) levels kind base row ≡ r
+module _ {s : Bytes} {levels base row kind start : ℕ} (at : ℕ) (here : start ≡ at + 1) (o : Opened s start levels base row kind) where
+  by-items : (source : ℕ) (r : Outcome (Members × ℕ)) → allItems source s start levels kind base row ≡ r
       → value levels s at (row - base) ≡ (r >>= whole (eqb kind objectKind))
   by-items source r e =
-      let b = opened-begun o in
+      let b = opened-begun here o in
       value-container s at (row - base) levels (begins-here b) (rw (← b .kind-is) (o .container)) (levels - 1) (opened-levels o)
       ∙ ap (λ k. contents (value (levels - 1) s) (eqb k objectKind) s (row - base + 1) (at + 1) >>= whole (eqb k objectKind)) (sym (b .kind-is))
+      ∙ ap (λ p. contents (value (levels - 1) s) (eqb kind objectKind) s (row - base + 1) p >>= whole (eqb kind objectKind)) (sym here)
       ∙ ap (λ o. o >>= whole (eqb kind objectKind)) e
 
   -- a refusal among them
   items-refused : {source : ℕ} {name : Name} {w w' : Work} (n place end : ℕ) → end ≤ base + maxNodes
-      → allItems source s (at + 1) levels kind base row ≡ refused n place → Between (row + 1) end (w .nodes) (w' .nodes)
+      → allItems source s start levels kind base row ≡ refused n place → Between (row + 1) end (w .nodes) (w' .nodes)
       → SameBeyond (w .index) (w' .index) → ValueTaken source s at levels name base row w w' (Read.Refused n place)
   unfolding _>>=_
   items-refused {source} n place end room e c m text titles =
@@ -448,13 +450,13 @@ pub turn-levels : {source : ℕ} {s : Bytes} {start levels kind base row : ℕ} 
     → Turn source s start levels kind base row w w' ys next end i → levels ≡ suc (levels - 1)
 turn-levels t = opened-levels (t .filling .opened)
 
-module _ {source : ℕ} {s : Bytes} {levels kind base row : ℕ} {name : Name} {w w' : Work} {ys : List ℕ} {next end : ℕ} {i : Item} (at : ℕ)
-    (t : Turn source s (at + 1) levels kind base row w w' ys next end i) where
+module _ {source : ℕ} {s : Bytes} {levels kind base row : ℕ} {name : Name} {w w' : Work} {ys : List ℕ} {next end start : ℕ} {i : Item} (at : ℕ)
+    (here : start ≡ at + 1) (t : Turn source s start levels kind base row w w' ys next end i) where
   -- no next item
   pub value-way-unread : (n place : ℕ) → i ≡ Item.Refused n place
       → ValueTaken source s at levels name base row w (record { nodes = w' .nodes; index = ys }) (Read.Refused n place)
   value-way-unread n place e =
-      items-refused at (t .filling .opened) n place end (t .filling .room) (turn-unread t n place e) (t .filling .changed) (noted-so-far t .beyond)
+      items-refused at here (t .filling .opened) n place end (t .filling .room) (turn-unread t n place e) (t .filling .changed) (noted-so-far t .beyond)
 
   -- an item's value is refused, and the refusal handed on
   pub value-way-handed : {w3 : Work} {r : Read} (first : Cursor) (title : Name) → i ≡ Item.Begins first title
@@ -462,7 +464,7 @@ module _ {source : ℕ} {s : Bytes} {levels kind base row : ℕ} {name : Name} {
       → r ≡ Read.Refused n place → ValueTaken source s at levels name base row w w3 r
   value-way-handed first title is read n place e =
       let c = turn-refused t first title is read n place e in
-      rw e (items-refused at (t .filling .opened) n place (base + maxNodes) (omega arith) (c .0) (c .1) (c .2))
+      rw e (items-refused at here (t .filling .opened) n place (base + maxNodes) (omega arith) (c .0) (c .1) (c .2))
 
   -- its closing bracket, and its own row stored
   pub value-way-closed : {nodes : List Row} {r : Read} (last : Cursor) → i ≡ Item.Closed last → base + maxNodes ≤ scratchRow
@@ -472,7 +474,7 @@ module _ {source : ℕ} {s : Bytes} {levels kind base row : ℕ} {name : Name} {
   value-way-closed last is room long closing text titles =
       let z = turn-closed t last is in
       let o = t .filling .opened in
-      let b = opened-begun o in
+      let b = opened-begun here o in
       let k = value-kind s at (row - base) levels (begins-here b) in
       let m : kind ≤ objectKind = omega (arith, b .kind-is) in
       let label = containerLabel (eqb kind objectKind) in
@@ -483,7 +485,7 @@ module _ {source : ℕ} {s : Bytes} {levels kind base row : ℕ} {name : Name} {
       let fits : end ≤ base + maxNodes = t .filling .room in
       let long' : scratchRow ≤ length (w' .nodes) = omega (arith, t .filling .nodes-length) in
       rw (closing .answer)
-      (taken (record { label = label; kids = t .filling .so-far }) last end (by-items at o source (ok (t .filling .so-far, last .at)) (z .0))
+      (taken (record { label = label; kids = t .filling .so-far }) last end (by-items at here o source (ok (t .filling .so-far, last .at)) (z .0))
       (record { past = omega (arith, z .1, t .filling .forward); inside = z .2; grows = grows; room = fits })
       (filled-tree kind noSpelling name (end - row - 1) label text labels titles m (λ h. absurd (omega (arith, least))) (omega arith) long' refl
       (closing .stored) f)

@@ -265,10 +265,10 @@ module _ (source : ℕ) (s : Bytes) (at : ℕ) where
   unfolding stringValue _>>=_
   string-refused h = rw (h .word) (scalar-refused (h .number) (h .place) (rw (h .gives)))
 
-  pub literal-read : (kind : ℕ) (label : Label) (rest : Bytes) (r : Scan) (w : Spelled) → kind < numberKind
-      → scanOutcome r ≡ Definition.spelled rest s (at + 1) → w ≡ unspelled r → ((T : Texts) → labelOf T kind noSpelling ≡ label)
+  pub literal-read : (kind : ℕ) (label : Label) (rest : Bytes) (r : Scan) (w : Spelled) → kind < numberKind → {next : ℕ} → next ≡ at + 1
+      → scanOutcome r ≡ Definition.spelled rest s next → w ≡ unspelled r → ((T : Texts) → labelOf T kind noSpelling ≡ label)
       → ScalarIs source s kind (literalValue label rest s at) w
   unfolding literalValue unspelled scanOutcome _>>=_
-  literal-read kind label rest (Scan.To next) w k e is says =
-      rw is (scalar-read label next noSpelling (rw (← e)) (textless-labels source s kind label (λ h. omega arith) (λ h. omega arith) says))
-  literal-read kind label rest (Scan.Refused n place) w k e is says = rw is (scalar-refused n place (rw (← e)))
+  literal-read kind label rest (Scan.To next) w k here e is says =
+      rw is (scalar-read label next noSpelling (rw (← here, ← e)) (textless-labels source s kind label (λ h. omega arith) (λ h. omega arith) says))
+  literal-read kind label rest (Scan.Refused n place) w k here e is says = rw is (scalar-refused n place (rw (← here, ← e)))

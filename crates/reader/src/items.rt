@@ -12,7 +12,6 @@ use crate::words::no_name;
 use crate::words::unnamed;
 use lexer::Cursor;
 use lexer::Scan;
-use lexer::peek;
 use spec::refusal;
 use tape::fields::Name;
 use tape::layout::Node;
@@ -38,10 +37,12 @@ fn comma(s: &[u8], at: Cursor, first: bool) -> Scan
     if first {
         return Scan::To(at);
     }
-    if peek(s, at.at) != b',' {
+    let read = at.read(s);
+    if read.byte != b',' {
         return Scan::Refused(refusal::NOT_JSON, at.at);
     }
-    Scan::To((Cursor { at: at.at + 1 }).blanks(s))
+    let behind = read.next;
+    Scan::To(behind.blanks(s))
 }
 
 // The name of an item; an array's element has none.
@@ -92,8 +93,10 @@ pub fn next_item(
     ensures { λ r. ⌜ NextItemIs (now (s .entry)) container (workBefore nodes index) (now (index .exit)) (at .at) r ⌝ }
 {
     let place = at.blanks(s);
-    if peek(s, place.at) == closing_bracket(container.object) {
-        return Item::Closed(Cursor { at: place.at + 1 });
+    let read = place.read(s);
+    if read.byte == closing_bracket(container.object) {
+        let behind = read.next;
+        return Item::Closed(behind);
     }
     item_of(next_name(s, nodes, index, place, container))
 }

@@ -13,7 +13,6 @@ use index::enter_by_hash;
 use lexer::Cursor;
 use lexer::Name;
 use lexer::Scan;
-use lexer::peek;
 use spec::refusal;
 use table::find::Member;
 use table::find::find;
@@ -64,10 +63,12 @@ fn colon(s: &[u8], at: Cursor) -> Scan
     ensures { λ r. ⌜ scanOutcome r ≡ afterColon (now (s .entry)) (at .at) ⌝ }
 {
     let place = at.blanks(s);
-    if peek(s, place.at) != b':' {
+    let read = place.read(s);
+    if read.byte != b':' {
         return Scan::Refused(refusal::NOT_JSON, place.at);
     }
-    Scan::To((Cursor { at: place.at + 1 }).blanks(s))
+    let behind = read.next;
+    Scan::To(behind.blanks(s))
 }
 
 // The name of the next member of an object.

@@ -18,6 +18,7 @@ use crate::items::next_item;
 use crate::names::Container;
 use crate::words::Spelled;
 use crate::words::no_spelling;
+use crate::words::past_byte;
 use crate::words::scalar;
 use lexer::Cursor;
 use lexer::peek;
@@ -134,7 +135,7 @@ fn container(
     }
     let object = kind == layout::OBJECT;
     let left = levels - 1;
-    let mut next = Cursor { at: at.at + 1 };
+    let mut next = past_byte(s, at);
     let mut end = row + 1;
     loop {
         let items = Container {

@@ -1,6 +1,6 @@
 // What is read of a scalar or of a name: a spelling, which says where its text stands.
 ghost use mathlib.Core.Path.{_≡_};
-ghost use Prim.Native.Nat.{_<_, _≤_};
+ghost use Prim.Native.Nat.{_+_, _<_, _≤_};
 ghost use lib.ListN.{length};
 ghost use Rattle.spec.specs.Read.{numberValue, stringValue};
 ghost use Rattle.tape.specs.Layout.{values, sources, numberKind, stringKind, arrayKind};
@@ -153,9 +153,18 @@ fn string(s: &[u8], at: Cursor, source: u16) -> Spelled
     Spelled::Read(next, spell_string(plain, source, at.at + 1, next.at))
 }
 
+// The cursor after the byte here, which is in the text.
+pub fn past_byte(s: &[u8], at: Cursor) -> Cursor
+    requires { ⌜ at .at < length (now s) ⌝ }
+    ensures { λ r. ⌜ r .at ≡ at .at + 1 ⌝ }
+{
+    let read = at.read(s);
+    read.next
+}
+
 // The scalar of a kind at a cursor.
 pub fn scalar(s: &[u8], at: Cursor, kind: u16, source: u16) -> Spelled
-    requires { ⌜ (source < sources) × (length (now s) < values) × (at .at ≤ length (now s)) × (kind < arrayKind) ⌝ }
+    requires { ⌜ (source < sources) × (length (now s) < values) × (at .at < length (now s)) × (kind < arrayKind) ⌝ }
     ensures { λ r. ⌜ ScalarIs source (now (s .entry)) kind (scalarOf kind (now (s .entry)) (at .at)) r ⌝ }
 {
     if kind == layout::STRING {
@@ -164,7 +173,7 @@ pub fn scalar(s: &[u8], at: Cursor, kind: u16, source: u16) -> Spelled
     if kind == layout::NUMBER {
         return number(s, at, source);
     }
-    let rest = Cursor { at: at.at + 1 };
+    let rest = past_byte(s, at);
     if kind == layout::NULL {
         return unspelled(rest.null_literal(s));
     }

@@ -14,6 +14,7 @@ use Rattle.reader.proofs.values.container.Reads as container
 use Rattle.reader.proofs.values.container.Kinds as container-kinds
 use Rattle.reader.proofs.values.+container.Lts-container as container-lts
 use Rattle.lexer.proofs.peek.Reads as peek-reads
+use Rattle.reader.proofs.words.past_byte.Reads as past-byte-reads
 use Rattle.reader.proofs.begins.beginning.Reads as beginning-reads
 use Rattle.reader.proofs.begins.refusal_at.Reads as refusal-at-reads
 use Rattle.reader.proofs.items.next_item.Reads as next-item-reads
@@ -43,6 +44,8 @@ pub +container-spec : {M : Type 1} → statement M
 +container-spec = close μ-container λ t. container-lts.spec (
   refusal-at-reads.Asked,
   refusal-at-reads.Learnt,
+  past-byte-reads.Asked,
+  past-byte-reads.Learnt,
   next-item-reads.Asked,
   next-item-reads.Learnt,
   peek-reads.Asked,
@@ -70,12 +73,12 @@ pub +container-spec : {M : Type 1} → statement M
     (λ c.
     let p = c .before .before .before .before .pre .1 in
     let b = begun _ _ _ _ _ _ _ (p .1 .0) (c .before .refusal-at .ensures) (p .1 .2) (c .if1 .left) in
-    omega (arith, opened-levels (opened b (p .1 .1))))
-    -- add-t30
-    (λ c.
-    let p = c .before .before .before .before .before .pre .1 in
-    let b = begun _ _ _ _ _ _ _ (p .1 .0) (c .before .before .refusal-at .ensures) (p .1 .2) (c .before .if1 .left) in
-    omega (arith, value-starts b))
+    omega (arith, opened-levels (opened b (p .1 .1) refl)))
+    -- past-byte-requires
+    (λ c κs.
+    let p = c .before .before .before .before .pre .1 in
+    let b = begun _ _ _ _ _ _ _ (p .1 .0) (c .before .refusal-at .ensures) (p .1 .2) (c .if1 .left) in
+    value-starts b)
     -- add-end
     (λ c.
     let p = c .before .before .before .before .before .pre .1 in
@@ -85,7 +88,7 @@ pub +container-spec : {M : Type 1} → statement M
     (λ c.
     let p = c .before .before .before .before .before .pre .1 in
     let b = begun _ _ _ _ _ _ _ (p .1 .0) (c .before .before .refusal-at .ensures) (p .1 .2) (c .before .if1 .left) in
-    filling-none _ _ _ _ _ _ _ _ (opened b (p .1 .1)))
+    filling-none _ _ _ _ _ _ _ _ (opened b (p .1 .1) (c .past-byte .ensures)))
     -- next-item-requires
     (λ c κs.
     let passed = c .before .before .before .before in
@@ -121,7 +124,8 @@ pub +container-spec : {M : Type 1} → statement M
     let asked = stored .before .before .before .before .before .before .before .before .before .before in
     let t = turn (asked .before .before .before .loop .inv) (asked .next-item .ensures) (asked .next-item .kept .1 .1 .0) in
     let begins = stored .before .before .before .before .before .before .first .given .1 in
-    value-way-handed _ t _ _ begins (stored .scalar-value .ensures _ _) _ _ (c .enum-told .given .1))
+    let here = asked .before .before .before .before .past-byte .ensures in
+    value-way-handed _ here t _ _ begins (stored .scalar-value .ensures _ _) _ _ (c .enum-told .given .1))
     -- loop-less
     (λ c.
     let stored = c .before .before .before .before in
@@ -161,7 +165,8 @@ pub +container-spec : {M : Type 1} → statement M
     let asked = call .before .before .before .before .before .before .before .before .before .before .before in
     let t = turn (asked .before .before .before .loop .inv) (asked .next-item .ensures) (asked .next-item .kept .1 .1 .0) in
     let begins = call .before .before .before .before .before .before .before .first .given .1 in
-    value-way-handed _ t _ _ begins (call .container .ensures) _ _ (c .enum-told2 .given .1))
+    let here = asked .before .before .before .before .past-byte .ensures in
+    value-way-handed _ here t _ _ begins (call .container .ensures) _ _ (c .enum-told2 .given .1))
     -- loop-less-2
     (λ c.
     let call = c .before .before .before .before .before .before in
@@ -193,7 +198,8 @@ pub +container-spec : {M : Type 1} → statement M
     let passed = asked .before .before .before .before .before in
     let p = passed .before .before .before .before .pre .1 in
     let t = turn (asked .before .before .before .loop .inv) (asked .next-item .ensures) (asked .next-item .kept .1 .1 .0) in
-    value-way-closed _ t _ (c .before .before .before .before .after .given .1) (p .1 .3) (p .0 .nodes-long) (c .before .close .ensures))
+    let here = asked .before .before .before .before .past-byte .ensures in
+    value-way-closed _ here t _ (c .before .before .before .before .after .given .1) (p .1 .3) (p .0 .nodes-long) (c .before .close .ensures))
     -- enum-known-number
     (λ c. search needs)
     -- same-length-7
@@ -204,4 +210,5 @@ pub +container-spec : {M : Type 1} → statement M
     (λ c.
     let asked = c .before .before .before .before .before in
     let t = turn (asked .before .before .before .loop .inv) (asked .next-item .ensures) (asked .next-item .kept .1 .1 .0) in
-    value-way-unread _ t _ _ (c .before .number .given .1))
+    let here = asked .before .before .before .before .past-byte .ensures in
+    value-way-unread _ here t _ _ (c .before .number .given .1))

@@ -21,30 +21,38 @@ scalar-spec =
     (λ c κs. search auto)
     -- returns-2
     (λ c. rw (c .before .if2 .taken) (c .number .ensures))
-    -- add-t7
-    (λ c. search auto)
+    -- past-byte-requires
+    (λ c κs. search auto)
     -- null-literal-requires
     (λ c κs. search auto)
     -- unspelled-requires
     (λ c κs. search auto)
     -- returns-3
     (λ c.
+    let past-byte-is = c .before .before .before .past-byte .ensures in
     let if3-is = c .before .before .if3 .taken in
-    rw if3-is (literal-read _ _ _ 0 Label.null-literal _ _ _ (omega arith) (c .before .null-literal .ensures) (c .unspelled .ensures) (λ T. refl)))
+    let next = past-byte-is in
+    rw if3-is (literal-read _ _ _ 0 Label.null-literal _ _ _ (omega arith) next (c .before .null-literal .ensures) (c .unspelled .ensures) (λ T. refl)))
     -- true-literal-requires
     (λ c κs. search auto)
     -- unspelled-requires-2
     (λ c κs. search auto)
     -- returns-4
     (λ c.
+    let past-byte-is = c .before .before .before .before .past-byte .ensures in
     let if4-is = c .before .before .if4 .taken in
-    rw if4-is (literal-read _ _ _ 1 Label.true-literal _ _ _ (omega arith) (c .before .true-literal .ensures) (c .unspelled2 .ensures) (λ T. refl)))
+    let next = past-byte-is in
+    rw if4-is (literal-read _ _ _ 1 Label.true-literal _ _ _ (omega arith) next (c .before .true-literal .ensures) (c .unspelled2 .ensures) (λ T. refl)))
     -- false-literal-requires
     (λ c κs. search auto)
     -- unspelled-requires-3
     (λ c κs. search auto)
     -- returns-5
     (λ c.
+    let past-byte-is = c .before .before .before .before .past-byte .ensures in
     let a = c .before .before .before .before .before .before .before .before .args .kind in
-    let kind : a ≡ 2 = omega arith in
-    rw kind (literal-read _ _ _ 2 Label.false-literal _ _ _ (omega arith) (c .before .false-literal .ensures) (c .unspelled3 .ensures) (λ T. refl))))
+    let asked = c .before .before .before .before .before .before .before .before .pre .3 in
+    let next = past-byte-is in
+    let kind : a ≡ 2 = omega (arith, asked) in
+    rw kind
+    (literal-read _ _ _ 2 Label.false-literal _ _ _ (omega arith) next (c .before .false-literal .ensures) (c .unspelled3 .ensures) (λ T. refl))))
