@@ -148,7 +148,11 @@ module _ {s : Bytes} {at : ℕ} where
       go (no m) (yes p) e =
           let b = 0xE0 + c / 4096 in
           three-bytes-row c 0x80 0xBF
-          (rw (within-high 0xC2 0xDF b (omega arith), within-high 0xE0 0xE0 b (omega arith), within-true {low = 0xE1} {high = 0xEC} {n = b} (omega arith) (omega arith)))
+          (rw (
+            within-high 0xC2 0xDF b (omega arith),
+            within-high 0xE0 0xE0 b (omega arith),
+            within-true {low = 0xE1} {high = 0xEC} {n = b} (omega arith) (omega arith),
+          ))
           (omega arith) (omega arith) r
       go (no m) (no n) (yes p) =
           let first : c / 4096 ≡ 13 = omega arith in
@@ -176,7 +180,12 @@ module _ {s : Bytes} {at : ℕ} where
       let value : (((b - 0xF0) * 64 + (0x80 + c / 4096 % 64 - 0x80)) * 64 + (0x80 + c / 64 % 64 - 0x80)) * 64 + (0x80 + c % 64 - 0x80) ≡ c =
       omega (arith, parts-four c) in
       above-ascii b (omega arith) r ∙ row ∙
-      rw (tail-three low high (b - 0xF0) (0x80 + c / 4096 % 64) (0x80 + c / 64 % 64) (0x80 + c % 64) l h (omega arith) (omega arith) (omega arith) (omega arith) (rest-next r), value, place)
+      rw (
+        tail-three low high (b - 0xF0) (0x80 + c / 4096 % 64) (0x80 + c / 64 % 64)
+            (0x80 + c % 64) l h (omega arith) (omega arith) (omega arith) (omega arith) (rest-next r),
+        value,
+        place,
+      )
 
   four-bytes : (c : ℕ) {r : Bytes} → 0x1_0000 ≤ c → c ≤ 0x10_FFFF →
       Rest s at ((0xF0 + c / 262144) ∷ (0x80 + c / 4096 % 64) ∷ (0x80 + c / 64 % 64) ∷ (0x80 + c % 64) ∷ r) → character s at ≡ ok (c, at + 4)

@@ -9,13 +9,15 @@ use lib.ListN.{length}
 use borrow.Author.Tests.{leb-true, leb-false, le-leb}
 use Rattle.spec.specs.Outcome.{Outcome, ok, if_then_else_}
 use Rattle.spec.specs.Bytes.{Bytes, Text, byte, byteIn, within}
-use Rattle.spec.specs.Strings.{hexValue, hexIn, lowSurrogate, afterHigh, secondLimit, unicodeEscape, shortEscape, escape, tail, multibyte, character, characters, string}
+use Rattle.spec.specs.Strings.{hexValue, hexIn, lowSurrogate, afterHigh, secondLimit, unicodeEscape, shortEscape, escape, tail, multibyte, character}
+use Rattle.spec.specs.Strings.{characters, string}
 use Rattle.spec.proofs.OutcomeLaws.{refused≢ok, both-ok, first-ok}
 use Rattle.spec.proofs.TextLaws.{both-true}
 use Rattle.claims.specs.Proper.{ScalarValue, below-surrogates, above-surrogates, ScalarValues, nothing, another}
 
 -- a result by a test, with what the test said
-pub if-ok : {A C : Type 0} (test : Bool) {x y : Outcome A} {a : A} → (if test then x else y) ≡ ok a → (test ≡ true → x ≡ ok a → C) → (test ≡ false → y ≡ ok a → C) → C
+pub if-ok : {A C : Type 0} (test : Bool) {x y : Outcome A} {a : A} → (if test then x else y) ≡ ok a
+    → (test ≡ true → x ≡ ok a → C) → (test ≡ false → y ≡ ok a → C) → C
 if-ok true h f g = f refl h
 if-ok false h f g = g refl h
 
@@ -156,7 +158,8 @@ tail-two s at low high bits c next h =
     let b = byteIn-bounds s at low high d e in
     record { d = d; d-low = b .0; d-high = b .1; others = tail-one s (at + 1) 0x80 0xBF _ c next i }
 
-tail-three : (s : Bytes) (at low high bits c next : ℕ) → tail 3 s at low high bits ≡ ok (c, next) → ByteThen (ByteThen (LastByte 0x80 0xBF) 0x80 0xBF) low high bits c
+tail-three : (s : Bytes) (at low high bits c next : ℕ) → tail 3 s at low high bits ≡ ok (c, next)
+    → ByteThen (ByteThen (LastByte 0x80 0xBF) 0x80 0xBF) low high bits c
 unfolding tail
 tail-three s at low high bits c next h =
     let (d, e, i) = both-ok (byteIn s at low high) _ _ h in
@@ -166,14 +169,22 @@ tail-three s at low high bits c next h =
 multibyte-scalar : (s : Bytes) (at b c next : ℕ) → multibyte s at b ≡ ok (c, next) → ScalarValue c
 unfolding multibyte
 multibyte-scalar s at b c next h =
-    if-ok (within 0xC2 0xDF b) h (λ t i. let first = within-bounds 0xC2 0xDF b t in let rest = tail-one s (at + 1) 0x80 0xBF (b - 0xC0) c next i in below-surrogates (omega arith)) λ _ h.
-    if-ok (within 0xE0 0xE0 b) h (λ t i. let first = within-bounds 0xE0 0xE0 b t in let rest = tail-two s (at + 1) 0xA0 0xBF (b - 0xE0) c next i in below-surrogates (omega arith)) λ _ h.
-    if-ok (within 0xE1 0xEC b) h (λ t i. let first = within-bounds 0xE1 0xEC b t in let rest = tail-two s (at + 1) 0x80 0xBF (b - 0xE0) c next i in below-surrogates (omega arith)) λ _ h.
-    if-ok (within 0xED 0xED b) h (λ t i. let first = within-bounds 0xED 0xED b t in let rest = tail-two s (at + 1) 0x80 0x9F (b - 0xE0) c next i in below-surrogates (omega arith)) λ _ h.
-    if-ok (within 0xEE 0xEF b) h (λ t i. let first = within-bounds 0xEE 0xEF b t in let rest = tail-two s (at + 1) 0x80 0xBF (b - 0xE0) c next i in above-surrogates (omega arith) (omega arith)) λ _ h.
-    if-ok (within 0xF0 0xF0 b) h (λ t i. let first = within-bounds 0xF0 0xF0 b t in let rest = tail-three s (at + 1) 0x90 0xBF (b - 0xF0) c next i in above-surrogates (omega arith) (omega arith)) λ _ h.
-    if-ok (within 0xF1 0xF3 b) h (λ t i. let first = within-bounds 0xF1 0xF3 b t in let rest = tail-three s (at + 1) 0x80 0xBF (b - 0xF0) c next i in above-surrogates (omega arith) (omega arith)) λ _ h.
-    if-ok (within 0xF4 0xF4 b) h (λ t i. let first = within-bounds 0xF4 0xF4 b t in let rest = tail-three s (at + 1) 0x80 0x8F (b - 0xF0) c next i in above-surrogates (omega arith) (omega arith)) λ _ h.
+    if-ok (within 0xC2 0xDF b) h (λ t i. let first = within-bounds 0xC2 0xDF b t in
+    let rest = tail-one s (at + 1) 0x80 0xBF (b - 0xC0) c next i in below-surrogates (omega arith)) λ _ h.
+    if-ok (within 0xE0 0xE0 b) h (λ t i. let first = within-bounds 0xE0 0xE0 b t in
+    let rest = tail-two s (at + 1) 0xA0 0xBF (b - 0xE0) c next i in below-surrogates (omega arith)) λ _ h.
+    if-ok (within 0xE1 0xEC b) h (λ t i. let first = within-bounds 0xE1 0xEC b t in
+    let rest = tail-two s (at + 1) 0x80 0xBF (b - 0xE0) c next i in below-surrogates (omega arith)) λ _ h.
+    if-ok (within 0xED 0xED b) h (λ t i. let first = within-bounds 0xED 0xED b t in
+    let rest = tail-two s (at + 1) 0x80 0x9F (b - 0xE0) c next i in below-surrogates (omega arith)) λ _ h.
+    if-ok (within 0xEE 0xEF b) h (λ t i. let first = within-bounds 0xEE 0xEF b t in
+    let rest = tail-two s (at + 1) 0x80 0xBF (b - 0xE0) c next i in above-surrogates (omega arith) (omega arith)) λ _ h.
+    if-ok (within 0xF0 0xF0 b) h (λ t i. let first = within-bounds 0xF0 0xF0 b t in
+    let rest = tail-three s (at + 1) 0x90 0xBF (b - 0xF0) c next i in above-surrogates (omega arith) (omega arith)) λ _ h.
+    if-ok (within 0xF1 0xF3 b) h (λ t i. let first = within-bounds 0xF1 0xF3 b t in
+    let rest = tail-three s (at + 1) 0x80 0xBF (b - 0xF0) c next i in above-surrogates (omega arith) (omega arith)) λ _ h.
+    if-ok (within 0xF4 0xF4 b) h (λ t i. let first = within-bounds 0xF4 0xF4 b t in
+    let rest = tail-three s (at + 1) 0x80 0x8F (b - 0xF0) c next i in above-surrogates (omega arith) (omega arith)) λ _ h.
     absurd (refused≢ok h)
 
 pub character-scalar : (s : Bytes) (at c next : ℕ) → character s at ≡ ok (c, next) → ScalarValue c
@@ -191,7 +202,8 @@ characters-scalar (suc fuel) s at cs end h =
     if-ok (eqb (byte s at) 34) h (λ t i. subst ScalarValues (first-ok i) nothing) λ t i.
     let (c-next, e, j) = both-ok (character s at) _ _ i in
     let (cs-next, f, k) = both-ok (characters fuel s (c-next .1)) _ _ j in
-    subst ScalarValues (first-ok k) (another (character-scalar s at (c-next .0) (c-next .1) e) (characters-scalar fuel s (c-next .1) (cs-next .0) (cs-next .1) f))
+    subst ScalarValues (first-ok k)
+    (another (character-scalar s at (c-next .0) (c-next .1) e) (characters-scalar fuel s (c-next .1) (cs-next .0) (cs-next .1) f))
 
 pub string-scalar : (s : Bytes) (at : ℕ) (cs : Text) (next : ℕ) → string s at ≡ ok (cs, next) → ScalarValues cs
 unfolding string

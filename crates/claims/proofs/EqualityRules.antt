@@ -14,7 +14,8 @@ use Rattle.claims.specs.Numbers.{NumberText}
 use Rattle.claims.specs.Proper as Proper
 use Rattle.claims.specs.Proper.{Allows, ProperItems}
 use Rattle.claims.specs.Equality as Statement
-use Rattle.claims.specs.Equality.{EqualLabels, strings, numbers, falses, trues, nulls, arrays, objects, Has, here, there, EqualItems, no-elements, elements, no-members, members, NoRepeats}
+use Rattle.claims.specs.Equality.{EqualLabels, strings, numbers, falses, trues, nulls, arrays, objects, Has, here, there, EqualItems, no-elements}
+use Rattle.claims.specs.Equality.{elements, no-members, members, NoRepeats}
 use Rattle.claims.proofs.LabelLaws.{SameLabels, isObject-same, same-refl, sameWorth-true, sameWorth-refl}
 use Rattle.claims.proofs.NumbersTheorem as Numbers
 use Rattle.claims.proofs.Found.{Found, first, later, found-name, found-absent}

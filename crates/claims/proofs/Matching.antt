@@ -14,7 +14,8 @@ use Rattle.claims.specs.Equality as Statement
 use Rattle.claims.specs.Equality.{NoRepeats}
 use Rattle.claims.proofs.LabelLaws.{SameLabels, sameLabel-true, true-sameLabel, isObject-same}
 use Rattle.claims.proofs.Alike.{Inserted, Alike, nothing, element, member}
-use Rattle.claims.proofs.Found.{Found, absent-parts, partner-found, found, found-name, found-out, found-in, inserted-found, inserted-repeats, absent-inserted, repeats-inserted, take-out, count-inserted}
+use Rattle.claims.proofs.Found.{Found, absent-parts, partner-found, found, found-name, found-out, found-in, inserted-found, inserted-repeats}
+use Rattle.claims.proofs.Found.{absent-inserted, repeats-inserted, take-out, count-inserted}
 
 -- `matches`, one step at a time
 pub data Matches : Bool → Members → Members → Type 0 where

@@ -45,7 +45,8 @@ module _ {at n : ℕ} where
   none : {number place : ℕ} {o' : Outcome ℕ} → Moves at n (refused number place) o'
   none = record { moves = λ q h. absurd (refused≢ok h) }
 
-  andThen : {o o' : Outcome ℕ} (g g' : ℕ → Outcome ℕ) → Moves at n o o' → ((q : ℕ) → q ≤ n → o ≡ ok q → Moves at n (g q) (g' (at + q))) → Moves at n (o >>= g) (o' >>= g')
+  andThen : {o o' : Outcome ℕ} (g g' : ℕ → Outcome ℕ) → Moves at n o o'
+      → ((q : ℕ) → q ≤ n → o ≡ ok q → Moves at n (g q) (g' (at + q))) → Moves at n (o >>= g) (o' >>= g')
   unfolding _>>=_
   andThen {o} g g' m rest =
       record {

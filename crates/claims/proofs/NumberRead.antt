@@ -147,7 +147,8 @@ some-digits s start at next h =
 
 one-or-more : {s : Bytes} {at next : ℕ} → OneOrMore s at next → Spans Digits s at next
 one-or-more {s} {at} o =
-    one-more (byte s at) (digit-there s at (o .first)) (λ t h. record { some = omega arith; all = digits-all (byte s at ∷ t) (digits-cons (byte s at) t (o .first) h) }) (o .others)
+    one-more (byte s at) (digit-there s at (o .first))
+    (λ t h. record { some = omega arith; all = digits-all (byte s at ∷ t) (digits-cons (byte s at) t (o .first) h) }) (o .others)
 
 exponent-some : (s : Bytes) (start at next : ℕ) → isDigit (byte s at) ≡ true → exponentDigits (length s) s start 0 at ≡ ok next → Spans Digits s at next
 exponent-some s start at next d h =
@@ -165,7 +166,8 @@ int-spans s start at next h = go (eqb (byte s at) 48) refl h
         rw (counted-next start at next h) (record { text = 48 ∷ []; is = is-there s at 48 (λ z. omega arith) q; place = refl; holds = Statement.zero })
     go false q h =
         let o = some-digits s start at next h in
-        one-more (byte s at) (digit-there s at (o .first)) (λ t i. nonzero (byte s at) t (digit-bounds (byte s at) (o .first)) (eqb-false _ _ q) (digits-all t i)) (o .others)
+        one-more (byte s at) (digit-there s at (o .first))
+        (λ t i. nonzero (byte s at) t (digit-bounds (byte s at) (o .first)) (eqb-false _ _ q) (digits-all t i)) (o .others)
 
 abbrev IsFrac : Bytes → Type 0
 IsFrac f = (fraction : Bytes) × Frac f fraction

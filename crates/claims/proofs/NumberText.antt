@@ -17,7 +17,8 @@ use Rattle.spec.specs.Strings.{string}
 use Rattle.spec.specs.Numbers.{isDigit, number}
 use Rattle.spec.specs.Value as Value
 use Rattle.spec.specs.Value.{Label, leaf}
-use Rattle.spec.specs.Read.{isBlank, blanksFrom, blanks, spelled, roomFor, literalValue, numberValue, stringValue, scalar, containerLabel, contents, container, value, read}
+use Rattle.spec.specs.Read.{isBlank, blanksFrom, blanks, spelled, roomFor, literalValue, numberValue, stringValue, scalar, containerLabel, contents, container}
+use Rattle.spec.specs.Read.{value, read}
 use Rattle.spec.proofs.OutcomeLaws.{refused≢ok, both-ok, either-ok, first-ok}
 use Rattle.spec.proofs.Tracking.{Ends, Cut, nothing-ends, past-end}
 use Rattle.spec.proofs.ReadersTrack.{number-tracks}
@@ -101,7 +102,8 @@ numeral-bounds b h = go (isDigit b) refl h
     go true q h = let bounds = digit-bounds b q in (omega arith, omega arith)
     go false q h = let minus = eqb-true b 45 h in (omega arith, omega arith)
 
-pub numeral-back : {s : Bytes} {at : ℕ} (left nodes : ℕ) → nodes < 2048 → (r t : Bytes) → number t 0 ≡ ok (length t) → Ends (byte s (at + length t)) → Rest s at (t ++ r) →
+pub numeral-back : {s : Bytes} {at : ℕ} (left nodes : ℕ) → nodes < 2048 → (r t : Bytes)
+    → number t 0 ≡ ok (length t) → Ends (byte s (at + length t)) → Rest s at (t ++ r) →
     value left s at nodes ≡ ok (leaf (Label.number t), at + length t)
 unfolding scalar numberValue _>>=_
 numeral-back {s} {at} left nodes fits r t n e h =
@@ -122,8 +124,15 @@ unfolding read byte isBlank _>>=_
 number-text t n =
     let end = past-end t {at = length t} (omega arith) in
     let text : Rest t 0 (t ++ []) = record { is = sym (append-nil t) } in
-    let reads : value maxDepth t 0 0 ≡ ok (leaf (Label.number t), 0 + length t) = numeral-back maxDepth 0 (omega arith) [] t n (rw (zero-add (length t), end) nothing-ends) text in
-    rw (blanks-none t 0 (numeral-no-blank (byte t 0) (number-first t n)), reads, zero-add (length t), blanks-none t (length t) (ap isBlank end), eq-eqb (length t) (length t) refl)
+    let reads : value maxDepth t 0 0 ≡ ok (leaf (Label.number t), 0 + length t) = numeral-back maxDepth 0
+    (omega arith) [] t n (rw (zero-add (length t), end) nothing-ends) text in
+    rw (
+      blanks-none t 0 (numeral-no-blank (byte t 0) (number-first t n)),
+      reads,
+      zero-add (length t),
+      blanks-none t (length t) (ap isBlank end),
+      eq-eqb (length t) (length t) refl,
+    )
 
 -- And a value that is read has the text of one number where it is a number.
 

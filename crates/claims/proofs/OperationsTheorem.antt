@@ -76,7 +76,8 @@ equal-same {o} h = rw (← h) (go o)
     go (refused number place) = neither
 
 -- the parent at the end of a path is what the tokens before the last lead to
-parent-walked : (t u : Text) (ts : Tokens) (last : Text) (v w parent : Value.Value) → AtParent u (ts ++ (t ∷ [])) v last parent → walk (u ∷ ts) v ≡ ok w → parent ≡ w
+parent-walked : (t u : Text) (ts : Tokens) (last : Text) (v w parent : Value.Value)
+    → AtParent u (ts ++ (t ∷ [])) v last parent → walk (u ∷ ts) v ≡ ok w → parent ≡ w
 unfolding walk _>>=_
 parent-walked t u [] last v w parent (step {k = k} q end) h =
     let e : ok (valueOf (child k v)) ≡ ok w = farther-ok _ (sym (walk-on u [] v k q) ∙ h) in
@@ -123,7 +124,8 @@ run-stops (e ∷ earlier) later o op v w number place h i = go (limited e v) h (
         run limited (op + 1) (earlier ++ (o ∷ later)) u ≡ stopped (stop number (length earlier + (op + 1)) place (whichPointer o w number))) →
         onFinish (atOp op (whichPointer e v) r) (λ u. run limited (op + 1) (earlier ++ (o ∷ later)) u)
         ≡ stopped (stop number (suc (length earlier) + op) place (whichPointer o w number))
-    go (ok u) h ih = let count : length earlier + (op + 1) ≡ suc (length earlier) + op = omega arith in ih u h i ∙ ap (λ k. stopped (stop number k place (whichPointer o w number))) count
+    go (ok u) h ih = let count : length earlier + (op + 1) ≡ suc (length earlier) + op = omega arith in
+        ih u h i ∙ ap (λ k. stopped (stop number k place (whichPointer o w number))) count
     go (refused n p) h ih = cc
 
 -- no text beside a refusal: so of each step that makes an answer

@@ -13,7 +13,8 @@ use Rattle.spec.specs.Value as Value
 use Rattle.spec.specs.Value.{Label, Entry, Members, tag, isArray, isObject, named, valueOf, has, find}
 use Rattle.spec.specs.Equality.{equal}
 use Rattle.spec.specs.Pointer.{Tokens, childAt, child, farther, walk}
-use Rattle.spec.specs.Operation.{Kind, Operation, withKids, put, atParent, insertElement, insertMember, insertChild, removeChild, replaceChild, addAt, removeAtPath, replaceAtPath, moveTo, copyTo, testAt, perform}
+use Rattle.spec.specs.Operation.{Kind, Operation, withKids, put, atParent, insertElement, insertMember, insertChild, removeChild, replaceChild, addAt}
+use Rattle.spec.specs.Operation.{removeAtPath, replaceAtPath, moveTo, copyTo, testAt, perform}
 use Rattle.spec.proofs.OutcomeLaws.{refused≢ok, both-ok}
 use Rattle.spec.proofs.FartherLaws.{farther-ok}
 use Rattle.spec.proofs.ForestLaws.{count-replaceAt, find-replaceAt}
@@ -28,7 +29,8 @@ use Rattle.claims.proofs.OperationsTheorem.{proper-child}
 
 -- A value in the place of another
 
-has-replaceAt : (z : Tree Entry) (n : Text) (x : Value.Value) (k : ℕ) (f : Members) → k < count f → has n (replaceAt k (named (nth z k f .root .name) x) f) ≡ has n f
+has-replaceAt : (z : Tree Entry) (n : Text) (x : Value.Value) (k : ℕ) (f : Members)
+    → k < count f → has n (replaceAt k (named (nth z k f .root .name) x) f) ≡ has n f
 has-replaceAt z n x k f h = ap₂ ltb (find-replaceAt z n x k f h) (count-replaceAt k _ f h)
 
 proper-replaceAt : (z : Tree Entry) (object : Bool) (k : ℕ) (f : Members) (x : Value.Value) → Proper x → ProperItems object f → k < count f →
@@ -125,7 +127,8 @@ object-label (Label.string t) h = cc
 object-label Label.array h = cc
 object-label Label.object h = refl
 
-container-again : (v : Value.Value) (l : Label) (object : Bool) (f : Members) → v .label ≡ l → isObject l ≡ object → ((g : Members) → Allows l g) → ProperItems object f →
+container-again : (v : Value.Value) (l : Label) (object : Bool) (f : Members) → v .label ≡ l
+    → isObject l ≡ object → ((g : Members) → Allows l g) → ProperItems object f →
     Proper (withKids v f)
 container-again v l object f e o a p = record { allows = rw e (a f); items = rw (e, o) p }
 
@@ -135,7 +138,8 @@ element-keeps x q t v w p l h =
     let (k, e, i) = both-ok _ _ w h in
     let same : withKids v (insertAt k (named [] x) (v .kids)) ≡ w = cc in
     let items : ProperItems false (v .kids) = rw l at (p .items) in
-    subst Proper same (container-again v Label.array false (insertAt k (named [] x) (v .kids)) l refl (λ g. Proper.array) (proper-insertAt k (v .kids) x q items))
+    subst Proper same
+    (container-again v Label.array false (insertAt k (named [] x) (v .kids)) l refl (λ g. Proper.array) (proper-insertAt k (v .kids) x q items))
 
 member-keeps : (x : Value.Value) → Proper x → (t : Text) (v : Value.Value) → ScalarValues t → Proper v → v .label ≡ Label.object → Proper (insertMember x t v)
 unfolding insertMember isObject tag
@@ -166,7 +170,8 @@ pub data AllCharacters : Tokens → Type 0 where
   no-tokens : AllCharacters []
   token : {t : Text} {ts : Tokens} → ScalarValues t → AllCharacters ts → AllCharacters (t ∷ ts)
 
-parent-keeps : (change : Text → Value.Value → Outcome Value.Value) → Keeps change → (t : Text) (ts : Tokens) (v w : Value.Value) → ScalarValues t → AllCharacters ts →
+parent-keeps : (change : Text → Value.Value → Outcome Value.Value) → Keeps change
+    → (t : Text) (ts : Tokens) (v w : Value.Value) → ScalarValues t → AllCharacters ts →
     Proper v → atParent change t ts v ≡ ok w → Proper w
 unfolding atParent
 parent-keeps change keeps t [] v w s a p h = keeps t v w s p h

@@ -14,7 +14,9 @@ use Rattle.spec.specs.Value as Value
 use Rattle.spec.specs.Value.{Label, Entry, Members, leaf, valueOf, tag, isArray, isObject, isString, content, has, find, depth, nodes}
 use Rattle.spec.specs.Pointer.{Tokens, tokens, child}
 use Rattle.spec.specs.Operation.{Kind, Operation, perform, notTooDeep, notTooLarge, limited}
-use Rattle.spec.specs.Patch.{member, stringOf, stringMember, kindNamed, usesValue, usesFrom, isMove, OperationMembers, valueFor, fromFor, membersFor, operationMembers, properPrefix, withPointers, operation, Stop, stop, Run, finished, stopped, noPointer, atOp, onFinish, operations, shape, whichPointer, run}
+use Rattle.spec.specs.Patch.{member, stringOf, stringMember, kindNamed, usesValue, usesFrom, isMove, OperationMembers, valueFor, fromFor, membersFor}
+use Rattle.spec.specs.Patch.{operationMembers, properPrefix, withPointers, operation, Stop, stop, Run, finished, stopped, noPointer, atOp, onFinish, operations}
+use Rattle.spec.specs.Patch.{shape, whichPointer, run}
 use Rattle.spec.proofs.OutcomeLaws.{refused≢ok, both-ok}
 use Rattle.spec.proofs.RunTheorem.{stopped-same}
 use Rattle.claims.specs.Proper as Proper
@@ -107,7 +109,11 @@ members-proper kind v m p h =
     let (from, g, k) = both-ok (fromFor kind v) _ m j in
     let same : record { kind = kind; path = path; from = from; value = x } ≡ m = cc in
     subst ProperMembers same
-    (record { path-characters = string-member (ascii "path") v path p e; from-characters = from-member kind v from p g; value-proper = value-member kind v x p f })
+    (record {
+      path-characters = string-member (ascii "path") v path p e;
+      from-characters = from-member kind v from p g;
+      value-proper = value-member kind v x p f;
+    })
 
 pub operation-proper : (v : Value.Value) (o : Operation) → Proper v → operation v ≡ ok o → ProperOperation o
 unfolding operation operationMembers withPointers
@@ -152,7 +158,8 @@ unfolding atOp
 at-op op which (ok b) a h = let same : b ≡ a = cc in ap ok same
 at-op op which (refused n p) a h = cc
 
-pub proper-first : {object : Bool} {e : Entry} {kids rest : Members} → ProperItems object (tree e kids rest) → Proper (record { label = e .label; kids = kids }) × ProperItems object rest
+pub proper-first : {object : Bool} {e : Entry} {kids rest : Members} → ProperItems object (tree e kids rest)
+    → Proper (record { label = e .label; kids = kids }) × ProperItems object rest
 proper-first (Proper.element n a i p) = (record { allows = a; items = i }, p)
 proper-first (Proper.member n h a i p) = (record { allows = a; items = i }, p)
 

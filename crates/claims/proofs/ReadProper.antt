@@ -14,7 +14,8 @@ use Rattle.spec.specs.Numbers.{isDigit, number}
 use Rattle.spec.specs.Forest.{none, tree, single, size, _⧺_}
 use Rattle.spec.specs.Value as Value
 use Rattle.spec.specs.Value.{Label, Entry, Members, leaf, named, isObject, tag, has, nodes}
-use Rattle.spec.specs.Read.{blanks, spelled, literalValue, numberValue, stringValue, scalar, fresh, nameFor, containerLabel, closingBracket, items, contents, container, value, read}
+use Rattle.spec.specs.Read.{blanks, spelled, literalValue, numberValue, stringValue, scalar, fresh, nameFor, containerLabel, closingBracket, items, contents}
+use Rattle.spec.specs.Read.{container, value, read}
 use Rattle.spec.proofs.OutcomeLaws.{refused≢ok, both-ok, either-ok, first-ok}
 use Rattle.claims.specs.Proper as Proper
 use Rattle.claims.specs.Proper.{Proper, Allows, ScalarValues, ProperItems, element, member}
@@ -67,12 +68,14 @@ absent-snoc n (tree d below g) e kids h q =
     let p = absent-parts n d below g h in
     absent-cons n d below (g ⧺ tree e kids none) (p .0) (absent-snoc n g e kids (p .1) q)
 
-pub proper-snoc : (object : Bool) (g : Members) (e : Entry) (kids : Members) → ProperItems object g → Item object g e kids → ProperItems object (g ⧺ tree e kids none)
+pub proper-snoc : (object : Bool) (g : Members) (e : Entry) (kids : Members)
+    → ProperItems object g → Item object g e kids → ProperItems object (g ⧺ tree e kids none)
 unfolding _⧺_
 proper-snoc false none e kids p i = element (i .unnamed refl) (i .allows) (i .inside) Proper.empty
 proper-snoc true none e kids p i = member (i .fresh-name refl .0) (i .fresh-name refl .1) (i .allows) (i .inside) Proper.empty
 proper-snoc false (tree d below g) e kids (element n a k p) i =
-    element n a k (proper-snoc false g e kids p (record { unnamed = i .unnamed; fresh-name = λ h. absurd (true≢false (sym h)); allows = i .allows; inside = i .inside }))
+    element n a k
+    (proper-snoc false g e kids p (record { unnamed = i .unnamed; fresh-name = λ h. absurd (true≢false (sym h)); allows = i .allows; inside = i .inside }))
 proper-snoc true (tree d below g) e kids (member n h a k p) i =
     let f = i .fresh-name refl in
     let q = absent-parts (e .name) d below g (f .1) in
@@ -87,7 +90,8 @@ record Name (object : Bool) (so-far : Members) (name : Text) : Type 0 where
   unnamed : object ≡ false → name ≡ []
   fresh-name : object ≡ true → ScalarValues name × (has name so-far ≡ false)
 
-name-read : (object : Bool) (s : Bytes) (so-far : Members) (at : ℕ) (name : Text) (place : ℕ) → nameFor object s so-far at ≡ ok (name, place) → Name object so-far name
+name-read : (object : Bool) (s : Bytes) (so-far : Members) (at : ℕ) (name : Text) (place : ℕ)
+    → nameFor object s so-far at ≡ ok (name, place) → Name object so-far name
 unfolding nameFor
 name-read false s so-far at name place h = record { unnamed = λ _. sym (first-ok h); fresh-name = λ q. absurd (true≢false (sym q)) }
 name-read true s so-far at name place h =
@@ -96,7 +100,8 @@ name-read true s so-far at name place h =
     let (b, g, k) = both-ok (byteIn s (blanks s (n .1)) 58 58) _ _ j in
     record {
       unnamed = λ r. absurd (true≢false r);
-      fresh-name = λ _. subst (λ m. ScalarValues m × (has m so-far ≡ false)) (first-ok k) (string-scalar s at (n .0) (n .1) e, fresh-there (n .0) so-far (n .1 - 1) q f);
+      fresh-name =
+          λ _. subst (λ m. ScalarValues m × (has m so-far ≡ false)) (first-ok k) (string-scalar s at (n .0) (n .1) e, fresh-there (n .0) so-far (n .1 - 1) q f);
     }
 
 container-proper : (object : Bool) (kids : Members) → ProperItems object kids → Proper (record { label = containerLabel object; kids = kids })

@@ -59,11 +59,13 @@ readable s v h = let p = read-proper s v h in record { proper = p .0; shallow = 
 
 formed-run : (patch : Bytes) (operations : List Operation) (v w : Value.Value) → WellFormed patch operations → Readable v →
     run limited 1 operations v ≡ finished w → Readable w
-formed-run patch operations v w f r h = run-readable 1 operations v w (shape-proper (f .patch) operations (readable patch (f .patch) (f .reads) .proper) (f .shaped)) r h
+formed-run patch operations v w f r h =
+    run-readable 1 operations v w (shape-proper (f .patch) operations (readable patch (f .patch) (f .reads) .proper) (f .shaped)) r h
 
 -- The answer: a text is written only where every step went well.
 
-if-success : {C : Type 0} (test : Bool) {a b : Answer} {text : Bytes} → (if test then a else b) ≡ success text → (test ≡ true → a ≡ success text → C) → (test ≡ false → b ≡ success text → C) → C
+if-success : {C : Type 0} (test : Bool) {a b : Answer} {text : Bytes} → (if test then a else b) ≡ success text
+    → (test ≡ true → a ≡ success text → C) → (test ≡ false → b ≡ success text → C) → C
 if-success true h f g = f refl h
 if-success false h f g = g refl h
 
@@ -102,7 +104,8 @@ module _ (document patch text : Bytes) (room : ℕ) (document-fits : length docu
       })
       (λ _ i. no-success 16 0 0 0 (omega arith) i)
 
-  patch-written : (d : Value.Value) (o : Outcome Value.Value) → read document ≡ ok d → read patch ≡ o → onPatch room d o ≡ success text → Patched document patch text
+  patch-written : (d : Value.Value) (o : Outcome Value.Value) → read document ≡ ok d
+      → read patch ≡ o → onPatch room d o ≡ success text → Patched document patch text
   unfolding onPatch patched
   patch-written d (ok p) rd rp h = run-written d p _ rd rp refl h
   patch-written d (refused number place) rd rp h = no-success number 2 0 place (omega arith) h

@@ -59,7 +59,8 @@ module _ {s : Bytes} {at : ℕ} (left nodes : ℕ) (fits : nodes < 2048) (r : By
       scalar-value left s at nodes (rw (first-byte h)) (rw (first-byte h)) ∙
       rw (first-byte h, room nodes at fits) (literal-back Label.false-literal 102 (ascii "alse") r h)
 
-  pub text-back : (cs : Text) → ScalarValues cs → Rest s at (writeString cs ++ r) → value left s at nodes ≡ ok (leaf (Label.string cs), at + length (writeString cs))
+  pub text-back : (cs : Text) → ScalarValues cs → Rest s at (writeString cs ++ r)
+      → value left s at nodes ≡ ok (leaf (Label.string cs), at + length (writeString cs))
   unfolding scalar stringValue writeString _>>=_
   text-back cs scalars h =
       scalar-value left s at nodes (rw (first-byte h)) (rw (first-byte h)) ∙
@@ -82,7 +83,13 @@ opening-begins r Proper.object h = rw (first-byte h) (record { no-blank = refl; 
 opening-begins {s} {at} r (Proper.number {t} n) h =
     let b = numeral-bounds (byte s at) (numeral-first t r (text-number t n) h) in
     record {
-      no-blank = rw (ne-eqb (byte s at) 0x20 (omega arith), ne-eqb (byte s at) 0x09 (omega arith), ne-eqb (byte s at) 0x0A (omega arith), ne-eqb (byte s at) 0x0D (omega arith));
+      no-blank =
+          rw (
+            ne-eqb (byte s at) 0x20 (omega arith),
+            ne-eqb (byte s at) 0x09 (omega arith),
+            ne-eqb (byte s at) 0x0A (omega arith),
+            ne-eqb (byte s at) 0x0D (omega arith),
+          );
       no-bracket = ne-eqb (byte s at) 93 (omega arith);
       no-brace = ne-eqb (byte s at) 125 (omega arith);
     }

@@ -62,14 +62,16 @@ follows {s} {at} w r h = ap (byte s) (sym (add-zero (at + length w))) ∙ byte-a
 
 -- Where the items of a container, and a value, begin
 
-write-opening : (v : Value.Value) (r : Bytes) → write v ++ r ≡ opening (v .label) ++ (writeItems (isObject (v .label)) true (v .kids) ++ (closing (v .label) ++ r))
+write-opening : (v : Value.Value) (r : Bytes)
+    → write v ++ r ≡ opening (v .label) ++ (writeItems (isObject (v .label)) true (v .kids) ++ (closing (v .label) ++ r))
 unfolding write
 write-opening v r = simp append-assoc
 
 pub value-begins : {s : Bytes} {at : ℕ} (v : Value.Value) (r : Bytes) → Allows (v .label) (v .kids) → Rest s at (write v ++ r) → Begins (byte s at)
 value-begins v r a h = opening-begins _ a (rw (write-opening v r) at h)
 
-items-begin : {s : Bytes} {at : ℕ} {object : Bool} {f : Members} (r : Bytes) → ProperItems object f → 0 < count f → Rest s at (writeItems object true f ++ r) → Begins (byte s at)
+items-begin : {s : Bytes} {at : ℕ} {object : Bool} {f : Members} (r : Bytes) → ProperItems object f
+    → 0 < count f → Rest s at (writeItems object true f ++ r) → Begins (byte s at)
 unfolding count writeName writeString
 items-begin r Proper.empty c h = absurd (omega arith)
 items-begin r (element {e} {kids} {rest} n a k p) c h =
@@ -175,7 +177,8 @@ begins-no-closing false b g = g .no-bracket
 
 -- A container, given its items
 
-contents-back : {s : Bytes} {at : ℕ} (object : Bool) (left nodes : ℕ) (kids : Members) (r : Bytes) → ItemsBack s kids → ProperItems object kids → depths kids ≤ left →
+contents-back : {s : Bytes} {at : ℕ} (object : Bool) (left nodes : ℕ) (kids : Members) (r : Bytes)
+    → ItemsBack s kids → ProperItems object kids → depths kids ≤ left →
     nodes + size kids ≤ 2048 → Rest s at (writeItems object true kids ++ (closingBracket object ∷ r)) →
     contents (value left s) object s nodes at ≡ ok (kids, at + (length (writeItems object true kids) + 1))
 unfolding contents writeItems _⧺_ size count
@@ -190,7 +193,8 @@ contents-back {s} {at} object left nodes (tree e kids rest) r back p d n h =
     (back object left (length s) nodes none at r
     (record { some = omega arith; proper = p; shallow = d; few = omega arith; fuelled = fuel; text = h }))
 
-container-back : {s : Bytes} {at : ℕ} (object : Bool) (left nodes b : ℕ) (kids : Members) (r : Bytes) → ItemsBack s kids → ProperItems object kids → depths kids ≤ left →
+container-back : {s : Bytes} {at : ℕ} (object : Bool) (left nodes b : ℕ) (kids : Members) (r : Bytes)
+    → ItemsBack s kids → ProperItems object kids → depths kids ≤ left →
     suc (nodes + size kids) ≤ 2048 → Rest s at (b ∷ (writeItems object true kids ++ (closingBracket object ∷ r))) →
     container (value left s) object s at nodes ≡ ok (record { label = containerLabel object; kids = kids }, at + suc (length (writeItems object true kids) + 1))
 unfolding container _>>=_
@@ -241,9 +245,12 @@ module _ {s : Bytes} {at : ℕ} (left nodes : ℕ) (r : Bytes) where
       suc (nodes + size kids) ≤ 2048 → Ends (byte r 0) → Rest s at (write (record { label = l; kids = kids }) ++ r) →
       value left s at nodes ≡ ok (record { label = l; kids = kids }, at + length (write (record { label = l; kids = kids })))
   unfolding closing opening levels isContainer isObject tag ascii
-  value-back back Proper.null-literal p d n e h = rw (write-leaf Label.null-literal refl) (null-back left nodes (omega arith) r (rw (write-leaf Label.null-literal refl) at h))
-  value-back back Proper.true-literal p d n e h = rw (write-leaf Label.true-literal refl) (true-back left nodes (omega arith) r (rw (write-leaf Label.true-literal refl) at h))
-  value-back back Proper.false-literal p d n e h = rw (write-leaf Label.false-literal refl) (false-back left nodes (omega arith) r (rw (write-leaf Label.false-literal refl) at h))
+  value-back back Proper.null-literal p d n e h =
+      rw (write-leaf Label.null-literal refl) (null-back left nodes (omega arith) r (rw (write-leaf Label.null-literal refl) at h))
+  value-back back Proper.true-literal p d n e h =
+      rw (write-leaf Label.true-literal refl) (true-back left nodes (omega arith) r (rw (write-leaf Label.true-literal refl) at h))
+  value-back back Proper.false-literal p d n e h =
+      rw (write-leaf Label.false-literal refl) (false-back left nodes (omega arith) r (rw (write-leaf Label.false-literal refl) at h))
   value-back back (Proper.number {t} m) p d n e h =
       let text = rw (write-leaf (Label.number t) refl) at h in
       rw (write-leaf (Label.number t) refl) (numeral-back left nodes (omega arith) r t (text-number t m) (rw (follows t r text) e) text)
@@ -265,7 +272,8 @@ items-step fuel value object s nodes so-far at name v place next n r b = rw (n, 
 
 -- the text of an item and of those after it
 item-text : (object : Bool) (e : Entry) (kids rest : Members) (r : Bytes) →
-    writeItems object true (tree e kids rest) ++ r ≡ writeName object (e .name) ++ (write (record { label = e .label; kids = kids }) ++ (writeItems object false rest ++ r))
+    writeItems object true (tree e kids rest) ++ r ≡ writeName object (e .name)
+    ++ (write (record { label = e .label; kids = kids }) ++ (writeItems object false rest ++ r))
 item-text object e kids rest r = rw (items-split object e kids rest) (simp append-assoc)
 
 -- the place after an item
@@ -287,7 +295,8 @@ record OneRead (s : Bytes) (object : Bool) (left nodes : ℕ) (so-far : Members)
       items fuel (value left s) object s nodes (so-far ⧺ tree e kids none) (blanks s (after at object e kids + 1))))
 
 one-read : (s : Bytes) (object : Bool) (left nodes : ℕ) (so-far : Members) (e : Entry) (kids : Members) (at : ℕ) (more : Bytes) → Item object so-far e kids →
-    ItemsBack s kids → levels (e .label) (depths kids) ≤ left → suc (nodes + size so-far + size kids) ≤ 2048 → Ends (byte more 0) → isBlank (byte more 0) ≡ false →
+    ItemsBack s kids → levels (e .label) (depths kids) ≤ left
+    → suc (nodes + size so-far + size kids) ≤ 2048 → Ends (byte more 0) → isBlank (byte more 0) ≡ false →
     Rest s at (writeName object (e .name) ++ (write (record { label = e .label; kids = kids }) ++ more)) → OneRead s object left nodes so-far e kids at more
 unfolding after
 one-read s object left nodes so-far e kids at more i back shallow few ends blank text =
@@ -339,7 +348,8 @@ comma-no-closing true = refl
 comma-no-closing false = refl
 
 -- the items after one, once it is read
-module _ (s : Bytes) (object : Bool) (left fuel nodes : ℕ) (so-far : Members) (e : Entry) (kids : Members) (d : Entry) (below rest : Members) (at : ℕ) (r : Bytes)
+module _ (s : Bytes) (object : Bool) (left fuel nodes : ℕ) (so-far : Members)
+    (e : Entry) (kids : Members) (d : Entry) (below rest : Members) (at : ℕ) (r : Bytes)
     (fits : Fits s object left (suc fuel) nodes so-far (tree e kids (tree d below rest)) at r)
     (one : OneRead s object left nodes so-far e kids at (44 ∷ (writeItems object true (tree d below rest) ++ (closingBracket object ∷ r)))) where
   proper-others : ProperItems object ((so-far ⧺ tree e kids none) ⧺ tree d below rest)
@@ -362,13 +372,16 @@ module _ (s : Bytes) (object : Bool) (left fuel nodes : ℕ) (so-far : Members) 
       }
 
   read-others : ItemsBack s (tree d below rest) →
-      items (suc fuel) (value left s) object s nodes so-far at ≡ ok (so-far ⧺ tree e kids (tree d below rest), at + (length (writeItems object true (tree e kids (tree d below rest))) + 1))
+      items (suc fuel) (value left s) object s nodes so-far at ≡ ok
+      (so-far ⧺ tree e kids (tree d below rest), at + (length (writeItems object true (tree e kids (tree d below rest))) + 1))
   unfolding count _⧺_ _>>=_
   read-others others =
       let next = after at object e kids in
       let here = one .rest in
-      let begins = items-begin (closingBracket object ∷ r) (proper-rest (so-far ⧺ tree e kids none) (tree d below rest) proper-others) (omega arith) (rest-next here) in
-      let end : next + 1 + (length (writeItems object true (tree d below rest)) + 1) ≡ at + (length (writeItems object true (tree e kids (tree d below rest))) + 1) =
+      let begins = items-begin (closingBracket object ∷ r)
+      (proper-rest (so-far ⧺ tree e kids none) (tree d below rest) proper-others) (omega arith) (rest-next here) in
+      let end : next + 1 + (length (writeItems object true (tree d below rest)) + 1) ≡ at +
+      (length (writeItems object true (tree e kids (tree d below rest))) + 1) =
       omega (arith, after-length at object e kids (tree d below rest), ap length (items-comma object d below rest)) in
       one .step fuel ∙
       rw (

@@ -41,7 +41,8 @@ items-same object (tree e kids f) g =
         elim p [
           | none ↦ false
           | tree p below rest ↦
-              sameLabel (e .label) (p .label) && (eqb (count kids) (count below) && (matches (isObject (e .label)) kids below && matches object f (if object then g else rest)))
+              sameLabel (e .label) (p .label) &&
+              (eqb (count kids) (count below) && (matches (isObject (e .label)) kids below && matches object f (if object then g else rest)))
         ]
     go none below others = refl
     go (tree p kids' rest) below others = rw (then-same, then-same, then-same, below kids', others (if object then g else rest))

@@ -25,9 +25,21 @@ counted = (
           (
             record { v = got (read (ascii "{\"a\":1}")); w = got (read (ascii "[1]")); reads = refl; reads' = refl; is = refl },
             (
-              record { v = got (read (ascii "{\"a\":{\"x\":1,\"y\":2},\"b\":3}")); w = got (read (ascii "{\"a\":{\"y\":2,\"x\":1},\"b\":3}")); reads = refl; reads' = refl; is = refl },
+              record {
+                v = got (read (ascii "{\"a\":{\"x\":1,\"y\":2},\"b\":3}"));
+                w = got (read (ascii "{\"a\":{\"y\":2,\"x\":1},\"b\":3}"));
+                reads = refl;
+                reads' = refl;
+                is = refl;
+              },
               (
-                record { v = got (read (ascii "[{\"a\":1},[{\"b\":2}]]")); w = got (read (ascii "[{\"a\":1},[{\"b\":2}]]")); reads = refl; reads' = refl; is = refl },
+                record {
+                  v = got (read (ascii "[{\"a\":1},[{\"b\":2}]]"));
+                  w = got (read (ascii "[{\"a\":1},[{\"b\":2}]]"));
+                  reads = refl;
+                  reads' = refl;
+                  is = refl;
+                },
                 tt,
               ),
             ),

@@ -175,7 +175,8 @@ ends-after F G s start at next end h c same r =
       small = rw (part-cons s at end (inside s at h) l, same) (rw (n .1) at (r .small));
     }
 
-digits-end : (fuel : ℕ) (s : Bytes) (start size at end : ℕ) → size ≤ maxExponent → exponentDigits fuel s start size at ≡ ok end → Ends (decimal size) s start at end
+digits-end : (fuel : ℕ) (s : Bytes) (start size at end : ℕ) → size ≤ maxExponent
+    → exponentDigits fuel s start size at ≡ ok end → Ends (decimal size) s start at end
 unfolding exponentDigits decimal isDigit
 digits-end zero s start size at end h e = rw (same-ok e) (ends-here (decimal size) s start end h)
 digits-end (suc fuel) s start size at end h e =
@@ -242,11 +243,13 @@ is-letter b h = go (eqb b (code "e")) refl h
     go true p h = omega (arith, eqb-true b (code "e") p)
     go false p h = omega (arith, eqb-true b (code "E") h)
 
-sign-ends : (s : Bytes) (start at first end : ℕ) → sign s start at ≡ ok first → code "0" ≤ byte s first → Ends (decimal 0) s start first end → Ends size s start at end
+sign-ends : (s : Bytes) (start at first end : ℕ) → sign s start at ≡ ok first
+    → code "0" ≤ byte s first → Ends (decimal 0) s start first end → Ends size s start at end
 unfolding sign
 sign-ends s start at first end e d r = go (eqb (byte s at) (code "+") || eqb (byte s at) (code "-")) refl e
   where
-    go : (t : Bool) → (eqb (byte s at) (code "+") || eqb (byte s at) (code "-")) ≡ t → (if t then counted start at else ok at) ≡ ok first → Ends size s start at end
+    go : (t : Bool) → (eqb (byte s at) (code "+") || eqb (byte s at) (code "-")) ≡ t
+        → (if t then counted start at else ok at) ≡ ok first → Ends size s start at end
     go true t e = ends-after size (decimal 0) s start at first end (is-sign (byte s at) t) e (size-sign (byte s at) t) r
     go false t e =
         let same = same-ok e in

@@ -4,11 +4,8 @@ use mathlib.Core.Path.{_≡_, refl}
 use mathlib.Core.List.{List, [], _∷_}
 use mathlib.Core.Bool.{true, false}
 use Prim.Native.String.{String}
-use Rattle.spec.specs.Bytes.{ascii, within}
-use Rattle.spec.specs.Numbers.{isDigit, isE}
-use Rattle.spec.specs.Worth.{mantissa, fractionDigits, decimal, signedExponent, exponent, dropZeros, trimmed, isNegative, power, worth}
-use Rattle.spec.specs.Value.{sameText}
-use Rattle.spec.specs.Equality.{sameBool, sameInteger, sameWorth}
+use Rattle.spec.specs.Bytes.{ascii}
+use Rattle.spec.proofs.Computing.{compute, _and_}
 use Rattle.decimal.specs.Normal.{withinLimits, sameNumber}
 
 pub data Example : Type 0 where
@@ -40,5 +37,5 @@ pub examples :
     equal "12.50e-0001" "1.25" ∷
     -- the exponent is over its limit
     differ "1e10000" "1e10000" ∷ [])
-unfolding ascii within isDigit isE mantissa fractionDigits decimal signedExponent exponent dropZeros trimmed isNegative power worth sameText sameBool sameInteger sameWorth withinLimits sameNumber
-examples = (refl, (refl, (refl, (refl, (refl, (refl, (refl, (refl, (refl, (refl, (refl, (refl, (refl, (refl, (refl, tt)))))))))))))))
+unfolding compute withinLimits sameNumber
+examples = refl and refl and refl and refl and refl and refl and refl and refl and refl and refl and refl and refl and refl and refl and refl and tt

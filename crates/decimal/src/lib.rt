@@ -164,8 +164,10 @@ fn same_power(a: i32, b: i32) -> bool
 // Whether two texts have the same digits, so many of each, from a place of each on. Neither text ends before that, so
 // no index is tested.
 fn same_digits(a: &[u8], first: usize, b: &[u8], other: usize, count: usize) -> bool
-    requires { ⌜ (count ≤ length (mantissaOf (drop first (now a)))) × (count ≤ length (mantissaOf (drop other (now b)))) ⌝ }
-    ensures { λ r. ⌜ r ≡ sameText (take count (mantissaOf (drop first (now (a .entry))))) (take count (mantissaOf (drop other (now (b .entry))))) ⌝ }
+    requires { ⌜ (count ≤ length (mantissaOf (drop first (now a))))
+        × (count ≤ length (mantissaOf (drop other (now b)))) ⌝ }
+    ensures { λ r. ⌜ r ≡ sameText (take count (mantissaOf (drop first (now (a .entry)))))
+        (take count (mantissaOf (drop other (now (b .entry))))) ⌝ }
 {
     let mut i = first;
     let mut j = other;

@@ -46,7 +46,8 @@ pub fn write_link(pointer: &[u8], output: &mut [u8]) -> Answer
 // The octets of a link, of which there are `n`, or 16.
 fn fitting_octets(link: &[u8], n: usize, output: &mut [u8], kept: &[u8; 256]) -> Answer
     requires { ⌜ (1 ≤ length (now link)) × KeptTable (now kept) ⌝ }
-    ensures { λ r. ⌜ OctetsFit (octets nothing (drop 1 (now (link .entry)))) n (now (output .entry)) (now (output .exit)) r ⌝ }
+    ensures { λ r. ⌜ OctetsFit (octets nothing (drop 1 (now (link .entry)))) n (now (output .entry))
+        (now (output .exit)) r ⌝ }
 {
     if output.len() < n {
         return refusal(16);

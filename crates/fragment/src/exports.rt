@@ -11,7 +11,8 @@ pub extern "C" fn json_patch_write_link(
     output: &mut [u8],
     answer: &mut [u64; 6],
 ) -> u32
-    ensures { λ r. ⌜ WriteExportIs (now (pointer .entry)) (now (output .entry)) (now (output .exit)) (now (answer .exit)) r ⌝ }
+    ensures { λ r. ⌜ WriteExportIs (now (pointer .entry)) (now (output .entry)) (now (output .exit))
+        (now (answer .exit)) r ⌝ }
 {
     let r = write_link(pointer, output);
     *answer = [r.number as u64, 0, 0, 0, 0, r.length as u64];
@@ -21,7 +22,8 @@ pub extern "C" fn json_patch_write_link(
 // As `read_link`.
 #[no_mangle]
 pub extern "C" fn json_patch_read_link(link: &[u8], output: &mut [u8], answer: &mut [u64; 6]) -> u32
-    ensures { λ r. ⌜ ReadExportIs (now (link .entry)) (now (output .entry)) (now (output .exit)) (now (answer .exit)) r ⌝ }
+    ensures { λ r. ⌜ ReadExportIs (now (link .entry)) (now (output .entry)) (now (output .exit))
+        (now (answer .exit)) r ⌝ }
 {
     let r = read_link(link, output);
     *answer = [r.number as u64, 0, 0, 0, 0, r.length as u64];

@@ -29,7 +29,8 @@ use Rattle.grammar.proofs.Complete.{Reads, reads, exceeds, reads-it}
 use Rattle.grammar.proofs.Structural.{blanks-stay, blanks-skip, Marked, opening-marked, comma-marked, colon-marked}
 use Rattle.grammar.proofs.NumbersComplete.{Stops}
 use Rattle.grammar.proofs.StringsComplete.{byteIn-reads}
-use Rattle.grammar.proofs.ReadComplete.{ItemRead, string-plain, room-reads, value-deep, value-container, in-blanks, element-read, member-read, name-reads, value-reads}
+use Rattle.grammar.proofs.ReadComplete.{ItemRead, string-plain, room-reads, value-deep, value-container, in-blanks, element-read, member-read}
+use Rattle.grammar.proofs.ReadComplete.{name-reads, value-reads}
 use Rattle.grammar.proofs.Within.{Yields, yielded, Bounded, value-within, New, nameFor-new}
 
 -- a container that does not close at once
@@ -42,7 +43,9 @@ contents-items reader isObject t values at mid after goes = rw (after, ne-eqb (b
 -- a value of a container, and the comma after it
 past-comma : {X : Type 0} (isObject : Bool) (t : Bytes) (end next mid : ℕ) (closed : Outcome X) (g : ℕ → Outcome X) → blanks t end ≡ blanks t next →
     Marked t next (code ",") mid →
-    (if eqb (byte t (blanks t end)) (closingBracket isObject) then closed else (byteIn t (blanks t end) (code ",") (code ",") >>= λ _. g (blanks t (blanks t end + 1)))) ≡ g (blanks t mid)
+    (if eqb (byte t (blanks t end)) (closingBracket isObject)
+    then closed else (byteIn t (blanks t end) (code ",") (code ",") >>= λ _. g (blanks t (blanks t end + 1)))) ≡ g
+    (blanks t mid)
 unfolding _>>=_
 past-comma isObject t end next mid closed g after m =
     rw (
@@ -92,7 +95,8 @@ module _ (c s : Bytes) (never : (number q : ℕ) → read c ≡ refused number q
     pub fuel' : ℕ
     pub enough : length c < fuel + at
     pub enough' : length s < fuel' + at
-    pub comes : Comes (items fuel (Read.value left c) isObject c (values + 1) so-far (blanks c at)) (items fuel' (Read.value left s) isObject s (values + 1) so-far (blanks s at))
+    pub comes : Comes (items fuel (Read.value left c) isObject c (values + 1) so-far (blanks c at))
+        (items fuel' (Read.value left s) isObject s (values + 1) so-far (blanks s at))
 
   -- the same bytes in both
   abbrev pub On : Bytes → ℕ → ℕ → Type 0
@@ -132,7 +136,8 @@ module _ (c s : Bytes) (never : (number q : ℕ) → read c ≡ refused number q
   enter isObject {at = at} {mid = mid} {values = values} (suc left) sum o f goes k =
       let m = opening-marked isObject o (f .0) in
       let m' = opening-marked isObject o (f .1) in
-      let inner = room-there values _ _ (same (value-container isObject left c (blanks c at) values (m .mark)) (value-container isObject left s (blanks s at) values (m' .mark)) k) in
+      let inner = room-there values _ _
+      (same (value-container isObject left c (blanks c at) values (m .mark)) (value-container isObject left s (blanks s at) values (m' .mark)) k) in
       let grows = m .grows in
       record {
         left = left;
@@ -142,7 +147,8 @@ module _ (c s : Bytes) (never : (number q : ℕ) → read c ≡ refused number q
           fuel' = length s;
           enough = omega arith;
           enough' = omega arith;
-          comes = same (contents-items _ isObject c (values + 1) _ mid (m .after) (goes .0)) (contents-items _ isObject s (values + 1) _ mid (m' .after) (goes .1)) (first-step _ _ inner);
+          comes = same (contents-items _ isObject c (values + 1) _ mid (m .after) (goes .0))
+              (contents-items _ isObject s (values + 1) _ mid (m' .after) (goes .1)) (first-step _ _ inner);
         };
       }
 
@@ -156,14 +162,17 @@ module _ (c s : Bytes) (never : (number q : ℕ) → read c ≡ refused number q
   pass {isObject} {at} {next} {mid} {left} {values} {so-far} {name} {v} r r' l m m' i = go (i .fuel) (i .fuel') (i .enough) (i .enough') (i .comes)
     where
       go : (fuel fuel' : ℕ) → length c < fuel + at → length s < fuel' + at →
-          Comes (items fuel (Read.value left c) isObject c (values + 1) so-far (blanks c at)) (items fuel' (Read.value left s) isObject s (values + 1) so-far (blanks s at)) →
+          Comes (items fuel (Read.value left c) isObject c (values + 1) so-far (blanks c at))
+          (items fuel' (Read.value left s) isObject s (values + 1) so-far (blanks s at)) →
           Items isObject mid left values (so-far ⧺ single (named name v))
       go zero fuel' e e' k = absurd (omega (arith, in-blanks c next (m .mark) (omega arith)))
       go (suc fuel) zero e e' k = absurd (omega (arith, in-blanks s next (m' .mark) (omega arith)))
       go (suc fuel) (suc fuel') e e' k =
           let grows = m .grows in
-          let named-so = both _ _ (r .named-so) (r' .named-so) (λ e. yielded (subst (Yields (New isObject so-far)) e (nameFor-new isObject c so-far (blanks c at)))) k in
-          let valued = both _ _ (r .valued) (r' .valued) (λ e. yielded (subst (Yields (Bounded left (values + 1 + size so-far))) e (value-within left c (r .mid) (values + 1 + size so-far)))) named-so in
+          let named-so = both _ _ (r .named-so) (r' .named-so)
+          (λ e. yielded (subst (Yields (New isObject so-far)) e (nameFor-new isObject c so-far (blanks c at)))) k in
+          let valued = both _ _ (r .valued) (r' .valued)
+          (λ e. yielded (subst (Yields (Bounded left (values + 1 + size so-far))) e (value-within left c (r .mid) (values + 1 + size so-far)))) named-so in
           let all = so-far ⧺ single (named name v) in
           record {
             fuel = fuel;
@@ -171,8 +180,10 @@ module _ (c s : Bytes) (never : (number q : ℕ) → read c ≡ refused number q
             enough = omega arith;
             enough' = omega arith;
             comes = same
-                (past-comma isObject c (r .end) next mid (ok (all, blanks c (r .end) + 1)) (items fuel (Read.value left c) isObject c (values + 1) all) (r .after) m)
-                (past-comma isObject s (r' .end) next mid (ok (all, blanks s (r' .end) + 1)) (items fuel' (Read.value left s) isObject s (values + 1) all) (r' .after) m')
+                (past-comma isObject c (r .end) next mid (ok (all, blanks c (r .end) + 1))
+                (items fuel (Read.value left c) isObject c (values + 1) all) (r .after) m)
+                (past-comma isObject s (r' .end) next mid (ok (all, blanks s (r' .end) + 1))
+                (items fuel' (Read.value left s) isObject s (values + 1) all) (r' .after) m')
                 valued;
           }
 
@@ -198,7 +209,8 @@ module _ (c s : Bytes) (never : (number q : ℕ) → read c ≡ refused number q
       Marked s next (code ",") mid → Items false at left values so-far → Items false mid left values (so-far ⧺ f)
   unfolding _⧺_
   elements-pass (elements.last-element d) f m m' i = pass-element d f m m' i
-  elements-pass {mid = mid} {left = left} {values = values} {so-far = so-far} (elements.more-elements {w} {c = comma} {ws} {v = v} {f = others} d q rest) f m m' i =
+  elements-pass {mid = mid} {left = left} {values = values} {so-far = so-far}
+      (elements.more-elements {w} {c = comma} {ws} {v = v} {f = others} d q rest) f m m' i =
       let (g, h) = split-on w (comma ++ ws) f in
       let (p, j) = split-on comma ws h in
       subst (Items false mid left values) (⧺-assoc so-far (single (named [] v)) others)
@@ -208,7 +220,8 @@ module _ (c s : Bytes) (never : (number q : ℕ) → read c ≡ refused number q
       Marked s next (code ",") mid → Items true at left values so-far → Items true mid left values (so-far ⧺ f)
   unfolding _⧺_
   members-pass (members.last-member d) f m m' i = pass-member d f m m' i
-  members-pass {mid = mid} {left = left} {values = values} {so-far = so-far} (members.more-members {w} {c = comma} {ws} {name = name} {v = v} {f = others} d q rest) f m m' i =
+  members-pass {mid = mid} {left = left} {values = values} {so-far = so-far}
+      (members.more-members {w} {c = comma} {ws} {name = name} {v = v} {f = others} d q rest) f m m' i =
       let (g, h) = split-on w (comma ++ ws) f in
       let (p, j) = split-on comma ws h in
       subst (Items true mid left values) (⧺-assoc so-far (single (named name v)) others)
@@ -220,14 +233,16 @@ module _ (c s : Bytes) (never : (number q : ℕ) → read c ≡ refused number q
   record Running (isObject : Bool) (at left values : ℕ) (so-far : Members) : Type 0 where
     fuel : ℕ
     fuel' : ℕ
-    comes : Comes (items (suc fuel) (Read.value left c) isObject c (values + 1) so-far (blanks c at)) (items (suc fuel') (Read.value left s) isObject s (values + 1) so-far (blanks s at))
+    comes : Comes (items (suc fuel) (Read.value left c) isObject c (values + 1) so-far (blanks c at))
+        (items (suc fuel') (Read.value left s) isObject s (values + 1) so-far (blanks s at))
 
   running : {isObject : Bool} {at left values : ℕ} {so-far : Members} → (at ≤ length c) × (at ≤ length s) → Items isObject at left values so-far →
       Running isObject at left values so-far
   running {isObject} {at} {left} {values} {so-far} l i = go (i .fuel) (i .fuel') (i .enough) (i .enough') (i .comes)
     where
       go : (fuel fuel' : ℕ) → length c < fuel + at → length s < fuel' + at →
-          Comes (items fuel (Read.value left c) isObject c (values + 1) so-far (blanks c at)) (items fuel' (Read.value left s) isObject s (values + 1) so-far (blanks s at)) →
+          Comes (items fuel (Read.value left c) isObject c (values + 1) so-far (blanks c at))
+          (items fuel' (Read.value left s) isObject s (values + 1) so-far (blanks s at)) →
           Running isObject at left values so-far
       go zero fuel' e e' k = absurd (omega arith)
       go (suc fuel) zero e e' k = absurd (omega arith)
@@ -320,7 +335,8 @@ module _ (c s : Bytes) (never : (number q : ℕ) → read c ≡ refused number q
   members-open (members.more-members {w} {c = comma} {ws} d q rest) f = member-open d (split-on w (comma ++ ws) f .0)
 
   -- an object's members before one
-  pub in-object : {b ms d : Bytes} {f : Members} {at mid next end levels values : ℕ} → begin-object b → members ms f → value-separator d → On b at mid → On ms mid next →
+  pub in-object : {b ms d : Bytes} {f : Members} {at mid next end levels values : ℕ}
+      → begin-object b → members ms f → value-separator d → On b at mid → On ms mid next →
       On d next end → Arrival at levels values → Inside true end levels values f
   unfolding _⧺_
   in-object o listed q opens between separator r =

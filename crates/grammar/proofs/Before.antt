@@ -64,7 +64,8 @@ pub item-next : {isObject : Bool} {w n x c : Bytes} {levels values : ℕ} {f : M
     BeforeItem isObject w levels values f → NamePart isObject n name → value x v → value-separator c →
     BeforeItem isObject (w ++ ((n ++ x) ++ c)) levels values (f ⧺ single (named name v))
 unfolding _⧺_
-item-next {n = n} {x = x} {c = c} (first-item {w} {b} h o) p d q = regrouped (sym (append-assoc w b ((n ++ x) ++ c))) (next-item (n ++ x) _ h o (last-between p d) q)
+item-next {n = n} {x = x} {c = c} (first-item {w} {b} h o) p d q =
+    regrouped (sym (append-assoc w b ((n ++ x) ++ c))) (next-item (n ++ x) _ h o (last-between p d) q)
 item-next {n = n} {x = x} {c = c'} (next-item {w} {b} is {c} f h o i q) p d q' =
     let texts : w ++ (b ++ ((is ++ (c ++ (n ++ x))) ++ c')) ≡ (w ++ (b ++ (is ++ c))) ++ ((n ++ x) ++ c') = simp append-assoc in
     regrouped texts (next-item (is ++ (c ++ (n ++ x))) _ h o (snoc is f i q p d) q')

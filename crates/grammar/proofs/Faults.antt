@@ -19,10 +19,12 @@ use Rattle.spec.specs.Forest.{size, single, _⧺_}
 use Rattle.spec.specs.Value as Value
 use Rattle.spec.specs.Value.{Label, Members, named, has, nodes}
 use Rattle.spec.specs.Read as Read
-use Rattle.spec.specs.Read.{blanks, roomFor, literalValue, numberValue, stringValue, scalar, fresh, nameFor, containerLabel, closingBracket, items, contents, container, read}
+use Rattle.spec.specs.Read.{blanks, roomFor, literalValue, numberValue, stringValue, scalar, fresh, nameFor, containerLabel, closingBracket, items, contents}
+use Rattle.spec.specs.Read.{container, read}
 use Rattle.grammar.specs.Grammar.{optional, DIGIT, *DIGIT, minus, int, number, *char, string, structural, ws, value, array, object}
 use Rattle.grammar.specs.Limits.{Named}
-use Rattle.grammar.specs.RefusedAt.{BeforeValue, outermost, ByteAt, SecondName, closing-quote, Opening, of-array, of-object, OpensLevel33, bracket, BeginsValue2049, first-byte, NumberOverLimit, passing-byte}
+use Rattle.grammar.specs.RefusedAt.{BeforeValue, outermost, ByteAt, SecondName, closing-quote, Opening, of-array, of-object, OpensLevel33, bracket}
+use Rattle.grammar.specs.RefusedAt.{BeginsValue2049, first-byte, NumberOverLimit, passing-byte}
 use Rattle.grammar.proofs.Places.{From, one, join, cons, split, first, in-text}
 use Rattle.grammar.proofs.Tests.{either}
 use Rattle.grammar.proofs.Containers.{openingBracket, opening-positive, containerOf}
@@ -95,7 +97,9 @@ module _ (s : Bytes) where
           let m = ltb-false values maxNodes h in
           let few = a .few in
           let same : values ≡ maxNodes = omega arith in
-          refusal (by-6 {p = at} (first-byte (subst (BeforeValue (a .text) levels) same (a .before)) d (λ blank. no-blank blank l) (λ deep. shallow (omega arith)) (byte-at b (a .from) (omega arith) e (omega arith))))
+          refusal (by-6 {p = at}
+          (first-byte (subst (BeforeValue (a .text) levels) same (a .before)) d (λ blank. no-blank blank l)
+          (λ deep. shallow (omega arith)) (byte-at b (a .from) (omega arith) e (omega arith))))
 
   -- Scalars
 
@@ -164,7 +168,8 @@ module _ (s : Bytes) where
   repeated : {text n : Bytes} {at next levels values : ℕ} {so-far : Members} {name : Text} → BeforeItem true text levels values so-far → From s 0 text at →
       string n name → From s at n next → Named name so-far → SecondName s (next - 1)
   repeated (first-item h o) f q g m = absurd (no-one m)
-  repeated {at = at} {next = next} {levels = levels} {values = values} {name = name} (next-item {w} {b} is {c} so-far h o i q) f (string.quoted {w = cs} ch) g m =
+  repeated {at = at} {next = next} {levels = levels} {values = values} {name = name}
+      (next-item {w} {b} is {c} so-far h o i q) f (string.quoted {w = cs} ch) g m =
       let (before, quote) = split (0x22 ∷ cs) (0x22 ∷ []) g in
       let far = quote .far in
       let bytes : (w ++ (b ++ (is ++ c))) ++ (0x22 ∷ cs) ≡ w ++ (b ++ (is ++ (c ++ (0x22 ∷ cs)))) = simp append-assoc in
@@ -255,9 +260,11 @@ module _ (s : Bytes) where
       let inner : (at values : ℕ) → At at (levels + 1) values → Faults (Read.value left s at values) =
       λ at values. value-faults left at values (omega arith) in
       choose (eqb (byte s at) (code "["))
-      (λ e. container-faults left levels (Read.value left s) (value-sound left s) (value-within left s) inner false values at a (omega arith) (eqb-true _ _ e)) λ p.
+      (λ e. container-faults left levels (Read.value left s) (value-sound left s)
+      (value-within left s) inner false values at a (omega arith) (eqb-true _ _ e)) λ p.
       choose (eqb (byte s at) (code "{"))
-      (λ e. container-faults left levels (Read.value left s) (value-sound left s) (value-within left s) inner true values at a (omega arith) (eqb-true _ _ e)) λ q.
+      (λ e. container-faults left levels (Read.value left s) (value-sound left s)
+      (value-within left s) inner true values at a (omega arith) (eqb-true _ _ e)) λ q.
       scalar-faults a (λ _. no-opening p q)
 
   pub read-faults : Faults (read s)

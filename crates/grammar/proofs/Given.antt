@@ -160,7 +160,8 @@ number-over {t} {w} {start} {next} d f stop large = go (Numbers.number t start) 
     refused-by number p e h (by-7 over) = record { place = p; refuses = e; over = over }
 
     go : (o : Outcome ℕ) → Numbers.number t start ≡ o → Reads next (NumberFits w) o → Over t start
-    go o e reads = absurd (large (subst NumberFits (bytes f) (yielded (subst (Yields (λ next. NumberFits (take (next - start) (drop start t)))) e (number-fits t start)))))
+    go o e reads =
+        absurd (large (subst NumberFits (bytes f) (yielded (subst (Yields (λ next. NumberFits (take (next - start) (drop start t)))) e (number-fits t start)))))
     go o e (exceeds {number} {p} h n) = refused-by number p e h (refused-so (subst (Refusing (NumberFault t start)) e (number-faults t start)))
 
 longer : (n more : Bytes) (b : ℕ) → length n ≡ maxNumber → NumberFits (n ++ (b ∷ more)) → ⊥
@@ -208,7 +209,9 @@ module _ (c s : Bytes) (never : (number q : ℕ) → read c ≡ refused number q
       let sum = r .sum in
       let none : r .left ≡ 0 = omega arith in
       let k = r .arrived in
-      k .full ∙ ap (λ o. o >>= k .next') (ap (λ left. Read.value left s (blanks s p) values) none ∙ ap (λ q. Read.value 0 s q values) (blanks-stay s p (shows .no-blank)) ∙ no-level s p values o e)
+      k .full ∙ ap (λ o. o >>= k .next')
+      (ap (λ left. Read.value left s (blanks s p) values) none
+      ∙ ap (λ q. Read.value 0 s q values) (blanks-stay s p (shows .no-blank)) ∙ no-level s p values o e)
 
   pub given-6 : {w more : Bytes} {p levels b : ℕ} {v : Value.Value} → BeforeValue w levels maxNodes → On c s never w 0 p → length c ≤ p →
       value (b ∷ more) v → (ws (b ∷ []) → ⊥) → byte s p ≡ b → (levels ≡ maxDepth → Opening b → ⊥) → read s ≡ refused too-many-nodes p
@@ -219,7 +222,8 @@ module _ (c s : Bytes) (never : (number q : ℕ) → read c ≡ refused number q
       let r = arrive c s never p h f (goes-on (end-clear ends) (shows-clear shows)) in
       let sum = r .sum in
       let k = r .arrived in
-      k .full ∙ ap (λ o. o >>= k .next') (ap (λ q. Read.value (r .left) s q maxNodes) (blanks-stay s p (shows .no-blank)) ∙ no-room (r .left) s p first e (λ none. shallow (omega arith)))
+      k .full ∙ ap (λ o. o >>= k .next')
+      (ap (λ q. Read.value (r .left) s q maxNodes) (blanks-stay s p (shows .no-blank)) ∙ no-room (r .left) s p first e (λ none. shallow (omega arith)))
 
   pub given-4 : {w b ms d n : Bytes} {f : Members} {name : Text} {at next levels values : ℕ} → BeforeValue w levels values → begin-object b →
       members ms f → value-separator d → string n name → Named name f → On c s never (w ++ (b ++ (ms ++ d))) 0 at → From s at n next →
@@ -240,7 +244,9 @@ module _ (c s : Bytes) (never : (number q : ℕ) → read c ≡ refused number q
   unfolding numberValue
   number-comes {start = start} {values = values} h f b b' =
       let r = arrive c s never start h f (goes-on (shows-clear (numeral-shows b)) (shows-clear (numeral-shows b'))) in
-      first-step c s never _ _ (room-there c s never values start start (same c s never (number-value (r .left) c start values b) (number-value (r .left) s start values b') (r .arrived)))
+      first-step c s never _ _
+      (room-there c s never values start start
+      (same c s never (number-value (r .left) c start values b) (number-value (r .left) s start values b') (r .arrived)))
 
   -- a number that begins with the bytes n, and the byte b after them, with which it is refused or before: in c it is not refused
   passing : {w n : Bytes} {start levels values : ℕ} (b : ℕ) (more after : Bytes) → BeforeValue w levels values → On c s never w 0 start →
@@ -252,7 +258,8 @@ module _ (c s : Bytes) (never : (number q : ℕ) → read c ≡ refused number q
       let with-c = agree-cut c (b ∷ more) in
       let with-s = subst (λ t. Agree (c ++ (b ∷ more)) t (length c + 1)) (sym text) (agree-byte c b more after) in
       let begins = number-begins d (extended g (b ∷ more)) in
-      let k = number-comes h f (subst NumberBegins (sym (with-c .bytes start (omega arith))) begins) (subst NumberBegins (sym (with-s .bytes start (omega arith))) begins) in
+      let k = number-comes h f (subst NumberBegins (sym (with-c .bytes start (omega arith))) begins)
+      (subst NumberBegins (sym (with-s .bytes start (omega arith))) begins) in
       let at-s = refused-same start with-s (r .refuses) (omega arith) in
       let not-before : r .place < length c → ⊥ =
       λ before.

@@ -140,7 +140,8 @@ module _ (s : Bytes) (start : ℕ) where
   unfolding Numbers.int
   int-faults {m} at pm r =
       choose (eqb (byte s at) 0x30)
-      (λ h. counted-faults at r (is 0x30 (omega arith) (eqb-true _ _ h) (begun [] (simp append-assoc) (number.parts pm int.zero optional.absent optional.absent)))) λ h.
+      (λ h. counted-faults at r
+      (is 0x30 (omega arith) (eqb-true _ _ h) (begun [] (simp append-assoc) (number.parts pm int.zero optional.absent optional.absent)))) λ h.
       let other : byte s at ≡ 0x30 → ⊥ = eqb-false (byte s at) 0x30 h in
       someDigits-faults at r λ ds d h'.
       begun [] (simp append-assoc) (number.parts pm (int.nonzero {d = byte s at} (omega arith) h') optional.absent optional.absent)
@@ -174,7 +175,8 @@ module _ (s : Bytes) (start : ℕ) where
       go false h false i = rest [] at optional.absent (subst (λ w. Reached w at) (sym (append-nil n)) r)
 
   -- the digits of an exponent, after the bytes `pre` of the number
-  module _ (pre : Bytes) (whole : (ds : Bytes) → 1*DIGIT ds → number (pre ++ ds)) (size-of : (ds : Bytes) → 1*DIGIT ds → natAbs (exponent (pre ++ ds)) ≡ decimal 0 ds) where
+  module _ (pre : Bytes) (whole : (ds : Bytes) → 1*DIGIT ds → number (pre ++ ds))
+      (size-of : (ds : Bytes) → 1*DIGIT ds → natAbs (exponent (pre ++ ds)) ≡ decimal 0 ds) where
     -- the digit that passes 9,999
     passes : {ds : Bytes} (at : ℕ) → *DIGIT ds → DIGIT (byte s at) → decimal 0 ds ≤ maxExponent → maxExponent < decimal 0 ds * 10 + (byte s at - 0x30) →
         PassesLimit (pre ++ ds) (byte s at)
@@ -193,18 +195,21 @@ module _ (s : Bytes) (start : ℕ) where
         (λ i. let d = digit (byte s at) i in
         let b = byte s at in
         choose (leb (size * 10 + (byte s at - 0x30)) maxExponent)
-        (λ j. counted-then at _ r (record { there = omega arith; begun = begun [] (simp append-assoc) (whole (ds ++ (byte s at ∷ [])) (digits-snoc h d)) }) λ r'.
+        (λ j. counted-then at _ r
+        (record { there = omega arith; begun = begun [] (simp append-assoc) (whole (ds ++ (byte s at ∷ [])) (digits-snoc h d)) }) λ r'.
         exponentDigits-faults fuel {ds = ds ++ (byte s at ∷ [])} _ (at + 1) (all (digits-snoc h d)) (rw (e, decimal-snoc 0 ds (byte s at))) (leb-true _ _ j)
         (subst (λ w. Reached w (at + 1)) (append-assoc pre ds _) r'))
         (λ j. let over = leb-false (size * 10 + (byte s at - 0x30)) maxExponent j in
-        refusal (by-7 (record { text = pre ++ ds; from = r .from; there = omega arith; short = r .short; passes = passes at h d (omega arith) (omega arith) }))))
+        refusal (by-7
+        (record { text = pre ++ ds; from = r .from; there = omega arith; short = r .short; passes = passes at h d (omega arith) (omega arith) }))))
         (λ _. result)
 
   exp-faults : {m i f : Bytes} (at : ℕ) → optional minus m → int i → optional frac f → Reached (m ++ (i ++ f)) at → Faults (Numbers.exp s start at)
   unfolding Numbers.exp signedDigits isE decimal
   exp-faults {m} {i} {f} at pm pi pf r =
       choose (eqb (byte s at) 0x65 || eqb (byte s at) 0x45)
-      (λ h. either (eqb (byte s at) 0x65) (eqb (byte s at) 0x45) h (λ j. letter e.lower-case (omega arith) (eqb-true _ _ j)) (λ j. letter e.upper-case (omega arith) (eqb-true _ _ j)))
+      (λ h. either (eqb (byte s at) 0x65) (eqb (byte s at) 0x45) h
+      (λ j. letter e.lower-case (omega arith) (eqb-true _ _ j)) (λ j. letter e.upper-case (omega arith) (eqb-true _ _ j)))
       (λ _. result)
     where
       text : (b : ℕ) (w ds : Bytes) → m ++ (i ++ (f ++ (b ∷ (w ++ ds)))) ≡ (((m ++ (i ++ f)) ++ (b ∷ [])) ++ w) ++ ds
@@ -244,7 +249,8 @@ module _ (s : Bytes) (start : ℕ) where
           exp-faults y pm (i .derived) (f .derived) (record { from = join (r .from) (join (i .from) (f .from)); short = short' })
 
       go : (c : Bool) → eqb (byte s start) 0x2D ≡ c →
-          Faults (Numbers.int s start (if c then start + 1 else start) >>= λ fraction. Numbers.frac s start fraction >>= λ exponent. Numbers.exp s start exponent)
+          Faults (Numbers.int s start (if c then start + 1 else start)
+          >>= λ fraction. Numbers.frac s start fraction >>= λ exponent. Numbers.exp s start exponent)
       go true h =
           let minus-there = eqb-true (byte s start) 0x2D h in
           parts (start + 1) (optional.present minus.minus-sign)

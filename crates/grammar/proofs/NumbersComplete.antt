@@ -164,7 +164,8 @@ module _ {asked : Type 0} (s : Bytes) (start last : ℕ) (short : asked → last
       let far = f .far in
       let rest = exponentDigits-read fuel (size * 10 + (b - 0x30)) ds g l stop (omega arith) fits in
       rw (here, is-digit d)
-      (go (leb (size * 10 + (b - 0x30)) maxExponent) refl (reads-then (exponentDigits fuel s start (size * 10 + (b - 0x30))) (counted-reads at (omega arith)) rest))
+      (go (leb (size * 10 + (b - 0x30)) maxExponent) refl
+      (reads-then (exponentDigits fuel s start (size * 10 + (b - 0x30))) (counted-reads at (omega arith)) rest))
     where
       go : (c : Bool) → leb (size * 10 + (b - 0x30)) maxExponent ≡ c → {o : Outcome ℕ} → Reads next asked o →
           Reads next asked (if c then o else refused number-over-limit at)

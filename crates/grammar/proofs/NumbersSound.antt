@@ -51,7 +51,8 @@ unfolding digits
 digits-sound zero s start at = gives at refl *DIGIT.none
 digits-sound (suc fuel) s start at =
     choose (isDigit (byte s at))
-    (λ h. let d = digit (byte s at) h in counted-then _ _ (byte s at) start (omega arith) refl (weaken (λ w x ds. *DIGIT.more d ds) (digits-sound fuel s start (at + 1)))) λ _.
+    (λ h. let d = digit (byte s at) h in
+    counted-then _ _ (byte s at) start (omega arith) refl (weaken (λ w x ds. *DIGIT.more d ds) (digits-sound fuel s start (at + 1)))) λ _.
     gives at refl *DIGIT.none
 
 -- digits of which there must be one
@@ -119,7 +120,8 @@ some-exponentDigits zero s start size at d l = absurd (omega (arith, in-text s a
 some-exponentDigits (suc fuel) s start size at d l =
     rw (in-range 0x30 0x39 (byte s at) (d .0) (d .1))
     (choose (leb (size * 10 + (byte s at - 0x30)) maxExponent)
-    (λ _. counted-then (Derives 1*DIGIT) (exponentDigits fuel s start _) (byte s at) start (omega arith) refl (weaken (λ w x ds. 1*DIGIT.some d ds) (exponentDigits-sound fuel s start _ (at + 1)))) λ _.
+    (λ _. counted-then (Derives 1*DIGIT) (exponentDigits fuel s start _) (byte s at) start (omega arith) refl
+    (weaken (λ w x ds. 1*DIGIT.some d ds) (exponentDigits-sound fuel s start _ (at + 1)))) λ _.
     exceeds number-over-limit (omega arith))
 
 signedDigits-sound : {b : ℕ} → e b → (s : Bytes) (start at : ℕ) → Sound s there at (Derives (λ w. exp (b ∷ w))) (signedDigits s start at)
@@ -133,7 +135,8 @@ exp-sound : (s : Bytes) (start at : ℕ) → Sound s there at (Derives (optional
 unfolding Numbers.exp isE
 exp-sound s start at =
     choose (eqb (byte s at) 0x65 || eqb (byte s at) 0x45)
-    (λ h. either (eqb (byte s at) 0x65) (eqb (byte s at) 0x45) h (λ i. letter e.lower-case (omega arith) (eqb-true _ _ i)) (λ i. letter e.upper-case (omega arith) (eqb-true _ _ i))) λ _.
+    (λ h. either (eqb (byte s at) 0x65) (eqb (byte s at) 0x45) h
+    (λ i. letter e.lower-case (omega arith) (eqb-true _ _ i)) (λ i. letter e.upper-case (omega arith) (eqb-true _ _ i))) λ _.
     gives at refl optional.absent
   where
     letter : {b : ℕ} → e b → 0 < b → byte s at ≡ b → Sound s there at (Derives (optional exp)) (counted start at >>= signedDigits s start)
@@ -144,13 +147,15 @@ unfolding Numbers.number Numbers.minus
 number-sound s start = go (eqb (byte s start) 0x2D) refl
   where
     parts : {m : Bytes} → optional minus m → (at : ℕ) →
-        Sound s there at (Derives (λ w. number (m ++ w))) (Numbers.int s start at >>= λ fraction. Numbers.frac s start fraction >>= λ exponent. Numbers.exp s start exponent)
+        Sound s there at (Derives (λ w. number (m ++ w)))
+        (Numbers.int s start at >>= λ fraction. Numbers.frac s start fraction >>= λ exponent. Numbers.exp s start exponent)
     parts pm at =
         andThen _ (int-sound s start at) (λ w x pi. some [] 0 (number.parts pm pi optional.absent optional.absent)) λ w x pi.
         andThen _ (frac-sound s start x) (λ w' y pf. some [] 0 (number.parts pm pi pf optional.absent)) λ w' y pf.
         weaken (λ w'' z px. number.parts pm pi pf px) (exp-sound s start y)
 
     go : (c : Bool) → eqb (byte s start) 0x2D ≡ c →
-        Sound s there start (Derives number) (Numbers.int s start (if c then start + 1 else start) >>= λ fraction. Numbers.frac s start fraction >>= λ exponent. Numbers.exp s start exponent)
+        Sound s there start (Derives number)
+        (Numbers.int s start (if c then start + 1 else start) >>= λ fraction. Numbers.frac s start fraction >>= λ exponent. Numbers.exp s start exponent)
     go true h = past (Derives number) 0x2D (start + 1) (omega arith) (eqb-true _ _ h) refl (parts (optional.present minus.minus-sign) (start + 1))
     go false h = parts optional.absent start

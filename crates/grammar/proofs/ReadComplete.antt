@@ -19,8 +19,10 @@ use Rattle.spec.specs.Forest.{size, single, _⧺_}
 use Rattle.spec.specs.Value as Value
 use Rattle.spec.specs.Value.{Label, Members, leaf, named, has, depth, depths, levels, nodes}
 use Rattle.spec.specs.Read as Read
-use Rattle.spec.specs.Read.{isBlank, blanks, spelled, roomFor, literalValue, numberValue, stringValue, scalar, fresh, nameFor, containerLabel, closingBracket, items, contents, container, read}
-use Rattle.grammar.specs.Grammar.{ws, structural, number, string, node, value, object, members, member, array, elements, JSON-text, name-separator, value-separator}
+use Rattle.spec.specs.Read.{isBlank, blanks, spelled, roomFor, literalValue, numberValue, stringValue, scalar, fresh, nameFor, containerLabel, closingBracket}
+use Rattle.spec.specs.Read.{items, contents, container, read}
+use Rattle.grammar.specs.Grammar.{ws, structural, number, string, node, value, object, members, member, array, elements, JSON-text, name-separator}
+use Rattle.grammar.specs.Grammar.{value-separator}
 use Rattle.grammar.specs.Limits.{Distinct, Fits, Everywhere, WithinLimits}
 use Rattle.grammar.proofs.Containers.{openingBracket, containerOf, closing-positive, comma-no-closing}
 use Rattle.grammar.proofs.Places.{From, from-whole, in-text, first, split, bytes}
@@ -29,7 +31,8 @@ use Rattle.grammar.proofs.ReadSound.{blanks-sound}
 use Rattle.grammar.proofs.Complete.{Reads, reads, exceeds, reads-ok, reads-same, asks-more, reads-then}
 use Rattle.grammar.proofs.StringsComplete.{byteIn-reads, string-reads}
 use Rattle.grammar.proofs.NumbersComplete.{Stops, NumberBegins, number-begins, number-reads}
-use Rattle.grammar.proofs.Structural.{nothing-blank, blanks-stay, blanks-skip, nothing-stops, ws-stops, Marked, opening-marked, closing-marked, comma-marked, colon-marked}
+use Rattle.grammar.proofs.Structural.{nothing-blank, blanks-stay, blanks-skip, nothing-stops, ws-stops, Marked, opening-marked, closing-marked}
+use Rattle.grammar.proofs.Structural.{comma-marked, colon-marked}
 
 -- Scalars.
 
@@ -119,7 +122,8 @@ module _ {s : Bytes} {at next : ℕ} (left before : ℕ) where
   literal-read label word begins p f =
       let (e, _, _) = first f in
       scalar-read left before (rw e p)
-      (rw (begins e) (reads-then (λ _. literalValue label word s at) (room-reads before at (room left before (leaf label))) (reads-ok _ (literal-reads label word f))))
+      (rw (begins e)
+      (reads-then (λ _. literalValue label word s at) (room-reads before at (room left before (leaf label))) (reads-ok _ (literal-reads label word f))))
 
   pub null-read : From s at (ascii "null") next → ValueRead s left before at next (leaf Label.null-literal)
   unfolding ascii scalar isDigit within isBlank
@@ -162,7 +166,8 @@ record AskedItems (isObject : Bool) (left before : ℕ) (so-far f : Members) : T
   few : before + (size so-far + size f) ≤ maxNodes
   below : Everywhere f
 
-module _ {isObject : Bool} {left before : ℕ} {so-far : Members} (name : Text) (v : Value.Value) (f : Members) (a : AskedItems isObject left before so-far (node name v f)) where
+module _ {isObject : Bool} {left before : ℕ} {so-far : Members} (name : Text) (v : Value.Value)
+    (f : Members) (a : AskedItems isObject left before so-far (node name v f)) where
   asked-value : Asked left (before + size so-far) v
   unfolding depth depths nodes size
   asked-value =
@@ -202,13 +207,16 @@ pub record ItemRead (isObject : Bool) (s : Bytes) (left before : ℕ) (so-far : 
   pub after : blanks s end ≡ blanks s next
   pub no-bracket : byte s (blanks s at) ≡ closingBracket isObject → ⊥
 
-module _ {isObject : Bool} {s : Bytes} {left before : ℕ} {so-far : Members} {at next : ℕ} {name : Text} {v : Value.Value} (fuel : ℕ) (r : ItemRead isObject s left before so-far at next name v) where
+module _ {isObject : Bool} {s : Bytes} {left before : ℕ} {so-far : Members} {at next : ℕ} {name : Text} {v : Value.Value}
+    (fuel : ℕ) (r : ItemRead isObject s left before so-far at next name v) where
   items-last : byte s (blanks s next) ≡ closingBracket isObject →
-      Reads (so-far ⧺ single (named name v), blanks s next + 1) (AskedItems isObject left before so-far (node name v Forest.none)) (items (suc fuel) (Read.value left s) isObject s before so-far (blanks s at))
+      Reads (so-far ⧺ single (named name v), blanks s next + 1) (AskedItems isObject left before so-far (node name v Forest.none))
+      (items (suc fuel) (Read.value left s) isObject s before so-far (blanks s at))
   unfolding items
   items-last mark =
       reads-then _ (asks-more (asked-name name v Forest.none) (r .named-so))
-      (reads-then _ (asks-more (asked-value name v Forest.none) (r .valued)) (rw (r .after, mark, eq-eqb (closingBracket isObject) (closingBracket isObject) refl) reads))
+      (reads-then _ (asks-more (asked-value name v Forest.none) (r .valued))
+      (rw (r .after, mark, eq-eqb (closingBracket isObject) (closingBracket isObject) refl) reads))
 
   items-more : {f kids : Members} {stop : ℕ} → byte s (blanks s next) ≡ code "," →
       Reads (kids, stop) (AskedItems isObject left before (so-far ⧺ single (named name v)) f)
@@ -288,18 +296,22 @@ module _ (isObject : Bool) {s : Bytes} {at mid next : ℕ} (begin : Marked s at 
   unfolding contents _⧺_
   filled-read {f} {stop} left before r m =
       container-read isObject s left before at next (blanks s stop + 1) f (begin .mark)
-      (λ left before. rw (begin .after, ne-eqb (byte s (blanks s mid)) (closingBracket isObject) (r left before .no-bracket)) (r left before .outcome (length s) Forest.none (omega arith))) (m .after)
+      (λ left before. rw (begin .after, ne-eqb (byte s (blanks s mid)) (closingBracket isObject) (r left before .no-bracket))
+      (r left before .outcome (length s) Forest.none (omega arith)))
+      (m .after)
 
 -- the values one after another
 pub in-blanks : (s : Bytes) (at : ℕ) {c : ℕ} → byte s (blanks s at) ≡ c → 0 < c → at < length s
 in-blanks s at e l = let far = blanks-sound s at .from .far in omega (arith, in-text s (blanks s at) (rw e l))
 
-module _ {isObject : Bool} {s : Bytes} {left before at next : ℕ} {name : Text} {v : Value.Value} (grows : at ≤ next) (r : (so-far : Members) → ItemRead isObject s left before so-far at next name v) where
+module _ {isObject : Bool} {s : Bytes} {left before at next : ℕ} {name : Text} {v : Value.Value}
+    (grows : at ≤ next) (r : (so-far : Members) → ItemRead isObject s left before so-far at next name v) where
   last-read : byte s (blanks s next) ≡ closingBracket isObject → ItemsRead isObject s left before at next (node name v Forest.none)
   last-read mark = record { outcome = outcome; no-bracket = r Forest.none .no-bracket }
     where
       outcome : (fuel : ℕ) (so-far : Members) → length s ≤ fuel + at →
-          Reads (so-far ⧺ node name v Forest.none, blanks s next + 1) (AskedItems isObject left before so-far (node name v Forest.none)) (items fuel (Read.value left s) isObject s before so-far (blanks s at))
+          Reads (so-far ⧺ node name v Forest.none, blanks s next + 1) (AskedItems isObject left before so-far (node name v Forest.none))
+          (items fuel (Read.value left s) isObject s before so-far (blanks s at))
       outcome zero so-far l = absurd (omega (arith, in-blanks s next mark (closing-positive isObject)))
       outcome (suc fuel) so-far l = items-last fuel (r so-far) mark
 
@@ -309,7 +321,8 @@ module _ {isObject : Bool} {s : Bytes} {left before at next : ℕ} {name : Text}
   more-read {mid} {stop} {f} m rest = record { outcome = outcome; no-bracket = r Forest.none .no-bracket }
     where
       outcome : (fuel : ℕ) (so-far : Members) → length s ≤ fuel + at →
-          Reads (so-far ⧺ node name v f, blanks s stop + 1) (AskedItems isObject left before so-far (node name v f)) (items fuel (Read.value left s) isObject s before so-far (blanks s at))
+          Reads (so-far ⧺ node name v f, blanks s stop + 1) (AskedItems isObject left before so-far (node name v f))
+          (items fuel (Read.value left s) isObject s before so-far (blanks s at))
       outcome zero so-far l = absurd (omega (arith, in-blanks s next (m .mark) (omega arith)))
       outcome (suc fuel) so-far l =
           let further = m .grows in

@@ -21,7 +21,8 @@ use Rattle.spec.specs.Forest.{size, single, _⧺_}
 use Rattle.spec.specs.Value as Value
 use Rattle.spec.specs.Value.{Label, Members, leaf, named, has}
 use Rattle.spec.specs.Read as Read
-use Rattle.spec.specs.Read.{isBlank, blanksFrom, blanks, spelled, roomFor, literalValue, numberValue, stringValue, scalar, fresh, nameFor, containerLabel, closingBracket, items, contents, container, read}
+use Rattle.spec.specs.Read.{isBlank, blanksFrom, blanks, spelled, roomFor, literalValue, numberValue, stringValue, scalar, fresh, nameFor, containerLabel}
+use Rattle.spec.specs.Read.{closingBracket, items, contents, container, read}
 use Rattle.grammar.specs.Grammar.{char}
 use Rattle.grammar.proofs.Sound.{Sound, found}
 use Rattle.grammar.proofs.StringsSound.{Means, end, character-sound}
@@ -82,7 +83,8 @@ module _ {s t : Bytes} {m : ℕ} (agree : Agree s t m) where
       (row 0xF0 0xF0 3 0x90 0xBF 0xF0 (row 0xF1 0xF3 3 0x80 0xBF 0xF0 (row 0xF4 0xF4 3 0x80 0x8F 0xF0 (refuses at (omega arith)))))))))
     where
       row : (first last n low high base : ℕ) {o o' : Outcome (ℕ × ℕ)} → Local m end at o o' →
-          Local m end at (if within first last b then tail n s (at + 1) low high (b - base) else o) (if within first last b then tail n t (at + 1) low high (b - base) else o')
+          Local m end at (if within first last b then tail n s (at + 1) low high (b - base) else o)
+          (if within first last b then tail n t (at + 1) low high (b - base) else o')
       row first last n low high base r = both (within first last b) (later (at + 1) (omega arith) (tail-local n (at + 1) low high (b - base))) r
 
   character-local : (at : ℕ) → Local m end at (character s at) (character t at)
@@ -243,7 +245,9 @@ module _ {s t : Bytes} {m : ℕ} (agree : Agree s t m) where
       from-int at = andThen _ _ (int-local start at) λ x e l. andThen _ _ (frac-local start x) λ y f l'. exp-local start y
 
       go : (c : Bool) →
-          Local m there start (Numbers.int s start (if c then start + 1 else start) >>= λ fraction. Numbers.frac s start fraction >>= λ exponent. Numbers.exp s start exponent) (parts (if c then start + 1 else start))
+          Local m there start
+          (Numbers.int s start (if c then start + 1 else start) >>= λ fraction. Numbers.frac s start fraction >>= λ exponent. Numbers.exp s start exponent)
+          (parts (if c then start + 1 else start))
       go true = later (start + 1) (omega arith) (from-int (start + 1))
       go false = from-int start
 
@@ -335,14 +339,18 @@ module _ {s t : Bytes} {m : ℕ} (agree : Agree s t m) where
   nameFor-local true so-far at =
       andThen _ _ (string-local at) λ x e l.
       fresh-then (x .0) so-far (x .1 - 1) (omega arith)
-      (later (x .1) (omega arith) (blanks-then (x .1) (λ p. byteIn s p (code ":") (code ":") >>= λ _. ok (x .0, blanks s (p + 1))) (λ p. byteIn t p (code ":") (code ":") >>= λ _. ok (x .0, blanks t (p + 1))) λ k.
+      (later (x .1) (omega arith)
+      (blanks-then (x .1) (λ p. byteIn s p (code ":") (code ":") >>= λ _. ok (x .0, blanks s (p + 1)))
+      (λ p. byteIn t p (code ":") (code ":") >>= λ _. ok (x .0, blanks t (p + 1))) λ k.
       byteIn-then agree (blanks s (x .1)) (code ":") (code ":") (blanks s (x .1) + 1) _ _ (omega arith) λ _.
       blanks-then (blanks s (x .1) + 1) (λ p. ok (x .0, p)) (λ p. ok (x .0, p)) λ k'.
       gives (x .0, blanks s (blanks s (x .1) + 1)) (omega arith) (λ h. refl)))
 
-  module _ (reader reader' : ℕ → ℕ → Outcome (Value.Value × ℕ)) (inner : (at nodes : ℕ) → Local m end at (reader at nodes) (reader' at nodes)) (isObject : Bool) (nodes : ℕ) where
+  module _ (reader reader' : ℕ → ℕ → Outcome (Value.Value × ℕ))
+      (inner : (at nodes : ℕ) → Local m end at (reader at nodes) (reader' at nodes)) (isObject : Bool) (nodes : ℕ) where
     items-more : (fuel fuel' : ℕ) (so-far : Members) (at : ℕ) → length s ≤ suc fuel + at → length t ≤ suc fuel' + at →
-        ((so-far : Members) (at : ℕ) → length s ≤ fuel + at → length t ≤ fuel' + at → Local m end at (items fuel reader isObject s nodes so-far at) (items fuel' reader' isObject t nodes so-far at)) →
+        ((so-far : Members) (at : ℕ) → length s ≤ fuel + at → length t ≤ fuel' + at
+        → Local m end at (items fuel reader isObject s nodes so-far at) (items fuel' reader' isObject t nodes so-far at)) →
         Local m end at (items (suc fuel) reader isObject s nodes so-far at) (items (suc fuel') reader' isObject t nodes so-far at)
     unfolding items
     items-more fuel fuel' so-far at l l' rest =
@@ -350,8 +358,10 @@ module _ {s t : Bytes} {m : ℕ} (agree : Agree s t m) where
         andThen _ _ (inner (x .1) (nodes + size so-far)) λ y f k'.
         let all = so-far ⧺ single (named (x .0) (y .0)) in
         blanks-then (y .1)
-        (λ p. if eqb (byte s p) (closingBracket isObject) then ok (all, p + 1) else (byteIn s p (code ",") (code ",") >>= λ _. items fuel reader isObject s nodes all (blanks s (p + 1))))
-        (λ p. if eqb (byte t p) (closingBracket isObject) then ok (all, p + 1) else (byteIn t p (code ",") (code ",") >>= λ _. items fuel' reader' isObject t nodes all (blanks t (p + 1)))) λ k''.
+        (λ p. if eqb (byte s p) (closingBracket isObject)
+        then ok (all, p + 1) else (byteIn s p (code ",") (code ",") >>= λ _. items fuel reader isObject s nodes all (blanks s (p + 1))))
+        (λ p. if eqb (byte t p) (closingBracket isObject)
+        then ok (all, p + 1) else (byteIn t p (code ",") (code ",") >>= λ _. items fuel' reader' isObject t nodes all (blanks t (p + 1)))) λ k''.
         choose (test (λ b. eqb b (closingBracket isObject))) (λ e. gives (all, blanks s (y .1) + 1) (omega arith) (λ h. refl)) λ e.
         byteIn-then agree (blanks s (y .1)) (code ",") (code ",") (blanks s (y .1) + 1) _ _ (omega arith) λ _.
         blanks-then (blanks s (y .1) + 1) (items fuel reader isObject s nodes all) (items fuel' reader' isObject t nodes all) λ k₃.
@@ -385,7 +395,8 @@ module _ {s t : Bytes} {m : ℕ} (agree : Agree s t m) where
   container-local reader reader' inner isObject at nodes =
       room-then nodes at (omega arith)
       (later (at + 1) (omega arith)
-      (andThen _ _ (contents-local reader reader' inner isObject (nodes + 1) (at + 1)) λ x e l. gives (record { label = containerLabel isObject; kids = x .0 }, x .1) (omega arith) (λ h. refl)))
+      (andThen _ _ (contents-local reader reader' inner isObject (nodes + 1) (at + 1)) λ x e l. gives
+      (record { label = containerLabel isObject; kids = x .0 }, x .1) (omega arith) (λ h. refl)))
 
   value-local : (left at nodes : ℕ) → Local m end at (Read.value left s at nodes) (Read.value left t at nodes)
   unfolding Read.value

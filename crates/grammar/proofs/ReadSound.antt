@@ -18,13 +18,16 @@ use Rattle.spec.specs.Forest.{size, single, _⧺_}
 use Rattle.spec.specs.Value as Value
 use Rattle.spec.specs.Value.{Label, Members, leaf, named, has}
 use Rattle.spec.specs.Read as Read
-use Rattle.spec.specs.Read.{isBlank, blanksFrom, blanks, spelled, roomFor, literalValue, numberValue, stringValue, scalar, fresh, nameFor, containerLabel, closingBracket, items, contents, container, read}
-use Rattle.grammar.specs.Grammar.{ws, structural, number, string, *char, node, value, object, members, member, array, elements, JSON-text, name-separator, value-separator}
+use Rattle.spec.specs.Read.{isBlank, blanksFrom, blanks, spelled, roomFor, literalValue, numberValue, stringValue, scalar, fresh, nameFor, containerLabel}
+use Rattle.spec.specs.Read.{closingBracket, items, contents, container, read}
+use Rattle.grammar.specs.Grammar.{ws, structural, number, string, *char, node, value, object, members, member, array, elements, JSON-text, name-separator}
+use Rattle.grammar.specs.Grammar.{value-separator}
 use Rattle.grammar.proofs.Places.{From, here, cons, bytes}
 use Rattle.grammar.proofs.Tests.{either}
 use Rattle.grammar.proofs.Containers.{openingBracket, containerOf, opening-positive, closing-positive}
 use Rattle.grammar.proofs.Members.{⧺-assoc}
-use Rattle.grammar.proofs.Sound.{Sound, finds, stops, other, Some, some, exceeds, refuses, gives, weaken, choose, after, andThen, finish, past, expect-then}
+use Rattle.grammar.proofs.Sound.{Sound, finds, stops, other, Some, some, exceeds, refuses, gives, weaken, choose, after, andThen, finish, past}
+use Rattle.grammar.proofs.Sound.{expect-then}
 use Rattle.grammar.proofs.StringsSound.{end, Means, string-sound}
 use Rattle.grammar.proofs.NumbersSound.{there, Derives, number-sound}
 
@@ -185,7 +188,8 @@ some-name : (isObject : Bool) → Some (Means (NamePart isObject))
 some-name false = some [] ([], 0) nameless
 some-name true = some _ ([], 0) (under (string.quoted *char.none) (structural.around ws.none ws.none))
 
-module _ (s : Bytes) (reader : ℕ → ℕ → Outcome (Value.Value × ℕ)) (inner : (at nodes : ℕ) → Sound s end at (Means value) (reader at nodes)) (isObject : Bool) (nodes : ℕ) where
+module _ (s : Bytes) (reader : ℕ → ℕ → Outcome (Value.Value × ℕ))
+    (inner : (at nodes : ℕ) → Sound s end at (Means value) (reader at nodes)) (isObject : Bool) (nodes : ℕ) where
   some-rest : (so-far : Members) → Some (Means (Rest isObject so-far))
   some-rest so-far =
       let n = some-name isObject in
@@ -264,7 +268,8 @@ inside-filled isObject {b} {w} {f} h d = go isObject (listed d)
     go false r = rw (r .is) (value.of-array (array.with-elements (structural.around ws.none h) (r .listed) (r .closed)))
     go true r = rw (r .is) (value.of-object (object.with-members (structural.around ws.none h) (r .listed) (r .closed)))
 
-module _ (s : Bytes) (reader : ℕ → ℕ → Outcome (Value.Value × ℕ)) (inner : (at nodes : ℕ) → Sound s end at (Means value) (reader at nodes)) (isObject : Bool) where
+module _ (s : Bytes) (reader : ℕ → ℕ → Outcome (Value.Value × ℕ))
+    (inner : (at nodes : ℕ) → Sound s end at (Means value) (reader at nodes)) (isObject : Bool) where
   some-inside : Some (Means (Inside isObject))
   some-inside = some (closingBracket isObject ∷ []) (Forest.none, 0) (inside-empty isObject ws.none)
 
@@ -277,7 +282,8 @@ module _ (s : Bytes) (reader : ℕ → ℕ → Outcome (Value.Value × ℕ)) (in
   contents-sound nodes at =
       past-blanks _ λ b h.
       choose (eqb (byte s (blanks s at)) (closingBracket isObject))
-      (λ e. past _ (closingBracket isObject) (blanks s at + 1) (closing-positive isObject) (eqb-true _ _ e) refl (gives (Forest.none, blanks s at + 1) refl (inside-empty isObject h))) λ e.
+      (λ e. past _ (closingBracket isObject) (blanks s at + 1) (closing-positive isObject)
+      (eqb-true _ _ e) refl (gives (Forest.none, blanks s at + 1) refl (inside-empty isObject h))) λ e.
       weaken (λ w x r. rest-inside h r) (items-sound s reader inner isObject nodes (length s) Forest.none (blanks s at))
 
   container-sound : (at nodes : ℕ) → byte s at ≡ openingBracket isObject → Sound s end at (Means value) (container reader isObject s at nodes)

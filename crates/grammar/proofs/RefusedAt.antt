@@ -18,7 +18,9 @@ use Rattle.spec.specs.Read.{read}
 use Rattle.spec.proofs.OutcomeLaws.{refused≢ok}
 use Rattle.grammar.specs.Grammar.{ws, structural, string, value, JSON-text}
 use Rattle.grammar.specs.Theorems.{Begins}
-use Rattle.grammar.specs.RefusedAt.{next-member, ByteAt, SecondName, closing-quote, of-array, of-object, OpensLevel33, bracket, BeginsValue2049, first-byte, byte-129, exponent-digit, NumberOverLimit, passing-byte, NotJSON, Given3, Given4, Given5, Given6, Given7, After3, Unrefused, read-whole, cut-short, LeftToRight}
+use Rattle.grammar.specs.RefusedAt.{next-member, ByteAt, SecondName, closing-quote, of-array, of-object, OpensLevel33, bracket, BeginsValue2049}
+use Rattle.grammar.specs.RefusedAt.{first-byte, byte-129, exponent-digit, NumberOverLimit, passing-byte, NotJSON, Given3, Given4, Given5, Given6, Given7}
+use Rattle.grammar.specs.RefusedAt.{After3, Unrefused, read-whole, cut-short, LeftToRight}
 use Rattle.grammar.proofs.Places.{From, from-whole, from-first, from-rest, from-middle, first}
 use Rattle.grammar.proofs.Tests.{byCases}
 use Rattle.grammar.proofs.Refusing.{Refusing, refused-so}
@@ -71,7 +73,8 @@ module _ {s : Bytes} {p : ℕ} where
 
   after-passing : NumberOverLimit s p → Begins (take (suc p) s)
   after-passing (passing-byte {w} {n} {b} h (byte-129 more d l) at) = with-byte at (complete h (value.of-number d)) more (sym (append-assoc w n (b ∷ more)))
-  after-passing (passing-byte {w} {n} {b} h (exponent-digit d fits d' over) at) = with-byte at (complete h (value.of-number d')) [] (sym (append-assoc w n (b ∷ [])))
+  after-passing (passing-byte {w} {n} {b} h (exponent-digit d fits d' over) at) =
+      with-byte at (complete h (value.of-number d')) [] (sym (append-assoc w n (b ∷ [])))
 
   begins-so : {number : ℕ} → Fault s number p → ¬ (number ≡ not-json) → Begins (take (suc p) s)
   begins-so by-3 n = absurd (n refl)

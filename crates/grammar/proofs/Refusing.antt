@@ -77,7 +77,8 @@ hexIn-by-3 s at low high = choose (within low high (hexValue (byte s at))) (λ _
 lowSurrogate-by-3 : (s : Bytes) (high at : ℕ) → Refusing By3 (lowSurrogate s high at)
 unfolding lowSurrogate
 lowSurrogate-by-3 s high at =
-    next _ (hexIn-by-3 s at _ _) λ _. next _ (hexIn-by-3 s (at + 1) _ _) λ _. next _ (hexIn-by-3 s (at + 2) _ _) λ _. next _ (hexIn-by-3 s (at + 3) _ _) λ _. result
+    next _ (hexIn-by-3 s at _ _) λ _. next _ (hexIn-by-3 s (at + 1) _ _) λ _. next _
+    (hexIn-by-3 s (at + 2) _ _) λ _. next _ (hexIn-by-3 s (at + 3) _ _) λ _. result
 
 afterHigh-by-3 : (s : Bytes) (high at : ℕ) → Refusing By3 (afterHigh s high at)
 unfolding afterHigh

@@ -11,7 +11,8 @@ use borrow.Author.Tests.{eqb-true, ne-eqb}
 use Rattle.spec.specs.Outcome.{ok, _>>=_, if_then_else_}
 use Rattle.spec.specs.Bytes.{Bytes, Text, byte, within, byteIn}
 use Rattle.spec.specs.Strings as Strings
-use Rattle.spec.specs.Strings.{hexValue, hexIn, lowSurrogate, afterHigh, secondLimit, unicodeEscape, shortEscape, escape, tail, multibyte, character, characters}
+use Rattle.spec.specs.Strings.{hexValue, hexIn, lowSurrogate, afterHigh, secondLimit, unicodeEscape, shortEscape, escape, tail, multibyte, character}
+use Rattle.spec.specs.Strings.{characters}
 use Rattle.grammar.specs.Grammar.{%x, UTF8-1, UTF8-2, UTF8-3, UTF8-4, UTF8-char, HEXDIG, 4HEXDIG, unescaped, char, *char, string}
 use Rattle.grammar.proofs.Places.{From, in-text, first, nth, split}
 use Rattle.grammar.proofs.Tests.{in-range, below-range, above-range}
@@ -42,7 +43,13 @@ module _ (s : Bytes) (at : ℕ) {a : ℕ} where
   multibyte-EE-EF : %x 0xEE 0xEF a → multibyte s at a ≡ tail 2 s (at + 1) 0x80 0xBF (a - 0xE0)
   unfolding multibyte
   multibyte-EE-EF h =
-      rw (above-range 0xC2 0xDF a (omega arith), above-range 0xE0 0xE0 a (omega arith), above-range 0xE1 0xEC a (omega arith), above-range 0xED 0xED a (omega arith), in-range 0xEE 0xEF a (h .0) (h .1))
+      rw (
+        above-range 0xC2 0xDF a (omega arith),
+        above-range 0xE0 0xE0 a (omega arith),
+        above-range 0xE1 0xEC a (omega arith),
+        above-range 0xED 0xED a (omega arith),
+        in-range 0xEE 0xEF a (h .0) (h .1),
+      )
 
   multibyte-F1-F3 : %x 0xF1 0xF3 a → multibyte s at a ≡ tail 3 s (at + 1) 0x80 0xBF (a - 0xF0)
   unfolding multibyte
@@ -197,7 +204,12 @@ module _ {s : Bytes} {at h i j k next : ℕ} (d : Digits s at h i j k next) wher
       unicodeEscape s at ≡ (if within 0xD800 0xDBFF (unit h i j k) then afterHigh s (unit h i j k) (at + 4) else ok ((unit h i j k), at + 4))
   unfolding unicodeEscape _>>=_
   unit-reads other =
-      rw (d .first-digit 0x0 0xF (omega arith) (d .small .0), d .second-digit 0x0 (secondLimit h) (omega arith) (second-limit other), d .third-digit, d .fourth-digit)
+      rw (
+        d .first-digit 0x0 0xF (omega arith) (d .small .0),
+        d .second-digit 0x0 (secondLimit h) (omega arith) (second-limit other),
+        d .third-digit,
+        d .fourth-digit,
+      )
 
   below-reads : (unit h i j k) < 0xD800 → unicodeEscape s at ≡ ok ((unit h i j k), next)
   below-reads l = rw (unit-reads (λ m n. omega arith), below-range 0xD800 0xDBFF (unit h i j k) l, d .far)
@@ -214,7 +226,14 @@ module _ {s : Bytes} {at h i j k next : ℕ} (d : Digits s at h i j k next) wher
   low-reads high r =
       let small = d .small in
       let same : (i - 0xC) * 0x100 + j * 0x10 + k ≡ (unit h i j k) - 0xDC00 = omega arith in
-      rw (d .first-digit 0xD 0xD (omega arith) (omega arith), d .second-digit 0xC 0xF (omega arith) (d .small .1), d .third-digit, d .fourth-digit, ← d .far, same)
+      rw (
+        d .first-digit 0xD 0xD (omega arith) (omega arith),
+        d .second-digit 0xC 0xF (omega arith) (d .small .1),
+        d .third-digit,
+        d .fourth-digit,
+        ← d .far,
+        same,
+      )
 
 pair-reads : {s : Bytes} {a b c d a' b' c' d' h i j k h' i' j' k' at next : ℕ} → HEXDIG a h → HEXDIG b i → HEXDIG c j → HEXDIG d k → HEXDIG a' h' →
     HEXDIG b' i' → HEXDIG c' j' → HEXDIG d' k' →
@@ -226,7 +245,10 @@ pair-reads {s} {a} {b} {c} {d} {a'} {b'} {c'} {d'} {at = at} {next = next} da db
     let (f₁, f₂) = split (a ∷ b ∷ c ∷ d ∷ []) (0x5C ∷ 0x75 ∷ a' ∷ b' ∷ c' ∷ d' ∷ []) f in
     let (_, f₃) = split (0x5C ∷ 0x75 ∷ []) (a' ∷ b' ∷ c' ∷ d' ∷ []) f₂ in
     high-reads (digits-at da db dc dd f₁) high ∙
-    rw (byteIn-reads s (at + 4) 0x5C 0x5C (first f₂ .0) (omega arith) (omega arith), byteIn-reads s (at + 4 + 1) 0x75 0x75 (nth f₂ 1 (omega arith)) (omega arith) (omega arith))
+    rw (
+      byteIn-reads s (at + 4) 0x5C 0x5C (first f₂ .0) (omega arith) (omega arith),
+      byteIn-reads s (at + 4 + 1) 0x75 0x75 (nth f₂ 1 (omega arith)) (omega arith) (omega arith),
+    )
     (low-reads (digits-at da' db' dc' dd' f₃) _ low)
 
 -- what follows \u

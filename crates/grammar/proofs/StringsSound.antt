@@ -12,7 +12,8 @@ use Rattle.spec.specs.Outcome.{Outcome, ok, refused, _>>=_, if_then_else_}
 use Rattle.spec.specs.Refusal.{not-json}
 use Rattle.spec.specs.Bytes.{Bytes, Text, byte, within}
 use Rattle.spec.specs.Strings as Strings
-use Rattle.spec.specs.Strings.{hexValue, hexIn, lowSurrogate, afterHigh, secondLimit, unicodeEscape, shortEscape, escape, tail, multibyte, character, characters}
+use Rattle.spec.specs.Strings.{hexValue, hexIn, lowSurrogate, afterHigh, secondLimit, unicodeEscape, shortEscape, escape, tail, multibyte, character}
+use Rattle.spec.specs.Strings.{characters}
 use Rattle.grammar.specs.Grammar.{%x, UTF8-1, UTF8-2, UTF8-3, UTF8-4, UTF8-char, HEXDIG, 4HEXDIG, unescaped, char, *char, string}
 use Rattle.grammar.proofs.Places.{one}
 use Rattle.grammar.proofs.Tests.{byCases, within-true, past-range}
@@ -178,10 +179,12 @@ module _ {u : Bytes} {high : ℕ} (escaped : 4HEXDIG u high) (range : %x 0xD800 
   unfolding afterHigh
   afterHigh-sound s at =
       expect-then (Means (AfterUnit u)) 0x5C (at + 1) (omega arith) refl some-after-high
-      (expect-then _ 0x75 (at + 2) (omega arith) (omega arith) (some (0x75 ∷ some-low .text) (some-low .meaning) (some-low .derived)) (lowSurrogate-sound s (at + 2)))
+      (expect-then _ 0x75 (at + 2) (omega arith) (omega arith)
+      (some (0x75 ∷ some-low .text) (some-low .meaning) (some-low .derived)) (lowSurrogate-sound s (at + 2)))
 
 -- four digits after \u, the first two of which begin no low surrogate
-module _ {a b c d h i j k : ℕ} (da : HEXDIG a h) (db : HEXDIG b i) (dc : HEXDIG c j) (dd : HEXDIG d k) (ha : h ≤ 0xF) (hb : i ≤ secondLimit h) (hc : j ≤ 0xF) (hd : k ≤ 0xF) where
+module _ {a b c d h i j k : ℕ} (da : HEXDIG a h) (db : HEXDIG b i) (dc : HEXDIG c j)
+    (dd : HEXDIG d k) (ha : h ≤ 0xF) (hb : i ≤ secondLimit h) (hc : j ≤ 0xF) (hd : k ≤ 0xF) where
   unit : ℕ
   unit = h * 0x1000 + i * 0x100 + j * 0x10 + k
 
@@ -282,7 +285,8 @@ unfolding character
 character-sound s at quote =
     choose (eqb (byte s at) 0x5C) (λ e. past _ 0x5C (at + 1) (omega arith) (eqb-true _ _ e) refl (escape-sound s (at + 1))) λ e.
     choose (within 0x20 0x7F (byte s at))
-    (λ h. let range = within-true _ _ _ h in past _ (byte s at) (at + 1) (omega arith) refl refl (gives (byte s at, at + 1) refl (plain-sound (byte s at) range quote (eqb-false _ _ e)))) λ h.
+    (λ h. let range = within-true _ _ _ h in
+    past _ (byte s at) (at + 1) (omega arith) refl refl (gives (byte s at, at + 1) refl (plain-sound (byte s at) range quote (eqb-false _ _ e)))) λ h.
     multibyte-sound s at
 
 -- characters up to the closing quotation mark

@@ -14,14 +14,16 @@ use Rattle.spec.specs.Value as Value
 use Rattle.spec.specs.Value.{Label, Members, leaf, depth, levels, nodes}
 use Rattle.spec.specs.Read as Read
 use Rattle.spec.specs.Read.{blanks, containerLabel, closingBracket}
-use Rattle.grammar.specs.Grammar.{%x, ws, structural, e, number, string, node, value, object, members, member, array, elements, JSON-text, value-separator}
+use Rattle.grammar.specs.Grammar.{%x, ws, structural, e, number, string, node, value, object, members, member, array, elements, JSON-text}
+use Rattle.grammar.specs.Grammar.{value-separator}
 use Rattle.grammar.specs.Limits.{Fits, Everywhere}
 use Rattle.grammar.proofs.Containers.{openingBracket, containerOf, comma-no-closing}
 use Rattle.grammar.proofs.Places.{From, from-whole, split}
 use Rattle.grammar.proofs.Complete.{Reads, reads, reads-it}
 use Rattle.grammar.proofs.StringsComplete.{string-reads}
 use Rattle.grammar.proofs.NumbersComplete.{Stops, number-begins}
-use Rattle.grammar.proofs.Structural.{blanks-stay, blanks-skip, nothing-stops, ws-stops, Marked, opening-marked, closing-marked, comma-marked, colon-marked}
+use Rattle.grammar.proofs.Structural.{blanks-stay, blanks-skip, nothing-stops, ws-stops, Marked, opening-marked, closing-marked, comma-marked}
+use Rattle.grammar.proofs.Structural.{colon-marked}
 use Rattle.grammar.proofs.ReadComplete.{Asked, ValueRead, string-plain, number-plain, null-read, true-read, false-read, string-read, value-reads}
 use Rattle.grammar.proofs.NumbersUnambiguous.{number-same}
 

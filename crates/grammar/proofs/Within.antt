@@ -22,7 +22,8 @@ use Rattle.spec.specs.Forest.{size, single, _⧺_}
 use Rattle.spec.specs.Value as Value
 use Rattle.spec.specs.Value.{Label, Members, leaf, named, has, depth, depths, levels, nodes}
 use Rattle.spec.specs.Read as Read
-use Rattle.spec.specs.Read.{blanks, spelled, roomFor, literalValue, numberValue, stringValue, scalar, fresh, nameFor, containerLabel, closingBracket, items, contents, container, read}
+use Rattle.spec.specs.Read.{blanks, spelled, roomFor, literalValue, numberValue, stringValue, scalar, fresh, nameFor, containerLabel, closingBracket, items}
+use Rattle.spec.specs.Read.{contents, container, read}
 use Rattle.grammar.specs.Grammar.{optional, *DIGIT, minus, int, frac, e, sign}
 use Rattle.grammar.specs.Limits.{NumberFits, Distinct, Fits, Everywhere, WithinLimits}
 use Rattle.grammar.proofs.Containers.{containerOf}
@@ -97,7 +98,9 @@ module _ (s : Bytes) (start : ℕ) where
   exponentDigits-short zero size at l = yields l
   exponentDigits-short (suc fuel) size at l =
       choose (isDigit (byte s at))
-      (λ e. choose (leb (size * 10 + (byte s at - code "0")) maxExponent) (λ e. andThen _ (counted-short at) λ x _ m. exponentDigits-short fuel _ x m) (λ e. refuses)) (λ e. yields l)
+      (λ e. choose (leb (size * 10 + (byte s at - code "0")) maxExponent)
+      (λ e. andThen _ (counted-short at) λ x _ m. exponentDigits-short fuel _ x m) (λ e. refuses))
+      (λ e. yields l)
 
   exp-short : (at : ℕ) → Short at → Yields Short (Numbers.exp s start at)
   unfolding Numbers.exp signedDigits
@@ -146,7 +149,12 @@ exponentDigits-fit (suc fuel) s start size at l =
     choose (leb (size * 10 + (byte s at - code "0")) maxExponent)
     (λ h. andThen _ (counted-place start at) λ x _ same.
     implies (exponentDigits-fit fuel s start (size * 10 + (byte s at - code "0")) x (leb-true _ _ h)) λ next r.
-    record { text = byte s at ∷ r .text; from = cons (byte s at) (omega arith) refl (rw same at (r .from)); derived = *DIGIT.more d (r .derived); fits = r .fits })
+    record {
+      text = byte s at ∷ r .text;
+      from = cons (byte s at) (omega arith) refl (rw same at (r .from));
+      derived = *DIGIT.more d (r .derived);
+      fits = r .fits;
+    })
     (λ h. refuses))
     (λ e. yields (record { text = []; from = here at; derived = *DIGIT.none; fits = l }))
 
@@ -179,7 +187,8 @@ exp-fits s start at =
 
 -- a number after its sign
 parts-fit : (s : Bytes) (start at : ℕ) {m : Bytes} → optional minus m → From s start m at → at ≤ start + maxNumber →
-    Yields (λ next. NumberFits (take (next - start) (drop start s))) (Numbers.int s start at >>= λ fraction. Numbers.frac s start fraction >>= λ exponent. Numbers.exp s start exponent)
+    Yields (λ next. NumberFits (take (next - start) (drop start s)))
+    (Numbers.int s start at >>= λ fraction. Numbers.frac s start fraction >>= λ exponent. Numbers.exp s start exponent)
 parts-fit s start at {m} pm fm l =
     andThen _ (both (int-short s start at l) (sound-yields (int-sound s start at))) λ p _ i.
     andThen _ (both (frac-short s start p (i .0)) (sound-yields (frac-sound s start p))) λ q _ f.
@@ -195,7 +204,8 @@ unfolding Numbers.number Numbers.minus
 number-fits s start = go (eqb (byte s start) 0x2D) refl
   where
     go : (c : Bool) → eqb (byte s start) 0x2D ≡ c →
-        Yields (λ next. NumberFits (take (next - start) (drop start s))) (Numbers.int s start (if c then start + 1 else start) >>= λ fraction. Numbers.frac s start fraction >>= λ exponent. Numbers.exp s start exponent)
+        Yields (λ next. NumberFits (take (next - start) (drop start s)))
+        (Numbers.int s start (if c then start + 1 else start) >>= λ fraction. Numbers.frac s start fraction >>= λ exponent. Numbers.exp s start exponent)
     go true h =
         let same = eqb-true (byte s start) 0x2D h in
         parts-fit s start (start + 1) (optional.present minus.minus-sign) (cons 0x2D (omega arith) same (here (start + 1))) (omega arith)
@@ -284,7 +294,8 @@ nameFor-new true s so-far at =
     andThen _ (anything (byteIn s (blanks s (x .1)) (code ":") (code ":"))) λ _ _ _.
     yields (λ _. new)
 
-module _ (s : Bytes) (left : ℕ) (reader : ℕ → ℕ → Outcome (Value.Value × ℕ)) (inner : (at before : ℕ) → Yields (Bounded left before) (reader at before)) (isObject : Bool) (before : ℕ) where
+module _ (s : Bytes) (left : ℕ) (reader : ℕ → ℕ → Outcome (Value.Value × ℕ))
+    (inner : (at before : ℕ) → Yields (Bounded left before) (reader at before)) (isObject : Bool) (before : ℕ) where
   KeptAll : Members × ℕ → Type 0
   KeptAll x = Kept isObject left before (x .0)
 

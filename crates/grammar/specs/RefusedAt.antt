@@ -15,7 +15,8 @@ use Rattle.spec.specs.Forest.{size}
 use Rattle.spec.specs.Value as Value
 use Rattle.spec.specs.Value.{Members}
 use Rattle.spec.specs.Read.{read}
-use Rattle.grammar.specs.Grammar.{ws, begin-array, begin-object, name-separator, value-separator, number, *char, string, quotation-mark, value, elements, members, JSON-text}
+use Rattle.grammar.specs.Grammar.{ws, begin-array, begin-object, name-separator, value-separator, number, *char, string, quotation-mark, value, elements}
+use Rattle.grammar.specs.Grammar.{members, JSON-text}
 use Rattle.grammar.specs.Limits.{Named}
 use Rattle.grammar.specs.Theorems.{Begins, LongestBeginning}
 

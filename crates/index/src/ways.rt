@@ -149,7 +149,8 @@ pub fn enter_by_hash(
     row: usize,
     name: Name,
 ) -> bool
-    ensures { λ r. ⌜ EnteredByHash (now (nodes .entry)) (now (index .entry)) base object row name (now (index .exit)) r ⌝ }
+    ensures { λ r. ⌜ EnteredByHash (now (nodes .entry)) (now (index .entry)) base object row name
+        (now (index .exit)) r ⌝ }
 {
     if layout::SCRATCH < base {
         return false;

@@ -13,7 +13,8 @@ pub extern "C" fn json_patch_inspect<'a>(
     index: &mut [u16],
     answer: &mut [u64; 10],
 ) -> u32
-    ensures { λ r. ⌜ ExportIs (now (patch .entry)) (workBefore nodes index) (workAfter nodes index) (now (answer .exit)) r ⌝ }
+    ensures { λ r. ⌜ ExportIs (now (patch .entry)) (workBefore nodes index) (workAfter nodes index)
+        (now (answer .exit)) r ⌝ }
 {
     let r = inspect(patch, nodes, index);
     let c = r.counts;

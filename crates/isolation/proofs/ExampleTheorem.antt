@@ -17,8 +17,12 @@ use Rattle.region.proofs.ClaimTheorems.{shaped-within}
 use Rattle.isolation.specs.Isolation.{Call}
 use Rattle.isolation.specs.Example.{document, other, region, patch, ExampleStatement}
 
+unfoldable compute-rule : Unit {0}
+unfolding characterAt charactersFrom characters isMakers isTest kindPermitted permitted operationWithin operationsWithin elementsWithin shapeWithin
+compute-rule = tt
+
 unfoldable compute-region : Unit {0}
-unfolding compute characterAt charactersFrom characters isMakers isTest kindPermitted permitted operationWithin operationsWithin elementsWithin shapeWithin regionTokens patchedWithin onPatchWithin onDocumentWithin answerWithin
+unfolding compute compute-rule regionTokens patchedWithin onPatchWithin onDocumentWithin answerWithin
 compute-region = tt
 
 abbrev tokens : Tokens

@@ -31,7 +31,8 @@ items-around object first zero (tree e kids rest) n h =
 items-around object first (suc k) (tree e kids rest) n h =
     let later = items-around object false k rest n (omega arith) in
     record {
-      front = comma first ++ writeName object (e .name) ++ opening (e .label) ++ writeItems (isObject (e .label)) true kids ++ closing (e .label) ++ later .front;
+      front = comma first ++ writeName object (e .name) ++ opening (e .label)
+          ++ writeItems (isObject (e .label)) true kids ++ closing (e .label) ++ later .front;
       back = later .back;
       is = λ x. rw (later .is x) (simp append-assoc);
     }

@@ -188,12 +188,14 @@ module _ {s : Bytes} {start at : ℕ} {plain : Bool} {v : Outcome (ℕ × Bool)}
       let e : at + 1 - 1 ≡ at = omega arith in
       rw (e, ← k .span .so-far) at (turn-quote (plainOf s start) s at q (k .left))
 
-  pub passing-refused : (number place : ℕ) → (byte s at ≡ code "\"" → ⊥) → character s at ≡ refused number place → Passing s start at plain v → refused number place ≡ v
+  pub passing-refused : (number place : ℕ) → (byte s at ≡ code "\"" → ⊥)
+      → character s at ≡ refused number place → Passing s start at plain v → refused number place ≡ v
   unfolding plainOf _>>=_
   passing-refused number place n e k = turn-refused (plainOf s start) s at number place n e (k .left)
 
 -- verbatim characters, none of them an escape while the string is plain
-pub passing-verbatim : {escapes plain : Bool} {s : Bytes} {start from at : ℕ} {v : Outcome (ℕ × Bool)} → Verbatim escapes s from at → (escapes ≡ true → plain ≡ false) →
+pub passing-verbatim : {escapes plain : Bool} {s : Bytes} {start from at : ℕ} {v : Outcome (ℕ × Bool)}
+    → Verbatim escapes s from at → (escapes ≡ true → plain ≡ false) →
     Passing s start from plain v → Passing s start at plain v
 passing-verbatim none f k = k
 passing-verbatim {plain = plain} {s} (raw {at} {c} {next} p n m e) f k = passing-more (c, next) n e (still s at plain m) (passing-verbatim p f k)

@@ -155,7 +155,8 @@ module _ (escapes : Bool) (s : Bytes) (start : ℕ) where
   unfolding begins
   any-first {at} p = go (standsForItself (byte s at)) (eqb (byte s at) (code "\\")) (eqb (byte s at) (code "\"")) refl refl refl
     where
-      go : (itself backslash mark : Bool) → standsForItself (byte s at) ≡ itself → eqb (byte s at) (code "\\") ≡ backslash → eqb (byte s at) (code "\"") ≡ mark →
+      go : (itself backslash mark : Bool) → standsForItself (byte s at) ≡ itself
+          → eqb (byte s at) (code "\\") ≡ backslash → eqb (byte s at) (code "\"") ≡ mark →
           Stepped escapes s start at at (if itself then 0 else if backslash then 48 else first (byte s at))
       go true backslash mark t f g = whole (verbatim-self p t)
       go false true mark t f g = slash escapes refl
@@ -182,7 +183,8 @@ module _ (escapes : Bool) (s : Bytes) (start : ℕ) where
       go false more m e = ended (unread at e)
 
   -- the letter of an escape
-  letter : {end at : ℕ} → Verbatim escapes s start end → escapes ≡ true → byte s end ≡ code "\\" → at ≡ end + 1 → Stepped escapes s start end at (escaped (byte s at))
+  letter : {end at : ℕ} → Verbatim escapes s start end → escapes ≡ true
+      → byte s end ≡ code "\\" → at ≡ end + 1 → Stepped escapes s start end at (escaped (byte s at))
   unfolding escaped
   letter {end} {at} p t b i = go (keptEscape (byte s at)) refl
     where

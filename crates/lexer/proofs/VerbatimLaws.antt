@@ -43,7 +43,8 @@ kept-short : (b : ℕ) → keptEscape b ≡ true → Short b
 unfolding shortEscape
 kept-short b = kept-cases Short b (refl, refl) (refl, refl) (refl, refl) (refl, refl) (refl, refl) (refl, refl) (refl, refl)
 
-pub short-read : (s : Bytes) (at : ℕ) → byte s at ≡ code "\\" → keptEscape (byte s (at + 1)) ≡ true → character s at ≡ ok (shortEscape (byte s (at + 1)), at + 2)
+pub short-read : (s : Bytes) (at : ℕ) → byte s at ≡ code "\\"
+    → keptEscape (byte s (at + 1)) ≡ true → character s at ≡ ok (shortEscape (byte s (at + 1)), at + 2)
 unfolding character Strings.escape
 short-read s at b k =
     let o = kept-short (byte s (at + 1)) k in
@@ -51,7 +52,8 @@ short-read s at b k =
     rw (eq-eqb (byte s at) (code "\\") b, Strings.escape, o .0, o .1, two)
 
 -- a byte that stands for itself
-pub verbatim-self : {escapes : Bool} {s : Bytes} {start at : ℕ} → Verbatim escapes s start at → standsForItself (byte s at) ≡ true → Verbatim escapes s start (at + 1)
+pub verbatim-self : {escapes : Bool} {s : Bytes} {start at : ℕ} → Verbatim escapes s start at
+    → standsForItself (byte s at) ≡ true → Verbatim escapes s start (at + 1)
 verbatim-self {s = s} {at = at} p t = raw p (self-no-quote s at t) (self-no-backslash s at t) (self-character s at t)
 
 pub verbatim-past : {escapes : Bool} {s : Bytes} {start at : ℕ} → Verbatim escapes s start at → start ≤ at
@@ -60,7 +62,8 @@ verbatim-past {s = s} (raw {at} {c} {next} p n m e) = omega (arith, verbatim-pas
 verbatim-past (short p t b k) = omega (arith, verbatim-past p)
 
 -- what is read where they end, and is no quotation mark, begins with a backslash
-pub ends-backslash : {escapes : Bool} {s : Bytes} {at : ℕ} {v : ℕ × ℕ} → Ends escapes s at → (byte s at ≡ code "\"" → ⊥) → character s at ≡ ok v → byte s at ≡ code "\\"
+pub ends-backslash : {escapes : Bool} {s : Bytes} {at : ℕ} {v : ℕ × ℕ} → Ends escapes s at
+    → (byte s at ≡ code "\"" → ⊥) → character s at ≡ ok v → byte s at ≡ code "\\"
 ends-backslash (quote b) n e = absurd (n b)
 ends-backslash (escape b k) n e = b
 ends-backslash (unread place r) n e = let z : _≡_ {A = ℕ} 0 1 = cc in absurd (omega arith)

@@ -2,7 +2,8 @@
 ghost use mathlib.Core.Path.{_≡_};
 ghost use Prim.Native.Nat.{_≤_, _+_, _-_, _*_};
 ghost use lib.ListN.{length};
-ghost use Rattle.spec.specs.Strings.{hexValue, hexIn, secondLimit, lowSurrogate, afterHigh, unicodeEscape, shortEscape, escape};
+ghost use Rattle.spec.specs.Strings.{hexValue, hexIn, secondLimit, lowSurrogate, afterHigh, unicodeEscape, shortEscape};
+ghost use Rattle.spec.specs.Strings.{escape};
 ghost use Rattle.lexer.specs.Answers.{boundedOutcome, characterOutcome};
 use crate::characters::Character;
 use crate::cursor::Bounded;

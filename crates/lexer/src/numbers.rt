@@ -2,7 +2,8 @@
 ghost use mathlib.Core.Path.{_≡_};
 ghost use Prim.Native.Nat.{_≤_, _<_};
 ghost use lib.ListN.{length};
-ghost use Rattle.spec.specs.Numbers.{isDigit, isE, counted, digits, someDigits, int, frac, sign, exponentDigits, signedDigits, exp, minus, number};
+ghost use Rattle.spec.specs.Numbers.{isDigit, isE, counted, digits, someDigits, int, frac, sign, exponentDigits};
+ghost use Rattle.spec.specs.Numbers.{signedDigits, exp, minus, number};
 ghost use Rattle.lexer.specs.Answers.{scanOutcome};
 use crate::cursor::Bounded;
 use crate::cursor::Cursor;

@@ -80,7 +80,8 @@ fn still_plain(plain: bool, b: u8) -> bool
 // with no escape. Once the string is not plain, an escape that is written as it is read is passed with the others.
 fn mixed_characters(s: &[u8], start: usize, first: usize) -> Quoted
     requires { ⌜ Verbatim false (now s) start first ⌝ }
-    ensures { λ r. ⌜ quotedOutcome r ≡ plainOf (now (s .entry)) start (characters (length (now (s .entry))) (now (s .entry)) start) ⌝ }
+    ensures { λ r. ⌜ quotedOutcome r
+        ≡ plainOf (now (s .entry)) start (characters (length (now (s .entry))) (now (s .entry)) start) ⌝ }
 {
     let mut at = first;
     let mut plain = true;
@@ -104,7 +105,8 @@ fn mixed_characters(s: &[u8], start: usize, first: usize) -> Quoted
 // The characters from a place to the closing quotation mark. Most strings have only bytes that stand for themselves,
 // and need no tables.
 fn characters(s: &[u8], start: usize) -> Quoted
-    ensures { λ r. ⌜ quotedOutcome r ≡ plainOf (now (s .entry)) start (characters (length (now (s .entry))) (now (s .entry)) start) ⌝ }
+    ensures { λ r. ⌜ quotedOutcome r
+        ≡ plainOf (now (s .entry)) start (characters (length (now (s .entry))) (now (s .entry)) start) ⌝ }
 {
     let mut at = start;
     while stands_for_itself(peek(s, at)) {
@@ -121,7 +123,8 @@ fn characters(s: &[u8], start: usize) -> Quoted
 
 // The characters from a place to the closing quotation mark, with what is kept of them.
 fn name_characters(s: &[u8], start: usize) -> Name
-    ensures { λ r. ⌜ nameOutcome r ≡ keptOf (now (s .entry)) start (characters (length (now (s .entry))) (now (s .entry)) start) ⌝ }
+    ensures { λ r. ⌜ nameOutcome r ≡ keptOf (now (s .entry)) start
+        (characters (length (now (s .entry))) (now (s .entry)) start) ⌝ }
 {
     let mut at = start;
     let mut hash: u32 = 0;
@@ -153,7 +156,8 @@ fn name_characters(s: &[u8], start: usize) -> Name
 impl Cursor {
     // The string at the cursor, with its quotation marks, and whether it is plain.
     pub fn quoted(self, s: &[u8]) -> Quoted
-        ensures { λ r. ⌜ quotedOutcome r ≡ plainOf (now (s .entry)) (self .at + 1) (string (now (s .entry)) (self .at)) ⌝ }
+        ensures { λ r. ⌜ quotedOutcome r
+            ≡ plainOf (now (s .entry)) (self .at + 1) (string (now (s .entry)) (self .at)) ⌝ }
     {
         let at = self.at;
         let Bounded::Within(_) = byte_in(s, at, b'"', b'"') else {

@@ -104,7 +104,8 @@ pair-merged (tree e kids rest) t n x (one-member alone s) h z =
     (λ i. pair-merged rest (withKids t (stepped e kids t)) n x s i z)
   where
     go : (b : Bool) → sameText (e .name) n ≡ b → (if b then some (valueIn e kids) else get n rest) ≡ some x →
-        (get n rest ≡ some x → get n (mergeMembers rest (withKids t (stepped e kids t)) .kids) ≡ some (mergePatch (memberOf n (withKids t (stepped e kids t))) x)) →
+        (get n rest ≡ some x
+        → get n (mergeMembers rest (withKids t (stepped e kids t)) .kids) ≡ some (mergePatch (memberOf n (withKids t (stepped e kids t))) x)) →
         get n (mergeMembers rest (withKids t (stepped e kids t)) .kids) ≡ some (mergePatch (memberOf n t) x)
     go true q h ih =
         let name = sameText-true (e .name) n q in
@@ -218,7 +219,8 @@ unfolding drop depths
 depths-drop n Forest.none = omega arith
 depths-drop n (tree e kids rest) = go (sameText (e .name) n) (depths-drop n rest)
   where
-    go : (b : Bool) → depths (drop n rest) ≤ depths rest → depths (if b then rest else tree e kids (drop n rest)) ≤ max (levels (e .label) (depths kids)) (depths rest)
+    go : (b : Bool) → depths (drop n rest) ≤ depths rest
+        → depths (if b then rest else tree e kids (drop n rest)) ≤ max (levels (e .label) (depths kids)) (depths rest)
     go true ih = omega arith
     go false ih = omega arith
 

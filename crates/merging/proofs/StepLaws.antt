@@ -9,7 +9,8 @@ use Rattle.spec.specs.Value as Value
 use Rattle.spec.specs.Value.{Label, Entry, Members, isObject, sameText, has}
 use Rattle.spec.specs.Operation.{withKids, insertMember}
 use Rattle.merging.specs.MergePatch.{isNull, asObject, without, memberOf, mergeMembers, mergePatch}
-use Rattle.merging.proofs.MemberLaws.{get, set, drop, Single, single-set, single-drop, set-member, drop-member, get-set, get-set-other, get-drop, get-drop-other}
+use Rattle.merging.proofs.MemberLaws.{get, set, drop, Single, single-set, single-drop, set-member, drop-member, get-set, get-set-other, get-drop}
+use Rattle.merging.proofs.MemberLaws.{get-drop-other}
 
 -- the value of a pair, by itself
 abbrev pub valueIn : Entry → Members → Value.Value
@@ -35,7 +36,8 @@ pub step-other : (e : Entry) (kids : Members) (t : Value.Value) (m : Text) → s
 unfolding stepped
 step-other e kids t m apart = go (isNull (e .label))
   where
-    go : (b : Bool) → get m (if b then drop (e .name) (t .kids) else set (e .name) (mergePatch (memberOf (e .name) t) (valueIn e kids)) (t .kids)) ≡ get m (t .kids)
+    go : (b : Bool)
+        → get m (if b then drop (e .name) (t .kids) else set (e .name) (mergePatch (memberOf (e .name) t) (valueIn e kids)) (t .kids)) ≡ get m (t .kids)
     go true = get-drop-other (e .name) m apart (t .kids)
     go false = get-set-other (e .name) m apart _ (t .kids)
 

@@ -74,7 +74,8 @@ all-malformed : (t : Text) (ts : List Text) → unescape false t ≡ refused mal
 unfolding unescapeAll accepted _>>=_
 all-malformed t ts h = rw h
 
-tilde-malformed : (c d : ℕ) (ts : List Text) → c ≡ code "~" → (d ≡ code "0" → ⊥) → (d ≡ code "1" → ⊥) → accepted (unescapeAll (prepend c (prepend d ts))) ≡ false
+tilde-malformed : (c d : ℕ) (ts : List Text) → c ≡ code "~" → (d ≡ code "0" → ⊥)
+    → (d ≡ code "1" → ⊥) → accepted (unescapeAll (prepend c (prepend d ts))) ≡ false
 unfolding prepend
 tilde-malformed c d [] h f g = all-malformed (c ∷ d ∷ []) [] (token-tilde c (d ∷ []) h ∙ token-malformed d [] f g)
 tilde-malformed c d (t ∷ ts) h f g = all-malformed (c ∷ d ∷ t) ts (token-tilde c (d ∷ t) h ∙ token-malformed d t f g)
@@ -130,7 +131,9 @@ module _ (s : Bytes) where
 
     pub tilde-last : c ≡ code "~" → {number place : ℕ} → characterIn s next ≡ refused number place → accepted (tokensFrom s at) ≡ false
     unfolding tokensFrom segments
-    tilde-last h f = ap wellFormed (decode-more s at c next e ∙ ap (_∷_ c) (decode-ends s next f)) ∙ ap (λ ts. accepted (unescapeAll ts)) (segments-tilde c [] h) ∙ tilde-ends c [] h
+    tilde-last h f =
+        ap wellFormed (decode-more s at c next e ∙ ap (_∷_ c) (decode-ends s next f))
+        ∙ ap (λ ts. accepted (unescapeAll ts)) (segments-tilde c [] h) ∙ tilde-ends c [] h
 
     module _ (d after : ℕ) (f : characterIn s next ≡ ok (d, after)) (h : c ≡ code "~") where
       two : decodeFrom s at ≡ c ∷ d ∷ decodeFrom s after

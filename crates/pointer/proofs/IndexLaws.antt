@@ -122,7 +122,8 @@ element-at : (length n : ℕ) → length ≤ indexLimit → elementAt length (in
 unfolding elementAt indexAt
 element-at length n h = go (ltb n indexLimit) refl
   where
-    go : (b : Bool) → ltb n indexLimit ≡ b → elementAt length (if b then Index.At n else Index.Beyond) ≡ (if ltb n length then ok n else refused location-missing 0)
+    go : (b : Bool) → ltb n indexLimit ≡ b
+        → elementAt length (if b then Index.At n else Index.Beyond) ≡ (if ltb n length then ok n else refused location-missing 0)
     go true e = refl
     go false e = let l = ltb-false n indexLimit e in rw (le-ltb n length (omega arith))
 
@@ -131,7 +132,8 @@ unfolding elementBelow indexOf elementAt
 element-below length t h = go (isDash t) (isIndex t)
   where
     go : (dash index : Bool) →
-        (if dash then refused location-missing 0 else if index then (if ltb (decimal 0 t) length then ok (decimal 0 t) else refused location-missing 0) else refused no-index 0)
+        (if dash then refused location-missing 0 else if index
+        then (if ltb (decimal 0 t) length then ok (decimal 0 t) else refused location-missing 0) else refused no-index 0)
         ≡ elementAt length (if dash then Index.Dash else if index then indexAt (decimal 0 t) else Index.Not)
     go true index = refl
     go false true = sym (element-at length (decimal 0 t) h)
@@ -153,7 +155,8 @@ insertion length t h = go (isDash t) (isIndex t)
   where
     go : (dash index : Bool) →
         (if dash then ok length else
-        if dash then refused location-missing 0 else if index then (if ltb (decimal 0 t) (suc length) then ok (decimal 0 t) else refused location-missing 0) else refused no-index 0)
+        if dash then refused location-missing 0 else if index
+        then (if ltb (decimal 0 t) (suc length) then ok (decimal 0 t) else refused location-missing 0) else refused no-index 0)
         ≡ insertionAt length (if dash then Index.Dash else if index then indexAt (decimal 0 t) else Index.Not)
     go true index = refl
     go false true = sym (element-at (suc length) (decimal 0 t) (omega arith)) ∙ insertion-at length (decimal 0 t)

@@ -60,7 +60,8 @@ first-some s First.Malformed ts r h = absurd (first-malformed s First.Malformed 
 
 module _ (a : Bytes) (i : ℕ) (s : Token) (b : Bytes) (j : ℕ) (t : Token) (here : TokenAt a i s) (there : TokenAt b j t) (same : Bool)
     (right : same ≡ sameText (textOf 3 (tokenBytes a i s)) (textOf 3 (tokenBytes b j t))) where
-  first-tokens : (ts us : Tokens) (p : Unfolds (textOf 3 (tokenBytes a i s)) (tokensBehind a s) ts) (q : Unfolds (textOf 3 (tokenBytes b j t)) (tokensBehind b t) us) →
+  first-tokens : (ts us : Tokens) (p : Unfolds (textOf 3 (tokenBytes a i s)) (tokensBehind a s) ts)
+      (q : Unfolds (textOf 3 (tokenBytes b j t)) (tokensBehind b t) us) →
       properPrefix ts us ≡ (same && properPrefix (p .rest) (q .rest))
   unfolding properPrefix
   first-tokens ts us p q = ap₂ properPrefix (p .is) (q .is) ∙ ap (λ r. r && properPrefix (p .rest) (q .rest)) (sym right)
@@ -126,5 +127,6 @@ module _ (a : Bytes) (f : First) (b : Bytes) (g : First) (here : FirstOf a f) (t
   pub root-prefix : f ≡ First.Root → PrefixOf (tokens (decode a)) (tokens (decode b)) (isAt g)
   root-prefix e = record { right = λ ts us h k. first-some b g us there k ∙ ap (λ ts. properPrefix ts us) (sym (first-root a f here ts e h)) }
 
-  pub prefix-at : (i j : ℕ) (r : Bool) → f ≡ First.At i → g ≡ First.At j → PrefixOf (tokensFrom a i) (tokensFrom b j) r → PrefixOf (tokens (decode a)) (tokens (decode b)) r
+  pub prefix-at : (i j : ℕ) (r : Bool) → f ≡ First.At i → g ≡ First.At j
+      → PrefixOf (tokensFrom a i) (tokensFrom b j) r → PrefixOf (tokens (decode a)) (tokens (decode b)) r
   prefix-at i j r d e p = record { right = λ ts us h k. p .right ts us (first-at a f here i ts d h) (first-at b g there j us e k) }

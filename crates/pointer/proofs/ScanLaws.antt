@@ -79,7 +79,8 @@ byte-continues s at h =
     let b = byte s at in
     let both = and-both (within 0x30 0x7F b) (not (eqb b (code "\\"))) h in
     let bounds = within-bounds 0x30 0x7F b (both .0) in
-    let read : characterIn s at ≡ ok (b, at + 1) = rw (ne-eqb b (code "\"") (λ e. omega arith), not-true (eqb b (code "\\")) (both .1), between-within 0x20 0x7F b (omega arith) (bounds .1)) in
+    let read : characterIn s at ≡ ok (b, at + 1) = rw
+    (ne-eqb b (code "\"") (λ e. omega arith), not-true (eqb b (code "\\")) (both .1), between-within 0x20 0x7F b (omega arith) (bounds .1)) in
     record { reads = read; no-slash = λ e. omega arith; inside = omega (arith, in-past s at read) }
 
 -- the same of the byte that the code looked at, and of its answer

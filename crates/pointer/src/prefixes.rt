@@ -15,7 +15,8 @@ use text::same_text;
 
 // Whether two tokens, each with the place where it begins, say the same.
 fn same_token(a: &[u8], i: usize, s: Token, b: &[u8], j: usize, t: Token) -> bool
-    ensures { λ r. ⌜ r ≡ sameText (textOf 3 (tokenBytes (now (a .entry)) i s)) (textOf 3 (tokenBytes (now (b .entry)) j t)) ⌝ }
+    ensures { λ r. ⌜ r ≡ sameText (textOf 3 (tokenBytes (now (a .entry)) i s))
+        (textOf 3 (tokenBytes (now (b .entry)) j t)) ⌝ }
 {
     same_text(3, token_part(a, i, s), 3, token_part(b, j, t))
 }

@@ -85,9 +85,11 @@ fn scalar_value(
     base: usize,
     row: usize,
 ) -> Read
-    requires { ⌜ (kind ≡ beginning (byte (now s) (at .at))) × (kind < arrayKind) × (base ≤ row) × (base + maxNodes ≤ scratchRow) ⌝ }
+    requires { ⌜ (kind ≡ beginning (byte (now s) (at .at))) × (kind < arrayKind) × (base ≤ row)
+        × (base + maxNodes ≤ scratchRow) ⌝ }
     requires { ⌜ (source < sources) × (length (now s) < values) × (scratchRow ≤ length (now nodes)) ⌝ }
-    ensures { λ r. ⌜ ScalarTaken source (now (s .entry)) (at .at) name base row (now (nodes .entry)) (now (nodes .exit)) r ⌝ }
+    ensures { λ r. ⌜ ScalarTaken source (now (s .entry)) (at .at) name base row (now (nodes .entry))
+        (now (nodes .exit)) r ⌝ }
 {
     let number = room_refusal(base, row);
     if number != refusal::DONE {
@@ -126,8 +128,10 @@ fn container(
     row: usize,
 ) -> Read
     requires { ⌜ Lent source (now s) (record { nodes = now nodes; index = now index }) ⌝ }
-    requires { ⌜ (kind ≡ beginning (byte (now s) (at .at))) × (arrayKind ≤ kind) × (base ≤ row) × (base + maxNodes ≤ scratchRow) ⌝ }
-    ensures { λ r. ⌜ ValueTaken source (now (s .entry)) (at .at) levels name base row (workBefore nodes index) (workAfter nodes index) r ⌝ }
+    requires { ⌜ (kind ≡ beginning (byte (now s) (at .at))) × (arrayKind ≤ kind) × (base ≤ row)
+        × (base + maxNodes ≤ scratchRow) ⌝ }
+    ensures { λ r. ⌜ ValueTaken source (now (s .entry)) (at .at) levels name base row (workBefore nodes index)
+        (workAfter nodes index) r ⌝ }
 {
     let number = refusal_at(kind, levels, base, row);
     if number != refusal::DONE {
@@ -185,7 +189,8 @@ pub fn value(
 ) -> Read
     requires { ⌜ Lent source (now s) (record { nodes = now nodes; index = now index }) ⌝ }
     requires { ⌜ (base ≤ row) × (base + maxNodes ≤ scratchRow) ⌝ }
-    ensures { λ r. ⌜ ValueTaken source (now (s .entry)) (at .at) levels name base row (workBefore nodes index) (workAfter nodes index) r ⌝ }
+    ensures { λ r. ⌜ ValueTaken source (now (s .entry)) (at .at) levels name base row (workBefore nodes index)
+        (workAfter nodes index) r ⌝ }
 {
     let kind = beginning(peek(s, at.at));
     if kind < layout::ARRAY {

@@ -45,7 +45,8 @@ fn put_field(word: &[u8], n: u64, out: &mut [u8]) -> usize
 
 // Two of them.
 pub fn put_two_fields(first: &[u8], m: u64, second: &[u8], n: u64, out: &mut [u8]) -> usize
-    ensures { λ r. ⌜ Placed ((now (first .entry) ++ decimal m) ++ (now (second .entry) ++ decimal n)) 0 (now (out .entry)) (now (out .exit)) r ⌝ }
+    ensures { λ r. ⌜ Placed ((now (first .entry) ++ decimal m) ++ (now (second .entry) ++ decimal n)) 0
+        (now (out .entry)) (now (out .exit)) r ⌝ }
 {
     let put = put_field(first, m, out);
     let more = put_field(second, n, &mut out[put..]);

@@ -12,7 +12,8 @@ use Rattle.spec.specs.Value as Value
 use Rattle.spec.specs.Value.{Label, isArray, isObject, named, valueOf, depth, nodes}
 use Rattle.spec.specs.Equality.{equal}
 use Rattle.spec.specs.Pointer.{Tokens, childAt, child, farther, walk, elementBelow, isDash}
-use Rattle.spec.specs.Operation.{Kind, Operation, withKids, atParent, insertElement, insertMember, insertChild, removeChild, replaceChild, addAt, removeAtPath, replaceAtPath, moveTo, copyTo, testAt, perform, notTooDeep, notTooLarge, limited}
+use Rattle.spec.specs.Operation.{Kind, Operation, withKids, atParent, insertElement, insertMember, insertChild, removeChild, replaceChild, addAt, removeAtPath}
+use Rattle.spec.specs.Operation.{replaceAtPath, moveTo, copyTo, testAt, perform, notTooDeep, notTooLarge, limited}
 use Rattle.spec.proofs.OutcomeLaws.{both-ok}
 use Rattle.spec.proofs.FartherLaws.{farther-ok}
 use Rattle.claims.specs.Proper as Proper
@@ -21,7 +22,8 @@ use Rattle.claims.specs.Operations.{Same, both, neither, removing}
 use Rattle.claims.proofs.OperationsTheorem.{proper-child}
 use Rattle.claims.proofs.ProperOperations.{AllCharacters, no-tokens, ProperOperation, perform-proper}
 use Rattle.reversal.proofs.Like.{Labels, LikeValues, values-refl, like-count, object-like, array-like, nodes-like, depth-like}
-use Rattle.reversal.proofs.LikeChildren.{ChildLike, corresponding, missing, Corresponding, children-like, child-like, put-like, removed-like, element-added, member-added}
+use Rattle.reversal.proofs.LikeChildren.{ChildLike, corresponding, missing, Corresponding, children-like, child-like, put-like, removed-like}
+use Rattle.reversal.proofs.LikeChildren.{element-added, member-added}
 
 pub walk-proper : (ts : Tokens) (v w : Value.Value) → Proper v → walk ts v ≡ ok w → Proper w
 unfolding walk

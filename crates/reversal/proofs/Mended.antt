@@ -11,7 +11,8 @@ use Rattle.spec.specs.Forest.{Forest, none, tree, Tree, single, count, before, 
 use Rattle.spec.specs.Value as Value
 use Rattle.spec.specs.Value.{Members, isArray, isObject, named, valueOf, has, find}
 use Rattle.spec.specs.Pointer.{Tokens, childAt, child, farther, walk, elementBelow, isDash}
-use Rattle.spec.specs.Operation.{Operation, withKids, put, atParent, insertElement, insertMember, insertChild, removeChild, replaceChild, addAt, removeAtPath, replaceAtPath, perform}
+use Rattle.spec.specs.Operation.{Operation, withKids, put, atParent, insertElement, insertMember, insertChild, removeChild, replaceChild, addAt, removeAtPath}
+use Rattle.spec.specs.Operation.{replaceAtPath, perform}
 use Rattle.spec.proofs.OutcomeLaws.{refused≢ok, both-ok}
 use Rattle.spec.proofs.FartherLaws.{farther-ok}
 use Rattle.spec.proofs.ChildLaws.{child-there, childAt-put, child-put, put-put, put-child}
@@ -156,7 +157,8 @@ module _ (t : Text) (k : ℕ) (w v : Value.Value) (h : childAt t v ≡ ok k) whe
   remove-below [] l = below-put removeChild t l [] k w v h
   remove-below (s ∷ hs) l = below-put removeChild t s (hs ++ (l ∷ [])) k w v h
 
-  pub replace-below : (x : Value.Value) (s : Text) (ss : Tokens) → replaceAtPath (t ∷ s ∷ ss) x (put k w v) ≡ farther (replaceAtPath (s ∷ ss) x w) >>= λ y. ok (put k y v)
+  pub replace-below : (x : Value.Value) (s : Text) (ss : Tokens)
+      → replaceAtPath (t ∷ s ∷ ss) x (put k w v) ≡ farther (replaceAtPath (s ∷ ss) x w) >>= λ y. ok (put k y v)
   unfolding replaceAtPath
   replace-below x s ss = below-put (replaceChild x) t s ss k w v h
 
@@ -165,7 +167,8 @@ module _ (t : Text) (k : ℕ) (w v : Value.Value) (h : childAt t v ≡ ok k) whe
   replace-at-last x [] l = replace-below x l []
   replace-at-last x (s ∷ hs) l = replace-below x s (hs ++ (l ∷ []))
 
-  mended-below : (hs : Tokens) (l : Text) (p : Value.Value) → perform (mendedIn (t ∷ hs) l p) (put k w v) ≡ farther (perform (mendedIn hs l p) w) >>= λ y. ok (put k y v)
+  mended-below : (hs : Tokens) (l : Text) (p : Value.Value)
+      → perform (mendedIn (t ∷ hs) l p) (put k w v) ≡ farther (perform (mendedIn hs l p) w) >>= λ y. ok (put k y v)
   unfolding perform
   mended-below hs l p =
       by-test (isArray (p .label)) (λ a. rw (mended-element (t ∷ hs) l p a, mended-element hs l p a) (remove-below hs _)) λ a.

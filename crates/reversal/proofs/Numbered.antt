@@ -7,7 +7,8 @@ use lib.ListN.{length}
 use lib.Dec.{leb, ltb, eqb}
 use Rattle.spec.specs.Outcome.{Outcome, ok, refused, _>>=_, if_then_else_, require}
 use Rattle.spec.specs.Bytes.{Bytes, Text, ascii, byte, byteIn, within}
-use Rattle.spec.specs.Strings.{hexIn, lowSurrogate, afterHigh, secondLimit, unicodeEscape, shortEscape, escape, tail, multibyte, character, characters, string, hexValue}
+use Rattle.spec.specs.Strings.{hexIn, lowSurrogate, afterHigh, secondLimit, unicodeEscape, shortEscape, escape, tail, multibyte, character, characters, string}
+use Rattle.spec.specs.Strings.{hexValue}
 use Rattle.spec.specs.Numbers as Numbers
 use Rattle.spec.specs.Numbers.{isDigit, isE, counted, digits, someDigits, int, frac, sign, exponentDigits, signedDigits, exp, minus}
 use Rattle.spec.specs.Worth.{decimal}
@@ -15,12 +16,17 @@ use Rattle.spec.specs.Limits.{maxBytes, maxDepth, maxNodes, maxOperations}
 use Rattle.spec.specs.Forest.{none, tree, count}
 use Rattle.spec.specs.Value as Value
 use Rattle.spec.specs.Value.{Label, Members, isArray, isObject, isString, has, valueOf, depth, nodes, sameText}
-use Rattle.spec.specs.Read.{blanks, spelled, roomFor, literalValue, numberValue, stringValue, scalar, fresh, nameFor, closingBracket, items, contents, container, value, read}
+use Rattle.spec.specs.Read.{blanks, spelled, roomFor, literalValue, numberValue, stringValue, scalar, fresh, nameFor, closingBracket, items, contents}
+use Rattle.spec.specs.Read.{container, value, read}
 use Rattle.spec.specs.Write.{write}
 use Rattle.spec.specs.Equality.{equal}
-use Rattle.spec.specs.Pointer.{Tokens, segments, tilde, unescape, unescapeAll, tokens, isIndex, isDash, elementBelow, memberNamed, childAt, child, farther, walk}
-use Rattle.spec.specs.Operation.{Kind, Operation, atParent, insertElement, insertChild, removeChild, replaceChild, addAt, removeAtPath, replaceAtPath, moveTo, copyTo, testAt, perform, notTooDeep, notTooLarge, limited}
-use Rattle.spec.specs.Patch.{member, stringOf, stringMember, kindNamed, usesValue, usesFrom, isMove, valueFor, fromFor, membersFor, operationMembers, properPrefix, withPointers, operation, Stop, Run, finished, stopped, noPointer, atOp, onFinish, operations, shape, whichPointer, run}
+use Rattle.spec.specs.Pointer.{Tokens, segments, tilde, unescape, unescapeAll, tokens, isIndex, isDash, elementBelow, memberNamed, childAt, child, farther}
+use Rattle.spec.specs.Pointer.{walk}
+use Rattle.spec.specs.Operation.{Kind, Operation, atParent, insertElement, insertChild, removeChild, replaceChild, addAt, removeAtPath, replaceAtPath, moveTo}
+use Rattle.spec.specs.Operation.{copyTo, testAt, perform, notTooDeep, notTooLarge, limited}
+use Rattle.spec.specs.Patch.{member, stringOf, stringMember, kindNamed, usesValue, usesFrom, isMove, valueFor, fromFor, membersFor, operationMembers}
+use Rattle.spec.specs.Patch.{properPrefix, withPointers, operation, Stop, Run, finished, stopped, noPointer, atOp, onFinish, operations, shape, whichPointer}
+use Rattle.spec.specs.Patch.{run}
 use Rattle.spec.specs.Answer.{Answer, Lent, answer, answerIn, success, refusal, workSuffices, fitting, answerOf, patched, onPatch, onDocument}
 
 pub data Numbered {A : Type 0} : Outcome A → Type 0 where

@@ -37,7 +37,8 @@ module _ (document patch : Bytes) (lent : UndoLent) where
   patch-refused w n text op place q h = rw (le-leb maxBytes (lent .work) w, h, q)
 
   -- the patch succeeds: what is left is to judge the undo
-  pub patch-done : {d v : Value.Value} {os : List Operation} → maxBytes ≤ lent .work → workSuffices (lent .patch) ≡ true → Accepted document d → WellFormed patch os →
+  pub patch-done : {d v : Value.Value} {os : List Operation} → maxBytes ≤ lent .work
+      → workSuffices (lent .patch) ≡ true → Accepted document d → WellFormed patch os →
       run limited 1 os d ≡ finished v → length (write v) ≤ lent .patch .output →
       undoAnswer document patch lent ≡ undoWritten (lent .undo) (write v) (undoValue (undoRun os d))
   unfolding undoAnswer afterPatch undoOperations undoRead undoShaped answer answerIn onDocument onPatch patched onFinish answerOf fitting
@@ -88,7 +89,8 @@ value-size : (o : Operation) → size (valueMember o) ≡ valueNodes o
 unfolding valueMember valueNodes nodes size
 value-size o = go (usesValue (o .kind))
   where
-    go : (b : Bool) → size (if b then tree (record { name = ascii "value"; label = o .value .label }) (o .value .kids) none else none) ≡ (if b then nodes (o .value) else 0)
+    go : (b : Bool)
+        → size (if b then tree (record { name = ascii "value"; label = o .value .label }) (o .value .kids) none else none) ≡ (if b then nodes (o .value) else 0)
     go true = omega arith
     go false = refl
 
@@ -96,7 +98,9 @@ value-levels : (o : Operation) → depths (valueMember o) ≡ valueDepth o
 unfolding valueMember valueDepth depth depths
 value-levels o = go (usesValue (o .kind))
   where
-    go : (b : Bool) → depths (if b then tree (record { name = ascii "value"; label = o .value .label }) (o .value .kids) none else none) ≡ (if b then depth (o .value) else 0)
+    go : (b : Bool)
+        → depths (if b then tree (record { name = ascii "value"; label = o .value .label }) (o .value .kids) none else none) ≡
+        (if b then depth (o .value) else 0)
     go true = omega arith
     go false = refl
 

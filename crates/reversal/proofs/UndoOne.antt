@@ -10,7 +10,8 @@ use Rattle.spec.specs.Forest.{from}
 use Rattle.spec.specs.Value as Value
 use Rattle.spec.specs.Value.{isArray, valueOf, has, find, sameText}
 use Rattle.spec.specs.Pointer.{Tokens, childAt, child, farther, walk}
-use Rattle.spec.specs.Operation.{Kind, Operation, put, atParent, insertMember, insertChild, removeChild, replaceChild, addAt, removeAtPath, replaceAtPath, moveTo, copyTo, perform, limited}
+use Rattle.spec.specs.Operation.{Kind, Operation, put, atParent, insertMember, insertChild, removeChild, replaceChild, addAt, removeAtPath, replaceAtPath}
+use Rattle.spec.specs.Operation.{moveTo, copyTo, perform, limited}
 use Rattle.spec.specs.Patch.{properPrefix}
 use Rattle.spec.proofs.OutcomeLaws.{refused≢ok, both-ok}
 use Rattle.spec.proofs.FartherLaws.{farther-ok}
@@ -24,7 +25,8 @@ use Rattle.reversal.specs.Undo.{resultOr, valueAt, remaining, parentToke
 use Rattle.reversal.proofs.Like.{LikeValues, equal-labels, values-refl, reordered-like, nodes-like, depth-like}
 use Rattle.reversal.proofs.LikeChildren.{object-child, named-there}
 use Rattle.reversal.proofs.IndexToken.{by-test}
-use Rattle.reversal.proofs.Mended.{value-on, value-here, below-put, replaced-back, replace-below, inserted-by, mended-element, mended-old, mended-new, mended-back}
+use Rattle.reversal.proofs.Mended.{value-on, value-here, below-put, replaced-back, replace-below, inserted-by, mended-element, mended-old, mended-new}
+use Rattle.reversal.proofs.Mended.{mended-back}
 use Rattle.reversal.proofs.Smaller.{left-no-larger}
 use Rattle.reversal.proofs.EqualDocuments.{Within, performs-limited}
 

@@ -14,7 +14,8 @@ use Rattle.spec.specs.Value as Value
 use Rattle.spec.specs.Value.{Label, Members, leaf, tag, isArray, isObject, isString, content, find, sameText}
 use Rattle.spec.specs.Pointer.{Tokens, tokens, child}
 use Rattle.spec.specs.Operation.{Kind, Operation}
-use Rattle.spec.specs.Patch.{member, stringOf, stringMember, kindNamed, usesValue, usesFrom, isMove, valueFor, fromFor, membersFor, operationMembers, withPointers, operation, finished, atOp, onFinish, operations, shape}
+use Rattle.spec.specs.Patch.{member, stringOf, stringMember, kindNamed, usesValue, usesFrom, isMove, valueFor, fromFor, membersFor, operationMembers}
+use Rattle.spec.specs.Patch.{withPointers, operation, finished, atOp, onFinish, operations, shape}
 use Rattle.spec.proofs.TextLaws.{both-true}
 use Rattle.claims.specs.Proper as Proper
 use Rattle.claims.specs.Proper.{Proper, ProperItems, ScalarValue, ScalarValues}
@@ -107,12 +108,16 @@ undo-proper os a = record { allows = Proper.array; items = values-proper a }
 
 -- Its elements are its operations
 
+unfoldable compute-values : Unit {0}
+unfolding _>>=_ require ascii sameText find count nth child isObject isString tag content tokens
+compute-values = tt
+
 unfoldable compute-members : Unit {0}
-unfolding _>>=_ require ascii sameText find count nth child isObject isString tag content member stringOf stringMember kindNamed usesValue usesFrom isMove valueFor fromFor membersFor operationMembers withPointers operation opName valueMember operationValue tokens
+unfolding member stringOf stringMember kindNamed usesValue usesFrom isMove valueFor fromFor membersFor operationMembers withPointers operation
 compute-members = tt
 
 operation-back : {o : Operation} → Plain o → operation (operationValue o) ≡ ok o
-unfolding compute-members
+unfolding compute-values compute-members opName valueMember operationValue
 operation-back (Plain.add {path} a p) = rw (pointers .read-back path)
 operation-back (Plain.remove {path} a) = rw (pointers .read-back path)
 operation-back (Plain.replace {path} a p) = rw (pointers .read-back path)

@@ -61,7 +61,9 @@ members-text o =
     regroup (ascii "\"op\":") (opName (o .kind)) (ascii ",\"path\":") pointer (valueText o) (ascii "}")
 
 -- an operation's object
-object-text : (o : Operation) → opening (operationValue o .label) ++ (writeItems (isObject (operationValue o .label)) true (operationValue o .kids) ++ closing (operationValue o .label)) ≡ operationText o
+object-text : (o : Operation)
+    → opening (operationValue o .label)
+    ++ (writeItems (isObject (operationValue o .label)) true (operationValue o .kids) ++ closing (operationValue o .label)) ≡ operationText o
 unfolding operationText opening closing isObject tag ascii operationValue
 object-text o = ap (_∷_ 123) (members-text o)
 

@@ -32,7 +32,8 @@ use Rattle.claims.proofs.ProperPatch.{AllProper, shape-proper, run-readable}
 use Rattle.claims.proofs.RoundTripTheorem.{round-trip}
 use Rattle.reversal.specs.Undo.{undoOf, undoRun}
 use Rattle.reversal.specs.UndoValue.{undoValue}
-use Rattle.reversal.specs.UndoAnswer.{UndoAnswer, UndoLent, undoSuccess, undoRefusal, undoShaped, undoRead, undoOperations, undoFitting, undoWritten, afterPatch, undoAnswer}
+use Rattle.reversal.specs.UndoAnswer.{UndoAnswer, UndoLent, undoSuccess, undoRefusal, undoShaped, undoRead, undoOperations, undoFitting, undoWritten}
+use Rattle.reversal.specs.UndoAnswer.{afterPatch, undoAnswer}
 use Rattle.reversal.specs.Statement.{TakenBack, UndoStatement}
 use Rattle.reversal.proofs.Like.{LikeValues, like-permuted, like-reordered}
 use Rattle.reversal.proofs.EqualDocuments.{reordered-equal, limited-performs, equal-answers}

@@ -50,7 +50,8 @@ run-further n [] op v = finishes v
 run-further n (x ∷ xs) op v = go (limited x v) (run-further n xs (op + 1))
   where
     go : (r : Outcome Value.Value) → ((u : Value.Value) → Further n (run limited (op + 1) xs u) (run limited (op + 1 + n) xs u)) →
-        Further n (onFinish (atOp op (whichPointer x v) r) λ u. run limited (op + 1) xs u) (onFinish (atOp (op + n) (whichPointer x v) r) λ u. run limited (op + n + 1) xs u)
+        Further n (onFinish (atOp op (whichPointer x v) r) λ u. run limited (op + 1) xs u)
+        (onFinish (atOp (op + n) (whichPointer x v) r) λ u. run limited (op + n + 1) xs u)
     go (ok u) ih = let count : op + n + 1 ≡ op + 1 + n = omega arith in rw count (ih u)
     go (refused m p) ih = stops (stop m op p (whichPointer x v m))
 

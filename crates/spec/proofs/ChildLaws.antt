@@ -14,7 +14,8 @@ use Rattle.spec.specs.Value.{Label, Members, find, named, valueOf, depth
 use Rattle.spec.specs.Pointer.{childAt, child, elementBelow, memberNamed, isDash, isIndex}
 use Rattle.spec.specs.Operation.{put, withKids}
 use Rattle.spec.specs.Value as Value
-use Rattle.spec.proofs.ForestLaws.{count-replaceAt, nth-replaceAt, nth-replaceAt-other, replaceAt-twice, replaceAt-commute, replaceAt-nth, find-replaceAt, name-find, depths-nth, depths-replaceAt}
+use Rattle.spec.proofs.ForestLaws.{count-replaceAt, nth-replaceAt, nth-replaceAt-other, replaceAt-twice, replaceAt-commute, replaceAt-nth}
+use Rattle.spec.proofs.ForestLaws.{find-replaceAt, name-find, depths-nth, depths-replaceAt}
 use Rattle.spec.proofs.OutcomeLaws.{refused≢ok}
 use Rattle.spec.proofs.TextLaws.{sameText-true, index-injective}
 
@@ -136,7 +137,11 @@ depth-of-parent t v k f h = go (names t v k h)
 pub depth-child : (t : Text) (v : Value.Value) (k : ℕ) → childAt t v ≡ ok k → depth (valueOf (child k v)) < depth v
 unfolding child
 depth-child t v k h =
-    omega (arith, depth-of-parent t v k (v .kids) h, depths-nth (record { root = record { name = []; label = Label.null-literal }; kids = none }) k (v .kids) (child-there t v k h))
+    omega (
+      arith,
+      depth-of-parent t v k (v .kids) h,
+      depths-nth (record { root = record { name = []; label = Label.null-literal }; kids = none }) k (v .kids) (child-there t v k h),
+    )
 
 pub depth-put : (t : Text) (x v : Value.Value) (k : ℕ) → childAt t v ≡ ok k →
     (depth x < depth (put k x v)) × (depth (put k x v) ≤ max (suc (depth x)) (depth v))

@@ -20,7 +20,8 @@ use Rattle.spec.specs.Limits.{maxDepth}
 use Rattle.spec.specs.Forest.{none, tree, single, size, _⧺_}
 use Rattle.spec.specs.Value as Value
 use Rattle.spec.specs.Value.{Label, Members, named, tag, isArray, isContainer, depth, levels}
-use Rattle.spec.specs.Read.{isBlank, blanksFrom, blanks, roomFor, nameFor, containerLabel, closingBracket, items, contents, container, scalar, value, read}
+use Rattle.spec.specs.Read.{isBlank, blanksFrom, blanks, roomFor, nameFor, containerLabel, closingBracket, items, contents, container, scalar, value}
+use Rattle.spec.specs.Read.{read}
 use Rattle.spec.specs.Elements.{Alone, Each, nothing, one, allBlank, Listed, last, more, Layout, empty, filled}
 use Rattle.spec.proofs.ListLaws.{drop-take}
 use Rattle.spec.proofs.OutcomeLaws.{refused≢ok, both-ok, first-ok, second-ok}
@@ -73,17 +74,20 @@ part-cut s at next l m =
       inside = λ p h. getD-take (next - at) (drop at s) p 0 h ∙ getD-drop at s p 0;
       ends = rw (past-end (part s at next) {at = next - at} (omega (arith, part-length s at next m))) nothing-ends;
       whole = omega (arith, length-take (next - at) (drop at s), length-drop at s);
-      part = λ p q h. ap (take (q - p)) (drop-take p (next - at) (drop at s)) ∙ take-take (q - p) (next - at - p) (drop p (drop at s)) (omega arith) ∙ ap (take (q - p)) (drop-drop p at s);
+      part = λ p q h. ap (take (q - p)) (drop-take p (next - at) (drop at s))
+          ∙ take-take (q - p) (next - at - p) (drop p (drop at s)) (omega arith) ∙ ap (take (q - p)) (drop-drop p at s);
     }
 
 -- a text is cut out of itself, and the empty one out of every text
 whole-cut : (s : Bytes) → Cut s s 0 (length s)
 unfolding byte
-whole-cut s = record { inside = λ p h. rw zero-add; ends = rw (past-end s {at = length s} (omega arith)) nothing-ends; whole = omega arith; part = λ p q h. rw zero-add }
+whole-cut s =
+    record { inside = λ p h. rw zero-add; ends = rw (past-end s {at = length s} (omega arith)) nothing-ends; whole = omega arith; part = λ p q h. rw zero-add }
 
 empty-cut : (s : Bytes) → Cut s [] 0 0
 unfolding byte
-empty-cut s = record { inside = λ p h. absurd (omega arith); ends = nothing-ends; whole = omega arith; part = λ p q h. let none : q - p ≡ 0 = omega arith in rw none }
+empty-cut s =
+    record { inside = λ p h. absurd (omega arith); ends = nothing-ends; whole = omega arith; part = λ p q h. let none : q - p ≡ 0 = omega arith in rw none }
 
 -- A reader takes only bytes from its place on.
 grows : {A : Type 0} {low next : ℕ} {o o' : Outcome (A × ℕ)} {a : A} → Tracks true 0 1 pair low o o' → o ≡ ok (a, next) → low ≤ next
@@ -101,17 +105,20 @@ blanks-grow s at =
     omega arith
 
 pub value-grows : (left : ℕ) (s : Bytes) (at nodes : ℕ) {v : Value.Value} {next : ℕ} → value left s at nodes ≡ ok (v, next) → at < next
-value-grows left s at nodes h = grows (value-tracks true (empty-cut s) left left (λ h. omega arith) nodes nodes at at (λ h. omega arith) (record { is = sym (zero-add at) })) h
+value-grows left s at nodes h =
+    grows (value-tracks true (empty-cut s) left left (λ h. omega arith) nodes nodes at at (λ h. omega arith) (record { is = sym (zero-add at) })) h
 
 pub items-grow : (fuel : ℕ) (s : Bytes) (nodes : ℕ) (so-far : Members) (at : ℕ) {kids : Members} {next : ℕ} →
     items fuel (value 31 s) false s nodes so-far at ≡ ok (kids, next) → at < next
 items-grow fuel s nodes so-far at h =
     grows
-    (items-tracks true (empty-cut s) false (value 31 s) (value 31 []) (value-tracks true (empty-cut s) 31 31 (λ h. omega arith)) nodes nodes (λ h. omega arith) fuel 0 so-far (record { is = sym (zero-add at) }) (omega arith))
+    (items-tracks true (empty-cut s) false (value 31 s) (value 31 []) (value-tracks true (empty-cut s) 31 31 (λ h. omega arith)) nodes nodes
+    (λ h. omega arith) fuel 0 so-far (record { is = sym (zero-add at) }) (omega arith))
     h
 
 -- a value that is read at a place is the value that its own bytes alone are
-value-alone : (left : ℕ) (s : Bytes) (at nodes : ℕ) {v : Value.Value} {next : ℕ} → left ≤ 32 → next ≤ length s → value left s at nodes ≡ ok (v, next) → Alone (part s at next) v
+value-alone : (left : ℕ) (s : Bytes) (at nodes : ℕ) {v : Value.Value} {next : ℕ} → left ≤ 32
+    → next ≤ length s → value left s at nodes ≡ ok (v, next) → Alone (part s at next) v
 value-alone left s at nodes {v} {next} l m h =
     let grown = value-grows left s at nodes h in
     let cut = part-cut s at next (omega arith) m in
@@ -121,7 +128,8 @@ value-alone left s at nodes {v} {next} l m h =
     r .gives (omega arith) ∙ ap₂ (λ v place. ok (v, place)) (sym (got r)) end
 
 -- and the place after it is the same, however many values are before it
-pub value-place : (left : ℕ) (s : Bytes) (at nodes : ℕ) {v : Value.Value} {next : ℕ} → left ≤ 32 → next ≤ length s → value left s at nodes ≡ ok (v, next) → placeAfter s at ≡ next
+pub value-place : (left : ℕ) (s : Bytes) (at nodes : ℕ) {v : Value.Value} {next : ℕ}
+    → left ≤ 32 → next ≤ length s → value left s at nodes ≡ ok (v, next) → placeAfter s at ≡ next
 unfolding placeAfter
 value-place left s at nodes {v} {next} l m h =
     let r = value-tracks true (whole-cut s) left 32 (λ h. l) nodes 0 at at (λ h. omega arith) (record { is = sym (zero-add at) }) .track (v, next) h in
@@ -155,8 +163,10 @@ unfolding blanksFrom allBlank isBlank
 blanks-skipped zero s at = record { skipped = []; blank = refl; around = refl }
 blanks-skipped (suc fuel) s at = go (isBlank (byte s at)) refl (decLt at (length s)) (blanks-skipped fuel s (at + 1))
   where
-    go : (c : Bool) → isBlank (byte s at) ≡ c → Dec (at < length s) → Skipped s (at + 1) (blanksFrom fuel s (at + 1)) → Skipped s at (if c then blanksFrom fuel s (at + 1) else at)
-    go true e (yes l) r = record { skipped = byte s at ∷ r .skipped; blank = rw (e, r .blank); around = taken s at (byte s at) refl l ∙ ap (λ x. byte s at ∷ x) (r .around) }
+    go : (c : Bool) → isBlank (byte s at) ≡ c → Dec (at < length s)
+        → Skipped s (at + 1) (blanksFrom fuel s (at + 1)) → Skipped s at (if c then blanksFrom fuel s (at + 1) else at)
+    go true e (yes l) r =
+        record { skipped = byte s at ∷ r .skipped; blank = rw (e, r .blank); around = taken s at (byte s at) refl l ∙ ap (λ x. byte s at ∷ x) (r .around) }
     go true e (no l) r = absurd (true≢false (sym e ∙ ap isBlank (past-end s (omega arith))))
     go false e d r = record { skipped = []; blank = refl; around = refl }
 
@@ -171,7 +181,8 @@ skip : (s : Bytes) (at : ℕ) → Skipped s at (blanks s at)
 unfolding blanks
 skip s at = blanks-skipped (length s) s at
 
-pub slices-last : (fuel : ℕ) (s : Bytes) (at : ℕ) {next : ℕ} → placeAfter s at ≡ next → byte s (blanks s next) ≡ code "]" → slicesFrom (suc fuel) s at ≡ part s at next ∷ []
+pub slices-last : (fuel : ℕ) (s : Bytes) (at : ℕ) {next : ℕ} → placeAfter s at ≡ next
+    → byte s (blanks s next) ≡ code "]" → slicesFrom (suc fuel) s at ≡ part s at next ∷ []
 unfolding slicesFrom
 slices-last fuel s at e f = rw (e, f)
 
@@ -194,11 +205,14 @@ unfolding items nameFor closingBracket _>>=_
 items-found zero s nodes so-far at l t h = absurd (refused≢ok h)
 items-found (suc fuel) s nodes so-far at {kids} {next} l t h =
     let (read-v, e, i) = both-ok (value 31 s at (nodes + size so-far)) _ _ h in
-    go (read-v .0) (read-v .1) e (eqb (byte s (blanks s (read-v .1))) (code "]")) refl i (items-found fuel s nodes (so-far ⧺ single (named [] (read-v .0))) (blanks s (blanks s (read-v .1) + 1)) l t)
+    go (read-v .0) (read-v .1) e (eqb (byte s (blanks s (read-v .1))) (code "]")) refl i
+    (items-found fuel s nodes (so-far ⧺ single (named [] (read-v .0))) (blanks s (blanks s (read-v .1) + 1)) l t)
   where
     go : (v : Value.Value) (mid : ℕ) → value 31 s at (nodes + size so-far) ≡ ok (v, mid) → (c : Bool) → eqb (byte s (blanks s mid)) (code "]") ≡ c →
         (if c then ok (so-far ⧺ single (named [] v), blanks s mid + 1) else
-        (byteIn s (blanks s mid) (code ",") (code ",") >>= λ _. items fuel (value 31 s) false s nodes (so-far ⧺ single (named [] v)) (blanks s (blanks s mid + 1)))) ≡ ok (kids, next) →
+        (byteIn s (blanks s mid) (code ",") (code ",")
+        >>= λ _. items fuel (value 31 s) false s nodes (so-far ⧺ single (named [] v)) (blanks s (blanks s mid + 1)))) ≡ ok
+        (kids, next) →
         (items fuel (value 31 s) false s nodes (so-far ⧺ single (named [] v)) (blanks s (blanks s mid + 1)) ≡ ok (kids, next) →
         Found fuel s (blanks s (blanks s mid + 1)) (so-far ⧺ single (named [] v)) kids) →
         Found (suc fuel) s at so-far kids
@@ -213,7 +227,8 @@ items-found (suc fuel) s nodes so-far at {kids} {next} l t h =
           others = v ∷ [];
           all = rw (← same-kids) (elements-append so-far [] v);
           each = rw found (one (value-alone 31 s at (nodes + size so-far) (omega arith) (omega arith) e) nothing);
-          laid = rw (found, part-taken s at mid (omega arith), skip s mid .around, taken s (blanks s mid) (code "]") bracket (omega arith), same-place) (last (part s at mid) (skip s mid .skipped) (drop next s) (skip s mid .blank) t);
+          laid = rw (found, part-taken s at mid (omega arith), skip s mid .around, taken s (blanks s mid) (code "]") bracket (omega arith), same-place)
+              (last (part s at mid) (skip s mid .skipped) (drop next s) (skip s mid .blank) t);
         }
     go v mid e false open' i ih =
         let (b, f, j) = both-ok (byteIn s (blanks s mid) (code ",") (code ",")) _ _ i in
@@ -228,8 +243,15 @@ items-found (suc fuel) s nodes so-far at {kids} {next} l t h =
           others = v ∷ rest .others;
           all = rest .all ∙ ap (λ vs. vs ++ rest .others) (elements-append so-far [] v) ∙ append-assoc (elements so-far) (v ∷ []) (rest .others);
           each = rw found (one (value-alone 31 s at (nodes + size so-far) (omega arith) (omega arith) e) (rest .each));
-          laid = rw (found, part-taken s at mid (omega arith), skip s mid .around, taken s (blanks s mid) (code ",") separated (omega arith), skip s (blanks s mid + 1) .around)
-              (more (part s at mid) (skip s mid .skipped) (skip s (blanks s mid + 1) .skipped) (drop (blanks s (blanks s mid + 1)) s) _ (skip s mid .blank) (skip s (blanks s mid + 1) .blank) (rest .laid));
+          laid = rw (
+            found,
+            part-taken s at mid (omega arith),
+            skip s mid .around,
+            taken s (blanks s mid) (code ",") separated (omega arith),
+            skip s (blanks s mid + 1) .around,
+          )
+              (more (part s at mid) (skip s mid .skipped) (skip s (blanks s mid + 1) .skipped)
+              (drop (blanks s (blanks s mid + 1)) s) _ (skip s mid .blank) (skip s (blanks s mid + 1) .blank) (rest .laid));
         }
 
 not-object : (l : Label) → containerLabel true ≡ l → isArray l ≡ true → ⊥
@@ -279,7 +301,8 @@ array-read s v h a =
     let (read-v, e, i) = both-ok (value 32 s (blanks s 0) 0) _ _ h in
     go (read-v .0) (read-v .1) e (eqb (blanks s (read-v .1)) (length s)) refl i
   where
-    go : (w : Value.Value) (next : ℕ) → value 32 s (blanks s 0) 0 ≡ ok (w, next) → (c : Bool) → eqb (blanks s next) (length s) ≡ c → (if c then ok w else refused 3 (blanks s next)) ≡ ok v → ArrayRead s v
+    go : (w : Value.Value) (next : ℕ) → value 32 s (blanks s 0) 0 ≡ ok (w, next) → (c : Bool)
+        → eqb (blanks s next) (length s) ≡ c → (if c then ok w else refused 3 (blanks s next)) ≡ ok v → ArrayRead s v
     go w next e true ended i =
         let same : w ≡ v = cc in
         let (bracket, kids) = array-contents 31 s (blanks s 0) 0 v next (e ∙ ap (λ x. ok (x, next)) same) a in
@@ -294,7 +317,8 @@ pub slices-some : (s : Bytes) → eqb (byte s (blanks s (blanks s 0 + 1))) (code
 unfolding slices
 slices-some s e = rw e
 
-slices-found : (s : Bytes) (v : Value.Value) (next : ℕ) → contents (value 31 s) false s (0 + 1) (blanks s 0 + 1) ≡ ok (v .kids, next) → byte s (blanks s 0) ≡ code "[" →
+slices-found : (s : Bytes) (v : Value.Value) (next : ℕ)
+    → contents (value 31 s) false s (0 + 1) (blanks s 0 + 1) ≡ ok (v .kids, next) → byte s (blanks s 0) ≡ code "[" →
     next ≤ length s → allBlank (drop next s) ≡ true → Laid s (slices s) (elements (v .kids))
 unfolding contents closingBracket elements
 slices-found s v next h bracket l t = go (eqb (byte s first) (code "]")) refl h
@@ -311,15 +335,19 @@ slices-found s v next h bracket l t = go (eqb (byte s first) (code "]")) refl h
     opened : blanks s 0 < length s → s ≡ w ++ (code "[" ∷ (w' ++ drop first s))
     opened m = skip s 0 .around ∙ ap (λ x. w ++ x) (taken s (blanks s 0) (code "[") bracket m ∙ ap (λ x. code "[" ∷ x) (skip s (blanks s 0 + 1) .around))
 
-    go : (c : Bool) → eqb (byte s first) (code "]") ≡ c → (if c then ok (none, first + 1) else items (length s) (value 31 s) false s (0 + 1) none first) ≡ ok (v .kids, next) → Laid s (slices s) (elements (v .kids))
+    go : (c : Bool) → eqb (byte s first) (code "]") ≡ c
+        → (if c then ok (none, first + 1) else items (length s) (value 31 s) false s (0 + 1) none first) ≡ ok (v .kids, next)
+        → Laid s (slices s) (elements (v .kids))
     go true closed i =
         let grown = blanks-grow s (blanks s 0 + 1) in
         let same-place = second-ok i in
         let bracket' = eqb-true (byte s first) (code "]") closed in
-        let whole = opened (omega arith) ∙ ap (λ x. w ++ (code "[" ∷ (w' ++ x))) (taken s first (code "]") bracket' (omega arith) ∙ ap (λ x. code "]" ∷ drop x s) same-place) in
+        let whole = opened (omega arith)
+        ∙ ap (λ x. w ++ (code "[" ∷ (w' ++ x))) (taken s first (code "]") bracket' (omega arith) ∙ ap (λ x. code "]" ∷ drop x s) same-place) in
         record {
           alone = rw (slices-none s bracket', ← first-ok i) nothing;
-          layout = rw (slices-none s bracket') (subst (λ x. Layout x []) (sym whole) (empty w w' (drop next s) (skip s 0 .blank) (skip s (blanks s 0 + 1) .blank) t));
+          layout = rw (slices-none s bracket')
+              (subst (λ x. Layout x []) (sym whole) (empty w w' (drop next s) (skip s 0 .blank) (skip s (blanks s 0 + 1) .blank) t));
         }
     go false filled' i =
         let found = items-found (length s) s (0 + 1) none first l t i in
@@ -327,7 +355,9 @@ slices-found s v next h bracket l t = go (eqb (byte s first) (code "]")) refl h
         let items-grown = items-grow (length s) s (0 + 1) none first i in
         record {
           alone = rw (slices-some s filled', found .all) (found .each);
-          layout = rw (slices-some s filled') (subst (λ x. Layout x (slicesFrom (length s) s first)) (sym (opened (omega arith))) (filled w w' (drop first s) _ (skip s 0 .blank) (skip s (blanks s 0 + 1) .blank) (found .laid)));
+          layout = rw (slices-some s filled')
+              (subst (λ x. Layout x (slicesFrom (length s) s first)) (sym (opened (omega arith)))
+              (filled w w' (drop first s) _ (skip s 0 .blank) (skip s (blanks s 0 + 1) .blank) (found .laid)));
         }
 
 -- The elements of a text that is an array are laid out in it, and each is alone the value that it is in the array.
@@ -337,7 +367,8 @@ slices-read {s} {v} h a =
     let gap = skip s (r .next) in
     let grown = blanks-grow s (r .next) in
     let end = r .end in
-    let tail : drop (r .next) s ≡ gap .skipped = gap .around ∙ ap (λ x. gap .skipped ++ drop x s) end ∙ ap (λ x. gap .skipped ++ x) (drop-length s) ∙ append-nil _ in
+    let tail : drop (r .next) s ≡ gap .skipped = gap .around ∙ ap (λ x. gap .skipped ++ drop x s) end
+    ∙ ap (λ x. gap .skipped ++ x) (drop-length s) ∙ append-nil _ in
     slices-found s v (r .next) (r .kids) (r .bracket) (omega arith) (rw tail (gap .blank))
 
 -- no value begins with a blank
@@ -366,7 +397,8 @@ module _ (left : ℕ) (s : Bytes) (at nodes : ℕ) where
   unfolding isBlank
   blank-refused h = go (eqb (byte s at) 32) refl (eqb (byte s at) 9) refl (eqb (byte s at) 10) refl (eqb (byte s at) 13) refl h
     where
-      go : (a : Bool) → eqb (byte s at) 32 ≡ a → (b : Bool) → eqb (byte s at) 9 ≡ b → (c : Bool) → eqb (byte s at) 10 ≡ c → (d : Bool) → eqb (byte s at) 13 ≡ d →
+      go : (a : Bool) → eqb (byte s at) 32 ≡ a → (b : Bool) → eqb (byte s at) 9 ≡ b
+          → (c : Bool) → eqb (byte s at) 10 ≡ c → (d : Bool) → eqb (byte s at) 13 ≡ d →
           (a || (b || (c || d))) ≡ true → value (suc left) s at nodes ≡ refused 3 at
       go true e b f c g d i h = space-refused (eqb-true _ _ e)
       go false e true f c g d i h = tab-refused (eqb-true _ _ f)

@@ -1,4 +1,5 @@
--- The elements of a text that is an array are those in which it is laid out: no other texts that are values alone, with commas, brackets and blanks around them, make up the text.
+-- The elements of a text that is an array are those in which it is laid out. No other texts that are values alone, with commas, brackets and
+-- blanks around them, make up the text.
 use mathlib.Core.Path.{_≡_, refl, ap, ap₂, sym, _∙_}
 use mathlib.Core.Bool.{Bool, true, false, _||_, true≢false}
 use mathlib.Core.List.{List, [], _∷_, _++_}
@@ -23,7 +24,8 @@ use Rattle.spec.proofs.OutcomeLaws.{refused≢ok, both-ok, second-ok}
 use Rattle.spec.proofs.TextLaws.{both-true}
 use Rattle.spec.proofs.Tracking.{landed, past-end, nothing-ends, Cut, Ends, Tracked, pair}
 use Rattle.spec.proofs.ReadersTrack.{value-tracks}
-use Rattle.spec.proofs.ElementsThere.{part, slicesFrom, slices, Laid, value-grows, blanks-grow, items-grow, value-place, slices-last, slices-more, slices-none, slices-some, array-read, bracket-refused, blank-refused}
+use Rattle.spec.proofs.ElementsThere.{part, slicesFrom, slices, Laid, value-grows, blanks-grow, items-grow, value-place, slices-last, slices-more}
+use Rattle.spec.proofs.ElementsThere.{slices-none, slices-some, array-read, bracket-refused, blank-refused}
 
 -- the rest of a text is cut out of it
 rest-cut : (s : Bytes) (at : ℕ) → at ≤ length s → Cut s (drop at s) at (length s - at)
@@ -50,10 +52,12 @@ begin-cut e b rest h =
     go : (p q : ℕ) → q ≤ length e → Dec (length e < p) → take (q - p) (drop p (e ++ (b ∷ rest))) ≡ take (q - p) (drop (0 + p) e)
     go p q l (yes i) = let none : q - p ≡ 0 = omega arith in rw none
     go p q l (no i) =
-        ap (take (q - p)) (drop-append-le p e (b ∷ rest) (omega arith)) ∙ take-append-le (q - p) (drop p e) (b ∷ rest) (omega (arith, length-drop p e)) ∙ ap (λ x. take (q - p) (drop x e)) (sym (zero-add p))
+        ap (take (q - p)) (drop-append-le p e (b ∷ rest) (omega arith))
+        ∙ take-append-le (q - p) (drop p e) (b ∷ rest) (omega (arith, length-drop p e)) ∙ ap (λ x. take (q - p) (drop x e)) (sym (zero-add p))
 
 -- a value read at a place where a text begins that is a value alone: it ends with that text
-ends-together : {at m low next : ℕ} {s x : Bytes} {v w : Value.Value} {low' : ℕ} (e : Bytes) (r : Tracked true at m pair low (v, next) (value 32 s 0 0)) → r .q < m →
+ends-together : {at m low next : ℕ} {s x : Bytes} {v w : Value.Value} {low' : ℕ} (e : Bytes) (r : Tracked true at m pair low (v, next) (value 32 s 0 0))
+    → r .q < m →
     Tracked false 0 (suc (length e)) pair low' (w, length e) (value 32 x 0 0) → s ≡ x → next ≡ at + length e
 ends-together e r inside t here =
     let r-place = landed r in
@@ -67,7 +71,8 @@ value-ends : (left : ℕ) (s : Bytes) (at nodes : ℕ) (v : Value.Value) (next :
 value-ends left s at nodes v next l m h e w alone b rest ends here =
     let grown = value-grows left s at nodes h in
     let r = value-tracks true (rest-cut s at (omega arith)) left 32 (λ h. l) nodes 0 at 0 (λ h. omega arith) (record { is = omega arith }) .track (v, next) h in
-    let t = value-tracks false (begin-cut e b rest ends) 32 32 (λ h. omega arith) 0 0 0 0 (λ h. omega arith) (record { is = omega arith }) .track (w, length e) alone in
+    let t = value-tracks false (begin-cut e b rest ends) 32 32 (λ h. omega arith) 0 0 0 0
+    (λ h. omega arith) (record { is = omega arith }) .track (w, length e) alone in
     let r-place = landed r in
     ends-together e r (omega arith) t here
 
@@ -113,7 +118,8 @@ first-byte s at b rest h =
       omega (arith, length-drop at s, ap length h),
     )
 
-blanks-over : (fuel : ℕ) (s : Bytes) (at : ℕ) (w : Bytes) (b : ℕ) (rest : Bytes) → length s ≤ fuel + at → drop at s ≡ w ++ (b ∷ rest) → allBlank w ≡ true → isBlank b ≡ false →
+blanks-over : (fuel : ℕ) (s : Bytes) (at : ℕ) (w : Bytes) (b : ℕ) (rest : Bytes)
+    → length s ≤ fuel + at → drop at s ≡ w ++ (b ∷ rest) → allBlank w ≡ true → isBlank b ≡ false →
     (blanksFrom fuel s at ≡ at + length w) × (drop (at + length w) s ≡ b ∷ rest)
 unfolding blanksFrom allBlank
 blanks-over zero s at w b rest l h i j = absurd (omega (arith, length-drop at s, ap length h, length-append w (b ∷ rest)))
@@ -138,7 +144,8 @@ record Begins (x : Bytes) : Type 0 where
 alone-begins : (e : Bytes) (v : Value.Value) → Alone e v → (after : Bytes) → Begins (e ++ after)
 unfolding byte
 alone-begins [] v h after = absurd (omega (arith, value-grows 32 [] 0 0 h))
-alone-begins (c ∷ e) v h after = record { byte-first = c; rest = e ++ after; is = refl; no-blank = go (isBlank c) refl; no-bracket = go' (eqb c (code "]")) refl }
+alone-begins (c ∷ e) v h after =
+    record { byte-first = c; rest = e ++ after; is = refl; no-blank = go (isBlank c) refl; no-bracket = go' (eqb c (code "]")) refl }
   where
     go : (d : Bool) → isBlank c ≡ d → isBlank c ≡ false
     go true i = absurd (refused≢ok (sym (blank-refused 31 (c ∷ e) 0 0 i) ∙ h))
@@ -160,13 +167,15 @@ record Standing (s : Bytes) (at : ℕ) (e : Bytes) (d : ℕ) (rest : Bytes) (mid
   after : drop (blanks s mid + 1) s ≡ rest
 
 standing : (left : ℕ) (s : Bytes) (at nodes : ℕ) (v : Value.Value) (mid : ℕ) → left ≤ 32 → mid ≤ length s → value left s at nodes ≡ ok (v, mid) →
-    (e : Bytes) (u : Value.Value) → Alone e u → (w : Bytes) (d : ℕ) (rest : Bytes) → allBlank w ≡ true → isBlank d ≡ false → Ends d → drop at s ≡ e ++ (w ++ (d ∷ rest)) → Standing s at e d rest mid
+    (e : Bytes) (u : Value.Value) → Alone e u → (w : Bytes) (d : ℕ) (rest : Bytes) → allBlank w ≡ true
+    → isBlank d ≡ false → Ends d → drop at s ≡ e ++ (w ++ (d ∷ rest)) → Standing s at e d rest mid
 unfolding part blanks
 standing left s at nodes v mid l m h e u a w d rest blank no-blank ends here =
     let n = next-ends w d rest blank ends in
     let far = value-ends left s at nodes v mid l m h e u a (n .byte-next) (n .rest) (n .ends) (here ∙ ap (λ x. e ++ x) (n .is)) in
     let span : mid - at ≡ length e = omega arith in
-    let gone : drop mid s ≡ w ++ (d ∷ rest) = ap (λ x. drop x s) far ∙ sym (drop-drop (length e) at s) ∙ ap (drop (length e)) here ∙ drop-append-seam e (w ++ (d ∷ rest)) in
+    let gone : drop mid s ≡ w ++ (d ∷ rest) = ap (λ x. drop x s) far ∙ sym (drop-drop (length e) at s)
+    ∙ ap (drop (length e)) here ∙ drop-append-seam e (w ++ (d ∷ rest)) in
     let (skipped, mark) = blanks-over (length s) s mid w d rest (omega arith) gone blank no-blank in
     let (found, after, _) = first-byte s (mid + length w) d rest mark in
     record {
@@ -194,7 +203,9 @@ item fuel s nodes so-far at kids next l h =
   where
     go : (v : Value.Value) (mid : ℕ) → value 31 s at (nodes + size so-far) ≡ ok (v, mid) → (c : Bool) → eqb (byte s (blanks s mid)) (code "]") ≡ c →
         (if c then ok (so-far ⧺ single (named [] v), blanks s mid + 1) else
-        (byteIn s (blanks s mid) (code ",") (code ",") >>= λ _. items fuel (value 31 s) false s nodes (so-far ⧺ single (named [] v)) (blanks s (blanks s mid + 1)))) ≡ ok (kids, next) →
+        (byteIn s (blanks s mid) (code ",") (code ",")
+        >>= λ _. items fuel (value 31 s) false s nodes (so-far ⧺ single (named [] v)) (blanks s (blanks s mid + 1)))) ≡ ok
+        (kids, next) →
         Item fuel s nodes so-far at kids next
     go v mid e true closed i =
         let same-place = second-ok i in
@@ -208,30 +219,35 @@ item fuel s nodes so-far at kids next l h =
         record { value-read = v; mid = mid; reads = e; inside = omega arith; others = λ _. j }
 
 -- the blanks before an element, and the element
-before-element : (s : Bytes) (at : ℕ) (w rest : Bytes) → allBlank w ≡ true → drop at s ≡ w ++ rest → (b : Begins rest) → (byte s (blanks s at) ≡ b .byte-first) × (drop (blanks s at) s ≡ rest)
+before-element : (s : Bytes) (at : ℕ) (w rest : Bytes) → allBlank w ≡ true → drop at s ≡ w ++ rest
+    → (b : Begins rest) → (byte s (blanks s at) ≡ b .byte-first) × (drop (blanks s at) s ≡ rest)
 unfolding blanks
 before-element s at w rest blank here b =
     let (skipped, there) = blanks-over (length s) s at w (b .byte-first) (b .rest) (omega arith) (here ∙ ap (λ x. w ++ x) (b .is)) blank (b .no-blank) in
     (rw skipped (first-byte s (at + length w) (b .byte-first) (b .rest) there .0), rw skipped there ∙ sym (b .is))
 
 items-unique : (fuel : ℕ) (s : Bytes) (nodes : ℕ) (so-far : Members) (at : ℕ) (kids : Members) (next : ℕ) → next ≤ length s →
-    items fuel (value 31 s) false s nodes so-far at ≡ ok (kids, next) → {x : Bytes} {es : List Bytes} {vs : List Value.Value} → Listed x es → drop at s ≡ x → Each Alone es vs → slicesFrom fuel s at ≡ es
+    items fuel (value 31 s) false s nodes so-far at ≡ ok (kids, next) → {x : Bytes} {es : List Bytes} {vs : List Value.Value}
+    → Listed x es → drop at s ≡ x → Each Alone es vs → slicesFrom fuel s at ≡ es
 unfolding items isBlank closingBracket
 items-unique zero s nodes so-far at kids next l h d here n = absurd (refused≢ok h)
 items-unique (suc fuel) s nodes so-far at kids next l h (last e w w' blank blank') here (one {y = u} a n) =
     let i = item fuel s nodes so-far at kids next l h in
-    let r = standing 31 s at (nodes + size so-far) (i .value-read) (i .mid) (omega arith) (i .inside) (i .reads) e u a w (code "]") w' blank refl bracket-ends here in
+    let r = standing 31 s at (nodes + size so-far) (i .value-read) (i .mid) (omega arith)
+    (i .inside) (i .reads) e u a w (code "]") w' blank refl bracket-ends here in
     slices-last fuel s at (value-place 31 s at (nodes + size so-far) (omega arith) (i .inside) (i .reads)) (r .mark) ∙ ap (λ x. x ∷ []) (r .bytes)
 items-unique (suc fuel) s nodes so-far at kids next l h (more e w w' rest others blank blank' d) here (one {y = u} a n) =
     let i = item fuel s nodes so-far at kids next l h in
-    let r = standing 31 s at (nodes + size so-far) (i .value-read) (i .mid) (omega arith) (i .inside) (i .reads) e u a w (code ",") (w' ++ rest) blank refl comma-ends here in
+    let r = standing 31 s at (nodes + size so-far) (i .value-read) (i .mid) (omega arith)
+    (i .inside) (i .reads) e u a w (code ",") (w' ++ rest) blank refl comma-ends here in
     let (_, there) = before-element s (blanks s (i .mid) + 1) w' rest blank' (r .after) (listed-begins d n) in
     let open' : eqb (byte s (blanks s (i .mid))) (code "]") ≡ false = rw (r .mark) in
     let ih = items-unique fuel s nodes _ _ kids next l (i .others open') d there n in
     slices-more fuel s at (value-place 31 s at (nodes + size so-far) (omega arith) (i .inside) (i .reads)) (r .mark) ∙ ap₂ _∷_ (r .bytes) ih
 
 -- a bracket after blanks
-before-mark : (s : Bytes) (at : ℕ) (w : Bytes) (d : ℕ) (rest : Bytes) → allBlank w ≡ true → isBlank d ≡ false → drop at s ≡ w ++ (d ∷ rest) → (byte s (blanks s at) ≡ d) × (drop (blanks s at + 1) s ≡ rest)
+before-mark : (s : Bytes) (at : ℕ) (w : Bytes) (d : ℕ) (rest : Bytes) → allBlank w ≡ true → isBlank d ≡ false
+    → drop at s ≡ w ++ (d ∷ rest) → (byte s (blanks s at) ≡ d) × (drop (blanks s at + 1) s ≡ rest)
 unfolding blanks
 before-mark s at w d rest blank no-blank here =
     let (skipped, there) = blanks-over (length s) s at w d rest (omega arith) here blank no-blank in
@@ -252,7 +268,8 @@ array-unique s kids next h l (filled w w' rest all b b' d) here n =
     slices-some s open' ∙ items-unique (length s) s (0 + 1) none (blanks s (blanks s 0 + 1)) kids next l (rw open' at h) d there n
 
 -- Texts that are values alone, and that make up an array's text with commas, brackets and blanks, are its elements.
-pub slices-unique : {s : Bytes} {v : Value.Value} {es : List Bytes} {vs : List Value.Value} → read s ≡ ok v → isArray (v .label) ≡ true → Laid s es vs → slices s ≡ es
+pub slices-unique : {s : Bytes} {v : Value.Value} {es : List Bytes} {vs : List Value.Value}
+    → read s ≡ ok v → isArray (v .label) ≡ true → Laid s es vs → slices s ≡ es
 slices-unique {s} {v} h a d =
     let r = array-read s v h a in
     let grown = blanks-grow s (r .next) in

@@ -22,5 +22,5 @@ pub mod EffectsTheorem
 pub mod ShapeTheorem
 pub mod Demand3Theorem
 pub mod RegionTheorem
-pub mod ExamplesTheorem
 pub mod Computing
+pub mod ExamplesTheorem

@@ -12,7 +12,8 @@ use Rattle.spec.specs.Bytes.{Text}
 use Rattle.spec.specs.Value.{valueOf, depth, sameText}
 use Rattle.spec.specs.Equality.{equal}
 use Rattle.spec.specs.Pointer.{Tokens, childAt, child, farther, walk}
-use Rattle.spec.specs.Operation.{Kind, add, remove, replace, move, copy, test, Operation, put, atParent, insertChild, removeChild, replaceChild, addAt, removeAtPath, replaceAtPath, moveTo, copyTo, testAt, perform, notTooDeep}
+use Rattle.spec.specs.Operation.{Kind, add, remove, replace, move, copy, test, Operation, put, atParent, insertChild, removeChild, replaceChild, addAt}
+use Rattle.spec.specs.Operation.{removeAtPath, replaceAtPath, moveTo, copyTo, testAt, perform, notTooDeep}
 use Rattle.spec.specs.Patch.{properPrefix, usesFrom, whichPointer}
 use Rattle.spec.specs.Region.{bare, strictlyInside}
 use Rattle.spec.specs.Value as Value
@@ -178,8 +179,10 @@ perform-inside R o h = go (o .kind) (o .path) (o .from) (o .value) (both-true _ 
         (properPrefix R path ≡ true) × ((not (usesFrom kind) || properPrefix R from) ≡ true) →
         Inside (record { kind = kind; path = path; from = from; value = x })
     go add path from x h = let (t, ts, e) = under R path (h .0) in ((λ c. behind R (addAt (t ∷ ts) x c)), λ v. ap (λ p. addAt p x v) e ∙ add-inside R t ts x v)
-    go remove path from x h = let (t, ts, e) = under R path (h .0) in ((λ c. behind R (removeAtPath (t ∷ ts) c)), λ v. ap (λ p. removeAtPath p v) e ∙ remove-inside R t ts v)
-    go replace path from x h = let (t, ts, e) = under R path (h .0) in ((λ c. behind R (replaceAtPath (t ∷ ts) x c)), λ v. ap (λ p. replaceAtPath p x v) e ∙ replace-inside R t ts x v)
+    go remove path from x h = let (t, ts, e) = under R path (h .0) in
+        ((λ c. behind R (removeAtPath (t ∷ ts) c)), λ v. ap (λ p. removeAtPath p v) e ∙ remove-inside R t ts v)
+    go replace path from x h = let (t, ts, e) = under R path (h .0) in
+        ((λ c. behind R (replaceAtPath (t ∷ ts) x c)), λ v. ap (λ p. replaceAtPath p x v) e ∙ replace-inside R t ts x v)
     go move path from x h =
         let (t, ts, e) = under R path (h .0) in
         let (u, us, f) = under R from (h .1) in
@@ -222,7 +225,9 @@ deep-inside R change v d = go (walk R v) refl
         same : (w : Value.Value) → notTooDeep (plant R w v) ≡ notTooDeepAt (length R) w >>= λ z. ok (plant R z v)
         same w =
             let bounds = depth-plant R v c q w in
-            ap (λ b. (if b then ok (plant R w v) else refused 5 0)) (leb-same (depth (plant R w v)) (length R + depth w) 32 (λ h. omega arith) (λ h. omega arith)) ∙ kept w (leb (length R + depth w) 32)
+            ap (λ b. (if b then ok (plant R w v) else refused 5 0))
+            (leb-same (depth (plant R w v)) (length R + depth w) 32 (λ h. omega arith) (λ h. omega arith))
+            ∙ kept w (leb (length R + depth w) 32)
     go (refused n p) q = rw (atRegion-off R change v n p q, atRegion-off R (λ c. change c >>= notTooDeepAt (length R)) v n p q)
 
 -- what an operation does in a document that is not too deep, as a change of what stands at a region

@@ -13,7 +13,8 @@ use Rattle.spec.specs.Operation.{put}
 use Rattle.spec.specs.Value as Value
 use Rattle.spec.proofs.OutcomeLaws.{refused≢ok}
 use Rattle.spec.proofs.FartherLaws.{farther-ok}
-use Rattle.spec.proofs.ChildLaws.{child-there, child-apart, childAt-put, child-put, child-put-other, put-put, put-child, put-commute, depth-child, depth-put}
+use Rattle.spec.proofs.ChildLaws.{child-there, child-apart, childAt-put, child-put, child-put-other, put-put, put-child, put-commute, depth-child}
+use Rattle.spec.proofs.ChildLaws.{depth-put}
 
 -- a value put where a pointer leads, and nothing changed where it leads nowhere
 unfoldable pub plant : List Text → Value.Value → Value.Value → Value.Value

@@ -13,7 +13,8 @@ use Rattle.spec.specs.Numbers.{isDigit}
 use Rattle.spec.specs.Forest.{none, tree, single, size, _⧺_}
 use Rattle.spec.specs.Value as Value
 use Rattle.spec.specs.Value.{Label, Members, leaf, named, tag, depths, depth, levels, isContainer}
-use Rattle.spec.specs.Read.{blanks, roomFor, literalValue, numberValue, stringValue, scalar, closingBracket, containerLabel, items, contents, container, value, read}
+use Rattle.spec.specs.Read.{blanks, roomFor, literalValue, numberValue, stringValue, scalar, closingBracket, containerLabel, items, contents, container}
+use Rattle.spec.specs.Read.{value, read}
 use Rattle.spec.proofs.OutcomeLaws.{refused≢ok, both-ok, either-ok, first-ok}
 
 depths-append : (f g : Members) (n : ℕ) → depths f ≤ n → depths g ≤ n → depths (f ⧺ g) ≤ n
@@ -64,7 +65,8 @@ module _ (n : ℕ) (value : ℕ → ℕ → Outcome (Value.Value × ℕ)) (shall
       let (v-next, e, j) = both-ok _ _ _ i in
       let v = v-next .0 in
       let item = single (named (name-place .0) v) in
-      let grown : depths (so-far ⧺ item) ≤ n = depths-append so-far item n d (item-depth (name-place .0) v (shallow (name-place .1) (nodes + size so-far) v (v-next .1) e)) in
+      let grown : depths (so-far ⧺ item) ≤ n = depths-append so-far item n d
+      (item-depth (name-place .0) v (shallow (name-place .1) (nodes + size so-far) v (v-next .1) e)) in
       either-ok (eqb (byte s (blanks s (v-next .1))) (closingBracket object)) j (λ k. subst (λ f. depths f ≤ n) (first-ok k) grown) λ k.
       let (_, _, l) = both-ok _ _ _ k in
       items-depth fuel nodes (so-far ⧺ item) (blanks s (blanks s (v-next .1) + 1)) grown kids next l
@@ -80,7 +82,8 @@ module _ (n : ℕ) (value : ℕ → ℕ → Outcome (Value.Value × ℕ)) (shall
   unfolding container depth levels
   container-depth at nodes v next h =
       let (kids-next, e, i) = both-ok _ _ _ (after-room nodes at _ h) in
-      subst (λ w. depth w ≤ suc n) (first-ok i) (one-more (isContainer (containerLabel object)) (contents-depth (nodes + 1) (at + 1) (kids-next .0) (kids-next .1) e))
+      subst (λ w. depth w ≤ suc n) (first-ok i)
+      (one-more (isContainer (containerLabel object)) (contents-depth (nodes + 1) (at + 1) (kids-next .0) (kids-next .1) e))
     where
       one-more : (b : Bool) {below : ℕ} → below ≤ n → (if b then suc below else 0) ≤ suc n
       one-more true h = omega arith

@@ -23,7 +23,8 @@ use Rattle.spec.specs.Operation.{Operation, limited}
 use Rattle.spec.specs.Patch.{stop, Run, finished, stopped, noPointer, atOp, onFinish, operation, operations, shape, run}
 use Rattle.spec.specs.Answer.{Lent, success, workSuffices, fitting, answer, answerOf, patched, onPatch, onDocument, answerIn}
 use Rattle.spec.specs.Elements.{Alone, Each, nothing, one, ElementsOf}
-use Rattle.spec.specs.Region.{Shuffle, done, left, right, Accepted, WellFormed, Enough, SucceedsWith, succeeds, bareRun, hereOr, endsAt, firstEnd, firstTooLarge, Situation, RegionStatement}
+use Rattle.spec.specs.Region.{Shuffle, done, left, right, Accepted, WellFormed, Enough, SucceedsWith, succeeds, bareRun, hereOr, endsAt, firstEnd}
+use Rattle.spec.specs.Region.{firstTooLarge, Situation, RegionStatement}
 use Rattle.spec.proofs.OutcomeLaws.{first-ok}
 use Rattle.spec.proofs.ReadLaws.{read-depth}
 use Rattle.spec.proofs.ElementsThere.{slices, elements, slices-read}
@@ -43,7 +44,8 @@ operations-meaning op (Forest.tree e kids rest) os h =
     go (operation (record { label = e .label; kids = kids })) (operations (op + 1) rest) refl refl h (operations-meaning (op + 1) rest)
   where
     go : (o : Outcome Operation) (r : Run (List Operation)) → operation (record { label = e .label; kids = kids }) ≡ o → operations (op + 1) rest ≡ r →
-        onFinish (atOp op noPointer o) (λ o. onFinish r λ os. finished (o ∷ os)) ≡ finished os → ((os : List Operation) → operations (op + 1) rest ≡ finished os → Meaning (elements rest) os) →
+        onFinish (atOp op noPointer o) (λ o. onFinish r λ os. finished (o ∷ os)) ≡ finished os
+        → ((os : List Operation) → operations (op + 1) rest ≡ finished os → Meaning (elements rest) os) →
         Meaning (elements (Forest.tree e kids rest)) os
     go (ok o) (finished later) q r h ih = let same : o ∷ later ≡ os = cc in rw (← same) (element q (ih later r))
     go (ok o) (stopped s) q r h ih = absurd (finished≢stopped (sym h))
@@ -59,7 +61,8 @@ unfolding shape
 shaped patch os h = go (isArray (patch .label)) (leb (count (patch .kids)) maxOperations) refl h
   where
     go : (a b : Bool) → isArray (patch .label) ≡ a →
-        (if a then (if b then operations 1 (patch .kids) else stopped (stop too-many-operations 0 0 0)) else stopped (stop wrong-shape 0 0 0)) ≡ finished os → Shaped patch os
+        (if a then (if b then operations 1 (patch .kids) else stopped (stop too-many-operations 0 0 0)) else stopped (stop wrong-shape 0 0 0)) ≡ finished os
+        → Shaped patch os
     go true true e h = record { array = e; meaning = operations-meaning 1 (patch .kids) os h }
     go true false e h = absurd (finished≢stopped (sym h))
     go false b e h = absurd (finished≢stopped (sym h))
@@ -151,7 +154,8 @@ module _ {D P Q Z : Bytes} {lent : Lent} {R S : Tokens} {d : Value.Value} {xs ys
   call : answer D Z lent ≡ answerOf (lent .output) (largeAt (firstTooLarge 1 zs d) (bareRun zs d))
   call = called lent (work-enough (c .enough)) (c .accepted) (c .both) ∙ ap (answerOf (lent .output)) (limited-run 1 zs d)
 
-  call-at : (large : Option ℕ) (r : Run Value.Value) → firstTooLarge 1 zs d ≡ large → bareRun zs d ≡ r → answer D Z lent ≡ answerOf (lent .output) (largeAt large r)
+  call-at : (large : Option ℕ) (r : Run Value.Value) → firstTooLarge 1 zs d ≡ large
+      → bareRun zs d ≡ r → answer D Z lent ≡ answerOf (lent .output) (largeAt large r)
   call-at large r e f = call ∙ rw (e, f)
 
   -- SHUFFLES DON'T MATTER: the third demand, whole.

@@ -62,7 +62,8 @@ graft-plant : {R S : Tokens} (w b a : Value.Value) → Apart R S → plant R w (
 unfolding graft
 graft-plant {R} {S} w b a apart = go (walk S b)
   where
-    go : (o : Outcome Value.Value) → plant R w (elim o [ ok c ↦ plant S c a | refused number place ↦ a ]) ≡ elim o [ ok c ↦ plant S c (plant R w a) | refused number place ↦ plant R w a ]
+    go : (o : Outcome Value.Value)
+        → plant R w (elim o [ ok c ↦ plant S c a | refused number place ↦ a ]) ≡ elim o [ ok c ↦ plant S c (plant R w a) | refused number place ↦ plant R w a ]
     go (ok c) = sym (plant-commute w c a apart)
     go (refused n p) = refl
 
@@ -99,7 +100,8 @@ step {R} {S} {o} {v} {a} {b} apart local h = go (walk R v) refl
           a-depth = bare-depth o a _ a-goes;
           b-depth = h .b-depth;
         }
-    changed c q q' (refused n p) r = ends n p (does v c (refused n p) (h .v-depth) q r) (does a c (refused n p) (h .a-depth) q' r) (local .pointer v a n (h .at-first))
+    changed c q q' (refused n p) r =
+        ends n p (does v c (refused n p) (h .v-depth) q r) (does a c (refused n p) (h .a-depth) q' r) (local .pointer v a n (h .at-first))
 
     go : (r : Outcome Value.Value) → walk R v ≡ r → Step R S o v a b
     go (ok c) q = changed c q (sym (h .at-first) ∙ q) (change c) refl
@@ -150,7 +152,8 @@ data Result (R : Tokens) {xs ys zs : List Operation} (s : Shuffle xs ys zs) (op 
       Result R s op i j v a b
 
 -- from the next operation on to this one
-carry : {R : Tokens} {xs ys zs xs' ys' zs' : List Operation} {s : Shuffle xs ys zs} {s' : Shuffle xs' ys' zs'} {op i j op' i' j' : ℕ} {v a b v' a' b' : Value.Value} →
+carry : {R : Tokens} {xs ys zs xs' ys' zs' : List Operation} {s : Shuffle xs ys zs} {s' : Shuffle xs' ys' zs'} {op i j op' i' j' : ℕ}
+    {v a b v' a' b' : Value.Value} →
     run bare op zs v ≡ run bare op' zs' v' → run bare i xs a ≡ run bare i' xs' a' → run bare j ys b ≡ run bare j' ys' b' →
     firstEnd s op i j (run bare i xs a) (run bare j ys b) ≡ firstEnd s' op' i' j' (run bare i' xs' a') (run bare j' ys' b') →
     Result R s' op' i' j' v' a' b' → Result R s op i j v a b
@@ -190,7 +193,8 @@ parts [] S h i = absurd (true≢false h)
 parts (r ∷ R) [] h i = absurd (true≢false i)
 parts (r ∷ R) (t ∷ S) h i = go (sameText r t) refl h i (parts R S)
   where
-    go : (b : Bool) → sameText r t ≡ b → (b && isPrefix R S) ≡ false → (sameText t r && isPrefix S R) ≡ false → (isPrefix R S ≡ false → isPrefix S R ≡ false → Apart R S) →
+    go : (b : Bool) → sameText r t ≡ b → (b && isPrefix R S) ≡ false
+        → (sameText t r && isPrefix S R) ≡ false → (isPrefix R S ≡ false → isPrefix S R ≡ false → Apart R S) →
         Apart (r ∷ R) (t ∷ S)
     go true q h i ih =
         let same : r ≡ t = sameText-true r t q in

@@ -305,7 +305,8 @@ kind-out t =
     out-if (sameText t (ascii "add")) (fine _)
     (out-if (sameText t (ascii "remove")) (fine _)
     (out-if (sameText t (ascii "replace")) (fine _)
-    (out-if (sameText t (ascii "move")) (fine _) (out-if (sameText t (ascii "copy")) (fine _) (out-if (sameText t (ascii "test")) (fine _) (bad (flat refl)))))))
+    (out-if (sameText t (ascii "move")) (fine _)
+    (out-if (sameText t (ascii "copy")) (fine _) (out-if (sameText t (ascii "test")) (fine _) (bad (flat refl)))))))
 
 members-out : (v : Value.Value) → Out (Flat Eight) (operationMembers v)
 unfolding operationMembers membersFor valueFor fromFor require

@@ -57,17 +57,20 @@ gives-refused : {X : Type 0} (strict : Bool) (number at : ℕ) (x : X) → (stri
 gives-refused true number at x f = absurd (f refl)
 gives-refused false number at x f = λ y h. absurd (refused≢ok h)
 
-gives-then : {X Y : Type 0} (strict : Bool) (o : Outcome X) (g : X → Outcome Y) (x : X) (y : Y) → Gives strict o x → Gives strict (g x) y → Gives strict (o >>= g) y
+gives-then : {X Y : Type 0} (strict : Bool) (o : Outcome X) (g : X → Outcome Y) (x : X) (y : Y)
+    → Gives strict o x → Gives strict (g x) y → Gives strict (o >>= g) y
 unfolding _>>=_
 gives-then true o g x y h i = rw h i
 gives-then false o g x y h i = λ z j. let (x', e, k) = both-ok o g z j in i z (ap g (sym (h x' e)) ∙ k)
 
-gives-check : {X Y : Type 0} (strict : Bool) (o : Outcome X) (g : Outcome Y) (y : Y) → (strict ≡ true → (x : X) × (o ≡ ok x)) → Gives strict g y → Gives strict (o >>= λ _. g) y
+gives-check : {X Y : Type 0} (strict : Bool) (o : Outcome X) (g : Outcome Y) (y : Y)
+    → (strict ≡ true → (x : X) × (o ≡ ok x)) → Gives strict g y → Gives strict (o >>= λ _. g) y
 unfolding _>>=_
 gives-check true o g y f i = let (x, e) = f refl in rw e i
 gives-check false o g y f i = λ z j. let (x, e, k) = both-ok o (λ _. g) z j in i z k
 
--- A result x that a reader has of s comes from data and a place, no earlier than low; where the place is before m, the reader has the same data of t, at that place.
+-- A result x that a reader has of s comes from data and a place, no earlier than low. Where the place is before m, the reader has the same
+-- data of t, at that place.
 pub record Tracked {A X : Type 0} (strict : Bool) (k m : ℕ) (put : A → ℕ → X) (low : ℕ) (x : X) (o' : Outcome X) : Type 0 where
   pub data-read : A
   pub q : ℕ
@@ -98,7 +101,8 @@ module _ {strict : Bool} {k m : ℕ} {A X : Type 0} {put : A → ℕ → X} wher
   none = record { track = λ x h. absurd (refused≢ok h) }
 
   -- a result with its place
-  pub ended-at : {low at p : ℕ} (a : A) {o' : Outcome X} → At k p at → low ≤ p → (p < m → Gives strict o' (put a p)) → Tracks strict k m put low (ok (put a at)) o'
+  pub ended-at : {low at p : ℕ} (a : A) {o' : Outcome X} → At k p at → low ≤ p
+      → (p < m → Gives strict o' (put a p)) → Tracks strict k m put low (ok (put a at)) o'
   ended-at {at = at} {p = p} a e l f =
       record { track = λ x h. record { data-read = a; q = p; is = (let same : put a at ≡ x = cc in sym same ∙ ap (put a) (e .is)); from = l; gives = f } }
 
@@ -107,11 +111,17 @@ module _ {strict : Bool} {k m : ℕ} {A X : Type 0} {put : A → ℕ → X} wher
 
   pub later : {low : ℕ} (low' : ℕ) {o o' : Outcome X} → low ≤ low' → Tracks strict k m put low' o o' → Tracks strict k m put low o o'
   later low' l f =
-      record { track = λ x h. let r = f .track x h in record { data-read = r .data-read; q = r .q; is = r .is; from = (let m = r .from in omega arith); gives = r .gives } }
+      record {
+        track = λ x h. let r = f .track x h in
+            record { data-read = r .data-read; q = r .q; is = r .is; from = (let m = r .from in omega arith); gives = r .gives };
+      }
 
   pub before : {low m' : ℕ} {o o' : Outcome X} → m' ≤ m → Tracks strict k m put low o o' → Tracks strict k m' put low o o'
   before l f =
-      record { track = λ x h. let r = f .track x h in record { data-read = r .data-read; q = r .q; is = r .is; from = r .from; gives = λ i. r .gives (omega arith) } }
+      record {
+        track = λ x h. let r = f .track x h in
+            record { data-read = r .data-read; q = r .q; is = r .is; from = r .from; gives = λ i. r .gives (omega arith) };
+      }
 
   -- what t has counts only where the place is before m
   pub under : {low : ℕ} {o o' : Outcome X} (o'' : Outcome X) → (low < m → o' ≡ o'') → Tracks strict k m put low o o'' → Tracks strict k m put low o o'
@@ -120,30 +130,44 @@ module _ {strict : Bool} {k m : ℕ} {A X : Type 0} {put : A → ℕ → X} wher
         track = λ x h.
             let r = f .track x h in
             let l = r .from in
-            record { data-read = r .data-read; q = r .q; is = r .is; from = r .from; gives = λ i. gives-equal strict _ o'' _ (same (omega arith)) (r .gives i) };
+            record {
+              data-read = r .data-read;
+              q = r .q;
+              is = r .is;
+              from = r .from;
+              gives = λ i. gives-equal strict _ o'' _ (same (omega arith)) (r .gives i);
+            };
       }
 
   -- t may refuse where it need not be strict
-  pub refuses : {low number at : ℕ} {o : Outcome X} (o'' : Outcome X) → (strict ≡ true → ⊥) → Tracks strict k m put low o o'' → Tracks strict k m put low o (refused number at)
+  pub refuses : {low number at : ℕ} {o : Outcome X} (o'' : Outcome X) → (strict ≡ true → ⊥)
+      → Tracks strict k m put low o o'' → Tracks strict k m put low o (refused number at)
   refuses {number = number} {at = at} o'' weak f =
-      record { track = λ x h. let r = f .track x h in record { data-read = r .data-read; q = r .q; is = r .is; from = r .from; gives = λ l. gives-refused strict number at _ weak } }
+      record {
+        track = λ x h. let r = f .track x h in
+            record { data-read = r .data-read; q = r .q; is = r .is; from = r .from; gives = λ l. gives-refused strict number at _ weak };
+      }
 
-  pub split : {low : ℕ} (c : Bool) {a a' b b' : Outcome X} → Tracks strict k m put low a a' → Tracks strict k m put low b b' → Tracks strict k m put low (if c then a else b) (if c then a' else b')
+  pub split : {low : ℕ} (c : Bool) {a a' b b' : Outcome X} → Tracks strict k m put low a a'
+      → Tracks strict k m put low b b' → Tracks strict k m put low (if c then a else b) (if c then a' else b')
   split true f g = f
   split false f g = g
 
   -- a test that comes out the same where the place is before m
   pub choose : {low : ℕ} {c c' : Bool} {a a' b b' : Outcome X} → (low < m → c' ≡ c) →
-      (c ≡ true → Tracks strict k m put low a a') → (c ≡ false → Tracks strict k m put low b b') → Tracks strict k m put low (if c then a else b) (if c' then a' else b')
+      (c ≡ true → Tracks strict k m put low a a') → (c ≡ false → Tracks strict k m put low b b')
+      → Tracks strict k m put low (if c then a else b) (if c' then a' else b')
   choose {low} {c} {c'} {a} {a'} {b} {b'} same f g = under _ (λ l. ap (λ d. if d then a' else b') (same l)) (go c refl f g)
     where
-      go : (d : Bool) → c ≡ d → (c ≡ true → Tracks strict k m put low a a') → (c ≡ false → Tracks strict k m put low b b') → Tracks strict k m put low (if d then a else b) (if d then a' else b')
+      go : (d : Bool) → c ≡ d → (c ≡ true → Tracks strict k m put low a a')
+          → (c ≡ false → Tracks strict k m put low b b') → Tracks strict k m put low (if d then a else b) (if d then a' else b')
       go true e f g = f e
       go false e f g = g e
 
   -- a test of the byte at p that fails at the last place before m, and that is followed by more only where it holds
   pub stop : {low p : ℕ} {c c' : Bool} {a a' b b' : Outcome X} → (suc p < m → c' ≡ c) → (suc p ≡ m → c' ≡ false) → low ≤ suc p → p ≤ low →
-      (c ≡ true → Tracks strict k m put (suc p) a a') → (c ≡ false → Tracks strict k m put low b b') → Tracks strict k m put low (if c then a else b) (if c' then a' else b')
+      (c ≡ true → Tracks strict k m put (suc p) a a') → (c ≡ false → Tracks strict k m put low b b')
+      → Tracks strict k m put low (if c then a else b) (if c' then a' else b')
   stop {low} {p} {c} {c'} {a} {a'} {b} {b'} same past l l' f g = go c refl (decLt (suc p) m)
     where
       go : (d : Bool) → c ≡ d → Dec (suc p < m) → Tracks strict k m put low (if d then a else b) (if c' then a' else b')
@@ -152,9 +176,11 @@ module _ {strict : Bool} {k m : ℕ} {A X : Type 0} {put : A → ℕ → X} wher
       go false e (no i) = under _ (λ j. ap (λ d. if d then a' else b') (past (omega arith))) (g e)
 
   -- one reader after another
-  after-it : {B Y : Type 0} {put' : B → ℕ → Y} {low low' : ℕ} (m' : ℕ) (up : ℕ → ℕ) {o o' : Outcome X} (g g' : X → Outcome Y) → ((p : ℕ) → low ≤ p → (p ≤ up p) × (low' ≤ up p)) →
+  after-it : {B Y : Type 0} {put' : B → ℕ → Y} {low low' : ℕ} (m' : ℕ) (up : ℕ → ℕ) {o o' : Outcome X} (g g' : X → Outcome Y)
+      → ((p : ℕ) → low ≤ p → (p ≤ up p) × (low' ≤ up p)) →
       ((p q : ℕ) → up p ≤ q → q < m' → p < m) → Tracks strict k m put low o o' →
-      ((a : A) (at p : ℕ) → At k p at → low ≤ p → Tracks strict k m' put' (up p) (g (put a at)) (g' (put a p))) → Tracks strict k m' put' low' (o >>= g) (o' >>= g')
+      ((a : A) (at p : ℕ) → At k p at → low ≤ p → Tracks strict k m' put' (up p) (g (put a at)) (g' (put a p)))
+      → Tracks strict k m' put' low' (o >>= g) (o' >>= g')
   unfolding _>>=_
   after-it {put' = put'} m' up {o = o} {o' = o'} g g' bounds inside f rest =
       record {
@@ -169,7 +195,8 @@ module _ {strict : Bool} {k m : ℕ} {A X : Type 0} {put : A → ℕ → X} wher
               q = second .q;
               is = second .is;
               from = omega arith;
-              gives = λ l. gives-then strict o' g' (put (first .data-read) (first .q)) (put' (second .data-read) (second .q)) (first .gives (inside (first .q) (second .q) (second .from) l)) (second .gives l);
+              gives = λ l. gives-then strict o' g' (put (first .data-read) (first .q))
+                  (put' (second .data-read) (second .q)) (first .gives (inside (first .q) (second .q) (second .from) l)) (second .gives l);
             };
       }
 
@@ -179,7 +206,8 @@ module _ {strict : Bool} {k m : ℕ} {A X : Type 0} {put : A → ℕ → X} wher
 
   -- the same, where the second takes at least one byte
   pub andMore : {B Y : Type 0} {put' : B → ℕ → Y} {low : ℕ} {o o' : Outcome X} (g g' : X → Outcome Y) → Tracks strict k m put low o o' →
-      ((a : A) (at p : ℕ) → At k p at → low ≤ p → Tracks strict k (suc m) put' (suc p) (g (put a at)) (g' (put a p))) → Tracks strict k (suc m) put' (suc low) (o >>= g) (o' >>= g')
+      ((a : A) (at p : ℕ) → At k p at → low ≤ p → Tracks strict k (suc m) put' (suc p) (g (put a at)) (g' (put a p)))
+      → Tracks strict k (suc m) put' (suc low) (o >>= g) (o' >>= g')
   andMore g g' f rest = after-it (suc m) suc g g' (λ p l. omega arith) (λ p q l i. omega arith) f rest
 
   -- a step that has no place of its own, and needs what stands before low
@@ -192,11 +220,18 @@ module _ {strict : Bool} {k m : ℕ} {A X : Type 0} {put : A → ℕ → X} wher
             let (b, e, i) = both-ok o g x h in
             let r = f b e .track x i in
             let r-from = r .from in
-            record { data-read = r .data-read; q = r .q; is = r .is; from = r .from; gives = λ l. gives-equal strict _ (g' b) _ (ap (λ o. o >>= g') (same b e (omega arith))) (r .gives l) };
+            record {
+              data-read = r .data-read;
+              q = r .q;
+              is = r .is;
+              from = r .from;
+              gives = λ l. gives-equal strict _ (g' b) _ (ap (λ o. o >>= g') (same b e (omega arith))) (r .gives l);
+            };
       }
 
   -- a check whose result is not used
-  pub check : {B : Type 0} {low : ℕ} {o o' : Outcome B} {g g' : Outcome X} → (strict ≡ true → (b : B) → o ≡ ok b → (b' : B) × (o' ≡ ok b')) → Tracks strict k m put low g g' →
+  pub check : {B : Type 0} {low : ℕ} {o o' : Outcome B} {g g' : Outcome X}
+      → (strict ≡ true → (b : B) → o ≡ ok b → (b' : B) × (o' ≡ ok b')) → Tracks strict k m put low g g' →
       Tracks strict k m put low (o >>= λ _. g) (o' >>= λ _. g')
   check {o = o} {o' = o'} {g = g} {g' = g'} passes f =
       record {
@@ -208,7 +243,8 @@ module _ {strict : Bool} {k m : ℕ} {A X : Type 0} {put : A → ℕ → X} wher
 
   -- a test inside an argument
   pub chosen : {Z : Type 0} {low : ℕ} (g g' : Z → Outcome X) (c c' : Bool) (x y x' y' : Z) →
-      Tracks strict k m put low (if c then g x else g y) (if c' then g' x' else g' y') → Tracks strict k m put low (g (if c then x else y)) (g' (if c' then x' else y'))
+      Tracks strict k m put low (if c then g x else g y) (if c' then g' x' else g' y')
+      → Tracks strict k m put low (g (if c then x else y)) (g' (if c' then x' else y'))
   chosen g g' true true x y x' y' f = f
   chosen g g' true false x y x' y' f = f
   chosen g g' false true x y x' y' f = f

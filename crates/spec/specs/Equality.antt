@@ -45,7 +45,8 @@ matches object (tree e kids f) g =
     elim (partner object (e .name) g) [
       | none ↦ false
       | tree p below after ↦
-          sameLabel (e .label) (p .label) && (eqb (count kids) (count below) && (matches (isObject (e .label)) kids below && matches object f (if object then g else after)))
+          sameLabel (e .label) (p .label) &&
+          (eqb (count kids) (count below) && (matches (isObject (e .label)) kids below && matches object f (if object then g else after)))
     ]
 
 unfoldable pub equal : Value.Value → Value.Value → Bool

@@ -74,7 +74,8 @@ comma first = if first then [] else ascii ","
 unfoldable pub writeItems : Bool → Bool → Members → Bytes
 writeItems object first none = []
 writeItems object first (tree e kids rest) =
-    comma first ++ writeName object (e .name) ++ opening (e .label) ++ writeItems (isObject (e .label)) true kids ++ closing (e .label) ++ writeItems object false rest
+    comma first ++ writeName object (e .name) ++ opening (e .label)
+    ++ writeItems (isObject (e .label)) true kids ++ closing (e .label) ++ writeItems object false rest
 
 unfoldable pub write : Value.Value → Bytes
 write v = opening (v .label) ++ writeItems (isObject (v .label)) true (v .kids) ++ closing (v .label)

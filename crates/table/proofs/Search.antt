@@ -28,7 +28,8 @@ use Rattle.tape.proofs.Held.{held-from, held-node}
 use Rattle.tape.proofs.Rows.{inside-here, kind-here, span-here, cell-here}
 use Rattle.tape.proofs.Map.{find-map, position-found, position-next, position-none}
 use Rattle.table.specs.Meaning.{nameText, entryOf, shortHash, Hashed}
-use Rattle.table.specs.Find.{isNamed, sameName, rowBehind, limitOf, AllQuiet, Sought, sought-here, sought-next, sought-over, Found, found, missing, Between, FindIs, FindAsciiIs}
+use Rattle.table.specs.Find.{isNamed, sameName, rowBehind, limitOf, AllQuiet, Sought, sought-here, sought-next, sought-over, Found, found, missing}
+use Rattle.table.specs.Find.{Between, FindIs, FindAsciiIs}
 use Rattle.table.specs.declared.find.Member.{Member}
 use Rattle.table.specs.declared.find.Member.the-variants.{At, Missing}
 use Rattle.table.proofs.AllLaws.{all-first, all-from}

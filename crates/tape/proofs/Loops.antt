@@ -8,7 +8,8 @@ use lib.ListN.{length, take, drop, getD, set, replicate, replicate-append-replic
 use lib.Seq.{paste-zero, sets-eq, drop-cons, take-suc, getD-drop, take-take, drop-drop, take-add}
 use Rattle.tape.specs.Columns.{replaced, copied, moved, usedAfter, spliced, filled}
 use Rattle.spec.proofs.ListLaws.{drop-take}
-use Rattle.tape.proofs.Columns.{Room, moved-in, spliced-in, filled-in, length-replaced, take-replaced, words-replaced, drop-replaced, replaced-one, replaced-further, replaced-before, length-words}
+use Rattle.tape.proofs.Columns.{Room, moved-in, spliced-in, filled-in, length-replaced, take-replaced, words-replaced, drop-replaced, replaced-one}
+use Rattle.tape.proofs.Columns.{replaced-further, replaced-before, length-words}
 
 -- ---- a copy
 module _ {W : Type 0} (xs : List W) (to start : ℕ) where

@@ -15,7 +15,8 @@ use Rattle.tape.specs.Fields.{Row, kindOf, spanOf, cellOf}
 use Rattle.tape.specs.Tape.{tape}
 use Rattle.tape.specs.declared.fields.Cell.{Cell}
 use Rattle.tape.specs.Cell.{rowOf, Node}
-use Rattle.tape.specs.Rows.{endOf, childRow, childOf, ForNode, Leaves, Steps, steps-none, steps-next, ChildRows, child-at, child-fewer, ArityRows, Bounded, ChildIs, ArityIs}
+use Rattle.tape.specs.Rows.{endOf, childRow, childOf, ForNode, Leaves, Steps, steps-none, steps-next, ChildRows, child-at, child-fewer, ArityRows}
+use Rattle.tape.specs.Rows.{Bounded, ChildIs, ArityIs}
 use Rattle.tape.specs.declared.nodes.Located.{Located}
 use Rattle.tape.specs.declared.nodes.Located.the-variants.{At, Fewer}
 use Rattle.tape.proofs.Forests.{size-cut, count-from, before-all, size-before-suc, count-le-size}

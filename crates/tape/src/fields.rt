@@ -15,7 +15,8 @@ use crate::layout::VALUES;
 ghost use mathlib.Core.Path.{_≡_};
 ghost use Prim.Native.Nat.{_%_, _<_};
 ghost use Rattle.tape.specs.Layout.{values, kinds, forms, sources};
-ghost use Rattle.tape.specs.Fields.{tagged, kindIn, formIn, sourceIn, nameFormIn, nameSourceIn, valueOf, nameOf, cellOf, rowWith};
+ghost use Rattle.tape.specs.Fields.{tagged, kindIn, formIn, sourceIn, nameFormIn, nameSourceIn, valueOf, nameOf};
+ghost use Rattle.tape.specs.Fields.{cellOf, rowWith};
 
 // Where a text stands, and how it is read there.
 pub struct Spelling {
@@ -88,7 +89,8 @@ fn name_source_in(tags: u16) -> u16
 }
 
 fn tags_of(kind: u16, form: u16, source: u16, name_form: u16, name_source: u16) -> u16
-    ensures { λ r. ⌜ r ≡ tagged (kind % kinds) (form % forms) (source % sources) («name_form» % forms) («name_source» % sources) ⌝ }
+    ensures { λ r. ⌜ r ≡ tagged (kind % kinds) (form % forms) (source % sources) («name_form» % forms)
+        («name_source» % sources) ⌝ }
 {
     kind % KINDS
         + KINDS

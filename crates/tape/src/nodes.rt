@@ -50,7 +50,8 @@ pub fn end_of(nodes: &[Node], at: usize) -> usize
 
 // The span of the node in a row is changed, as it must be where its children change.
 pub fn set_span(nodes: &mut [Node], row: usize, span: usize)
-    ensures { λ _. ⌜ now (nodes .exit) ≡ set (now (nodes .entry)) row (withSpan (getD (now (nodes .entry)) row []) (span % values)) ⌝ }
+    ensures { λ _. ⌜ now (nodes .exit)
+        ≡ set (now (nodes .entry)) row (withSpan (getD (now (nodes .entry)) row []) (span % values)) ⌝ }
 {
     if row < nodes.len() {
         nodes[row][SPAN] = narrow(span);

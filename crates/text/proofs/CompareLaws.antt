@@ -95,7 +95,8 @@ module _ {form other : ℕ} {a b : Bytes} (known : within 1 3 form ≡ true) (to
       more r (λ z. letter-not-zero (byte a i) t (sym p ∙ z)) (p ∙ sym e ∙ sym q)
 
 -- the texts are the same exactly if what is left of them is
-pub common-texts : {form other n : ℕ} {a b : Bytes} → Common form a other b n → sameText (textFrom form a n) (textFrom other b n) ≡ sameText (textOf form a) (textOf other b)
+pub common-texts : {form other n : ℕ} {a b : Bytes} → Common form a other b n
+    → sameText (textFrom form a n) (textFrom other b n) ≡ sameText (textOf form a) (textOf other b)
 unfolding textOf
 common-texts none = refl
 common-texts {form} {other} {a = a} {b} (more {i} r n e) =

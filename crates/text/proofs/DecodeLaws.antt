@@ -55,7 +55,8 @@ part-cut s from to l m =
       inside = λ p h. getD-take (to - from) (drop from s) p 0 h ∙ getD-drop from s p 0;
       ends = rw (past-end (part s from to) {at = to - from} (omega (arith, part-length s from to m))) nothing-ends;
       whole = omega (arith, part-length s from to m);
-      part = λ p q h. ap (take (q - p)) (drop-take p (to - from) (drop from s)) ∙ take-take (q - p) (to - from - p) (drop p (drop from s)) (omega arith) ∙ ap (take (q - p)) (drop-drop p from s);
+      part = λ p q h. ap (take (q - p)) (drop-take p (to - from) (drop from s))
+          ∙ take-take (q - p) (to - from - p) (drop p (drop from s)) (omega arith) ∙ ap (take (q - p)) (drop-drop p from s);
     }
 
 -- a character does the same on a part that holds it
@@ -134,7 +135,8 @@ reads-decode {s} {at} (one-more {c = c} {next = next} e r) = decode-more s at c 
 
 -- the bytes between the two places, alone, say what was read
 reads-within : {s : Bytes} {at to : ℕ} {cs : Text} (from : ℕ) → at ≤ length s → from ≤ at → Reads s at cs to → decodeFrom (part s from to) (at - from) ≡ cs
-reads-within {s} {to = to} from l m nothing = decode-ends (part s from to) (to - from) (none-past (part s from to) (to - from) (omega (arith, part-length s from to l)))
+reads-within {s} {to = to} from l m nothing =
+    decode-ends (part s from to) (to - from) (none-past (part s from to) (to - from) (omega (arith, part-length s from to l)))
 reads-within {s} {at} {to} from l m (one-more {c = c} {next = next} e r) =
     let n = in-past s at e in
     let p = reads-past (n .1) r in
@@ -164,15 +166,23 @@ characters-read zero s at cs next h = absurd (refused≢ok h)
 characters-read (suc fuel) s at cs next h = go (eqb (byte s at) (code "\"")) refl h (characters-read fuel s)
   where
     go : (quote : Bool) → eqb (byte s at) (code "\"") ≡ quote →
-        if_then_else_ {A = Outcome (Text × ℕ)} quote (ok ([], at + 1)) (character s at >>= λ (c, next). characters fuel s next >>= λ (cs, end). ok (c ∷ cs, end)) ≡ ok (cs, next) →
+        if_then_else_ {A = Outcome (Text × ℕ)} quote (ok ([], at + 1))
+        (character s at >>= λ (c, next). characters fuel s next >>= λ (cs, end). ok (c ∷ cs, end)) ≡ ok (cs, next) →
         ((at : ℕ) (cs : Text) (next : ℕ) → characters fuel s at ≡ ok (cs, next) → Quoted s at cs next) → Quoted s at cs next
-    go true e h ih = let q = eqb-true (byte s at) (code "\"") e in let i = here s at (code "\"") q (omega arith) in record { to = at; is = sym (second-ok h); inside = omega arith; quote = q; reads = subst (λ t. Reads s at t at) (first-ok h) nothing }
+    go true e h ih = let q = eqb-true (byte s at) (code "\"") e in let i = here s at (code "\"") q (omega arith) in
+        record { to = at; is = sym (second-ok h); inside = omega arith; quote = q; reads = subst (λ t. Reads s at t at) (first-ok h) nothing }
     go false e h ih =
         let (read, f, i) = both-ok (character s at) _ (cs, next) h in
         let (others, g, j) = both-ok (characters fuel s (read .1)) _ (cs, next) i in
         let rest = ih (read .1) (others .0) (others .1) g in
         let n = character-ok-past s at read f in
-        record { to = rest .to; is = sym (second-ok j) ∙ rest .is; inside = omega arith; quote = rest .quote; reads = subst (λ t. Reads s at t (rest .to)) (first-ok j) (one-more (unquoted s at e ∙ f) (rest .reads)) }
+        record {
+          to = rest .to;
+          is = sym (second-ok j) ∙ rest .is;
+          inside = omega arith;
+          quote = rest .quote;
+          reads = subst (λ t. Reads s at t (rest .to)) (first-ok j) (one-more (unquoted s at e ∙ f) (rest .reads));
+        }
 
 pub string-read : (s : Bytes) (at : ℕ) (cs : Text) (next : ℕ) → string s at ≡ ok (cs, next) → Quoted s (at + 1) cs next
 unfolding string

@@ -24,7 +24,8 @@ pub writes : (c : ℕ) → Writes c
 unfolding shortLetter writeCharacter hexEscape ascii
 writes c = go (eqb c (code "\"")) (eqb c (code "\\")) (eqb c 0x08) (eqb c 0x09) (eqb c 0x0A) (eqb c 0x0C) (eqb c 0x0D) refl refl refl refl refl refl refl
   where
-    go : (quote backslash b t n f r : Bool) → eqb c (code "\"") ≡ quote → eqb c (code "\\") ≡ backslash → eqb c 0x08 ≡ b → eqb c 0x09 ≡ t → eqb c 0x0A ≡ n → eqb c 0x0C ≡ f →
+    go : (quote backslash b t n f r : Bool) → eqb c (code "\"") ≡ quote
+        → eqb c (code "\\") ≡ backslash → eqb c 0x08 ≡ b → eqb c 0x09 ≡ t → eqb c 0x0A ≡ n → eqb c 0x0C ≡ f →
         eqb c 0x0D ≡ r → Writes c
     go true _ _ _ _ _ _ e _ _ _ _ _ _ = lettered c (code "\"") e (λ z. omega arith) refl
     go false true _ _ _ _ _ _ e _ _ _ _ _ = lettered c (code "\\") e (λ z. omega arith) refl

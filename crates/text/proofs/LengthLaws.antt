@@ -55,8 +55,10 @@ pick false h i = i
 short-brief : (b : ℕ) → Brief (shortEscape b)
 unfolding shortEscape writeCharacter utf8 ascii
 short-brief b =
-    pick (eqb b (code "\"")) (brief refl refl) (pick (eqb b (code "\\")) (brief refl refl) (pick (eqb b (code "/")) (brief refl refl) (pick (eqb b (code "b")) (brief refl refl)
-    (pick (eqb b (code "f")) (brief refl refl) (pick (eqb b (code "n")) (brief refl refl) (pick (eqb b (code "r")) (brief refl refl) (pick (eqb b (code "t")) (brief refl refl)
+    pick (eqb b (code "\"")) (brief refl refl)
+    (pick (eqb b (code "\\")) (brief refl refl) (pick (eqb b (code "/")) (brief refl refl) (pick (eqb b (code "b")) (brief refl refl)
+    (pick (eqb b (code "f")) (brief refl refl)
+    (pick (eqb b (code "n")) (brief refl refl) (pick (eqb b (code "r")) (brief refl refl) (pick (eqb b (code "t")) (brief refl refl)
     (record { fits = λ z. absurd (true≢false z); bound = omega arith }))))))))
   where
     brief : {c : ℕ} → leb (length (writeCharacter c)) 2 ≡ true → leb (suc c) 0x11_0000 ≡ true → Brief c
@@ -125,14 +127,16 @@ in-fits s at (c, next) e = go (eqb (byte s at) (code "\\")) refl
 
     go : (b : Bool) → eqb (byte s at) (code "\\") ≡ b → Fits at (c, next)
     go true t = result (rw (sym (escape-here s at t) ∙ in-character s at e .1) at (escape-fits s at))
-    go false t = let same = in-same s at c next e t in record { room = omega (arith, ap length (same .bytes), part-length s at next (n .1), n); bound = same .bound }
+    go false t = let same = in-same s at c next e t in
+        record { room = omega (arith, ap length (same .bytes), part-length s at next (n .1), n); bound = same .bound }
 
 -- what `~0` and `~1` stand for is written in one byte, and so is a `~` alone
 tilde-fits : (at next : ℕ) (o : Outcome (ℕ × ℕ)) → at < afterTilde o next .1 → Fits at (afterTilde o next)
 unfolding afterTilde writeCharacter utf8
 tilde-fits at next (ok (d, after)) n = go (eqb d (code "0")) (eqb d (code "1")) n
   where
-    go : (zero one : Bool) → let v = if_then_else_ {A = ℕ × ℕ} zero (code "~", after) (if_then_else_ {A = ℕ × ℕ} one (code "/", after) (code "~", next)) in at < v .1 → Fits at v
+    go : (zero one : Bool) → let v = if_then_else_ {A = ℕ × ℕ} zero (code "~", after) (if_then_else_ {A = ℕ × ℕ} one (code "/", after) (code "~", next)) in
+        at < v .1 → Fits at v
     go true one n = record { room = omega arith; bound = omega arith }
     go false true n = record { room = omega arith; bound = omega arith }
     go false false n = record { room = omega arith; bound = omega arith }
@@ -155,7 +159,8 @@ token-fits s at letter h =
 
 -- no letter of a part is written in more bytes than it was read from
 pub letter-fits : (form : ℕ) (s : Bytes) (at : ℕ) (letter : ℕ × ℕ) → letterAt form s at ≡ ok letter → Fits at letter
-letter-fits form s at letter = by-form form s at (λ left o. o ≡ ok letter → Fits at letter) (in-fits s at letter) (token-fits s at letter) (λ h. absurd (refused≢ok h))
+letter-fits form s at letter =
+    by-form form s at (λ left o. o ≡ ok letter → Fits at letter) (in-fits s at letter) (token-fits s at letter) (λ h. absurd (refused≢ok h))
 
 -- so no text is written longer than its part
 module _ (form : ℕ) (s : Bytes) where

@@ -37,11 +37,13 @@ token-zero : (c d : ℕ) (t : Text) → eqb c (code "~") ≡ true → eqb d (cod
 unfolding unescapeToken
 token-zero c d t e f = rw (e, f)
 
-token-one : (c d : ℕ) (t : Text) → eqb c (code "~") ≡ true → eqb d (code "0") ≡ false → eqb d (code "1") ≡ true → unescapeToken (c ∷ d ∷ t) ≡ code "/" ∷ unescapeToken t
+token-one : (c d : ℕ) (t : Text) → eqb c (code "~") ≡ true → eqb d (code "0") ≡ false
+    → eqb d (code "1") ≡ true → unescapeToken (c ∷ d ∷ t) ≡ code "/" ∷ unescapeToken t
 unfolding unescapeToken
 token-one c d t e f g = rw (e, f, g)
 
-token-other : (c d : ℕ) (t : Text) → eqb c (code "~") ≡ true → eqb d (code "0") ≡ false → eqb d (code "1") ≡ false → unescapeToken (c ∷ d ∷ t) ≡ c ∷ unescapeToken (d ∷ t)
+token-other : (c d : ℕ) (t : Text) → eqb c (code "~") ≡ true → eqb d (code "0") ≡ false
+    → eqb d (code "1") ≡ false → unescapeToken (c ∷ d ∷ t) ≡ c ∷ unescapeToken (d ∷ t)
 unfolding unescapeToken
 token-other c d t e f g = rw (e, f, g)
 
@@ -78,7 +80,8 @@ module _ (s : Bytes) (at c next : ℕ) (e : characterIn s at ≡ ok (c, next)) w
       go false true p q = record { text = ap unescapeToken two ∙ token-one c d _ t p q; past = omega (arith, n, m) }
       go false false p q =
           record {
-            text = ap unescapeToken two ∙ token-other c d _ t p q ∙ ap (λ x. x ∷ unescapeToken (d ∷ decodeFrom s after)) (eqb-true c (code "~") t) ∙ ap (λ x. code "~" ∷ unescapeToken x) (sym (decode-more s next d after f));
+            text = ap unescapeToken two ∙ token-other c d _ t p q ∙ ap (λ x. x ∷ unescapeToken (d ∷ decodeFrom s after)) (eqb-true c (code "~") t)
+                ∙ ap (λ x. code "~" ∷ unescapeToken x) (sym (decode-more s next d after f));
             past = n;
           }
   tilde-begins t (refused number place) f =
@@ -90,7 +93,8 @@ module _ (s : Bytes) (at c next : ℕ) (e : characterIn s at ≡ ok (c, next)) w
   unfolding tokenStep
   step-begins = go (eqb c (code "~")) refl
     where
-      go : (escaped : Bool) → eqb c (code "~") ≡ escaped → Begins s at (tokenFrom s) (if_then_else_ {A = ℕ × ℕ} escaped (afterTilde (characterIn s next) next) (c, next))
+      go : (escaped : Bool) → eqb c (code "~") ≡ escaped
+          → Begins s at (tokenFrom s) (if_then_else_ {A = ℕ × ℕ} escaped (afterTilde (characterIn s next) next) (c, next))
       go true t = tilde-begins t (characterIn s next) refl
       go false t = record { text = ap unescapeToken (decode-more s at c next e) ∙ token-plain c _ t; past = in-past s at e }
 
@@ -116,7 +120,8 @@ module _ (s : Bytes) (at : ℕ) where
       go (refused n p) e h = ap unescapeToken (decode-ends s at e)
 
 -- what holds of the text and of the letter in each form holds in the form that is given
-pub by-form : (form : ℕ) (s : Bytes) (at : ℕ) (P : (ℕ → Text) → Outcome (ℕ × ℕ) → Type 0) → P (decodeFrom s) (characterIn s at) → P (tokenFrom s) (tokenLetter s at) →
+pub by-form : (form : ℕ) (s : Bytes) (at : ℕ) (P : (ℕ → Text) → Outcome (ℕ × ℕ) → Type 0)
+    → P (decodeFrom s) (characterIn s at) → P (tokenFrom s) (tokenLetter s at) →
     P (λ at. []) (refused not-json at) → P (textFrom form s) (letterAt form s at)
 unfolding textFrom letterAt
 by-form form s at P string token other = go (eqb form 1) (eqb form 2) (eqb form 3)
@@ -130,10 +135,12 @@ by-form form s at P string token other = go (eqb form 1) (eqb form 2) (eqb form 
     go false false false = other
 
 pub letter-begins : (form : ℕ) (s : Bytes) (at : ℕ) (letter : ℕ × ℕ) → letterAt form s at ≡ ok letter → Begins s at (textFrom form s) letter
-letter-begins form s at letter = by-form form s at (λ left o. o ≡ ok letter → Begins s at left letter) (string-begins s at letter) (token-begins s at letter) (λ h. absurd (refused≢ok h))
+letter-begins form s at letter =
+    by-form form s at (λ left o. o ≡ ok letter → Begins s at left letter) (string-begins s at letter) (token-begins s at letter) (λ h. absurd (refused≢ok h))
 
 pub letter-ends : (form : ℕ) (s : Bytes) (at number place : ℕ) → letterAt form s at ≡ refused number place → textFrom form s at ≡ []
-letter-ends form s at number place = by-form form s at (λ left o. o ≡ refused number place → left at ≡ []) (decode-ends s at) (token-ends s at number place) (λ h. refl)
+letter-ends form s at number place =
+    by-form form s at (λ left o. o ≡ refused number place → left at ≡ []) (decode-ends s at) (token-ends s at number place) (λ h. refl)
 
 -- past the end of a part there is no letter
 module _ (form : ℕ) (s : Bytes) (at : ℕ) (h : length s ≤ at) where

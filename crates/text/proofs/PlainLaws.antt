@@ -40,7 +40,8 @@ reads-same {s} {at} {to} l (one-more {c = c} {next = next} e r) p =
     let n = in-past s at e in
     let m = reads-past (n .1) r in
     let cut = part-append s at next to (omega arith) (m .0) in
-    let q : noBackslash (part s next to) ≡ true = both-true (noBackslash (part s at next)) (noBackslash (part s next to)) (sym (no-backslash-append (part s at next) (part s next to)) ∙ ap noBackslash (sym cut) ∙ p) .1 in
+    let q : noBackslash (part s next to) ≡ true = both-true (noBackslash (part s at next)) (noBackslash (part s next to))
+    (sym (no-backslash-append (part s at next) (part s next to)) ∙ ap noBackslash (sym cut) ∙ p) .1 in
     let first = in-same s at c next e (no-backslash-first s at to (omega arith) (omega arith) p) .bytes in
     rw (first, reads-same (n .1) r q) (sym cut)
 

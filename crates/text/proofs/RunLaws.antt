@@ -75,7 +75,8 @@ pub run-inside : {s : Bytes} {start to : ℕ} → start ≤ length s → Run s s
 run-inside l none = l
 run-inside {s} l (more {at} r e f) = in-past s at e .1
 
-written-more : (s : Bytes) (at c next : ℕ) → characterIn s at ≡ ok (c, next) → writeCharacters (textFrom 2 s at) ≡ writeCharacter c ++ writeCharacters (textFrom 2 s next)
+written-more : (s : Bytes) (at c next : ℕ) → characterIn s at ≡ ok (c, next)
+    → writeCharacters (textFrom 2 s at) ≡ writeCharacter c ++ writeCharacters (textFrom 2 s next)
 unfolding textFrom writeCharacters
 written-more s at c next e = ap writeCharacters (decode-more s at c next e)
 
@@ -111,9 +112,11 @@ module _ {s : Bytes} {total at : ℕ} (k : Counted s total at) where
   counted-run r = let l = run-inside (k .inside) r in record { inside = l; whole = omega (arith, run-length l r, k .whole) }
 
   -- a letter that the code read
-  pub counted-letter : {c n : ℕ} {next : Cursor} {r : Character} → characterOutcome r ≡ letterAt 2 s at → r ≡ Character.Scalar c next → n ≡ length (writeCharacter c) →
+  pub counted-letter : {c n : ℕ} {next : Cursor} {r : Character}
+      → characterOutcome r ≡ letterAt 2 s at → r ≡ Character.Scalar c next → n ≡ length (writeCharacter c) →
       Counted s (total + n) (next .at)
-  counted-letter {c} {n} {next} e t m = record { inside = scalar-inside 2 s at e c next t; whole = omega (arith, length-more (scalar-text 2 s at e c next t), k .whole) }
+  counted-letter {c} {n} {next} e t m =
+      record { inside = scalar-inside 2 s at e c next t; whole = omega (arith, length-more (scalar-text 2 s at e c next t), k .whole) }
 
   pub counted-ends : textFrom 2 s at ≡ [] → total ≡ length (writeCharacters (textOf 2 s))
   counted-ends e = omega (arith, length-ends e, k .whole)
@@ -143,7 +146,8 @@ module _ {s out₀ out : Bytes} {put at : ℕ} (w : Writing s out₀ out put at)
   -- a letter that the code read
   pub writing-letter : {c put' : ℕ} {next : Cursor} {r : Character} {out' : Bytes} → characterOutcome r ≡ letterAt 2 s at → r ≡ Character.Scalar c next →
       Stored (writeCharacter c) put out out' put' → Writing s out₀ out' put' (next .at)
-  writing-letter {c} {next = next} e t p = record { inside = scalar-inside 2 s at e c next t; laying = laying-more (w .laying) c (next .at) (scalar-text 2 s at e c next t) p }
+  writing-letter {c} {next = next} e t p =
+      record { inside = scalar-inside 2 s at e c next t; laying = laying-more (w .laying) c (next .at) (scalar-text 2 s at e c next t) p }
 
   pub writing-ends : textFrom 2 s at ≡ [] → LaidDown (writeCharacters (textOf 2 s)) out₀ out put
   writing-ends e = laying-ends (w .laying) e

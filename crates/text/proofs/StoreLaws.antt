@@ -17,7 +17,8 @@ use Rattle.text.proofs.LengthLaws.{text-short}
 -- one run of stores after another
 pub sets-append : (l : Bytes) (i : ℕ) (u v : Bytes) → sets l i (u ++ v) ≡ sets (sets l i u) (i + length u) v
 sets-append l i [] v = ap (λ n. sets l n v) (sym (add-zero i))
-sets-append l i (a ∷ u) v = let e : suc i + length u ≡ i + suc (length u) = omega arith in sets-append (set l i a) (suc i) u v ∙ ap (λ n. sets (sets (set l i a) (suc i) u) n v) e
+sets-append l i (a ∷ u) v = let e : suc i + length u ≡ i + suc (length u) = omega arith in
+    sets-append (set l i a) (suc i) u v ∙ ap (λ n. sets (sets (set l i a) (suc i) u) n v) e
 
 pub stores-on : (l : Bytes) (i : ℕ) (u v : Bytes) {m n : Bytes} {j : ℕ} → m ≡ sets l i u → n ≡ sets m j v → j ≡ i + length u → n ≡ sets l i (u ++ v)
 stores-on l i u v {m} e f h = f ∙ ap (λ k. sets m k v) h ∙ ap (λ m. sets m (i + length u) v) e ∙ sym (sets-append l i u v)
@@ -32,7 +33,8 @@ pub laid-down : (vs out : Bytes) → length vs ≤ length out → sets out 0 vs 
 laid-down vs out h = sets-eq vs out 0 (omega arith) ∙ ap (λ n. vs ++ drop n out) (zero-add (length vs))
 
 -- bytes that were stored, said of what they are
-pub stored : {bytes : Bytes} (vs : Bytes) {at next : ℕ} {before after : Bytes} → bytes ≡ vs → after ≡ sets before at vs → next ≡ at + length vs → Stored bytes at before after next
+pub stored : {bytes : Bytes} (vs : Bytes) {at next : ℕ} {before after : Bytes} → bytes ≡ vs
+    → after ≡ sets before at vs → next ≡ at + length vs → Stored bytes at before after next
 stored vs {at} {before = before} e f g = record { next-is = g ∙ ap (λ b. at + length b) (sym e); after-is = f ∙ ap (sets before at) (sym e) }
 
 pub stored-as : {bytes vs : Bytes} {at next : ℕ} {before after : Bytes} → bytes ≡ vs → Stored vs at before after next → Stored bytes at before after next
@@ -66,7 +68,8 @@ module _ {form : ℕ} {s out₀ out : Bytes} {put at : ℕ} (l : Laying form s o
       record { count-is = l .put-is ∙ ap length (sym all); after-is = l .out-is ∙ ap (sets out₀ 0) (sym all) }
 
   -- bytes of what is left
-  pub laying-on : (bytes : Bytes) (next : ℕ) {out' : Bytes} {put' : ℕ} → writeCharacters (textFrom form s at) ≡ bytes ++ writeCharacters (textFrom form s next) →
+  pub laying-on : (bytes : Bytes) (next : ℕ) {out' : Bytes} {put' : ℕ}
+      → writeCharacters (textFrom form s at) ≡ bytes ++ writeCharacters (textFrom form s next) →
       Stored bytes put out out' put' → Laying form s out₀ out' put' next
   laying-on bytes next e r =
       record {
@@ -77,7 +80,8 @@ module _ {form : ℕ} {s out₀ out : Bytes} {put at : ℕ} (l : Laying form s o
       }
 
   -- one character of it
-  pub laying-more : (c next : ℕ) {out' : Bytes} {put' : ℕ} → textFrom form s at ≡ c ∷ textFrom form s next → Stored (writeCharacter c) put out out' put' → Laying form s out₀ out' put' next
+  pub laying-more : (c next : ℕ) {out' : Bytes} {put' : ℕ} → textFrom form s at ≡ c ∷ textFrom form s next
+      → Stored (writeCharacter c) put out out' put' → Laying form s out₀ out' put' next
   unfolding writeCharacters
   laying-more c next e r = laying-on (writeCharacter c) next (ap writeCharacters e) r
 
@@ -96,7 +100,10 @@ module _ {s out₀ : Bytes} {at i : ℕ} {out : Bytes} (k : Copied s out₀ at i
   pub copied-more : i < length s → Copied s out₀ at (i + 1) (set out (at + i) (getD s i 0))
   copied-more h =
       let place : at + i ≡ at + length (take i s) = omega (arith, length-take-le i s (omega arith)) in
-      record { is = stores-on out₀ at (take i s) (getD s i 0 ∷ []) (k .is) refl place ∙ ap (sets out₀ at) (sym (take-suc s i 0 h) ∙ ap (λ n. take n s) (sym (add-one i))) }
+      record {
+        is = stores-on out₀ at (take i s) (getD s i 0 ∷ []) (k .is) refl place
+            ∙ ap (sets out₀ at) (sym (take-suc s i 0 h) ∙ ap (λ n. take n s) (sym (add-one i)));
+      }
 
   -- all of them, or as many as there was room for
   pub copied-all : i ≡ min (length s) (length out₀ - at) → Stored s at out₀ out (at + length s)

@@ -42,6 +42,7 @@ unescape-token (c ∷ d ∷ s) u h = go (eqb c (code "~")) h (unescape-token s) 
   where
     go : (escaped : Bool) → (if escaped then (tilde d >>= λ e. unescape false s >>= λ t. ok (e ∷ t)) else (unescape false (d ∷ s) >>= λ t. ok (c ∷ t))) ≡ ok u →
         ((u : Text) → unescape false s ≡ ok u → unescapeToken s ≡ u) → ((u : Text) → unescape false (d ∷ s) ≡ ok u → unescapeToken (d ∷ s) ≡ u) →
-        (if escaped && eqb d (code "0") then code "~" ∷ unescapeToken s else if escaped && eqb d (code "1") then code "/" ∷ unescapeToken s else c ∷ unescapeToken (d ∷ s)) ≡ u
+        (if escaped && eqb d (code "0") then code "~" ∷ unescapeToken s else if escaped && eqb d (code "1")
+        then code "/" ∷ unescapeToken s else c ∷ unescapeToken (d ∷ s)) ≡ u
     go true h ih it = unescaped-tilde d (unescape false s) (unescapeToken s) (c ∷ unescapeToken (d ∷ s)) u ih h
     go false h ih it = unescaped-more c (unescape false (d ∷ s)) (unescapeToken (d ∷ s)) u it h

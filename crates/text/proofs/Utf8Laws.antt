@@ -70,7 +70,13 @@ module _ (s : Bytes) (at : ℕ) (h : at < length s) where
         bytes =
             raw (a * 64 + (b - 0x80)) (omega arith) (λ q. omega arith) (λ q. omega arith)
             ∙ utf8-two a (b - 0x80) (omega arith) (omega arith) (omega arith)
-            ∙ rw (first, second, part-cons s at (at + 1 + 1) h (omega arith), part-cons s (at + 1) (at + 1 + 1) (j .here) (omega arith), part-empty s (at + 1 + 1));
+            ∙ rw (
+              first,
+              second,
+              part-cons s at (at + 1 + 1) h (omega arith),
+              part-cons s (at + 1) (at + 1 + 1) (j .here) (omega arith),
+              part-empty s (at + 1 + 1),
+            );
         bound = omega arith;
       })
 
@@ -93,12 +99,21 @@ module _ (s : Bytes) (at : ℕ) (h : at < length s) where
         bytes =
             raw ((a * 64 + (b - 0x80)) * 64 + (d - 0x80)) (omega arith) (λ q. omega arith) (λ q. omega arith)
             ∙ utf8-three a (b - 0x80) (d - 0x80) (omega arith) (omega arith) (omega arith) (omega arith)
-            ∙ rw (first, second, third, part-cons s at (at + 1 + 1 + 1) h (omega arith), part-cons s (at + 1) (at + 1 + 1 + 1) (j .here) (omega arith), part-cons s (at + 1 + 1) (at + 1 + 1 + 1) (k .here) (omega arith), part-empty s (at + 1 + 1 + 1));
+            ∙ rw (
+              first,
+              second,
+              third,
+              part-cons s at (at + 1 + 1 + 1) h (omega arith),
+              part-cons s (at + 1) (at + 1 + 1 + 1) (j .here) (omega arith),
+              part-cons s (at + 1 + 1) (at + 1 + 1 + 1) (k .here) (omega arith),
+              part-empty s (at + 1 + 1 + 1),
+            );
         bound = omega arith;
       })
 
   -- the last two keep out what has a shorter form, and what lies past 10FFFF
-  four : (low high : ℕ) → (0x80 ≤ low) × (high ≤ 0xBF) × (0xF0 ≤ byte s at) × (16 ≤ (byte s at - 0xF0) * 64 + (low - 0x80)) × ((byte s at - 0xF0) * 64 + (high - 0x80) < 0x110) →
+  four : (low high : ℕ)
+      → (0x80 ≤ low) × (high ≤ 0xBF) × (0xF0 ≤ byte s at) × (16 ≤ (byte s at - 0xF0) * 64 + (low - 0x80)) × ((byte s at - 0xF0) * 64 + (high - 0x80) < 0x110) →
       Always (Same s at) (tail 3 s (at + 1) low high (byte s at - 0xF0))
   unfolding tail
   four low high l =
@@ -119,7 +134,17 @@ module _ (s : Bytes) (at : ℕ) (h : at < length s) where
         bytes =
             raw (((a * 64 + (b - 0x80)) * 64 + (d - 0x80)) * 64 + (g - 0x80)) (omega arith) (λ q. omega arith) (λ q. omega arith)
             ∙ utf8-four a (b - 0x80) (d - 0x80) (g - 0x80) (omega arith) (omega arith) (omega arith) (omega arith) (omega arith)
-            ∙ rw (first, second, third, fourth, part-cons s at (at + 1 + 1 + 1 + 1) h (omega arith), part-cons s (at + 1) (at + 1 + 1 + 1 + 1) (j .here) (omega arith), part-cons s (at + 1 + 1) (at + 1 + 1 + 1 + 1) (k .here) (omega arith), part-cons s (at + 1 + 1 + 1) (at + 1 + 1 + 1 + 1) (m .here) (omega arith), part-empty s (at + 1 + 1 + 1 + 1));
+            ∙ rw (
+              first,
+              second,
+              third,
+              fourth,
+              part-cons s at (at + 1 + 1 + 1 + 1) h (omega arith),
+              part-cons s (at + 1) (at + 1 + 1 + 1 + 1) (j .here) (omega arith),
+              part-cons s (at + 1 + 1) (at + 1 + 1 + 1 + 1) (k .here) (omega arith),
+              part-cons s (at + 1 + 1 + 1) (at + 1 + 1 + 1 + 1) (m .here) (omega arith),
+              part-empty s (at + 1 + 1 + 1 + 1),
+            );
         bound = omega arith;
       })
 
@@ -146,6 +171,7 @@ module _ (s : Bytes) (at : ℕ) (h : at < length s) where
       let w = within-bounds 0x20 0x7F b t in
       gives (b, at + 1)
       (record {
-        bytes = raw b (omega arith) (eqb-false b (code "\"") q) (eqb-false b (code "\\") k) ∙ rw (lt-ltb b 0x80 (omega arith), part-cons s at (at + 1) h (omega arith), part-empty s (at + 1));
+        bytes = raw b (omega arith) (eqb-false b (code "\"") q) (eqb-false b (code "\\") k)
+            ∙ rw (lt-ltb b 0x80 (omega arith), part-cons s at (at + 1) h (omega arith), part-empty s (at + 1));
         bound = omega arith;
       })) (λ _. multibyte-same))

@@ -109,7 +109,8 @@ fn put_character(out: &mut [u8], at: usize, c: u32) -> usize
 
 // A part's text at the front of the output, character by character.
 fn write_letters(form: u64, s: &[u8], out: &mut [u8]) -> usize
-    ensures { λ r. ⌜ LaidDown (writeCharacters (textOf form (now (s .entry)))) (now (out .entry)) (now (out .exit)) r ⌝ }
+    ensures { λ r. ⌜ LaidDown (writeCharacters (textOf form (now (s .entry))))
+        (now (out .entry)) (now (out .exit)) r ⌝ }
 {
     let mut put = 0;
     let mut at = 0;

@@ -28,7 +28,8 @@ ghost use Rattle.spec.specs.Pointer.{isDash};
 ghost use Rattle.tape.specs.Lent.{lent, before};
 ghost use Rattle.text.specs.Decode.{textOf};
 ghost use Rattle.table.specs.Meaning.{partOf};
-ghost use Rattle.undo.specs.Mend.{NoteRemovedIs, NoteReplacedIs, MendIs, MendBelowIs, MendChildIs, MendElementIs, MendMemberIs};
+ghost use Rattle.undo.specs.Mend.{NoteRemovedIs, NoteReplacedIs, MendIs, MendBelowIs, MendChildIs, MendElementIs};
+ghost use Rattle.undo.specs.Mend.{MendMemberIs};
 
 // "A removed one is added": the value at `path` as it stands.
 pub fn note_removed<'a>(
@@ -92,7 +93,8 @@ fn mend_element<'a>(
     name: Name,
     work: &mut [u8],
 ) -> Log
-    ensures { λ r. ⌜ MendElementIs (before texts nodes) log path next parent name (now (work .entry)) (now (work .exit)) r ⌝ }
+    ensures { λ r. ⌜ MendElementIs (before texts nodes) log path next parent name
+        (now (work .entry)) (now (work .exit)) r ⌝ }
 {
     if is_dash(part(texts, name.text)) {
         let target = Target::Appended(shortened(path, next), arity(nodes, parent));
@@ -112,7 +114,8 @@ fn mend_member<'a>(
     name: Name,
     work: &mut [u8],
 ) -> Log
-    ensures { λ r. ⌜ MendMemberIs (before texts nodes) log path next parent name (now (work .entry)) (now (work .exit)) r ⌝ }
+    ensures { λ r. ⌜ MendMemberIs (before texts nodes) log path next parent name
+        (now (work .entry)) (now (work .exit)) r ⌝ }
 {
     let Child::At(row) = step(texts, nodes, parent, name) else {
         return note(texts, nodes, log, Action::Remove, Target::At(path), work);
@@ -138,7 +141,8 @@ fn mend_child<'a>(
     name: Name,
     work: &mut [u8],
 ) -> Log
-    ensures { λ r. ⌜ MendChildIs (before texts nodes) log path next parent name (now (work .entry)) (now (work .exit)) r ⌝ }
+    ensures { λ r. ⌜ MendChildIs (before texts nodes) log path next parent name
+        (now (work .entry)) (now (work .exit)) r ⌝ }
 {
     if kind(nodes, parent) == layout::ARRAY {
         return mend_element(texts, nodes, log, path, next, parent, name, work);

@@ -74,7 +74,8 @@ fn move_apart<'a>(
     log: Log,
     work: &mut [u8],
 ) -> Stepped
-    ensures { λ r. ⌜ MoveApartIs (before texts nodes) (now (nodes .exit)) (now (work .entry)) (now (work .exit)) used from path row log r ⌝ }
+    ensures { λ r. ⌜ MoveApartIs (before texts nodes) (now (nodes .exit)) (now (work .entry)) (now (work .exit))
+        used from path row log r ⌝ }
 {
     set_aside(nodes, row);
     let removed = change_at(texts, nodes, used, from, Change::Remove);
@@ -120,7 +121,8 @@ fn move_from<'a>(
     log: Log,
     work: &mut [u8],
 ) -> Stepped
-    ensures { λ r. ⌜ MoveFromIs (before texts nodes) (now (nodes .exit)) (now (work .entry)) (now (work .exit)) used row from path at log r ⌝ }
+    ensures { λ r. ⌜ MoveFromIs (before texts nodes) (now (nodes .exit)) (now (work .entry)) (now (work .exit)) used
+        row from path at log r ⌝ }
 {
     if holds(texts, nodes, path, from) {
         let replaced = note_replaced(texts, nodes, log, path, work);
@@ -142,7 +144,8 @@ fn move_below<'a>(
     log: Log,
     work: &mut [u8],
 ) -> Stepped
-    ensures { λ r. ⌜ MoveBelowIs (before texts nodes) (now (nodes .exit)) (now (work .entry)) (now (work .exit)) used row from path log r ⌝ }
+    ensures { λ r. ⌜ MoveBelowIs (before texts nodes) (now (nodes .exit)) (now (work .entry)) (now (work .exit))
+        used row from path log r ⌝ }
 {
     let Reached::At(at) = walk(texts, nodes, layout::DOCUMENT, from) else {
         return plain(texts, nodes, index, used, row, log);
@@ -161,7 +164,8 @@ pub fn move_step<'a>(
     log: Log,
     work: &mut [u8],
 ) -> Stepped
-    ensures { λ r. ⌜ MoveStepIs (before texts nodes) (now (nodes .exit)) (now (work .entry)) (now (work .exit)) used row path log r ⌝ }
+    ensures { λ r. ⌜ MoveStepIs (before texts nodes) (now (nodes .exit)) (now (work .entry))
+        (now (work .exit)) used row path log r ⌝ }
 {
     let Spelled::As(from) = string_member(texts, nodes, row, b"from") else {
         return plain(texts, nodes, index, used, row, log);

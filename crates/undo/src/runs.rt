@@ -28,7 +28,8 @@ fn elements<'a>(
     log: Log,
     work: &mut [u8],
 ) -> Logged
-    ensures { λ r. ⌜ ElementsLoggedIs (before texts nodes) (now (nodes .exit)) (now (work .entry)) (now (work .exit)) used start end log r ⌝ }
+    ensures { λ r. ⌜ ElementsLoggedIs (before texts nodes) (now (nodes .exit)) (now (work .entry))
+        (now (work .exit)) used start end log r ⌝ }
 {
     let mut rows = used;
     let mut row = start;
@@ -73,7 +74,8 @@ pub fn run<'a>(
     log: Log,
     work: &mut [u8],
 ) -> Logged
-    ensures { λ r. ⌜ LoggedIs (before texts nodes) (now (nodes .exit)) (now (work .entry)) (now (work .exit)) used log r ⌝ }
+    ensures { λ r. ⌜ LoggedIs (before texts nodes) (now (nodes .exit)) (now (work .entry))
+        (now (work .exit)) used log r ⌝ }
 {
     let end = end_of(nodes, layout::PATCH);
     elements(texts, nodes, index, used, layout::PATCH + 1, end, log, work)

@@ -39,7 +39,8 @@ fn write_both<'a>(
     log: Log,
     work: &[u8],
 ) -> UndoAnswer
-    ensures { λ r. ⌜ WriteBothIs (before texts nodes) (record { document = now (output .entry); undo = now (undo .entry) })
+    ensures { λ r. ⌜ WriteBothIs (before texts nodes)
+        (record { document = now (output .entry); undo = now (undo .entry) })
         (record { document = now (output .exit); undo = now (undo .exit) }) (now (work .entry)) log r ⌝ }
 {
     if !fits(
@@ -77,7 +78,8 @@ fn run_patch<'a>(
     work: &mut [u8],
     used: usize,
 ) -> UndoAnswer
-    ensures { λ r. ⌜ RunPatchIs (before texts nodes) (record { document = now (output .entry); undo = now (undo .entry) })
+    ensures { λ r. ⌜ RunPatchIs (before texts nodes)
+        (record { document = now (output .entry); undo = now (undo .entry) })
         (record { document = now (output .exit); undo = now (undo .exit) }) (now (work .entry)) used r ⌝ }
 {
     let shape = shape_of(texts, nodes, layout::PATCH);

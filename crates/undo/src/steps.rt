@@ -50,7 +50,8 @@ pub fn step<'a>(
     log: Log,
     work: &mut [u8],
 ) -> Stepped
-    ensures { λ r. ⌜ StepIs (before texts nodes) (now (nodes .exit)) (now (work .entry)) (now (work .exit)) used row log r ⌝ }
+    ensures { λ r. ⌜ StepIs (before texts nodes) (now (nodes .exit)) (now (work .entry))
+        (now (work .exit)) used row log r ⌝ }
 {
     let Spelled::As(path) = string_member(texts, nodes, row, b"path") else {
         return plain(texts, nodes, index, used, row, log);

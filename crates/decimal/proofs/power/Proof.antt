@@ -21,4 +21,5 @@ power-spec =
     (λ c. more-fits (c .before .args .exponent) (c .before .args .fraction) (c .before .args .dropped) (c .before .fits .exponent) (omega arith))
     -- returns-2
     (λ c.
-    rw (ne-eqb _ _ (c .if1 .left)) (more (c .before .args .exponent) (c .before .args .fraction) (c .before .args .dropped) (c .before .fits .exponent) (omega arith))))
+    rw (ne-eqb _ _ (c .if1 .left))
+    (more (c .before .args .exponent) (c .before .args .fraction) (c .before .args .dropped) (c .before .fits .exponent) (omega arith))))

@@ -13,7 +13,9 @@ lend-spec =
     -- slice-relend-prefix-apply-within
     (λ c. search needs)
     -- slice-aggregate-apply-within
-    (λ c. sym (length-take-le (c .before .before .before .before .before .before .args .room) (c .before .before .before .before .before .before .args .output .now) (omega arith)))
+    (λ c.
+    let at-args = c .before .before .before .before .before .before in
+    sym (length-take-le (at-args .args .room) (at-args .args .output .now) (omega arith)))
     -- apply-within-requires
     (λ c κs. search needs)
     -- same-length

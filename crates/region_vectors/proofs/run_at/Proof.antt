@@ -29,4 +29,7 @@ run-at-spec =
     -- run-case-requires
     (λ c κs. search needs)
     -- returns-2
-    (λ c. standing _ _ (c .before .before .before .before .before .before .before .c .given .1) (c .before .before .before .before .before .before .before .before .before .case-at .ensures) .next))
+    (λ c.
+    let at-c = c .before .before .before .before .before .before .before in
+    let at-case-at = at-c .before .before in
+    standing _ _ (at-c .c .given .1) (at-case-at .case-at .ensures) .next))

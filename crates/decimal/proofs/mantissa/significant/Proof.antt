@@ -4,7 +4,8 @@ use native.Mathlib.Omega.{arith}
 use borrow.Author.Tests.{not-true, not-false}
 use lib.ListN.{length, drop}
 use Rattle.spec.specs.Worth.{mantissa}
-use Rattle.decimal.proofs.MantissaLaws.{told, mantissa-ends, mantissa-digit, mantissa-other, mantissa-past, Seen, seen-none, seen-zero, seen-digit, seen-all}
+use Rattle.decimal.proofs.MantissaLaws.{told, mantissa-ends, mantissa-digit, mantissa-other, mantissa-past, Seen, seen-none, seen-zero, seen-digit}
+use Rattle.decimal.proofs.MantissaLaws.{seen-all}
 use Rattle.decimal.proofs.mantissa.significant.Statement.{statement}
 use Rattle.decimal.proofs.mantissa.significant.Tie as tie
 

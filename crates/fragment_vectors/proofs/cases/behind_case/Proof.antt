@@ -32,4 +32,5 @@ behind-case-spec =
     -- add-t8
     (λ c. let t = c .before .before .before .before in omega (arith, met _ _ (t .before .i .given .1) (t .before .before .before .find .ensures)))
     -- returns-3
-    (λ c. let t = c .before .before .before .before in let h = met _ _ (t .before .i .given .1) (t .before .before .before .find .ensures) in (omega arith, omega arith)))
+    (λ c. let t = c .before .before .before .before in
+    let h = met _ _ (t .before .i .given .1) (t .before .before .before .find .ensures) in (omega arith, omega arith)))

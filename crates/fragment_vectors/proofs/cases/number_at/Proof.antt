@@ -34,4 +34,6 @@ number-at-spec =
     -- add-t9
     (λ c. let t = c .before .before .before .before .before in omega (arith, met _ _ (t .before .i .given .1) (t .before .before .before .find .ensures)))
     -- returns-3
-    (λ c. let t = c .before .before .before .before .before in let h = met _ _ (t .before .i .given .1) (t .before .before .before .find .ensures) in (omega arith, omega arith)))
+    (λ c.
+    let at-before = c .before .before .before .before in
+    let t = at-before .before in let h = met _ _ (t .before .i .given .1) (t .before .before .before .find .ensures) in (omega arith, omega arith)))

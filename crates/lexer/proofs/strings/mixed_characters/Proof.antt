@@ -64,8 +64,11 @@ mixed-characters-spec =
     (λ c.
     let taken = c .before in
     let read = taken .before .before in
-    omega
-    (arith, character-ok-past _ _ _ (scalar-ok _ _ (read .character .ensures) (taken .read .given .1)), verbatim-past (read .before .before .before .verbatim-end .ensures .passed)))
+    omega (
+      arith,
+      character-ok-past _ _ _ (scalar-ok _ _ (read .character .ensures) (taken .read .given .1)),
+      verbatim-past (read .before .before .before .verbatim-end .ensures .passed),
+    ))
     (λ c.
     let taken = c .before in
     let read = taken .before .before in

@@ -49,7 +49,9 @@ passed-end-spec =
     let start = loop .before .before .before in
     let e = step .next-state .ensures in (
       omega (arith, look-small (start .args .columns .now) (start .args .steps .now) (loop .loop .state) (byte (start .args .s .now) (loop .loop .at))),
-      rw (c .whole-end .ensures) (turn (loop .loop .inv .1) (start .pre) (omega (arith, step .before .shared-slice-known2 .given (loop .loop .at))) e (omega (arith, loop .before .limit .ensures))),
+      rw (c .whole-end .ensures)
+          (turn (loop .loop .inv .1) (start .pre)
+          (omega (arith, step .before .shared-slice-known2 .given (loop .loop .at))) e (omega (arith, loop .before .limit .ensures))),
     ))
     -- returns-2
     (λ c. past (c .before .loop .inv .1) (c .loop-test .left)))

@@ -27,7 +27,8 @@ move-below-spec =
     let at-set-aside = at-move-aside .before .before .before in
     let at-row = at-set-aside .before .before .before in
     let at-walk = at-row .before .before in
-    value-moved _ (at-walk .walk .ensures) _ (at-row .row .given .1) (at-set-aside .set-aside .ensures) (at-move-aside .move-aside .ensures) (c .at-path .ensures))
+    value-moved _ (at-walk .walk .ensures) _ (at-row .row .given .1)
+    (at-set-aside .set-aside .ensures) (at-move-aside .move-aside .ensures) (c .at-path .ensures))
     -- enum-known-number
     (λ c. search needs)
     -- at-from-requires

@@ -50,5 +50,12 @@ digits-spec =
     (λ c. scalar-less _ _ _ (c .before .before .before .before .before .before .letter .ensures) _ _ (c .before .before .before .before .c .given .1))
     -- loop-again
     (λ c.
-    let read = scalar-text _ _ _ (c .before .before .before .before .before .before .letter .ensures) _ _ (c .before .before .before .before .c .given .1) in
-    (rw (c .with-digit .ensures) (capped-limit _), digits-next _ read (c .before .before .if1 .left) (c .before .if2 .left) (c .with-digit .ensures) (c .before .before .before .before .before .before .before .loop .inv .1))))
+    let at-if2 = c .before in
+    let at-if1 = at-if2 .before in
+    let at-c = at-if1 .before .before in
+    let at-letter = at-c .before .before in
+    let at-loop = at-letter .before in
+    let read = scalar-text _ _ _ (at-letter .letter .ensures) _ _ (at-c .c .given .1) in (
+      rw (c .with-digit .ensures) (capped-limit _),
+      digits-next _ read (at-if1 .if1 .left) (at-if2 .if2 .left) (c .with-digit .ensures) (at-loop .loop .inv .1),
+    )))

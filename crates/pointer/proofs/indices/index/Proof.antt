@@ -24,18 +24,38 @@ index-spec =
     -- if-last-requires
     (λ c κs. search auto)
     -- returns-2
-    (λ c. c .if-last .ensures ∙ sym (ap indexOf (scalar-text _ _ _ (c .before .before .before .before .before .letter .ensures) _ _ (c .before .before .before .c .given .1)) ∙ index-dash _ _ (c .before .if1 .taken)))
+    (λ c.
+    let at-if1 = c .before in
+    let at-c = at-if1 .before .before in
+    let at-letter = at-c .before .before in
+    c .if-last .ensures ∙ sym (ap indexOf (scalar-text _ _ _ (at-letter .letter .ensures) _ _ (at-c .c .given .1)) ∙ index-dash _ _ (at-if1 .if1 .taken)))
     -- if-last-requires-2
     (λ c κs. search auto)
     -- returns-3
-    (λ c. c .if-last2 .ensures ∙ sym (ap indexOf (scalar-text _ _ _ (c .before .before .before .before .before .before .letter .ensures) _ _ (c .before .before .before .before .c .given .1)) ∙ index-zero _ _ (c .before .if2 .taken)))
+    (λ c.
+    let at-if2 = c .before in
+    let at-c = at-if2 .before .before .before in
+    let at-letter = at-c .before .before in
+    c .if-last2 .ensures ∙ sym (ap indexOf (scalar-text _ _ _ (at-letter .letter .ensures) _ _ (at-c .c .given .1)) ∙ index-zero _ _ (at-if2 .if2 .taken)))
     -- returns-4
-    (λ c. sym (ap indexOf (scalar-text _ _ _ (c .before .before .before .before .before .before .letter .ensures) _ _ (c .before .before .before .before .c .given .1)) ∙ index-below _ _ (c .before .before .if1 .left) (c .if3 .taken)))
+    (λ c.
+    let at-if1 = c .before .before in
+    let at-c = at-if1 .before .before in
+    let at-letter = at-c .before .before in
+    sym (ap indexOf (scalar-text _ _ _ (at-letter .letter .ensures) _ _ (at-c .c .given .1)) ∙ index-below _ _ (at-if1 .if1 .left) (c .if3 .taken)))
     -- returns-5
-    (λ c. sym (ap indexOf (scalar-text _ _ _ (c .before .before .before .before .before .before .before .letter .ensures) _ _ (c .before .before .before .before .before .c .given .1)) ∙ index-above _ _ (c .if4 .taken)))
+    (λ c.
+    let at-c = c .before .before .before .before .before in
+    let at-letter = at-c .before .before in
+    sym (ap indexOf (scalar-text _ _ _ (at-letter .letter .ensures) _ _ (at-c .c .given .1)) ∙ index-above _ _ (c .if4 .taken)))
     -- cast-digits
     (λ c. search auto)
     -- digits-requires
     (λ c κs. search auto)
     -- returns-6
-    (λ c. c .digits .ensures ∙ sym (ap indexOf (scalar-text _ _ _ (c .before .before .before .before .before .before .before .before .letter .ensures) _ _ (c .before .before .before .before .before .before .c .given .1)) ∙ index-digits _ _ (omega arith) (c .before .if4 .left))))
+    (λ c.
+    let at-if4 = c .before in
+    let at-c = at-if4 .before .before .before .before .before in
+    let at-letter = at-c .before .before in
+    c .digits .ensures
+    ∙ sym (ap indexOf (scalar-text _ _ _ (at-letter .letter .ensures) _ _ (at-c .c .given .1)) ∙ index-digits _ _ (omega arith) (at-if4 .if4 .left))))

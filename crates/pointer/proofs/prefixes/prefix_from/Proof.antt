@@ -34,7 +34,13 @@ prefix-from-spec =
     -- same-token-requires
     (λ c κs. search auto)
     -- returns
-    (λ c. c .before .before .before .before .loop .inv _ (prefix-differs _ _ _ _ _ _ (c .before .before .before .token .ensures) (c .before .before .token2 .ensures) _ (c .before .same-token .ensures) (not-true _ (c .if1 .taken))))
+    (λ c.
+    let at-same-token = c .before in
+    let at-token2 = at-same-token .before in
+    let at-token = at-token2 .before in
+    let at-loop = at-token .before in
+    at-loop .loop .inv _
+    (prefix-differs _ _ _ _ _ _ (at-token .token .ensures) (at-token2 .token2 .ensures) _ (at-same-token .same-token .ensures) (not-true _ (c .if1 .taken))))
     -- enum-known-s
     (λ c. search auto)
     -- enum-told
@@ -42,14 +48,44 @@ prefix-from-spec =
     -- is-next-requires
     (λ c κs. search auto)
     -- returns-2
-    (λ c. c .before .before .before .before .before .before .before .loop .inv _ (prefix-behind _ _ _ _ _ _ (c .before .before .before .before .before .before .token .ensures) (c .before .before .before .before .before .token2 .ensures) _ (c .before .before .before .before .same-token .ensures) _ (not-false _ (c .before .before .before .if1 .left)) (rw (c .is-next .ensures) (last-behind _ _ _ _ _ (c .before .enum-told .given .1)))))
+    (λ c.
+    let at-enum-told = c .before in
+    let at-if1 = at-enum-told .before .before in
+    let at-same-token = at-if1 .before in
+    let at-token2 = at-same-token .before in
+    let at-token = at-token2 .before in
+    let at-loop = at-token .before in
+    at-loop .loop .inv _
+    (prefix-behind _ _ _ _ _ _ (at-token .token .ensures) (at-token2 .token2 .ensures) _ (at-same-token .same-token .ensures) _
+    (not-false _ (at-if1 .if1 .left)) (rw (c .is-next .ensures) (last-behind _ _ _ _ _ (at-enum-told .enum-told .given .1)))))
     -- enum-known-t
     (λ c. search auto)
     -- enum-told-2
     (λ c. search auto)
     -- returns-3
-    (λ c. c .before .before .before .before .before .before .before .before .before .loop .inv _ (prefix-behind _ _ _ _ _ _ (c .before .before .before .before .before .before .before .before .token .ensures) (c .before .before .before .before .before .before .before .token2 .ensures) _ (c .before .before .before .before .before .before .same-token .ensures) _ (not-false _ (c .before .before .before .before .before .if1 .left)) (none-behind _ _ _ _ _ (c .enum-told2 .given .1))))
+    (λ c.
+    let at-if1 = c .before .before .before .before .before in
+    let at-same-token = at-if1 .before in
+    let at-token2 = at-same-token .before in
+    let at-token = at-token2 .before in
+    let at-loop = at-token .before in
+    at-loop .loop .inv _
+    (prefix-behind _ _ _ _ _ _ (at-token .token .ensures) (at-token2 .token2 .ensures) _
+    (at-same-token .same-token .ensures) _ (not-false _ (at-if1 .if1 .left)) (none-behind _ _ _ _ _ (c .enum-told2 .given .1))))
     -- loop-less
-    (λ c. omega (arith, next-order _ _ _ (c .before .before .before .before .before .before .before .before .before .token .ensures) _ _ (c .before .before .before .before .s .given .1)))
+    (λ c.
+    let at-s = c .before .before .before .before in
+    let at-token = at-s .before .before .before .before .before in
+    omega (arith, next-order _ _ _ (at-token .token .ensures) _ _ (at-s .s .given .1)))
     -- loop-again
-    (λ c. λ r p. c .before .before .before .before .before .before .before .before .before .before .loop .inv _ (prefix-behind _ _ _ _ _ _ (c .before .before .before .before .before .before .before .before .before .token .ensures) (c .before .before .before .before .before .before .before .before .token2 .ensures) _ (c .before .before .before .before .before .before .before .same-token .ensures) _ (not-false _ (c .before .before .before .before .before .before .if1 .left)) (both-behind _ _ _ _ _ _ _ _ _ (c .before .before .before .before .s .given .1) (c .before .t .given .1) p))))
+    (λ c.
+    let at-t = c .before in
+    let at-s = at-t .before .before .before in
+    let at-if1 = at-s .before .before in
+    let at-same-token = at-if1 .before in
+    let at-token2 = at-same-token .before in
+    let at-token = at-token2 .before in
+    let at-loop = at-token .before in
+    λ r p. at-loop .loop .inv _
+    (prefix-behind _ _ _ _ _ _ (at-token .token .ensures) (at-token2 .token2 .ensures) _ (at-same-token .same-token .ensures) _
+    (not-false _ (at-if1 .if1 .left)) (both-behind _ _ _ _ _ _ _ _ _ (at-s .s .given .1) (at-t .t .given .1) p))))

@@ -30,11 +30,20 @@ proper-prefix-spec =
     -- enum-told-4
     (λ c. search auto)
     -- returns
-    (λ c. rw (c .is-at .ensures) (root-prefix _ _ _ _ (c .before .before .before .before .first .ensures) (c .before .first2 .ensures) (c .before .before .enum-told .given .1)))
+    (λ c.
+    let at-first2 = c .before in
+    let at-enum-told = at-first2 .before in
+    let at-first = at-enum-told .before .before in
+    rw (c .is-at .ensures) (root-prefix _ _ _ _ (at-first .first .ensures) (at-first2 .first2 .ensures) (at-enum-told .enum-told .given .1)))
     -- returns-2
     (λ c. of-root _ _ (c .before .before .first3 .ensures) _ (c .enum-told2 .given .1))
     -- returns-3
-    (λ c. prefix-at _ _ _ _ (c .before .before .before .before .before .before .before .before .first .ensures) (c .before .before .before .before .first3 .ensures) _ _ _ (c .before .before .before .before .before .before .i .given .1) (c .before .before .j .given .1) (c .prefix-from .ensures))
+    (λ c.
+    let at-j = c .before .before in
+    let at-first3 = at-j .before .before in
+    let at-i = at-first3 .before .before in
+    let at-first = at-i .before .before in
+    prefix-at _ _ _ _ (at-first .first .ensures) (at-first3 .first3 .ensures) _ _ _ (at-i .i .given .1) (at-j .j .given .1) (c .prefix-from .ensures))
     -- returns-4
     (λ c. of-malformed _ _ (c .before .before .first3 .ensures) _ _ (c .enum-told3 .given .1))
     -- returns-5

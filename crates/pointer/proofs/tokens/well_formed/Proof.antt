@@ -49,31 +49,59 @@ well-formed-spec =
     (λ c. search auto)
     -- returns-2
     (λ c.
-    let tilde = scalar-ok _ _ (c .before .before .before .before .before .before .before .character-in .ensures) (c .before .before .before .before .before .c .given .1) in
-    let ended = character-refused _ (c .before .before .character-in2 .ensures) (c .enum-told2 .given .1) in
-    sym (tilde-last _ _ _ _ tilde (omega arith) ended) ∙ c .before .before .before .before .before .before .before .before .loop .inv)
+    let at-character-in2 = c .before .before in
+    let at-c = at-character-in2 .before .before .before in
+    let at-character-in = at-c .before .before in
+    let at-loop = at-character-in .before in
+    let tilde = scalar-ok _ _ (at-character-in .character-in .ensures) (at-c .c .given .1) in
+    let ended = character-refused _ (at-character-in2 .character-in2 .ensures) (c .enum-told2 .given .1) in
+    sym (tilde-last _ _ _ _ tilde (omega arith) ended) ∙ at-loop .loop .inv)
     -- loop-less-2
     (λ c.
-    let tilde = scalar-ok _ _ (c .before .before .before .before .before .before .before .before .before .character-in .ensures) (c .before .before .before .before .before .before .before .c .given .1) in
-    let digit = scalar-ok _ _ (c .before .before .before .before .character-in2 .ensures) (c .before .before .d .given .1) in
+    let at-d = c .before .before in
+    let at-character-in2 = at-d .before .before in
+    let at-c = at-character-in2 .before .before .before in
+    let at-character-in = at-c .before .before in
+    let tilde = scalar-ok _ _ (at-character-in .character-in .ensures) (at-c .c .given .1) in
+    let digit = scalar-ok _ _ (at-character-in2 .character-in2 .ensures) (at-d .d .given .1) in
     omega (arith, character-less _ _ tilde, character-less _ _ digit))
     -- loop-again-2
     (λ c.
-    let tilde = scalar-ok _ _ (c .before .before .before .before .before .before .before .before .before .character-in .ensures) (c .before .before .before .before .before .before .before .c .given .1) in
-    let digit = scalar-ok _ _ (c .before .before .before .before .character-in2 .ensures) (c .before .before .d .given .1) in
-    sym (tilde-escapes _ _ _ _ tilde _ _ digit (omega arith) (zero (c .if2 .taken))) ∙ c .before .before .before .before .before .before .before .before .before .before .loop .inv)
+    let at-d = c .before .before in
+    let at-character-in2 = at-d .before .before in
+    let at-c = at-character-in2 .before .before .before in
+    let at-character-in = at-c .before .before in
+    let at-loop = at-character-in .before in
+    let tilde = scalar-ok _ _ (at-character-in .character-in .ensures) (at-c .c .given .1) in
+    let digit = scalar-ok _ _ (at-character-in2 .character-in2 .ensures) (at-d .d .given .1) in
+    sym (tilde-escapes _ _ _ _ tilde _ _ digit (omega arith) (zero (c .if2 .taken))) ∙ at-loop .loop .inv)
     -- returns-3
     (λ c.
-    let tilde = scalar-ok _ _ (c .before .before .before .before .before .before .before .before .before .before .character-in .ensures) (c .before .before .before .before .before .before .before .before .c .given .1) in
-    let digit = scalar-ok _ _ (c .before .before .before .before .before .character-in2 .ensures) (c .before .before .before .d .given .1) in
-    sym (tilde-other _ _ _ _ tilde _ _ digit (omega arith) (c .before .if2 .left) (c .if3 .taken)) ∙ c .before .before .before .before .before .before .before .before .before .before .before .loop .inv)
+    let at-if2 = c .before in
+    let at-d = at-if2 .before .before in
+    let at-character-in2 = at-d .before .before in
+    let at-c = at-character-in2 .before .before .before in
+    let at-character-in = at-c .before .before in
+    let at-loop = at-character-in .before in
+    let tilde = scalar-ok _ _ (at-character-in .character-in .ensures) (at-c .c .given .1) in
+    let digit = scalar-ok _ _ (at-character-in2 .character-in2 .ensures) (at-d .d .given .1) in
+    sym (tilde-other _ _ _ _ tilde _ _ digit (omega arith) (at-if2 .if2 .left) (c .if3 .taken)) ∙ at-loop .loop .inv)
     -- loop-less-3
     (λ c.
-    let tilde = scalar-ok _ _ (c .before .before .before .before .before .before .before .before .before .before .character-in .ensures) (c .before .before .before .before .before .before .before .before .c .given .1) in
-    let digit = scalar-ok _ _ (c .before .before .before .before .before .character-in2 .ensures) (c .before .before .before .d .given .1) in
+    let at-d = c .before .before .before in
+    let at-character-in2 = at-d .before .before in
+    let at-c = at-character-in2 .before .before .before in
+    let at-character-in = at-c .before .before in
+    let tilde = scalar-ok _ _ (at-character-in .character-in .ensures) (at-c .c .given .1) in
+    let digit = scalar-ok _ _ (at-character-in2 .character-in2 .ensures) (at-d .d .given .1) in
     omega (arith, character-less _ _ tilde, character-less _ _ digit))
     -- loop-again-3
     (λ c.
-    let tilde = scalar-ok _ _ (c .before .before .before .before .before .before .before .before .before .before .character-in .ensures) (c .before .before .before .before .before .before .before .before .c .given .1) in
-    let digit = scalar-ok _ _ (c .before .before .before .before .before .character-in2 .ensures) (c .before .before .before .d .given .1) in
-    sym (tilde-escapes _ _ _ _ tilde _ _ digit (omega arith) (one (omega arith))) ∙ c .before .before .before .before .before .before .before .before .before .before .before .loop .inv))
+    let at-d = c .before .before .before in
+    let at-character-in2 = at-d .before .before in
+    let at-c = at-character-in2 .before .before .before in
+    let at-character-in = at-c .before .before in
+    let at-loop = at-character-in .before in
+    let tilde = scalar-ok _ _ (at-character-in .character-in .ensures) (at-c .c .given .1) in
+    let digit = scalar-ok _ _ (at-character-in2 .character-in2 .ensures) (at-d .d .given .1) in
+    sym (tilde-escapes _ _ _ _ tilde _ _ digit (omega arith) (one (omega arith))) ∙ at-loop .loop .inv))

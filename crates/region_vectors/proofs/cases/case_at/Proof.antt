@@ -51,9 +51,19 @@ case-at-spec =
     (λ c. search needs)
     -- returns-6
     (λ c.
-    let name = taken _ _ (c .before .before .before .before .before .before .before .before .before .before .before .before .before .before .before .before .before .name .given .1) (c .before .before .before .before .before .before .before .before .before .before .before .before .before .before .before .before .before .before .before .name-at .ensures) in
-    let header = measured _ _ (c .before .before .before .before .before .before .before .before .before .before .before .before .before .room .given .1) (c .before .before .before .before .before .before .before .before .before .before .before .before .before .before .before .measures-at .ensures) in
-    let document = taken _ _ (c .before .before .before .before .before .before .before .before .before .document .given .1) (c .before .before .before .before .before .before .before .before .before .before .before .bytes-at .ensures) in
-    let patch = taken _ _ (c .before .before .before .before .before .patch .given .1) (c .before .before .before .before .before .before .before .bytes-at2 .ensures) in
-    let region = taken _ _ (c .before .region .given .1) (c .before .before .before .bytes-at3 .ensures) in
+    let at-region = c .before in
+    let at-bytes-at3 = at-region .before .before in
+    let at-patch = at-bytes-at3 .before .before in
+    let at-bytes-at2 = at-patch .before .before in
+    let at-document = at-bytes-at2 .before .before in
+    let at-bytes-at = at-document .before .before in
+    let at-room = at-bytes-at .before .before in
+    let at-measures-at = at-room .before .before in
+    let at-name = at-measures-at .before .before in
+    let at-name-at = at-name .before .before in
+    let name = taken _ _ (at-name .name .given .1) (at-name-at .name-at .ensures) in
+    let header = measured _ _ (at-room .room .given .1) (at-measures-at .measures-at .ensures) in
+    let document = taken _ _ (at-document .document .given .1) (at-bytes-at .bytes-at .ensures) in
+    let patch = taken _ _ (at-patch .patch .given .1) (at-bytes-at2 .bytes-at2 .ensures) in
+    let region = taken _ _ (at-region .region .given .1) (at-bytes-at3 .bytes-at3 .ensures) in
     record { name = name .0; document = document .0; patch = patch .0; region = region .0; next = (omega arith, omega arith) }))

@@ -43,8 +43,16 @@ measures-at-spec =
     (λ c. search needs)
     -- returns-5
     (λ c.
-    let first = numbered _ _ (c .before .before .before .before .before .before .before .before .before .before .before .before .before .room .given .1) (c .before .before .before .before .before .before .before .before .before .before .before .before .before .before .before .number-at .ensures) in
-    let second = numbered _ _ (c .before .before .before .before .before .before .before .before .before .document .given .1) (c .before .before .before .before .before .before .before .before .before .before .before .number-at2 .ensures) in
-    let third = numbered _ _ (c .before .before .before .before .before .patch .given .1) (c .before .before .before .before .before .before .before .number-at3 .ensures) in
-    let fourth = numbered _ _ (c .before .region .given .1) (c .before .before .before .number-at4 .ensures) in
+    let at-region = c .before in
+    let at-number-at4 = at-region .before .before in
+    let at-patch = at-number-at4 .before .before in
+    let at-number-at3 = at-patch .before .before in
+    let at-document = at-number-at3 .before .before in
+    let at-number-at2 = at-document .before .before in
+    let at-room = at-number-at2 .before .before in
+    let at-number-at = at-room .before .before in
+    let first = numbered _ _ (at-room .room .given .1) (at-number-at .number-at .ensures) in
+    let second = numbered _ _ (at-document .document .given .1) (at-number-at2 .number-at2 .ensures) in
+    let third = numbered _ _ (at-patch .patch .given .1) (at-number-at3 .number-at3 .ensures) in
+    let fourth = numbered _ _ (at-region .region .given .1) (at-number-at4 .number-at4 .ensures) in
     (omega arith, omega arith)))

@@ -57,4 +57,5 @@ put-refusal-spec =
     let at-args = at-put-two-fields .before .before .before .before .before .before .before .before in
     let a = at-args .args .answer in
     placed-as (refusal-pieces (a .number) (a .text) (a .op) (a .place) (a .pointer))
-    (placed-then (placed-then (at-put-two-fields .put-two-fields .ensures) (at-put-two-fields2 .put-two-fields2 .ensures)) (at-put-last-field .put-last-field .ensures))))
+    (placed-then (placed-then (at-put-two-fields .put-two-fields .ensures) (at-put-two-fields2 .put-two-fields2 .ensures))
+    (at-put-last-field .put-last-field .ensures))))

@@ -18,9 +18,12 @@ others-number-spec =
     (λ c κs. search needs)
     -- returns
     (λ c.
+    let at-value-number = c .before in
+    let at-uses-of = at-value-number .before in
     record {
-      number = c .before .value-number .ensures .number;
-      held = λ k known e kids n p. value-refused k _ p (c .before .value-number .ensures .held k (value-used known (c .before .before .uses-of .ensures)) e kids n) (λ zero. omega arith);
+      number = at-value-number .value-number .ensures .number;
+      held = λ k known e kids n p. value-refused k _ p
+          (at-value-number .value-number .ensures .held k (value-used known (at-uses-of .uses-of .ensures)) e kids n) (λ zero. omega arith);
     })
     -- from-of-requires
     (λ c κs. search needs)
@@ -30,18 +33,27 @@ others-number-spec =
     (λ c. search needs)
     -- returns-2
     (λ c.
+    let at-from-of = c .before .before in
+    let at-value-number = at-from-of .before .before in
+    let at-uses-of = at-value-number .before in
     record {
       number = Operation.shape;
-      held = λ k known e kids n p. from-missing k _ p (c .before .before .before .before .value-number .ensures .held k (value-used known (c .before .before .before .before .before .uses-of .ensures)) e kids n) (omega arith)
-          (text-refused (c .before .before .from-of .ensures k (from-used known (c .before .before .before .before .before .uses-of .ensures)) e kids n) (c .enum-told .given .1));
+      held = λ k known e kids n p. from-missing k _ p
+          (at-value-number .value-number .ensures .held k (value-used known (at-uses-of .uses-of .ensures)) e kids n) (omega arith)
+          (text-refused (at-from-of .from-of .ensures k (from-used known (at-uses-of .uses-of .ensures)) e kids n) (c .enum-told .given .1));
     })
     -- pointers-number-requires
     (λ c κs. search needs)
     -- returns-3
     (λ c.
+    let at-from = c .before .before in
+    let at-from-of = at-from .before .before in
+    let at-value-number = at-from-of .before .before in
+    let at-uses-of = at-value-number .before in
     record {
       number = c .pointers-number .ensures .number;
-      held = λ k known e kids n p. members-there k _ p (c .before .before .before .before .before .before .value-number .ensures .held k (value-used known (c .before .before .before .before .before .before .before .uses-of .ensures)) e kids n) (omega arith)
-          (text-decoded (c .before .before .before .before .from-of .ensures k (from-used known (c .before .before .before .before .before .before .before .uses-of .ensures)) e kids n) _ (c .before .before .from .given .1))
-          (c .pointers-number .ensures .held k (moves-known known (c .before .before .before .before .before .before .before .uses-of .ensures)));
+      held = λ k known e kids n p. members-there k _ p
+          (at-value-number .value-number .ensures .held k (value-used known (at-uses-of .uses-of .ensures)) e kids n) (omega arith)
+          (text-decoded (at-from-of .from-of .ensures k (from-used known (at-uses-of .uses-of .ensures)) e kids n) _ (at-from .from .given .1))
+          (c .pointers-number .ensures .held k (moves-known known (at-uses-of .uses-of .ensures)));
     }))

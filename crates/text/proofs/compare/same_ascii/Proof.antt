@@ -33,18 +33,41 @@ same-ascii-spec =
     -- enum-told
     (λ c. search auto)
     -- returns
-    (λ c. end-same _ _ (c .before .before .before .loop .inv .0) (refused-text _ _ _ (c .before .before .letter .ensures) _ (c .enum-told .given .1)) ∙ c .before .before .before .loop .inv .1)
+    (λ c.
+    let at-letter = c .before .before in
+    let at-loop = at-letter .before in
+    end-same _ _ (at-loop .loop .inv .0) (refused-text _ _ _ (at-letter .letter .ensures) _ (c .enum-told .given .1)) ∙ at-loop .loop .inv .1)
     -- returns-2
-    (λ c. let l = c .before .before .before .before .before .before .before .before .before .args .constant .now in longer (scalar-text _ _ _ (c .before .before .before .before .letter .ensures) _ _ (c .before .before .c .given .1)) (back l (c .before .before .before .before .before .loop .j) (omega arith)) ∙ c .before .before .before .before .before .loop .inv .1)
+    (λ c.
+    let at-c = c .before .before in
+    let at-letter = at-c .before .before in
+    let at-loop = at-letter .before in
+    let at-args = at-loop .before .before .before .before in
+    let l = at-args .args .constant .now in
+    longer (scalar-text _ _ _ (at-letter .letter .ensures) _ _ (at-c .c .given .1)) (back l (at-loop .loop .j) (omega arith)) ∙ at-loop .loop .inv .1)
     -- shared-slice-read-if2
     (λ c. search auto)
     -- cast-if2
     (λ c. omega (arith, c .shared-slice-known3 .given (c .before .before .before .before .before .before .loop .j)))
     -- returns-3
-    (λ c. heads-differ (scalar-text _ _ _ (c .before .before .before .before .before .before .letter .ensures) _ _ (c .before .before .before .before .c .given .1)) (front _ _ (c .before .before .if1 .left)) (c .if2 .taken) ∙ c .before .before .before .before .before .before .before .loop .inv .1)
+    (λ c.
+    let at-if1 = c .before .before in
+    let at-c = at-if1 .before .before in
+    let at-letter = at-c .before .before in
+    let at-loop = at-letter .before in
+    heads-differ (scalar-text _ _ _ (at-letter .letter .ensures) _ _ (at-c .c .given .1)) (front _ _ (at-if1 .if1 .left)) (c .if2 .taken)
+    ∙ at-loop .loop .inv .1)
     -- add-j
     (λ c. search auto)
     -- loop-less
     (λ c. scalar-less _ _ _ (c .before .before .before .before .before .before .letter .ensures) _ _ (c .before .before .before .before .c .given .1))
     -- loop-again
-    (λ c. (omega arith, sym (heads-same (scalar-text _ _ _ (c .before .before .before .before .before .before .letter .ensures) _ _ (c .before .before .before .before .c .given .1)) (front _ _ (c .before .before .if1 .left)) (c .if2 .left)) ∙ c .before .before .before .before .before .before .before .loop .inv .1)))
+    (λ c.
+    let at-if1 = c .before .before in
+    let at-c = at-if1 .before .before in
+    let at-letter = at-c .before .before in
+    let at-loop = at-letter .before in (
+      omega arith,
+      sym (heads-same (scalar-text _ _ _ (at-letter .letter .ensures) _ _ (at-c .c .given .1)) (front _ _ (at-if1 .if1 .left)) (c .if2 .left))
+          ∙ at-loop .loop .inv .1,
+    )))

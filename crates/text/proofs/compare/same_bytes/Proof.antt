@@ -28,12 +28,20 @@ same-bytes-spec =
     -- shared-slice-read-if2-2
     (λ c. omega arith)
     -- returns-2
-    (λ c. let s = c .before .before .before .before .before .before .args in bytes-differ (s .a .now) (s .b .now) (c .before .before .before .before .loop .i) _ (c .before .before .before .before .loop .inv .1) (omega arith) (omega arith) (c .if2 .taken))
+    (λ c.
+    let at-loop = c .before .before .before .before in
+    let at-args = at-loop .before .before in
+    let s = at-args .args in bytes-differ (s .a .now) (s .b .now) (at-loop .loop .i) _ (at-loop .loop .inv .1) (omega arith) (omega arith) (c .if2 .taken))
     -- add-i
     (λ c. omega arith)
     -- loop-less
     (λ c. omega arith)
     -- loop-again
-    (λ c. let s = c .before .before .before .before .before .before .args in (omega arith, bytes-same (s .a .now) (s .b .now) (c .before .before .before .before .loop .i) _ (c .before .before .before .before .loop .inv .1) (omega arith) (omega arith) (c .if2 .left)))
+    (λ c.
+    let at-loop = c .before .before .before .before in
+    let at-args = at-loop .before .before in
+    let s = at-args .args in
+    (omega arith, bytes-same (s .a .now) (s .b .now) (at-loop .loop .i) _ (at-loop .loop .inv .1) (omega arith) (omega arith) (c .if2 .left)))
     -- returns-3
-    (λ c. let s = c .before .before .before .args in bytes-end (s .a .now) (s .b .now) (c .before .loop .i) _ (c .before .loop .inv .1) (omega arith) (omega arith)))
+    (λ c. let s = c .before .before .before .args in
+    bytes-end (s .a .now) (s .b .now) (c .before .loop .i) _ (c .before .loop .inv .1) (omega arith) (omega arith)))

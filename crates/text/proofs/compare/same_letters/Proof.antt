@@ -44,7 +44,10 @@ same-letters-spec =
     -- ended-requires
     (λ c κs. search auto)
     -- returns
-    (λ c. let s = c .before .before .before .before .before .before .before .before .args in ended-same _ (past-text (s .form) (s .a .now) (c .before .before .before .before .loop .i) (omega arith)) (c .ended .ensures) (c .before .before .before .before .loop .inv))
+    (λ c.
+    let at-loop = c .before .before .before .before in
+    let at-args = at-loop .before .before .before .before in
+    let s = at-args .args in ended-same _ (past-text (s .form) (s .a .now) (at-loop .loop .i) (omega arith)) (c .ended .ensures) (at-loop .loop .inv))
     -- any-letter-requires
     (λ c κs. search auto)
     -- enum-known-c
@@ -54,7 +57,11 @@ same-letters-spec =
     -- ended-requires-2
     (λ c κs. search auto)
     -- returns-2
-    (λ c. ended-same _ (refused-text _ _ _ (c .before .before .before .any-letter .ensures) _ (c .before .enum-told .given .1)) (c .ended2 .ensures) (c .before .before .before .before .before .before .before .loop .inv))
+    (λ c.
+    let at-enum-told = c .before in
+    let at-any-letter = at-enum-told .before .before in
+    let at-loop = at-any-letter .before .before .before .before in
+    ended-same _ (refused-text _ _ _ (at-any-letter .any-letter .ensures) _ (at-enum-told .enum-told .given .1)) (c .ended2 .ensures) (at-loop .loop .inv))
     -- any-letter-requires-2
     (λ c κs. search auto)
     -- enum-known-d
@@ -63,17 +70,34 @@ same-letters-spec =
     (λ c. search auto)
     -- returns-3
     (λ c.
-    let one = scalar-text _ _ _ (c .before .before .before .before .before .before .any-letter .ensures) _ _ (c .before .before .before .before .c .given .1) in
-    longer one (refused-text _ _ _ (c .before .before .any-letter2 .ensures) _ (c .enum-told2 .given .1)) ∙ c .before .before .before .before .before .before .before .before .before .before .loop .inv)
+    let at-any-letter2 = c .before .before in
+    let at-c = at-any-letter2 .before .before in
+    let at-any-letter = at-c .before .before in
+    let at-loop = at-any-letter .before .before .before .before in
+    let one = scalar-text _ _ _ (at-any-letter .any-letter .ensures) _ _ (at-c .c .given .1) in
+    longer one (refused-text _ _ _ (at-any-letter2 .any-letter2 .ensures) _ (c .enum-told2 .given .1)) ∙ at-loop .loop .inv)
     -- returns-4
     (λ c.
-    let one = scalar-text _ _ _ (c .before .before .before .before .before .before .before .before .any-letter .ensures) _ _ (c .before .before .before .before .before .before .c .given .1) in
-    let two = scalar-text _ _ _ (c .before .before .before .before .any-letter2 .ensures) _ _ (c .before .before .d .given .1) in
-    heads-differ one two (c .if4 .taken) ∙ c .before .before .before .before .before .before .before .before .before .before .before .before .loop .inv)
+    let at-d = c .before .before in
+    let at-any-letter2 = at-d .before .before in
+    let at-c = at-any-letter2 .before .before in
+    let at-any-letter = at-c .before .before in
+    let at-loop = at-any-letter .before .before .before .before in
+    let one = scalar-text _ _ _ (at-any-letter .any-letter .ensures) _ _ (at-c .c .given .1) in
+    let two = scalar-text _ _ _ (at-any-letter2 .any-letter2 .ensures) _ _ (at-d .d .given .1) in
+    heads-differ one two (c .if4 .taken) ∙ at-loop .loop .inv)
     -- loop-less-2
-    (λ c. scalar-less _ _ _ (c .before .before .before .before .before .before .before .before .any-letter .ensures) _ _ (c .before .before .before .before .before .before .c .given .1))
+    (λ c.
+    let at-c = c .before .before .before .before .before .before in
+    let at-any-letter = at-c .before .before in
+    scalar-less _ _ _ (at-any-letter .any-letter .ensures) _ _ (at-c .c .given .1))
     -- loop-again-2
     (λ c.
-    let one = scalar-text _ _ _ (c .before .before .before .before .before .before .before .before .any-letter .ensures) _ _ (c .before .before .before .before .before .before .c .given .1) in
-    let two = scalar-text _ _ _ (c .before .before .before .before .any-letter2 .ensures) _ _ (c .before .before .d .given .1) in
-    sym (heads-same one two (c .if4 .left)) ∙ c .before .before .before .before .before .before .before .before .before .before .before .before .loop .inv))
+    let at-d = c .before .before in
+    let at-any-letter2 = at-d .before .before in
+    let at-c = at-any-letter2 .before .before in
+    let at-any-letter = at-c .before .before in
+    let at-loop = at-any-letter .before .before .before .before in
+    let one = scalar-text _ _ _ (at-any-letter .any-letter .ensures) _ _ (at-c .c .given .1) in
+    let two = scalar-text _ _ _ (at-any-letter2 .any-letter2 .ensures) _ _ (at-d .d .given .1) in
+    sym (heads-same one two (c .if4 .left)) ∙ at-loop .loop .inv))

@@ -46,10 +46,17 @@ hash-text-spec =
     -- enum-told
     (λ c. search auto)
     -- returns-2
-    (λ c. hash-ends (refused-text _ _ _ (c .before .before .any-letter .ensures) _ (c .enum-told .given .1)) (c .before .before .before .before .before .before .loop .inv))
+    (λ c.
+    let at-any-letter = c .before .before in
+    let at-loop = at-any-letter .before .before .before .before in
+    hash-ends (refused-text _ _ _ (at-any-letter .any-letter .ensures) _ (c .enum-told .given .1)) (at-loop .loop .inv))
     -- mix-requires-2
     (λ c κs. search auto)
     -- loop-less-2
     (λ c. scalar-less _ _ _ (c .before .before .before .before .any-letter .ensures) _ _ (c .before .before .c .given .1))
     -- loop-again-2
-    (λ c. hash-more _ (scalar-text _ _ _ (c .before .before .before .before .any-letter .ensures) _ _ (c .before .before .c .given .1)) (c .mix2 .ensures) (c .before .before .before .before .before .before .before .before .loop .inv)))
+    (λ c.
+    let at-c = c .before .before in
+    let at-any-letter = at-c .before .before in
+    let at-loop = at-any-letter .before .before .before .before in
+    hash-more _ (scalar-text _ _ _ (at-any-letter .any-letter .ensures) _ _ (at-c .c .given .1)) (c .mix2 .ensures) (at-loop .loop .inv)))

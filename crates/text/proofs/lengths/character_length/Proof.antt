@@ -15,4 +15,5 @@ character-length-spec =
     (λ c. sym (ap length (writes _ .short (λ z. c .if1 .taken (c .before .short-letter .ensures ∙ z)))))
     (λ c. sym (ap length (writes _ .hex (sym (c .before .before .short-letter .ensures) ∙ c .before .if1 .left) (c .if2 .taken))))
     (λ c κs. search auto)
-    (λ c. c .utf8-length .ensures ∙ sym (ap length (writes _ .raw (sym (c .before .before .before .short-letter .ensures) ∙ c .before .before .if1 .left) (c .before .if2 .left)))))
+    (λ c. c .utf8-length .ensures
+    ∙ sym (ap length (writes _ .raw (sym (c .before .before .before .short-letter .ensures) ∙ c .before .before .if1 .left) (c .before .if2 .left)))))

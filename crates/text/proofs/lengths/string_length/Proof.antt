@@ -37,8 +37,10 @@ string-length-spec =
     (λ c. search auto)
     -- returns
     (λ c.
-    let run = c .before .before .before in
-    counted-ends (counted-run (run .before .loop .inv) (run .run-end .ensures)) (refused-text 2 _ _ (c .before .before .string-letter .ensures) _ (c .enum-told .given .1)))
+    let at-before = c .before .before in
+    let run = at-before .before in
+    counted-ends (counted-run (run .before .loop .inv) (run .run-end .ensures))
+    (refused-text 2 _ _ (at-before .string-letter .ensures) _ (c .enum-told .given .1)))
     -- character-length-requires
     (λ c κs. search auto)
     -- add-total-2

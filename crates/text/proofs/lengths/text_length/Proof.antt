@@ -36,7 +36,12 @@ text-length-spec =
     -- character-length-requires
     (λ c κs. search auto)
     -- add-total
-    (λ c. let a = c .before .before .before .before .before .before .before .args in omega (arith, length-more (scalar-text _ _ _ (c .before .before .before .before .letter .ensures) _ _ (c .before .before .c .given .1)), text-short (a .form) (a .s .now)))
+    (λ c.
+    let at-c = c .before .before in
+    let at-letter = at-c .before .before in
+    let at-args = at-letter .before .before .before in
+    let a = at-args .args in
+    omega (arith, length-more (scalar-text _ _ _ (at-letter .letter .ensures) _ _ (at-c .c .given .1)), text-short (a .form) (a .s .now)))
     -- loop-less
     (λ c. scalar-less _ _ _ (c .before .before .before .before .letter .ensures) _ _ (c .before .before .c .given .1))
     -- loop-again

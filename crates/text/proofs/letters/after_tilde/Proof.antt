@@ -24,4 +24,7 @@ after-tilde-spec =
     -- returns-3
     (λ c. rw (scalar-ok _ _ (c .before .before .before .before .string-letter .ensures) (c .before .before .c .given .1), c .match2 .keys2))
     -- returns-4
-    (λ c. rw (scalar-ok _ _ (c .before .before .before .before .string-letter .ensures) (c .before .before .c .given .1), ne-eqb _ _ (c .match2 .rest .0 .1), ne-eqb _ _ (c .match2 .rest .1))))
+    (λ c.
+    let at-c = c .before .before in
+    let at-string-letter = at-c .before .before in
+    rw (scalar-ok _ _ (at-string-letter .string-letter .ensures) (at-c .c .given .1), ne-eqb _ _ (c .match2 .rest .0 .1), ne-eqb _ _ (c .match2 .rest .1))))

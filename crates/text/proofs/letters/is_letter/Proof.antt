@@ -16,7 +16,12 @@ is-letter-spec =
     -- returns
     (λ c.
     let b = c .before .before .args .b in
-    rw (lt-ltb b 0x7E (omega arith), between-within 0x20 0x7F b (omega arith) (omega arith), ne-eqb b 0x22 (λ e. omega arith), ne-eqb b 0x5C (λ e. omega arith)))
+    rw (
+      lt-ltb b 0x7E (omega arith),
+      between-within 0x20 0x7F b (omega arith) (omega arith),
+      ne-eqb b 0x22 (λ e. omega arith),
+      ne-eqb b 0x5C (λ e. omega arith),
+    ))
     -- returns-2
     (λ c. rw (le-ltb _ 0x7E (c .if2 .left)))
     -- stands-for-itself-requires

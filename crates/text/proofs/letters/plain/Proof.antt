@@ -19,6 +19,24 @@ plain-spec =
     -- is-form-requires
     (λ c κs. search auto)
     -- returns-2
-    (λ c. rw (← c .before .before .before .before .peek .ensures, told (c .before .before .before .is-letter .ensures) (not-false _ (c .before .before .if1 .left)), told (c .before .is-form .ensures) (not-true _ (c .if2 .taken))))
+    (λ c.
+    let at-is-form = c .before in
+    let at-if1 = at-is-form .before in
+    let at-is-letter = at-if1 .before in
+    let at-peek = at-is-letter .before in
+    rw (
+      ← at-peek .peek .ensures,
+      told (at-is-letter .is-letter .ensures) (not-false _ (at-if1 .if1 .left)),
+      told (at-is-form .is-form .ensures) (not-true _ (c .if2 .taken)),
+    ))
     -- returns-3
-    (λ c. rw (← c .before .before .before .before .peek .ensures, told (c .before .before .before .is-letter .ensures) (not-false _ (c .before .before .if1 .left)), told (c .before .is-form .ensures) (not-false _ (c .if2 .left)))))
+    (λ c.
+    let at-is-form = c .before in
+    let at-if1 = at-is-form .before in
+    let at-is-letter = at-if1 .before in
+    let at-peek = at-is-letter .before in
+    rw (
+      ← at-peek .peek .ensures,
+      told (at-is-letter .is-letter .ensures) (not-false _ (at-if1 .if1 .left)),
+      told (at-is-form .is-form .ensures) (not-false _ (c .if2 .left)),
+    )))

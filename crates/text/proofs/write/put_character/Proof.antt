@@ -21,16 +21,33 @@ put-character-spec =
     -- same-length
     (λ c. search auto)
     -- returns
-    (λ c. let a = c .before .before .before .before .before .before .before .args in let e = c .before .before .before .before .before .short-letter in stored (code "\\" ∷ e .result ∷ []) (writes (a .c) .short (λ z. c .before .before .before .before .if1 .taken (e .ensures ∙ z)) ∙ ap (λ l. code "\\" ∷ l ∷ []) (sym (e .ensures))) (c .before .before .put-two .ensures) (omega arith))
+    (λ c.
+    let at-put-two = c .before .before in
+    let at-if1 = at-put-two .before .before in
+    let at-short-letter = at-if1 .before in
+    let at-args = at-short-letter .before .before in
+    let a = at-args .args in let e = at-short-letter .short-letter in
+    stored (code "\\" ∷ e .result ∷ []) (writes (a .c) .short (λ z. at-if1 .if1 .taken (e .ensures ∙ z)) ∙ ap (λ l. code "\\" ∷ l ∷ []) (sym (e .ensures)))
+    (at-put-two .put-two .ensures) (omega arith))
     -- put-hex-requires
     (λ c κs. search auto)
     -- same-length-2
     (λ c. search auto)
     -- returns-2
-    (λ c. stored-as (writes _ .hex (sym (c .before .before .before .before .before .before .short-letter .ensures) ∙ c .before .before .before .before .before .if1 .left) (c .before .before .before .before .if2 .taken)) (c .before .before .put-hex .ensures))
+    (λ c.
+    let at-put-hex = c .before .before in
+    let at-if2 = at-put-hex .before .before in
+    let at-if1 = at-if2 .before in
+    let at-short-letter = at-if1 .before in
+    stored-as (writes _ .hex (sym (at-short-letter .short-letter .ensures) ∙ at-if1 .if1 .left) (at-if2 .if2 .taken)) (at-put-hex .put-hex .ensures))
     -- put-utf8-requires
     (λ c κs. search auto)
     -- same-length-3
     (λ c. search auto)
     -- returns-3
-    (λ c. stored-as (writes _ .raw (sym (c .before .before .before .before .before .before .short-letter .ensures) ∙ c .before .before .before .before .before .if1 .left) (c .before .before .before .before .if2 .left)) (c .before .before .put-utf8 .ensures)))
+    (λ c.
+    let at-put-utf8 = c .before .before in
+    let at-if2 = at-put-utf8 .before .before in
+    let at-if1 = at-if2 .before in
+    let at-short-letter = at-if1 .before in
+    stored-as (writes _ .raw (sym (at-short-letter .short-letter .ensures) ∙ at-if1 .if1 .left) (at-if2 .if2 .left)) (at-put-utf8 .put-utf8 .ensures)))

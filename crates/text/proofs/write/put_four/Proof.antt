@@ -13,4 +13,9 @@ put-four-spec =
     (λ c. search auto)
     (λ c κs. search auto)
     (λ c. search auto)
-    (λ c. let a = c .before .before .before .before .before .before .before .before .before .args in stores-on (a .out .now) (a .at) (a .a ∷ a .b ∷ a .c ∷ []) (a .d ∷ []) (c .before .before .before .before .before .before .put-three .ensures) (c .before .before .put .ensures) (omega arith)))
+    (λ c.
+    let at-put = c .before .before in
+    let at-put-three = at-put .before .before .before .before in
+    let at-args = at-put-three .before .before .before in
+    let a = at-args .args in
+    stores-on (a .out .now) (a .at) (a .a ∷ a .b ∷ a .c ∷ []) (a .d ∷ []) (at-put-three .put-three .ensures) (at-put .put .ensures) (omega arith)))

@@ -31,4 +31,13 @@ put-hex-spec =
     -- same-length
     (λ c. search auto)
     -- returns
-    (λ c. let a = c .before .before .before .before .before .before .before .before .before .before .before .args in let head = code "\\" ∷ code "u" ∷ code "0" ∷ code "0" ∷ [] in let digits = c .before .before .before .before .before .before .before .before .before .hex-digit .result ∷ c .before .before .before .before .before .before .before .before .hex-digit2 .result ∷ [] in stored (head ++ digits) (rw (c .before .before .before .before .before .before .before .before .before .hex-digit .ensures, c .before .before .before .before .before .before .before .before .hex-digit2 .ensures)) (stores-on (a .out .now) (a .at) head digits (c .before .before .before .before .before .before .put-four .ensures) (c .before .before .put-two .ensures) (omega arith)) (omega arith)))
+    (λ c.
+    let at-put-two = c .before .before in
+    let at-put-four = at-put-two .before .before .before .before in
+    let at-hex-digit2 = at-put-four .before .before in
+    let at-hex-digit = at-hex-digit2 .before in
+    let at-args = at-hex-digit .before .before in
+    let a = at-args .args in let head = code "\\" ∷ code "u" ∷ code "0" ∷ code "0" ∷ [] in
+    let digits = at-hex-digit .hex-digit .result ∷ at-hex-digit2 .hex-digit2 .result ∷ [] in
+    stored (head ++ digits) (rw (at-hex-digit .hex-digit .ensures, at-hex-digit2 .hex-digit2 .ensures))
+    (stores-on (a .out .now) (a .at) head digits (at-put-four .put-four .ensures) (at-put-two .put-two .ensures) (omega arith)) (omega arith)))

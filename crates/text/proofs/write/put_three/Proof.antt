@@ -13,4 +13,9 @@ put-three-spec =
     (λ c. search auto)
     (λ c κs. search auto)
     (λ c. search auto)
-    (λ c. let a = c .before .before .before .before .before .before .before .before .before .args in stores-on (a .out .now) (a .at) (a .a ∷ a .b ∷ []) (a .c ∷ []) (c .before .before .before .before .before .before .put-two .ensures) (c .before .before .put .ensures) (omega arith)))
+    (λ c.
+    let at-put = c .before .before in
+    let at-put-two = at-put .before .before .before .before in
+    let at-args = at-put-two .before .before .before in
+    let a = at-args .args in
+    stores-on (a .out .now) (a .at) (a .a ∷ a .b ∷ []) (a .c ∷ []) (at-put-two .put-two .ensures) (at-put .put .ensures) (omega arith)))

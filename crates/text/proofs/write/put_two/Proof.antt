@@ -13,4 +13,8 @@ put-two-spec =
     (λ c. search auto)
     (λ c κs. search auto)
     (λ c. search auto)
-    (λ c. let a = c .before .before .before .before .before .before .before .before .before .args in stores-on (a .out .now) (a .at) (a .a ∷ []) (a .b ∷ []) (c .before .before .before .before .before .before .put .ensures) (c .before .before .put2 .ensures) (omega arith)))
+    (λ c.
+    let at-put2 = c .before .before in
+    let at-put = at-put2 .before .before .before .before in
+    let at-args = at-put .before .before .before in
+    let a = at-args .args in stores-on (a .out .now) (a .at) (a .a ∷ []) (a .b ∷ []) (at-put .put .ensures) (at-put2 .put2 .ensures) (omega arith)))

@@ -34,8 +34,18 @@ write-letters-spec =
     -- returns
     (λ c. laying-ends (c .before .before .before .loop .inv) (refused-text _ _ _ (c .before .before .letter .ensures) _ (c .enum-told .given .1)))
     -- put-character-requires
-    (λ c κs. let l = laying-bound (c .before .before .before .before .before .loop .inv) in (omega arith, letter-fits _ _ _ _ (scalar-ok _ _ (c .before .before .before .before .letter .ensures) (c .before .before .c .given .1)) .bound))
+    (λ c κs.
+    let at-c = c .before .before in
+    let at-letter = at-c .before .before in
+    let at-loop = at-letter .before in
+    let l = laying-bound (at-loop .loop .inv) in (omega arith, letter-fits _ _ _ _ (scalar-ok _ _ (at-letter .letter .ensures) (at-c .c .given .1)) .bound))
     -- loop-less
-    (λ c. scalar-less _ _ _ (c .before .before .before .before .before .before .before .letter .ensures) _ _ (c .before .before .before .before .before .c .given .1))
+    (λ c. scalar-less _ _ _ (c .before .before .before .before .before .before .before .letter .ensures) _ _
+    (c .before .before .before .before .before .c .given .1))
     -- loop-again
-    (λ c. laying-more (c .before .before .before .before .before .before .before .before .loop .inv) _ _ (scalar-text _ _ _ (c .before .before .before .before .before .before .before .letter .ensures) _ _ (c .before .before .before .before .before .c .given .1)) (c .before .before .put-character .ensures)))
+    (λ c.
+    let at-put-character = c .before .before in
+    let at-c = at-put-character .before .before .before in
+    let at-letter = at-c .before .before in
+    let at-loop = at-letter .before in
+    laying-more (at-loop .loop .inv) _ _ (scalar-text _ _ _ (at-letter .letter .ensures) _ _ (at-c .c .given .1)) (at-put-character .put-character .ensures)))

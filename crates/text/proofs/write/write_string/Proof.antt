@@ -50,9 +50,12 @@ write-string-spec =
     laying-length (writing-run (run .before .loop .inv) (run .run-end .ensures) (stored .put-bytes .ensures) .laying))
     -- returns
     (λ c.
-    let stored = c .before .before .before .before .before in
+    let at-string-letter = c .before .before in
+    let at-before = at-string-letter .before .before in
+    let stored = at-before .before in
     let run = stored .before .before .before in
-    writing-ends (writing-run (run .before .loop .inv) (run .run-end .ensures) (stored .put-bytes .ensures)) (refused-text 2 _ _ (c .before .before .string-letter .ensures) _ (c .enum-told .given .1)))
+    writing-ends (writing-run (run .before .loop .inv) (run .run-end .ensures) (stored .put-bytes .ensures))
+    (refused-text 2 _ _ (at-string-letter .string-letter .ensures) _ (c .enum-told .given .1)))
     -- put-character-requires
     (λ c κs.
     let letter = c .before .before .before .before in
