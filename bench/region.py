@@ -36,12 +36,19 @@ def long_name(i):
     return "a maker with a name of some forty characters, %d" % i
 
 
+def accented_name(i):
+    return "Ärzte für eine Sammlung großer Zellen, Straße %d" % i
+
+
+# the last of each: whether the texts have escapes for what is not ASCII
 WORKLOADS = [
-    ("2 operations, 5 packs", shelf(5, plain_name), "/packs/maker3", 2),
-    ("8 operations, 40 packs", shelf(40, plain_name), "/packs/maker3", 8),
-    ("128 operations, 40 packs", shelf(40, plain_name), "/packs/maker3", 128),
-    ("256 operations, 5 packs", shelf(5, plain_name), "/packs/maker3", 256),
-    ("256 operations, 5 packs, long names", shelf(5, long_name), "/packs/" + long_name(3), 256),
+    ("2 operations, 5 packs", shelf(5, plain_name), "/packs/maker3", 2, False),
+    ("8 operations, 40 packs", shelf(40, plain_name), "/packs/maker3", 8, False),
+    ("128 operations, 40 packs", shelf(40, plain_name), "/packs/maker3", 128, False),
+    ("256 operations, 5 packs", shelf(5, plain_name), "/packs/maker3", 256, False),
+    ("256 operations, 5 packs, long names", shelf(5, long_name), "/packs/" + long_name(3), 256, False),
+    ("256 operations, 5 packs, accents", shelf(5, accented_name), "/packs/" + accented_name(3), 256, False),
+    ("256 operations, 5 packs, accents as escapes", shelf(5, accented_name), "/packs/" + accented_name(3), 256, True),
 ]
 
 
@@ -64,10 +71,10 @@ def main():
     source = str(ROOT / "bench" / "region.c")
     subprocess.run(["gcc", "-O2", "-std=c99", "-I%s" % (ROOT / "include"), source, *archives, "-o", program], check=True)
     print("| workload | plain | with a region | ratio |\n|---|---|---|---|")
-    for name, document, region, operations in WORKLOADS:
+    for name, document, region, operations, escapes in WORKLOADS:
         files = [str(OUT / kind) for kind in ("document.json", "patch.json")]
         for file, value in zip(files, (document, patch(region, operations))):
-            Path(file).write_text(json.dumps(value, separators=(",", ":")))
+            Path(file).write_text(json.dumps(value, separators=(",", ":"), ensure_ascii=escapes), encoding="utf-8")
         plain, within = each(program, files, "plain"), each(program, files, region)
         print("| %s | %.1f | %.1f | %.3f |" % (name, plain / 1000, within / 1000, within / plain), flush=True)
 

@@ -1,26 +1,25 @@
 -- The loop over a region's characters and those of a path.
 use mathlib.Core.Path.{_≡_, refl, ap, sym, _∙_}
-use mathlib.Core.Bool.{Bool, true, false, _&&_, not, true≢false}
+use mathlib.Core.Bool.{Bool, true, false, not, true≢false}
 use mathlib.Core.List.{[], _∷_}
 use Prim.Native.Nat.{ℕ, zero, suc, _+_, _-_, _≤_, _<_}
 use Prim.Native.Char.{code}
 use native.Mathlib.Omega.{arith}
 use native.Mathlib.Decide.{decLt}
 use lib.ListN.{length}
-use lib.Dec.{leb, ltb, eqb}
+use lib.Dec.{eqb}
 use borrow.Author.Tests.{eq-eqb, ne-eqb, le-leb, lt-leb, lt-ltb, le-ltb, not-true}
 use Rattle.spec.specs.Outcome.{Outcome, ok, refused, _>>=_, if_then_else_}
 use Rattle.spec.specs.Bytes.{Bytes, Text, byte, within}
-use Rattle.spec.specs.Strings.{character, multibyte}
-use Rattle.spec.specs.Pointer.{Tokens, tokens}
-use Rattle.spec.specs.Patch.{properPrefix}
+use Rattle.spec.specs.Strings.{character}
+use Rattle.spec.specs.Pointer.{tokens}
 use Rattle.spec.proofs.OutcomeLaws.{refused≢ok, both-ok, second-ok}
 use Rattle.lexer.specs.Names.{standsForItself}
 use Rattle.lexer.proofs.Fuel.{Runs}
-use Rattle.lexer.proofs.Tests.{and-both, within-bounds, above-within, between-within}
+use Rattle.lexer.proofs.Tests.{and-both, within-bounds, above-within}
 use Rattle.lexer.proofs.StringLaws.{character-ok-past}
 use Rattle.text.specs.Decode.{characterIn, decodeFrom, decode}
-use Rattle.text.proofs.DecodeLaws.{in-past, decode-more, decode-ends}
+use Rattle.text.proofs.DecodeLaws.{decode-more, decode-ends}
 use Rattle.pointer.specs.Tokens.{accepted}
 use Rattle.pointer.specs.Prefix.{PrefixOf}
 use Rattle.fragment.specs.Link.{characterAt, charactersFrom, characters, isUtf8, isPointer}
@@ -28,8 +27,7 @@ use Rattle.fragment.specs.Scan.{verdict}
 use Rattle.fragment.specs.declared.scan.Verdict.{Verdict}
 use Rattle.fragment.specs.declared.scan.Verdict.the-variants as Verdict
 use Rattle.region.specs.Answer.{regionTokens}
-use Rattle.text.specs.Letters.{isLetter}
-use Rattle.region.specs.Begins.{begins, Common, none, more}
+use Rattle.region.specs.Begins.{begins, SameByte}
 use Rattle.region.proofs.SpellLaws.{begins-tokens}
 
 -- ---- one character of the region
@@ -45,10 +43,18 @@ module _ (s : Bytes) (at : ℕ) where
       rw (lt-leb (byte s at) 0x7F (omega arith), ne-eqb (byte s at) (code "\\") (λ e. omega arith), above-within 0x20 0x7F (byte s at) (omega arith))
 
   -- it takes at least one byte
-  at-past : {c next : ℕ} → characterAt s at ≡ ok (c, next) → at < next
+  pub at-past : {c next : ℕ} → characterAt s at ≡ ok (c, next) → at < next
   at-past {c} {next} e = go (decLt (byte s at) 0x80)
     where
       go : Dec (byte s at < 0x80) → at < next
+      go (yes h) = let place = second-ok (sym (ascii-here h) ∙ e) in omega arith
+      go (no h) = omega (arith, character-ok-past s at (c, next) (sym (above-ascii (omega arith)) ∙ e))
+
+  -- and none past the end
+  pub at-within : at < length s → {c next : ℕ} → characterAt s at ≡ ok (c, next) → next ≤ length s
+  at-within inside {c} {next} e = go (decLt (byte s at) 0x80)
+    where
+      go : Dec (byte s at < 0x80) → next ≤ length s
       go (yes h) = let place = second-ok (sym (ascii-here h) ∙ e) in omega arith
       go (no h) = omega (arith, character-ok-past s at (c, next) (sym (above-ascii (omega arith)) ∙ e))
 
@@ -72,11 +78,6 @@ module _ (s : Bytes) (at : ℕ) (h : standsForItself (byte s at) ≡ true) where
       let (bounds, others) = and-both (within 0x20 0x7F b) _ h in
       let (quote, backslash) = and-both (not (eqb b (code "\""))) _ others in
       rw (not-true (eqb b (code "\"")) quote, not-true (eqb b (code "\\")) backslash, bounds)
-
--- a letter by itself stands for itself
-letter-stands : (s : Bytes) (at : ℕ) → isLetter (byte s at) ≡ true → standsForItself (byte s at) ≡ true
-unfolding isLetter
-letter-stands s at h = and-both (ltb (byte s at) (code "~")) (standsForItself (byte s at)) h .1
 
 -- ---- whether a text is a region
 
@@ -250,9 +251,7 @@ module _ {region part : Bytes} where
               let (others, is, r) = first-read region i inside e (l .reads) in
               record { left = others; reads = r; whole = l .whole ∙ firsts-same is (decode-more part j d after f) same }
 
--- ---- the bytes that both begin with
-pub ahead-common : (region part : Bytes) {i : ℕ} → Common region part i → Ahead region part i i
-ahead-common region part none = ahead-all region part
-ahead-common region part (more {i} c inside same letter) =
-    let both = letter-stands part i letter in
-    ahead-next (ahead-common region part c) inside (self-at region i (ap standsForItself same ∙ both)) (self-in part i both) same
+-- ---- a byte that both have
+pub ahead-byte : {region part : Bytes} {i j : ℕ} → Ahead region part i j → i < length region → SameByte region i part j → Ahead region part (i + 1) (j + 1)
+ahead-byte {region} {part} {i} {j} ahead inside s =
+    ahead-next ahead inside (self-at region i (s .plain)) (self-in part j (ap standsForItself (sym (s .same)) ∙ s .plain)) (s .same)

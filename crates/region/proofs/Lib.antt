@@ -3,4 +3,6 @@ pub mod RuleLaws
 pub mod ClaimTheorems
 pub mod SpellLaws
 pub mod BeginsLaws
+pub mod RawLaws
 pub mod WithinLaws
+pub mod ExamplesTheorem

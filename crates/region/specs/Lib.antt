@@ -3,3 +3,4 @@ pub mod Answer
 pub mod Claims
 pub mod Begins
 pub mod Within
+pub mod Examples

@@ -1,22 +1,24 @@
 // A region and the paths of operations, compared where they stand.
 ghost use mathlib.Core.Path.{_≡_};
+ghost use mathlib.Core.Bool.{true, false};
 ghost use mathlib.Core.List.{[]};
-ghost use Prim.Native.Nat.{_≤_, _<_};
+ghost use Prim.Native.Nat.{_<_};
 ghost use lib.ListN.{length};
 ghost use Rattle.spec.specs.Pointer.{tokens};
 ghost use Rattle.lexer.specs.Answers.{characterOutcome};
+ghost use Rattle.lexer.specs.Names.{standsForItself};
 ghost use Rattle.text.specs.Decode.{decode, decodeFrom};
 ghost use Rattle.pointer.specs.Tokens.{accepted};
 ghost use Rattle.pointer.specs.Prefix.{PrefixOf};
 ghost use Rattle.fragment.specs.Link.{characterAt};
 ghost use Rattle.region.specs.Answer.{regionTokens};
-ghost use Rattle.region.specs.Begins.{begins, Common};
+ghost use Rattle.region.specs.Begins.{begins, Raw, BeginsRaw, SameByte};
 use fragment::Verdict;
 use fragment::verdict_of;
 use lexer::Character;
 use lexer::Cursor;
 use lexer::peek;
-use text::letters::is_letter;
+use lexer::stands_for_itself;
 use text::letters::string_letter;
 
 // Whether a text is a region: UTF-8, and a pointer.
@@ -42,33 +44,66 @@ fn character_at(s: &[u8], at: usize) -> Character
     (Cursor { at }).character(s)
 }
 
-fn least(a: usize, b: usize) -> usize
-    ensures { λ r. ⌜ (r ≤ a) × (r ≤ b) ⌝ }
+// Whether a byte of ASCII has to be escaped in a JSON string; of all other bytes this says no.
+fn is_escaped(b: u8) -> bool
+    ensures { λ r. ⌜ (r ≡ false → b < 0x80 → standsForItself b ≡ true) ⌝ }
 {
-    if a < b {
-        return a;
+    if 0x7F < b {
+        return false;
     }
-    b
+    !stands_for_itself(b)
 }
 
-// How many bytes a region and a part begin with that are the same and characters by themselves. Passed at once, they
-// need few tests each.
-fn common(region: &[u8], part: &[u8]) -> usize
-    ensures { λ r. ⌜ Common (now (region .entry)) (now (part .entry)) r ⌝ }
+// Whether a region's bytes can stand in a JSON string as they are.
+pub fn is_raw(region: &[u8]) -> bool
+    ensures { λ r. ⌜ (r ≡ true → Raw (now (region .entry))) ⌝ }
 {
-    let end = least(region.len(), part.len());
     let mut i = 0;
-    while i < end {
-        let b = region[i];
-        if part[i] != b {
-            return i;
-        }
-        if !is_letter(b) {
-            return i;
+    while i < region.len() {
+        if is_escaped(region[i]) {
+            return false;
         }
         i += 1;
     }
-    i
+    true
+}
+
+// Whether a part begins with the bytes of a region that can stand in it as they are. This is one test for each byte,
+// and most paths pass it.
+fn begins_raw(region: &[u8], raw: bool, part: &[u8]) -> bool
+    requires { ⌜ (raw ≡ true → Raw (now region)) ⌝ }
+    ensures { λ r. ⌜ (r ≡ true → BeginsRaw (now (region .entry)) (now (part .entry))) ⌝ }
+{
+    if !raw {
+        return false;
+    }
+    if part.len() < region.len() {
+        return false;
+    }
+    let mut i = 0;
+    while i < region.len() {
+        if part[i] != region[i] {
+            return false;
+        }
+        i += 1;
+    }
+    true
+}
+
+// Whether a region and a part go on with the same byte, a character by itself. Where they do not, they can have one
+// character all the same, in more bytes.
+fn same_byte(region: &[u8], i: usize, part: &[u8], j: usize) -> bool
+    requires { ⌜ i < length (now region) ⌝ }
+    ensures { λ r. ⌜ (r ≡ true → SameByte (now (region .entry)) i (now (part .entry)) j) ⌝ }
+{
+    if part.len() <= j {
+        return false;
+    }
+    let b = region[i];
+    if part[j] != b {
+        return false;
+    }
+    stands_for_itself(b)
 }
 
 // Whether a part goes on with a slash at a place.
@@ -84,16 +119,18 @@ fn slash_at(part: &[u8], at: usize) -> bool
     }
 }
 
-// Whether the tokens of a path, a pointer in a JSON string of which `part` stands between the quotation marks, begin
-// with those of a region and have one more at least. Both are compared character by character, and a slash must
-// follow: a token is written in one way only, so nothing need be unescaped.
-pub fn is_inside(region: &[u8], part: &[u8]) -> bool
+// As `is_inside`, character by character, however each is written.
+fn is_inside_spelled(region: &[u8], part: &[u8]) -> bool
     ensures { λ r. ⌜ PrefixOf (regionTokens (now (region .entry))) (tokens (decode (now (part .entry)))) r ⌝ }
 {
-    let start = common(region, part);
-    let mut i = start;
-    let mut j = start;
+    let mut i = 0;
+    let mut j = 0;
     while i < region.len() {
+        if same_byte(region, i, part, j) {
+            i += 1;
+            j += 1;
+            continue;
+        }
         let Character::Scalar(c, next) = character_at(region, i) else {
             return false;
         };
@@ -107,4 +144,18 @@ pub fn is_inside(region: &[u8], part: &[u8]) -> bool
         j = after.at;
     }
     slash_at(part, j)
+}
+
+// Whether the tokens of a path, a pointer in a JSON string of which `part` stands between the quotation marks, begin
+// with those of a region and have one more at least. Both are compared as texts, and a slash must follow: a token is
+// written in one way only, so nothing need be unescaped. `raw` tells whether the region can stand in a JSON string as
+// it is.
+pub fn is_inside(region: &[u8], raw: bool, part: &[u8]) -> bool
+    requires { ⌜ (raw ≡ true → Raw (now region)) ⌝ }
+    ensures { λ r. ⌜ PrefixOf (regionTokens (now (region .entry))) (tokens (decode (now (part .entry)))) r ⌝ }
+{
+    if begins_raw(region, raw, part) {
+        return slash_at(part, region.len());
+    }
+    is_inside_spelled(region, part)
 }

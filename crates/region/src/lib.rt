@@ -2,13 +2,11 @@
 // call, and no JSON string.
 //
 // What is proved: the rule for makers' patches and the answer of a call with a region are definitions, and
-// specs/Claims says what they come to. `is_region` judges a region, `is_inside` tells whether the tokens of a path
-// begin with the region's and have one more at least, and `shape_within` answers of a patch that the table holds as
-// the definitions do. Nothing is copied.
+// specs/Claims says what they come to. `is_region` judges a region, and `shape_within` answers of a patch that the
+// table holds as the definitions do. Nothing is copied.
 
-pub mod compare; // a region and the paths of operations
+mod compare; // a region and the paths of operations
 pub mod within; // the shape of a patch with the rule for makers
 
-pub use compare::is_inside;
 pub use compare::is_region;
 pub use within::shape_within;

@@ -1,5 +1,6 @@
 // The shape of a patch with the rule for makers: document 02, T-05. The rule is judged last of each element.
 use crate::compare::is_inside;
+use crate::compare::is_raw;
 use shape::Kind;
 use shape::Shape;
 use shape::Spelled;
@@ -17,8 +18,10 @@ use tape::nodes::arity;
 use tape::nodes::end_of;
 use tape::nodes::kind;
 ghost use mathlib.Core.Path.{_≡_};
+ghost use mathlib.Core.Bool.{true};
 ghost use Rattle.tape.specs.Lent.{before};
 ghost use Rattle.shape.specs.Kinds.{asks};
+ghost use Rattle.region.specs.Begins.{Raw};
 ghost use Rattle.region.specs.Rule.{isMakers, isTest, kindPermitted};
 ghost use Rattle.region.specs.Within.{ElementIs, ElementsAre, PatchWithinIs};
 
@@ -62,8 +65,16 @@ fn kind_permitted(op: usize, kind: Kind) -> bool
 }
 
 // Refused where the element in a row, which is operation `op`, is malformed, and then where it breaks the rule; 0
-// where it is neither.
-fn element_number<'a>(texts: Texts<'a>, nodes: &[Node], row: usize, op: usize, region: &[u8]) -> u8
+// where it is neither. `raw` tells whether the region can stand in a JSON string as it is.
+fn element_number<'a>(
+    texts: Texts<'a>,
+    nodes: &[Node],
+    row: usize,
+    op: usize,
+    region: &[u8],
+    raw: bool,
+) -> u8
+    requires { ⌜ (raw ≡ true → Raw (now region)) ⌝ }
     ensures { λ r. ⌜ ElementIs (before texts nodes) row op (now (region .entry)) r ⌝ }
 {
     let kind = kind_of(texts, nodes, row);
@@ -80,7 +91,7 @@ fn element_number<'a>(texts: Texts<'a>, nodes: &[Node], row: usize, op: usize, r
     if !kind_permitted(op, kind) {
         return refusal::NOT_PERMITTED;
     }
-    if is_inside(region, part(texts, path)) {
+    if is_inside(region, raw, part(texts, path)) {
         return 0;
     }
     refusal::NOT_PERMITTED
@@ -93,7 +104,9 @@ fn elements_within<'a>(
     start: usize,
     end: usize,
     region: &[u8],
+    raw: bool,
 ) -> Shape
+    requires { ⌜ (raw ≡ true → Raw (now region)) ⌝ }
     ensures { λ r. ⌜ ElementsAre (before texts nodes) start end (now (region .entry)) r ⌝ }
 {
     let mut row = start;
@@ -103,7 +116,7 @@ fn elements_within<'a>(
             return Shape::Right;
         }
         op += 1;
-        let number = element_number(texts, nodes, row, op, region);
+        let number = element_number(texts, nodes, row, op, region, raw);
         if number != 0 {
             return Shape::Refused(number, op);
         }
@@ -130,5 +143,5 @@ pub fn shape_within<'a>(texts: Texts<'a>, nodes: &[Node], row: usize, region: &[
         return Shape::Right;
     }
     let end = end_of(nodes, row);
-    elements_within(texts, nodes, row + 1, end, region)
+    elements_within(texts, nodes, row + 1, end, region, is_raw(region))
 }

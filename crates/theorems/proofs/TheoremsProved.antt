@@ -16,6 +16,7 @@ use Rattle.json_patch.proofs.ColumnsTheorem.{columns}
 use Rattle.json_patch.proofs.apply.Met as Apply
 use Rattle.json_patch.proofs.json_patch_apply.Met as Export
 use Rattle.region.proofs.ClaimTheorems as Region
+use Rattle.region.proofs.ExamplesTheorem as Maker
 use Rattle.isolation.proofs.IsolationTheorem.{isolation}
 use Rattle.isolation.proofs.ExampleTheorem as Isolation
 use Rattle.merging.proofs.MergeTheorem.{merging}
@@ -79,6 +80,7 @@ theorems =
             maker-inside = Region.strictly-inside;
             maker-all-inside = Region.all-inside;
             maker-passes = Region.passes-plain;
+            maker-examples = Maker.examples;
             isolation = isolation;
             isolation-example = Isolation.example;
             merging = merging;

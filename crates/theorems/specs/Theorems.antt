@@ -21,6 +21,7 @@ use Rattle.json_patch.proofs.json_patch_apply.Statement as Export
 use Rattle.json_patch.specs.Region.{CallInRegions}
 use Rattle.json_patch.specs.Columns.{ColumnsStatement}
 use Rattle.region.specs.Claims as Region
+use Rattle.region.specs.Examples as Maker
 use Rattle.isolation.specs.Isolation.{IsolationStatement}
 use Rattle.isolation.specs.Example as Isolation
 use Rattle.merging.specs.Claims.{MergeStatement}
@@ -107,12 +108,13 @@ pub record Requests : Type 0 where
 -- ---- more of the requests: within a region, merge patches, and how many names equality compares
 pub record MoreRequests : Type 0 where
   -- T-05: a maker's patch is refused exactly where the rule says, its paths are strictly inside its region, and what passes gives the answer of a
-  -- plain patch
+  -- plain patch; whole answers, and a patch that passes
   pub maker-shape : Region.ShapeWithinStatement
   pub maker-rule : Region.RuleStatement
   pub maker-inside : Region.InsideStatement
   pub maker-all-inside : Region.AllInsideStatement
   pub maker-passes : Region.PassesStatement
+  pub maker-examples : Maker.ExamplesStatement
   -- T-06: nobody else's shelf decides, with two documents that meet the premises
   pub isolation : IsolationStatement
   pub isolation-example : Isolation.ExampleStatement

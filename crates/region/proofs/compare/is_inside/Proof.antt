@@ -1,52 +1,22 @@
--- `is_inside` meets its contract: what the characters that are left say is what all say.
-use Prim.Native.Nat.{_-_}
+-- `is_inside` meets its contract: as bytes, or character by character.
 use native.Mathlib.Omega.{arith}
-use lib.ListN.{length}
-use Rattle.lexer.proofs.Auto.{auto}
-use Rattle.lexer.proofs.AnswerLaws.{scalar-ok, character-refused}
-use Rattle.region.proofs.BeginsLaws.{Ahead, ahead-common, not-utf8, path-ends, differs, ahead-next, at-less, passed}
+use borrow.Author.Needs.{needs}
+use Rattle.region.proofs.BeginsLaws.{passed}
+use Rattle.region.proofs.RawLaws.{ahead-raw}
 use Rattle.region.proofs.compare.is_inside.Statement.{statement}
 use Rattle.region.proofs.compare.is_inside.Tie as tie
-
-abbrev Inv-loop : tie.InvT-loop
-Inv-loop region part start₀ i₀ j₀ i j = Ahead region part i j
-
-abbrev μ-loop : tie.MeasureT-loop
-μ-loop region part start₀ i₀ j₀ i j = length region - i
 
 pub is-inside-spec : {M : Type 1} → statement M
 is-inside-spec =
     tie.close
     (tie.spec
-    Inv-loop
-    μ-loop
-    -- common-requires
-    (λ c κs. search auto)
-    -- loop-holds
-    (λ c. ahead-common _ _ (c .common .ensures))
-    -- character-at-requires
-    (λ c κs. search auto)
-    -- enum-known-c
-    (λ c. search auto)
-    -- enum-told
-    (λ c. search auto)
-    -- returns
-    (λ c. not-utf8 (c .before .before .before .before .loop .inv) (omega arith) (character-refused _ (c .before .before .character-at .ensures) (c .enum-told .given .1)))
-    -- string-letter-requires
-    (λ c κs. search auto)
-    -- enum-known-d
-    (λ c. search auto)
-    -- enum-told-2
-    (λ c. search auto)
-    -- returns-2
-    (λ c. path-ends (c .before .before .before .before .before .before .before .before .loop .inv) (omega arith) (scalar-ok _ _ (c .before .before .before .before .before .before .character-at .ensures) (c .before .before .before .before .c .given .1)) (character-refused _ (c .before .before .string-letter .ensures) (c .enum-told2 .given .1)))
-    -- returns-3
-    (λ c. differs (c .before .before .before .before .before .before .before .before .before .before .loop .inv) (omega arith) (scalar-ok _ _ (c .before .before .before .before .before .before .before .before .character-at .ensures) (c .before .before .before .before .before .before .c .given .1)) (scalar-ok _ _ (c .before .before .before .before .string-letter .ensures) (c .before .before .d .given .1)) (c .if1 .taken))
-    -- loop-less
-    (λ c. at-less _ _ (omega arith) (scalar-ok _ _ (c .before .before .before .before .before .before .before .before .character-at .ensures) (c .before .before .before .before .before .before .c .given .1)))
-    -- loop-again
-    (λ c. ahead-next (c .before .before .before .before .before .before .before .before .before .before .loop .inv) (omega arith) (scalar-ok _ _ (c .before .before .before .before .before .before .before .before .character-at .ensures) (c .before .before .before .before .before .before .c .given .1)) (scalar-ok _ _ (c .before .before .before .before .string-letter .ensures) (c .before .before .d .given .1)) (c .if1 .left))
+    -- begins-raw-requires
+    (λ c κs. c .before .before .pre)
     -- slash-at-requires
-    (λ c κs. search auto)
-    -- returns-4
-    (λ c. passed (c .before .before .loop .inv) (omega arith) (c .slash-at .ensures)))
+    (λ c κs. search needs)
+    -- returns
+    (λ c. passed (ahead-raw (c .before .before .begins-raw .ensures (c .before .if1 .taken))) (omega arith) (c .slash-at .ensures))
+    -- is-inside-spelled-requires
+    (λ c κs. search needs)
+    -- returns-2
+    (λ c. c .is-inside-spelled .ensures))

@@ -52,7 +52,7 @@ element-number-spec =
     -- part-requires
     (λ c κs. search needs)
     -- is-inside-requires
-    (λ c κs. search needs)
+    (λ c κs. c .before .before .before .before .before .before .before .before .before .before .before .before .before .before .before .pre)
     -- returns-5
     (λ c.
     let (k, known) = accepted-ok _ (sym (ap (λ (u : Uses). u .known) (c .before .before .before .before .before .before .before .before .before .before .before .before .before .before .uses-of .ensures)) ∙ not-false _ (c .before .before .before .before .before .before .before .before .before .before .before .before .if1 .left)) in

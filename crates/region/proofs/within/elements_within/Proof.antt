@@ -8,10 +8,10 @@ use Rattle.region.proofs.within.elements_within.Statement.{statement}
 use Rattle.region.proofs.within.elements_within.Tie as tie
 
 abbrev Inv-loop : tie.InvT-loop
-Inv-loop texts nodes start end region row₀ op₀ row op = (op ≤ row) × LeftAny (tableOf texts nodes) start end region row op
+Inv-loop texts nodes start end region raw row₀ op₀ row op = (op ≤ row) × LeftAny (tableOf texts nodes) start end region row op
 
 abbrev μ-loop : tie.MeasureT-loop
-μ-loop texts nodes start end region row₀ op₀ row op = end - row
+μ-loop texts nodes start end region raw row₀ op₀ row op = end - row
 
 pub elements-within-spec : {M : Type 1} → statement M
 elements-within-spec =
@@ -26,7 +26,7 @@ elements-within-spec =
     -- add-op
     (λ c. search needs)
     -- element-number-requires
-    (λ c κs. search needs)
+    (λ c κs. c .before .before .before .before .pre)
     -- returns-2
     (λ c. left-refused (c .before .before .before .before .loop .inv .1) (omega arith) (c .before .element-number .ensures) (c .if2 .taken))
     -- end-of-requires

@@ -26,7 +26,9 @@ shape-within-spec =
     (λ c κs. search needs)
     -- add-elements-within
     (λ c. search needs)
-    -- elements-within-requires
+    -- is-raw-requires
     (λ c κs. search needs)
+    -- elements-within-requires
+    (λ c κs. c .is-raw .ensures)
     -- returns-5
-    (λ c. within-elements _ (sym (c .before .before .before .before .before .before .before .kind .ensures) ∙ c .before .before .before .before .before .before .if1 .left) (c .before .before .before .before .before .arity .ensures) (omega arith) (c .before .before .before .if3 .left) (c .before .end-of .ensures) (c .elements-within .ensures)))
+    (λ c. within-elements _ (sym (c .before .before .before .before .before .before .before .before .kind .ensures) ∙ c .before .before .before .before .before .before .before .if1 .left) (c .before .before .before .before .before .before .arity .ensures) (omega arith) (c .before .before .before .before .if3 .left) (c .before .before .end-of .ensures) (c .elements-within .ensures)))
