@@ -8,6 +8,7 @@ mod oddities;
 pub mod pairs;
 pub mod random;
 pub mod regions;
+pub mod shelves;
 mod spelling;
 mod trees;
 

@@ -1,17 +1,13 @@
 -- Nobody else's shelf decides: specs/Isolation.
 use mathlib.Core.Path.{_≡_, refl, ap, sym, subst, _∙_}
 use mathlib.Core.Bool.{true}
-use mathlib.Core.List.{List}
 use mathlib.Core.Option.{Option, none, some}
 use Prim.Native.Nat.{ℕ, _≤_}
 use native.Mathlib.Omega.{arith}
-use Rattle.spec.specs.Outcome.{ok}
 use Rattle.spec.specs.Bytes.{Bytes}
 use Rattle.spec.specs.Value as Value
-use Rattle.spec.specs.Value.{depth}
 use Rattle.spec.specs.Write.{write}
-use Rattle.spec.specs.Pointer.{Tokens, walk}
-use Rattle.spec.specs.Operation.{Operation, limited}
+use Rattle.spec.specs.Operation.{limited}
 use Rattle.spec.specs.Patch.{Stop, Run, finished, stopped, run}
 use Rattle.spec.specs.Answer.{Answer, Lent, answer, answerOf, success, failure}
 use Rattle.spec.specs.Region.{bare, bareRun, allInside, firstTooLarge, Enough}
@@ -92,6 +88,12 @@ same-fields x y e f s =
       pointer = ap (λ a. a .pointer) e ∙ s .pointer ∙ sym (ap (λ a. a .pointer) f);
     }
 
+-- how both calls end: refused alike, or each writes its result
+pub data Ended {D E patch region : Bytes} {lent lent' : Lent} (c : Situation D E patch region lent lent') : Type 0 where
+  both-refused : (s : Stop) → 1 ≤ s .op → answerWithin D patch region lent ≡ failure s → answerWithin E patch region lent' ≡ failure s → Ended c
+  both-written : Results (c .passes .tokens) (c .first .before) (c .second .before) (answerWithin D patch region lent) (answerWithin E patch region lent') →
+      Ended c
+
 module _ {D E patch region : Bytes} {lent lent' : Lent} (c : Situation D E patch region lent lent') where
   -- values that are written with equal bytes are one value
   one-value : c .first .held ≡ c .second .held
@@ -109,43 +111,47 @@ module _ {D E patch region : Bytes} {lent lent' : Lent} (c : Situation D E patch
       alike (p .tokens) (p .operations) (inside p) 1 (c .first .held) (c .first .before) (c .second .before) (holding p (c .first))
       (subst (λ h. Holding (p .tokens) h (c .second .before)) (sym one-value) (holding p (c .second)))
 
-  -- NOBODY ELSE'S SHELF DECIDES
-  isolated : Isolated c
-  isolated = go _ _ refl refl runs-alike
+  pub ended : Ended c
+  ended = go _ _ refl refl runs-alike
     where
       go : (r s : Run Value.Value) → bareRun (c .passes .operations) (c .first .before) ≡ r → bareRun (c .passes .operations) (c .second .before) ≡ s →
-          Alike (c .passes .tokens) (c .first .before) (c .second .before) 1 r s → Isolated c
-      go r s e f (stop-alike t l) =
-          let one = stops (c .passes) (c .first) t e in
-          let other = stops (c .passes) (c .second) t f in
-          record {
-            same = same-fields (failure t) (failure t) one other (record { number = refl; text = refl; op = refl; place = refl; pointer = refl });
-            results = λ text h. refused-not-written l (sym one ∙ h);
-          }
+          Alike (c .passes .tokens) (c .first .before) (c .second .before) 1 r s → Ended c
+      go r s e f (stop-alike t l) = both-refused t l (stops (c .passes) (c .first) t e) (stops (c .passes) (c .second) t f)
       go r s e f (finish-alike x there there') =
           let p = c .passes in
           let v = plant (p .tokens) x (c .first .before) in
           let w = plant (p .tokens) x (c .second .before) in
-          let one = writes p (c .first) v e in
-          let other = writes p (c .second) w f in
+          both-written
+          (record {
+            after = v;
+            after' = w;
+            writes = writes p (c .first) v e;
+            writes' = writes p (c .second) w f;
+            held = x;
+            held' = x;
+            exists = there;
+            exists' = there';
+            alike = refl;
+            outside = changed-inside (p .tokens) (c .first .before) (c .first .held) (c .first .exists) x;
+            outside' = changed-inside (p .tokens) (c .second .before) (c .second .held) (c .second .exists) x;
+          })
+
+  -- NOBODY ELSE'S SHELF DECIDES
+  isolated : Isolated c
+  isolated = go ended
+    where
+      go : Ended c → Isolated c
+      go (both-refused s l one other) =
+          record {
+            same = same-fields (failure s) (failure s) one other (record { number = refl; text = refl; op = refl; place = refl; pointer = refl });
+            results = λ text h. refused-not-written l (sym one ∙ h);
+          }
+      go (both-written r) =
           record {
             same =
-                same-fields (success (write v)) (success (write w)) one other
+                same-fields (success (write (r .after))) (success (write (r .after'))) (r .writes) (r .writes')
                 (record { number = refl; text = refl; op = refl; place = refl; pointer = refl });
-            results = λ text h.
-                record {
-                  after = v;
-                  after' = w;
-                  writes = one;
-                  writes' = other;
-                  held = x;
-                  held' = x;
-                  exists = there;
-                  exists' = there';
-                  alike = refl;
-                  outside = changed-inside (p .tokens) (c .first .before) (c .first .held) (c .first .exists) x;
-                  outside' = changed-inside (p .tokens) (c .second .before) (c .second .held) (c .second .exists) x;
-                };
+            results = λ text h. r;
           }
 
 pub isolation : IsolationStatement

@@ -4,6 +4,7 @@ use Rattle.spec.specs.Bytes.{Bytes, ascii}
 use Rattle.spec.specs.Answer.{success}
 use Rattle.spec.specs.Examples.{lent}
 use Rattle.region.specs.Answer.{answerWithin}
+use Rattle.region.specs.Examples.{region, patch}
 use Rattle.isolation.specs.Isolation.{Situation}
 
 abbrev pub document : Bytes
@@ -11,12 +12,6 @@ document = ascii "[{\"cell\":{\"mAh\":3000}},1]"
 
 abbrev pub other : Bytes
 other = ascii "{\"x\":[true],\"0\":{\"cell\":{\"mAh\":3000}}}"
-
-abbrev pub region : Bytes
-region = ascii "/0/cell"
-
-abbrev pub patch : Bytes
-patch = ascii "[{\"op\":\"test\",\"path\":\"/0/cell/mAh\",\"value\":3000},{\"op\":\"replace\",\"path\":\"/0/cell/mAh\",\"value\":3100}]"
 
 pub record ExampleStatement : Type 0 where
   pub situation : Situation document other patch region lent lent

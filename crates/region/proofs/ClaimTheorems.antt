@@ -214,7 +214,8 @@ inside-is R o m = go m refl
     alone true = refl
     alone false = refl
 
-    go : {k : Kind} → Makers k → k ≡ o .kind → (properPrefix R (o .path) && (not (usesFrom (o .kind)) || properPrefix R (o .from))) ≡ properPrefix R (o .path)
+    go : {k : Kind} → Makers k → k ≡ o .kind
+        → (properPrefix R (o .path) && (not (usesFrom (o .kind)) || properPrefix R (o .from))) ≡ properPrefix R (o .path)
     go Claims.test e = rw (← e) (alone (properPrefix R (o .path)))
     go Claims.replace e = rw (← e) (alone (properPrefix R (o .path)))
     go Claims.add e = rw (← e) (alone (properPrefix R (o .path)))
@@ -258,7 +259,8 @@ same-shape : (R : Tokens) (v : Value.Value) (os : List Operation) → shape v �
 same-shape R v os h k = to-right R v os (record { patch = shaped-so .right v os .0 h; rule = k })
 
 module _ (room : ℕ) (region patch : Bytes) (p : Passes region patch) where
-  patched-same : (document : Value.Value) → patchedWithin room document (p .well-formed .patch) (regionTokens region) ≡ patched room document (p .well-formed .patch)
+  patched-same : (document : Value.Value)
+      → patchedWithin room document (p .well-formed .patch) (regionTokens region) ≡ patched room document (p .well-formed .patch)
   unfolding patchedWithin patched
   patched-same document =
       rw (p .pointer, same-shape (p .tokens) (p .well-formed .patch) (p .operations) (p .well-formed .shaped) (p .rule), p .well-formed .shaped)

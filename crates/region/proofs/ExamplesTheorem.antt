@@ -13,8 +13,12 @@ use Rattle.region.specs.Claims.{Passes}
 use Rattle.region.specs.Examples.{region, patch, ExamplesStatement}
 use Rattle.region.proofs.ClaimTheorems.{shaped-within}
 
+unfoldable compute-rule : Unit {0}
+unfolding characterAt charactersFrom characters isMakers isTest kindPermitted permitted operationWithin operationsWithin elementsWithin shapeWithin
+compute-rule = tt
+
 unfoldable pub compute-region : Unit {0}
-unfolding compute characterAt charactersFrom characters isMakers isTest kindPermitted permitted operationWithin operationsWithin elementsWithin shapeWithin regionTokens patchedWithin onPatchWithin onDocumentWithin answerWithin
+unfolding compute compute-rule regionTokens patchedWithin onPatchWithin onDocumentWithin answerWithin
 compute-region = tt
 
 abbrev pub tokens : Tokens

@@ -62,7 +62,12 @@ module _ (s : Bytes) (at : ℕ) (h : 0x80 ≤ byte s at) where
   in-multibyte : characterIn s at ≡ multibyte s at (byte s at)
   unfolding characterIn character
   in-multibyte =
-      rw (ne-eqb (byte s at) (code "\"") (λ e. omega arith), ne-eqb (byte s at) (code "\\") (λ e. omega arith), above-within 0x20 0x7F (byte s at) (omega arith))
+      rw (
+        ne-eqb (byte s at) (code "\"") (λ e. omega arith),
+        ne-eqb (byte s at) (code "\\") (λ e. omega arith),
+        above-within 0x20 0x7F (byte s at)
+            (omega arith),
+      )
 
 -- ---- all characters of the region
 module _ {region part : Bytes} (begins : BeginsRaw region part) where

@@ -40,7 +40,8 @@ alone-refused : (v : Value.Value) (n p : ℕ) → operation v ≡ refused n p �
 unfolding alone shape isArray tag count operations atOp noPointer onFinish
 alone-refused v n p h = rw h
 
-first-element : {e : Entry} {kids rest : Members} {o : Operation} {os : List Operation} → AreOperations (tree e kids rest) (o ∷ os) → IsOperation (elementOf e kids) o
+first-element : {e : Entry} {kids rest : Members} {o : Operation} {os : List Operation} → AreOperations (tree e kids rest) (o ∷ os) → IsOperation
+    (elementOf e kids) o
 first-element (element i a) = i
 
 none-wrong : {op n end : ℕ} → FirstWrong op none n end → ⊥

@@ -73,7 +73,8 @@ record Said (v : Value.Value) (o : Operation.Operation) : Type 0 where
   there : stringMember (ascii "path") v ≡ ok path
   tokens-are : tokens path ≡ ok (o .path)
 
-said-members : (k : Operation.Kind) (v : Value.Value) (m : OperationMembers) → membersFor k v ≡ ok m → (k ≡ m .kind) × (stringMember (ascii "path") v ≡ ok (m .path))
+said-members : (k : Operation.Kind) (v : Value.Value) (m : OperationMembers) → membersFor k v ≡ ok m → (k ≡ m .kind) × (stringMember (ascii "path") v
+    ≡ ok (m .path))
 unfolding membersFor
 said-members k v m e =
     let (p, there, e₁) = both-ok (stringMember (ascii "path") v) _ m e in

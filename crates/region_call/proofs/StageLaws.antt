@@ -86,7 +86,8 @@ module _ {w : Table} {region : Bytes} {s : Shape} (shaped : PatchWithinIs w patc
 
     -- ---- the operations run: what has the shape of a maker's patch has that of a patch
     module _ (e : s ≡ Shape.Right) {nodes' : List Row} {told : Ran} (runs : RunIs w nodes' used told) where
-      within-ran : {out' : Bytes} → ((o : Run Value.Value) (q : Ran) → RanTo (w .texts) nodes' o q → told ≡ q → Answered (answerOf (length out) o) out out' r)
+      within-ran : {out' : Bytes}
+          → ((o : Run Value.Value) (q : Ran) → RanTo (w .texts) nodes' o q → told ≡ q → Answered (answerOf (length out) o) out out' r)
           → RunWithinIs w region out out' used r
       unfolding onFinish
       within-ran go =
@@ -95,7 +96,8 @@ module _ {w : Table} {region : Bytes} {s : Shape} (shaped : PatchWithinIs w patc
           let plain : shape p ≡ finished os = shaped-so .right p os .1 (shaped-within .right R p os .0 shape-is .patch) in
           rw shape-is (go (run limited 1 os v) told (ran-told runs d held short os plain) refl)
 
-      pub within-stopped : {number op place pointer : ℕ} → told ≡ Ran.Refused number op place pointer → StoppedIs told r → RunWithinIs w region out out used r
+      pub within-stopped : {number op place pointer : ℕ} → told ≡ Ran.Refused number op place pointer → StoppedIs told r
+          → RunWithinIs w region out out used r
       unfolding answerOf
       within-stopped t is = within-ran λ o q. go
         where
@@ -168,7 +170,8 @@ module _ {T : Texts} {w w' : Work} {told : Read} (long : workNodes ≤ length (w
         text-value (reads .text) t λ v reads-as few rooted changed.
         rw (document-as-read ∙ reads-as, patch-as-read ∙ text-refusal (reads-patch .text) e) (answered-refusal (is number place e))
 
-    pub patch-read : (region : Bytes) {out out' : Bytes} {after : Cursor} {end : ℕ} {r : Answer} → told-patch ≡ Read.Value after end → length (w'' .nodes) ≡ length (w' .nodes)
+    pub patch-read : (region : Bytes) {out out' : Bytes} {after : Cursor} {end : ℕ} {r : Answer} → told-patch ≡ Read.Value after end
+        → length (w'' .nodes) ≡ length (w' .nodes)
         → RunWithinIs (table T (w'' .nodes)) region out out' used r
         → Answered (onDocumentWithin (length out) (read (T .document)) (T .patch) region) out out' r
     unfolding onDocumentWithin onPatchWithin

@@ -20,7 +20,8 @@ pub fn apply_within<'a>(
     nodes: &mut [Node],
     index: &mut [u16],
 ) -> Answer
-    ensures { λ r. ⌜ ApplyWithinIs (given document patch) (now (region .entry)) (memoryBefore output nodes index) (memoryAfter output nodes index) r ⌝ }
+    ensures { λ r. ⌜ ApplyWithinIs (given document patch) (now (region .entry)) (memoryBefore output nodes index)
+        (memoryAfter output nodes index) r ⌝ }
 {
     if nodes.len() < layout::ROWS {
         return refused(refusal::WORK_TOO_SHORT, 0, 0, 0);

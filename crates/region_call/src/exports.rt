@@ -16,7 +16,8 @@ pub extern "C" fn json_patch_apply_within<'a>(
     index: &mut [u16],
     answer: &mut [u64; 6],
 ) -> u32
-    ensures { λ r. ⌜ ExportIs (given document patch) (now (region .entry)) (memoryBefore output nodes index) (memoryAfter output nodes index) (now (answer .exit)) r ⌝ }
+    ensures { λ r. ⌜ ExportIs (given document patch) (now (region .entry)) (memoryBefore output nodes index)
+        (memoryAfter output nodes index) (now (answer .exit)) r ⌝ }
 {
     let r = apply_within(document, patch, region, output, nodes, index);
     *answer = [

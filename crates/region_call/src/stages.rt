@@ -52,7 +52,8 @@ fn run_within<'a>(
     index: &mut [u16],
     used: usize,
 ) -> Answer
-    ensures { λ r. ⌜ RunWithinIs (before texts nodes) (now (region .entry)) (now (output .entry)) (now (output .exit)) used r ⌝ }
+    ensures { λ r. ⌜ RunWithinIs (before texts nodes) (now (region .entry)) (now (output .entry))
+        (now (output .exit)) used r ⌝ }
 {
     if !is_region(region) {
         return refused(refusal::MALFORMED_POINTER, 0, 0, 0);
@@ -76,7 +77,8 @@ pub fn checked_within<'a>(
     nodes: &mut [Node],
     index: &mut [u16],
 ) -> Answer
-    ensures { λ r. ⌜ CheckedWithinIs (lent texts) (now (region .entry)) (memoryBefore output nodes index) (now (output .exit)) r ⌝ }
+    ensures { λ r. ⌜ CheckedWithinIs (lent texts) (now (region .entry)) (memoryBefore output nodes index)
+        (now (output .exit)) r ⌝ }
 {
     if limits::MAX_BYTES < texts[0].len() {
         return refused(refusal::INPUT_TOO_LONG, 1, 0, 0);

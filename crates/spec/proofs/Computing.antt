@@ -18,7 +18,8 @@ use Rattle.spec.specs.Pointer.{elementBelow, memberNamed, childAt, child
 use Rattle.spec.specs.Operation.{put, atParent, insertElement, insertMember, insertChild, removeChild, replaceChild, addAt, removeAtPath, replaceAtPath}
 use Rattle.spec.specs.Operation.{Operation, moveTo, copyTo, testAt, perform, notTooDeep, notTooLarge, limited}
 use Rattle.spec.specs.Patch.{member, stringOf, stringMember, kindNamed, usesValue, usesFrom, isMove, valueFor, fromFor, membersFor, operationMembers}
-use Rattle.spec.specs.Patch.{properPrefix, withPointers, operation, Run, finished, stopped, noPointer, atOp, onFinish, operations, shape, whichPointer, run}
+use Rattle.spec.specs.Patch.{properPrefix, withPointers, operation, noPointer, atOp, onFinish, operations, shape, whichPointer, run}
+use Rattle.spec.specs.Patch.{Run, finished, stopped}
 use Rattle.spec.specs.Answer.{workSuffices, fitting, answerOf, patched, onPatch, onDocument, answerIn, answer}
 use Rattle.spec.specs.Elements.{allBlank}
 

@@ -19,6 +19,7 @@ use Rattle.region.proofs.ClaimTheorems as Region
 use Rattle.region.proofs.ExamplesTheorem as Maker
 use Rattle.isolation.proofs.IsolationTheorem.{isolation}
 use Rattle.isolation.proofs.ExampleTheorem as Isolation
+use Rattle.isolation_call.proofs.CallsTheorem.{isolated-calls, calls-met}
 use Rattle.merging.proofs.MergeTheorem.{merging}
 use Rattle.merging.proofs.ExamplesTheorem as Merging
 use Rattle.comparison.proofs.ComparisonTheorem.{comparison}
@@ -83,6 +84,8 @@ theorems =
             maker-examples = Maker.examples;
             isolation = isolation;
             isolation-example = Isolation.example;
+            isolation-calls = isolated-calls;
+            isolation-calls-met = calls-met;
             merging = merging;
             merging-appendix = Merging.appendix-holds;
             merging-positions = Merging.positions-hold;

@@ -24,6 +24,7 @@ use Rattle.region.specs.Claims as Region
 use Rattle.region.specs.Examples as Maker
 use Rattle.isolation.specs.Isolation.{IsolationStatement}
 use Rattle.isolation.specs.Example as Isolation
+use Rattle.isolation_call.specs.Calls.{IsolatedCallsStatement, CallsMetStatement}
 use Rattle.merging.specs.Claims.{MergeStatement}
 use Rattle.merging.specs.Examples as Merging
 use Rattle.comparison.specs.Comparison.{ComparisonStatement}
@@ -115,9 +116,11 @@ pub record MoreRequests : Type 0 where
   pub maker-all-inside : Region.AllInsideStatement
   pub maker-passes : Region.PassesStatement
   pub maker-examples : Maker.ExamplesStatement
-  -- T-06: nobody else's shelf decides, with two documents that meet the premises
+  -- T-06: nobody else's shelf decides, of the definition and of the calls, with two documents that meet the premises
   pub isolation : IsolationStatement
   pub isolation-example : Isolation.ExampleStatement
+  pub isolation-calls : IsolatedCallsStatement
+  pub isolation-calls-met : CallsMetStatement
   -- T-02: a merge patch is RFC 7396's; its fifteen examples, and two of positions
   pub merging : MergeStatement
   pub merging-appendix : Merging.All Merging.appendix

@@ -68,7 +68,7 @@ impl Draft {
     }
 
     /// The same operation, in a part of a larger document.
-    fn under(mut self, region: &str) -> Self {
+    pub(super) fn under(mut self, region: &str) -> Self {
         self.path = region.to_string() + &self.path;
         self.from = self.from.map(|from| region.to_string() + &from);
         self
@@ -145,7 +145,7 @@ fn draft(random: &mut Random, document: &Value, strictly: bool) -> Draft {
 }
 
 /// A value to test a place for, mostly one that is equal to what is there.
-fn tested(random: &mut Random, document: &Value, path: &str) -> Value {
+pub(super) fn tested(random: &mut Random, document: &Value, path: &str) -> Value {
     match pointer::tokens(path).and_then(|tokens| find(document, &tokens).ok()) {
         Some(there) if random.chance(90) => equal_to(random, there),
         Some(there) => nearly(random, there),

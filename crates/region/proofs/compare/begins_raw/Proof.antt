@@ -44,4 +44,5 @@ begins-raw-spec =
     -- loop-again
     (λ c. same-more (c .before .before .before .before .loop .inv) (c .if3 .left))
     -- returns-4
-    (λ c e. begins-all (c .before .before .before .before .pre (not-false _ (c .before .before .before .if1 .left))) (omega arith) (c .before .loop .inv) (omega arith)))
+    (λ c e. begins-all (c .before .before .before .before .pre (not-false _ (c .before .before .before .if1 .left))) (omega arith)
+    (c .before .loop .inv) (omega arith)))

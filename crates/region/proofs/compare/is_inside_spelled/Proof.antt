@@ -39,7 +39,10 @@ is-inside-spelled-spec =
     -- enum-told
     (λ c. search auto)
     -- returns
-    (λ c. not-utf8 (c .before .before .before .before .before .before .loop .inv) (omega arith) (character-refused _ (c .before .before .character-at .ensures) (c .enum-told .given .1)))
+    (λ c.
+    let at-character-at = c .before .before in
+    let at-loop = at-character-at .before .before .before .before in
+    not-utf8 (at-loop .loop .inv) (omega arith) (character-refused _ (at-character-at .character-at .ensures) (c .enum-told .given .1)))
     -- string-letter-requires
     (λ c κs. search auto)
     -- enum-known-d
@@ -47,13 +50,39 @@ is-inside-spelled-spec =
     -- enum-told-2
     (λ c. search auto)
     -- returns-2
-    (λ c. path-ends (c .before .before .before .before .before .before .before .before .before .before .loop .inv) (omega arith) (scalar-ok _ _ (c .before .before .before .before .before .before .character-at .ensures) (c .before .before .before .before .c .given .1)) (character-refused _ (c .before .before .string-letter .ensures) (c .enum-told2 .given .1)))
+    (λ c.
+    let at-string-letter = c .before .before in
+    let at-c = at-string-letter .before .before in
+    let at-character-at = at-c .before .before in
+    let at-loop = at-character-at .before .before .before .before in
+    path-ends (at-loop .loop .inv) (omega arith)
+    (scalar-ok _ _ (at-character-at .character-at .ensures) (at-c .c .given .1))
+    (character-refused _ (at-string-letter .string-letter .ensures) (c .enum-told2 .given .1)))
     -- returns-3
-    (λ c. differs (c .before .before .before .before .before .before .before .before .before .before .before .before .loop .inv) (omega arith) (scalar-ok _ _ (c .before .before .before .before .before .before .before .before .character-at .ensures) (c .before .before .before .before .before .before .c .given .1)) (scalar-ok _ _ (c .before .before .before .before .string-letter .ensures) (c .before .before .d .given .1)) (c .if2 .taken))
+    (λ c.
+    let at-d = c .before .before in
+    let at-string-letter = at-d .before .before in
+    let at-c = at-string-letter .before .before in
+    let at-character-at = at-c .before .before in
+    let at-loop = at-character-at .before .before .before .before in
+    differs (at-loop .loop .inv) (omega arith)
+    (scalar-ok _ _ (at-character-at .character-at .ensures) (at-c .c .given .1))
+    (scalar-ok _ _ (at-string-letter .string-letter .ensures) (at-d .d .given .1)) (c .if2 .taken))
     -- loop-less-2
-    (λ c. at-less _ _ (omega arith) (scalar-ok _ _ (c .before .before .before .before .before .before .before .before .character-at .ensures) (c .before .before .before .before .before .before .c .given .1)))
+    (λ c.
+    let at-c = c .before .before .before .before .before .before in
+    let at-character-at = at-c .before .before in
+    at-less _ _ (omega arith) (scalar-ok _ _ (at-character-at .character-at .ensures) (at-c .c .given .1)))
     -- loop-again-2
-    (λ c. ahead-next (c .before .before .before .before .before .before .before .before .before .before .before .before .loop .inv) (omega arith) (scalar-ok _ _ (c .before .before .before .before .before .before .before .before .character-at .ensures) (c .before .before .before .before .before .before .c .given .1)) (scalar-ok _ _ (c .before .before .before .before .string-letter .ensures) (c .before .before .d .given .1)) (c .if2 .left))
+    (λ c.
+    let at-d = c .before .before in
+    let at-string-letter = at-d .before .before in
+    let at-c = at-string-letter .before .before in
+    let at-character-at = at-c .before .before in
+    let at-loop = at-character-at .before .before .before .before in
+    ahead-next (at-loop .loop .inv) (omega arith)
+    (scalar-ok _ _ (at-character-at .character-at .ensures) (at-c .c .given .1))
+    (scalar-ok _ _ (at-string-letter .string-letter .ensures) (at-d .d .given .1)) (c .if2 .left))
     -- slash-at-requires
     (λ c κs. search auto)
     -- returns-4

@@ -22,7 +22,11 @@ element-number-spec =
     -- uses-of-requires
     (λ c κs. search needs)
     -- returns
-    (λ c. element-unknown _ (c .before .before .before .kind-of .ensures) (not-known _ (sym (ap (λ (u : Uses). u .known) (c .before .before .uses-of .ensures)) ∙ not-true _ (c .if1 .taken))))
+    (λ c.
+    let at-uses-of = c .before .before in
+    let at-kind-of = at-uses-of .before in
+    element-unknown _ (at-kind-of .kind-of .ensures)
+    (not-known _ (sym (ap (λ (u : Uses). u .known) (at-uses-of .uses-of .ensures)) ∙ not-true _ (c .if1 .taken))))
     -- slice-aggregate-string-member
     (λ c. search needs)
     -- string-member-requires
@@ -33,35 +37,84 @@ element-number-spec =
     (λ c. search needs)
     -- returns-2
     (λ c.
-    let (k, known) = accepted-ok _ (sym (ap (λ (u : Uses). u .known) (c .before .before .before .before .before .before .uses-of .ensures)) ∙ not-false _ (c .before .before .before .before .if1 .left)) in
-    element-malformed _ (c .before .before .before .before .before .before .before .kind-of .ensures) known (members-no-path (c .before .before .string-member .ensures) (c .enum-told .given .1)) (λ z. omega arith))
+    let at-string-member = c .before .before in
+    let at-if1 = at-string-member .before .before in
+    let at-uses-of = at-if1 .before .before in
+    let at-kind-of = at-uses-of .before in
+    let (k, known) = accepted-ok _ (sym (ap (λ (u : Uses). u .known) (at-uses-of .uses-of .ensures)) ∙ not-false _ (at-if1 .if1 .left)) in
+    element-malformed _ (at-kind-of .kind-of .ensures) known
+    (members-no-path (at-string-member .string-member .ensures) (c .enum-told .given .1)) (λ z. omega arith))
     -- others-number-requires
     (λ c κs. search needs)
     -- returns-3
     (λ c.
-    let (k, known) = accepted-ok _ (sym (ap (λ (u : Uses). u .known) (c .before .before .before .before .before .before .before .before .before .uses-of .ensures)) ∙ not-false _ (c .before .before .before .before .before .before .before .if1 .left)) in
-    element-malformed _ (c .before .before .before .before .before .before .before .before .before .before .kind-of .ensures) known (members-others (c .before .before .before .before .before .string-member .ensures) _ (c .before .before .before .path .given .1) (c .before .others-number .ensures))
+    let at-others-number = c .before in
+    let at-path = at-others-number .before .before in
+    let at-string-member = at-path .before .before in
+    let at-if1 = at-string-member .before .before in
+    let at-uses-of = at-if1 .before .before in
+    let at-kind-of = at-uses-of .before in
+    let (k, known) = accepted-ok _ (sym (ap (λ (u : Uses). u .known) (at-uses-of .uses-of .ensures)) ∙ not-false _ (at-if1 .if1 .left)) in
+    element-malformed _ (at-kind-of .kind-of .ensures) known (members-others (at-string-member .string-member .ensures) _ (at-path .path .given .1)
+    (at-others-number .others-number .ensures))
     (c .if2 .taken))
     -- kind-permitted-requires
     (λ c κs. search needs)
     -- returns-4
     (λ c.
-    let (k, known) = accepted-ok _ (sym (ap (λ (u : Uses). u .known) (c .before .before .before .before .before .before .before .before .before .before .before .uses-of .ensures)) ∙ not-false _ (c .before .before .before .before .before .before .before .before .before .if1 .left)) in
-    element-other _ (c .before .before .before .before .before .before .before .before .before .before .before .before .kind-of .ensures) known (members-others (c .before .before .before .before .before .before .before .string-member .ensures) _ (c .before .before .before .before .before .path .given .1) (c .before .before .before .others-number .ensures))
-    (c .before .before .if2 .left) (c .before .kind-permitted .ensures) (not-true _ (c .if3 .taken)))
+    let at-kind-permitted = c .before in
+    let at-if2 = at-kind-permitted .before in
+    let at-others-number = at-if2 .before in
+    let at-path = at-others-number .before .before in
+    let at-string-member = at-path .before .before in
+    let at-if1 = at-string-member .before .before in
+    let at-uses-of = at-if1 .before .before in
+    let at-kind-of = at-uses-of .before in
+    let (k, known) = accepted-ok _ (sym (ap (λ (u : Uses). u .known) (at-uses-of .uses-of .ensures)) ∙ not-false _ (at-if1 .if1 .left)) in
+    element-other _ (at-kind-of .kind-of .ensures) known (members-others (at-string-member .string-member .ensures) _ (at-path .path .given .1)
+    (at-others-number .others-number .ensures))
+    (at-if2 .if2 .left) (at-kind-permitted .kind-permitted .ensures) (not-true _ (c .if3 .taken)))
     -- part-requires
     (λ c κs. search needs)
     -- is-inside-requires
-    (λ c κs. c .before .before .before .before .before .before .before .before .before .before .before .before .before .before .before .pre)
+    (λ c κs.
+    let at-pre = c .before .before .before .before .before .before .before .before .before .before .before .before .before .before .before in
+    at-pre .pre)
     -- returns-5
     (λ c.
-    let (k, known) = accepted-ok _ (sym (ap (λ (u : Uses). u .known) (c .before .before .before .before .before .before .before .before .before .before .before .before .before .before .uses-of .ensures)) ∙ not-false _ (c .before .before .before .before .before .before .before .before .before .before .before .before .if1 .left)) in
-    element-inside _ (c .before .before .before .before .before .before .before .before .before .before .before .before .before .before .before .kind-of .ensures) known (members-others (c .before .before .before .before .before .before .before .before .before .before .string-member .ensures) _ (c .before .before .before .before .before .before .before .before .path .given .1) (c .before .before .before .before .before .before .others-number .ensures))
-    (c .before .before .before .before .before .if2 .left) (c .before .before .before .before .kind-permitted .ensures) (path-judged (c .before .before .before .before .before .before .before .before .before .before .string-member .ensures) _ (c .before .before .before .before .before .before .before .before .path .given .1) (c .before .before .part .ensures) (c .before .is-inside .ensures))
-    (not-false _ (c .before .before .before .if3 .left)) (c .if4 .taken))
+    let at-is-inside = c .before in
+    let at-part = at-is-inside .before in
+    let at-if3 = at-part .before in
+    let at-kind-permitted = at-if3 .before in
+    let at-if2 = at-kind-permitted .before in
+    let at-others-number = at-if2 .before in
+    let at-path = at-others-number .before .before in
+    let at-string-member = at-path .before .before in
+    let at-if1 = at-string-member .before .before in
+    let at-uses-of = at-if1 .before .before in
+    let at-kind-of = at-uses-of .before in
+    let (k, known) = accepted-ok _ (sym (ap (λ (u : Uses). u .known) (at-uses-of .uses-of .ensures)) ∙ not-false _ (at-if1 .if1 .left)) in
+    element-inside _ (at-kind-of .kind-of .ensures) known (members-others (at-string-member .string-member .ensures) _ (at-path .path .given .1)
+    (at-others-number .others-number .ensures))
+    (at-if2 .if2 .left) (at-kind-permitted .kind-permitted .ensures)
+    (path-judged (at-string-member .string-member .ensures) _ (at-path .path .given .1) (at-part .part .ensures) (at-is-inside .is-inside .ensures))
+    (not-false _ (at-if3 .if3 .left)) (c .if4 .taken))
     -- returns-6
     (λ c.
-    let (k, known) = accepted-ok _ (sym (ap (λ (u : Uses). u .known) (c .before .before .before .before .before .before .before .before .before .before .before .before .before .before .uses-of .ensures)) ∙ not-false _ (c .before .before .before .before .before .before .before .before .before .before .before .before .if1 .left)) in
-    element-outside _ (c .before .before .before .before .before .before .before .before .before .before .before .before .before .before .before .kind-of .ensures) known (members-others (c .before .before .before .before .before .before .before .before .before .before .string-member .ensures) _ (c .before .before .before .before .before .before .before .before .path .given .1) (c .before .before .before .before .before .before .others-number .ensures))
-    (c .before .before .before .before .before .if2 .left) (c .before .before .before .before .kind-permitted .ensures) (path-judged (c .before .before .before .before .before .before .before .before .before .before .string-member .ensures) _ (c .before .before .before .before .before .before .before .before .path .given .1) (c .before .before .part .ensures) (c .before .is-inside .ensures))
-    (not-false _ (c .before .before .before .if3 .left)) (c .if4 .left)))
+    let at-is-inside = c .before in
+    let at-part = at-is-inside .before in
+    let at-if3 = at-part .before in
+    let at-kind-permitted = at-if3 .before in
+    let at-if2 = at-kind-permitted .before in
+    let at-others-number = at-if2 .before in
+    let at-path = at-others-number .before .before in
+    let at-string-member = at-path .before .before in
+    let at-if1 = at-string-member .before .before in
+    let at-uses-of = at-if1 .before .before in
+    let at-kind-of = at-uses-of .before in
+    let (k, known) = accepted-ok _ (sym (ap (λ (u : Uses). u .known) (at-uses-of .uses-of .ensures)) ∙ not-false _ (at-if1 .if1 .left)) in
+    element-outside _ (at-kind-of .kind-of .ensures) known (members-others (at-string-member .string-member .ensures) _ (at-path .path .given .1)
+    (at-others-number .others-number .ensures))
+    (at-if2 .if2 .left) (at-kind-permitted .kind-permitted .ensures)
+    (path-judged (at-string-member .string-member .ensures) _ (at-path .path .given .1) (at-part .part .ensures) (at-is-inside .is-inside .ensures))
+    (not-false _ (at-if3 .if3 .left)) (c .if4 .left)))

@@ -34,6 +34,10 @@ elements-within-spec =
     -- loop-less
     (λ c. search needs)
     -- loop-again
-    (λ c. (omega arith, left-next (c .before .before .before .before .before .loop .inv .1) (omega arith) (c .before .before .element-number .ensures) (c .before .if2 .left) _ (c .end-of .ensures)))
+    (λ c.
+    let at-if2 = c .before in
+    let at-element-number = at-if2 .before in
+    let at-loop = at-element-number .before .before .before in
+    (omega arith, left-next (at-loop .loop .inv .1) (omega arith) (at-element-number .element-number .ensures) (at-if2 .if2 .left) _ (c .end-of .ensures)))
     -- returns-3
     (λ c. left-none (c .before .loop .inv .1) (omega arith)))

@@ -19,7 +19,11 @@ shape-within-spec =
     -- returns-2
     (λ c. within-long _ (sym (c .before .before .before .kind .ensures) ∙ c .before .before .if1 .left) (c .before .arity .ensures) (omega arith))
     -- returns-3
-    (λ c. within-empty _ (sym (c .before .before .before .before .kind .ensures) ∙ c .before .before .before .if1 .left) (c .before .before .arity .ensures) (omega arith) (omega arith))
+    (λ c.
+    let at-arity = c .before .before in
+    let at-if1 = at-arity .before in
+    let at-kind = at-if1 .before in
+    within-empty _ (sym (at-kind .kind .ensures) ∙ at-if1 .if1 .left) (at-arity .arity .ensures) (omega arith) (omega arith))
     -- returns-4
     (λ c. within-out _ (sym (c .before .before .before .before .before .kind .ensures) ∙ c .before .before .before .before .if1 .left) (omega arith))
     -- end-of-requires
@@ -31,4 +35,11 @@ shape-within-spec =
     -- elements-within-requires
     (λ c κs. c .is-raw .ensures)
     -- returns-5
-    (λ c. within-elements _ (sym (c .before .before .before .before .before .before .before .before .kind .ensures) ∙ c .before .before .before .before .before .before .before .if1 .left) (c .before .before .before .before .before .before .arity .ensures) (omega arith) (c .before .before .before .before .if3 .left) (c .before .before .end-of .ensures) (c .elements-within .ensures)))
+    (λ c.
+    let at-end-of = c .before .before in
+    let at-if3 = at-end-of .before .before in
+    let at-arity = at-if3 .before .before in
+    let at-if1 = at-arity .before in
+    let at-kind = at-if1 .before in
+    within-elements _ (sym (at-kind .kind .ensures) ∙ at-if1 .if1 .left) (at-arity .arity .ensures) (omega arith)
+    (at-if3 .if3 .left) (at-end-of .end-of .ensures) (c .elements-within .ensures)))

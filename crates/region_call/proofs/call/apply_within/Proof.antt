@@ -24,11 +24,15 @@ apply-within-spec =
     -- slice-relend-prefix-checked-within
     (λ c. search needs)
     -- slice-aggregate-checked-within
-    (λ c. sym (length-take-le workNodes (c .before .before .before .before .before .before .before .before .before .args .nodes .now) (omega arith)))
+    (λ c.
+    let at-args = c .before .before .before .before .before .before .before .before .before in
+    sym (length-take-le workNodes (at-args .args .nodes .now) (omega arith)))
     -- slice-relend-prefix-checked-within-2
     (λ c. search needs)
     -- slice-aggregate-checked-within-2
-    (λ c. sym (length-take-le workEntries (c .before .before .before .before .before .before .before .before .before .before .args .index .now) (omega arith)))
+    (λ c.
+    let at-args = c .before .before .before .before .before .before .before .before .before .before in
+    sym (length-take-le workEntries (at-args .args .index .now) (omega arith)))
     -- checked-within-requires
     (λ c κs. search needs)
     -- wipe-requires
@@ -43,5 +47,10 @@ apply-within-spec =
     (λ c. search needs)
     -- returns-3
     (λ c.
-    work-done (omega arith) (omega arith) (c .before .before .before .before .before .before .before .before .before .before .before .before .checked-within .ensures) (c .before .before .before .before .before .before .before .before .before .before .before .before .checked-within .last .1 .1 .1 .0) (c .before .before .before .before .before .before .before .before .before .before .before .before .checked-within .kept .1 .1 .1 .0)
-    (c .before .before .before .before .before .wipe .ensures) (c .before .before .before .before .before .before .before .before .before .before .before .before .checked-within .last .1 .1 .1 .1 .0) (c .before .before .before .before .before .before .before .before .before .before .before .before .checked-within .kept .1 .1 .1 .1 .0) (c .before .before .empty .ensures)))
+    let at-empty = c .before .before in
+    let at-wipe = at-empty .before .before .before in
+    let at-checked-within = at-wipe .before .before .before .before .before .before .before in
+    work-done (omega arith) (omega arith) (at-checked-within .checked-within .ensures) (at-checked-within .checked-within .last .1 .1 .1 .0)
+    (at-checked-within .checked-within .kept .1 .1 .1 .0)
+    (at-wipe .wipe .ensures) (at-checked-within .checked-within .last .1 .1 .1 .1 .0) (at-checked-within .checked-within .kept .1 .1 .1 .1 .0)
+    (at-empty .empty .ensures)))

@@ -2,7 +2,8 @@
 use native.Mathlib.Omega.{arith}
 use borrow.Author.Needs.{needs}
 use Rattle.json_patch.proofs.AnswerLaws.{answered-refusal, answered-as, work-suffices}
-use Rattle.region_call.proofs.StageLaws.{within-document-long, within-patch-long, within-region-long, within-read, document-unread, patch-unread, patch-read}
+use Rattle.region_call.proofs.StageLaws.{within-document-long, within-patch-long, within-region-long, within-read}
+use Rattle.region_call.proofs.StageLaws.{document-unread, patch-unread, patch-read}
 use Rattle.region_call.proofs.stages.checked_within.Statement.{statement}
 use Rattle.region_call.proofs.stages.checked_within.Tie as tie
 
@@ -25,7 +26,8 @@ checked-within-spec =
     -- refused-requires-3
     (λ c κs. search needs)
     -- returns-3
-    (λ c h i. answered-as (within-region-long _ _ _ _ (work-suffices _ h i) (omega arith) (omega arith) (omega arith)) (answered-refusal (c .refused3 .ensures)))
+    (λ c h i. answered-as (within-region-long _ _ _ _ (work-suffices _ h i) (omega arith) (omega arith) (omega arith)) (answered-refusal (c .refused3
+    .ensures)))
     -- read-document-requires
     (λ c κs. search needs)
     -- enum-known-document
@@ -40,8 +42,18 @@ checked-within-spec =
     (λ c. search needs)
     -- returns-4
     (λ c h i.
-    answered-as (within-read _ _ _ _ (work-suffices _ h i) (omega (arith, c .before .before .before .before .before .before .before .before .before .before .before .if1 .left)) (omega (arith, c .before .before .before .before .before .before .before .before .before .before .if2 .left)) (omega (arith, c .before .before .before .before .before .before .before .before .before .if3 .left)))
-    (document-unread h i (omega (arith, c .before .before .before .before .before .before .before .before .before .before .before .if1 .left)) (omega (arith, c .before .before .before .before .before .before .before .before .before .before .if2 .left)) (c .before .before .before .before .before .before .read-document .ensures) _ (c .before .enum-told .given .1) (c .unread .ensures)))
+    let at-enum-told = c .before in
+    let at-read-document = at-enum-told .before .before .before .before .before in
+    let at-if3 = at-read-document .before .before .before in
+    let at-if2 = at-if3 .before in
+    let at-if1 = at-if2 .before in
+    answered-as (within-read _ _ _ _ (work-suffices _ h i) (omega (arith, at-if1 .if1 .left)) (omega (arith, at-if2 .if2 .left)) (omega (
+      arith,
+      at-if3
+          .if3 .left,
+    )))
+    (document-unread h i (omega (arith, at-if1 .if1 .left)) (omega (arith, at-if2 .if2 .left)) (at-read-document .read-document .ensures) _
+    (at-enum-told .enum-told .given .1) (c .unread .ensures)))
     -- read-patch-requires
     (λ c κs. search needs)
     -- enum-told-2
@@ -56,9 +68,22 @@ checked-within-spec =
     (λ c. search needs)
     -- returns-5
     (λ c h i.
-    answered-as (within-read _ _ _ _ (work-suffices _ h i) (omega (arith, c .before .before .before .before .before .before .before .before .before .before .before .before .before .before .before .before .before .before .before .before .if1 .left)) (omega (arith, c .before .before .before .before .before .before .before .before .before .before .before .before .before .before .before .before .before .before .before .if2 .left)) (omega (arith, c .before .before .before .before .before .before .before .before .before .before .before .before .before .before .before .before .before .before .if3 .left)))
-    (patch-unread h i (omega (arith, c .before .before .before .before .before .before .before .before .before .before .before .before .before .before .before .before .before .before .before .before .if1 .left)) (omega (arith, c .before .before .before .before .before .before .before .before .before .before .before .before .before .before .before .before .before .before .before .if2 .left)) (c .before .before .before .before .before .before .before .before .before .before .before .before .before .before .before .read-document .ensures) (c .before .before .before .before .before .before .before .before .before .before .document .given .1)
-    (c .before .before .before .before .before .before .before .before .before .before .before .before .before .before .before .read-document .kept .1 .0) (c .before .before .before .before .before .before .before .before .before .before .before .before .before .before .before .read-document .kept .1 .1 .0) (c .before .before .before .before .before .before .read-patch .ensures) _ (c .before .enum-told3 .given .1) (c .unread2 .ensures)))
+    let at-enum-told3 = c .before in
+    let at-read-patch = at-enum-told3 .before .before .before .before .before in
+    let at-document = at-read-patch .before .before .before .before in
+    let at-read-document = at-document .before .before .before .before .before in
+    let at-if3 = at-read-document .before .before .before in
+    let at-if2 = at-if3 .before in
+    let at-if1 = at-if2 .before in
+    answered-as (within-read _ _ _ _ (work-suffices _ h i) (omega (arith, at-if1 .if1 .left)) (omega (arith, at-if2 .if2 .left)) (omega (
+      arith,
+      at-if3
+          .if3 .left,
+    )))
+    (patch-unread h i (omega (arith, at-if1 .if1 .left)) (omega (arith, at-if2 .if2 .left)) (at-read-document .read-document .ensures) (at-document
+    .document .given .1)
+    (at-read-document .read-document .kept .1 .0) (at-read-document .read-document .kept .1 .1 .0) (at-read-patch .read-patch .ensures) _
+    (at-enum-told3 .enum-told3 .given .1) (c .unread2 .ensures)))
     -- run-within-requires
     (λ c κs. search needs)
     -- same-length-5
@@ -69,7 +94,21 @@ checked-within-spec =
     (λ c. search needs)
     -- returns-6
     (λ c h i.
-    answered-as (within-read _ _ _ _ (work-suffices _ h i) (omega (arith, c .before .before .before .before .before .before .before .before .before .before .before .before .before .before .before .before .before .before .before .before .before .before .before .before .before .before .before .before .if1 .left)) (omega (arith, c .before .before .before .before .before .before .before .before .before .before .before .before .before .before .before .before .before .before .before .before .before .before .before .before .before .before .before .if2 .left)) (omega (arith, c .before .before .before .before .before .before .before .before .before .before .before .before .before .before .before .before .before .before .before .before .before .before .before .before .before .before .if3 .left)))
-    (patch-read h i (omega (arith, c .before .before .before .before .before .before .before .before .before .before .before .before .before .before .before .before .before .before .before .before .before .before .before .before .before .before .before .before .if1 .left)) (omega (arith, c .before .before .before .before .before .before .before .before .before .before .before .before .before .before .before .before .before .before .before .before .before .before .before .before .before .before .before .if2 .left)) (c .before .before .before .before .before .before .before .before .before .before .before .before .before .before .before .before .before .before .before .before .before .before .before .read-document .ensures) (c .before .before .before .before .before .before .before .before .before .before .before .before .before .before .before .before .before .before .document .given .1)
-    (c .before .before .before .before .before .before .before .before .before .before .before .before .before .before .before .before .before .before .before .before .before .before .before .read-document .kept .1 .0) (c .before .before .before .before .before .before .before .before .before .before .before .before .before .before .before .before .before .before .before .before .before .before .before .read-document .kept .1 .1 .0) (c .before .before .before .before .before .before .before .before .before .before .before .before .before .before .read-patch .ensures) _ (c .before .before .before .before .before .before .before .before .before .enum-told2 .given .1) (c .before .before .before .before .before .before .before .before .before .before .before .before .before .before .read-patch .kept .1 .0)
-    (c .before .before .before .before .before .run-within .ensures))))
+    let at-run-within = c .before .before .before .before .before in
+    let at-enum-told2 = at-run-within .before .before .before .before in
+    let at-read-patch = at-enum-told2 .before .before .before .before .before in
+    let at-document = at-read-patch .before .before .before .before in
+    let at-read-document = at-document .before .before .before .before .before in
+    let at-if3 = at-read-document .before .before .before in
+    let at-if2 = at-if3 .before in
+    let at-if1 = at-if2 .before in
+    answered-as (within-read _ _ _ _ (work-suffices _ h i) (omega (arith, at-if1 .if1 .left)) (omega (arith, at-if2 .if2 .left)) (omega (
+      arith,
+      at-if3
+          .if3 .left,
+    )))
+    (patch-read h i (omega (arith, at-if1 .if1 .left)) (omega (arith, at-if2 .if2 .left)) (at-read-document .read-document .ensures) (at-document
+    .document .given .1)
+    (at-read-document .read-document .kept .1 .0) (at-read-document .read-document .kept .1 .1 .0) (at-read-patch .read-patch .ensures) _
+    (at-enum-told2 .enum-told2 .given .1) (at-read-patch .read-patch .kept .1 .0)
+    (at-run-within .run-within .ensures))))

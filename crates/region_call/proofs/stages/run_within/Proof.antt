@@ -28,7 +28,13 @@ run-within-spec =
     -- same-length
     (λ c. search needs)
     -- returns-2
-    (λ c. within-misshapen (c .before .before .before .shape-within .ensures) (sym (c .before .before .before .before .before .before .is-region .ensures) ∙ not-false _ (c .before .before .before .before .before .if1 .left)) (c .before .enum-told2 .given .1) (c .misshapen .ensures))
+    (λ c.
+    let at-enum-told2 = c .before in
+    let at-shape-within = at-enum-told2 .before .before in
+    let at-if1 = at-shape-within .before .before in
+    let at-is-region = at-if1 .before in
+    within-misshapen (at-shape-within .shape-within .ensures) (sym (at-is-region .is-region .ensures) ∙ not-false _ (at-if1 .if1 .left))
+    (at-enum-told2 .enum-told2 .given .1) (c .misshapen .ensures))
     -- run-requires
     (λ c κs. search needs)
     -- enum-told-3
@@ -42,8 +48,17 @@ run-within-spec =
     -- same-length-3
     (λ c. search needs)
     -- returns-3
-    (λ c. within-stopped (c .before .before .before .before .before .before .before .before .before .before .before .shape-within .ensures) (sym (c .before .before .before .before .before .before .before .before .before .before .before .before .before .before .is-region .ensures) ∙ not-false _ (c .before .before .before .before .before .before .before .before .before .before .before .before .before .if1 .left)) (c .before .before .before .before .before .before .before .before .before .enum-told .given .1) (c .before .before .before .before .before .before .run .ensures)
-    (c .before .enum-told4 .given .1) (c .stopped .ensures))
+    (λ c.
+    let at-enum-told4 = c .before in
+    let at-run = at-enum-told4 .before .before .before .before .before in
+    let at-enum-told = at-run .before .before .before in
+    let at-shape-within = at-enum-told .before .before in
+    let at-if1 = at-shape-within .before .before in
+    let at-is-region = at-if1 .before in
+    within-stopped (at-shape-within .shape-within .ensures)
+    (sym (at-is-region .is-region .ensures) ∙ not-false _ (at-if1 .if1 .left)) (at-enum-told .enum-told .given .1)
+    (at-run .run .ensures)
+    (at-enum-told4 .enum-told4 .given .1) (c .stopped .ensures))
     -- write-out-requires
     (λ c κs. search needs)
     -- same-length-4
@@ -53,5 +68,15 @@ run-within-spec =
     -- same-length-6
     (λ c. search needs)
     -- returns-4
-    (λ c. within-done (c .before .before .before .before .before .before .before .before .before .before .before .before .before .before .before .shape-within .ensures) (sym (c .before .before .before .before .before .before .before .before .before .before .before .before .before .before .before .before .before .before .is-region .ensures) ∙ not-false _ (c .before .before .before .before .before .before .before .before .before .before .before .before .before .before .before .before .before .if1 .left)) (c .before .before .before .before .before .before .before .before .before .before .before .before .before .enum-told .given .1) (c .before .before .before .before .before .before .before .before .before .before .run .ensures)
-    (c .before .before .before .before .before .enum-told3 .given .1) (c .before .before .write-out .ensures)))
+    (λ c.
+    let at-write-out = c .before .before in
+    let at-enum-told3 = at-write-out .before .before .before in
+    let at-run = at-enum-told3 .before .before .before .before .before in
+    let at-enum-told = at-run .before .before .before in
+    let at-shape-within = at-enum-told .before .before in
+    let at-if1 = at-shape-within .before .before in
+    let at-is-region = at-if1 .before in
+    within-done (at-shape-within .shape-within .ensures)
+    (sym (at-is-region .is-region .ensures) ∙ not-false _ (at-if1 .if1 .left)) (at-enum-told .enum-told .given .1)
+    (at-run .run .ensures)
+    (at-enum-told3 .enum-told3 .given .1) (at-write-out .write-out .ensures)))
