@@ -15,6 +15,10 @@ function answerOf(calls, document, patch, { merge, region }) {
     return region === undefined ? calls.apply(document, patch) : calls.within(document, patch, encoder.encode(region));
 }
 
+// Who prints that line: the patch tool has neither regions nor merge patches.
+const lineTitle = ({ merge, region }) => merge ? 'Line of json-patch merge --porcelain' :
+    region === undefined ? 'Line of the patch tool' : 'Line of json-patch apply --porcelain --region';
+
 // The patch's operations, counted.
 function inspectedNote(calls, patch) {
     const found = calls.inspect(patch);
@@ -63,7 +67,8 @@ export function applyView(calls, documentEditor, patchEditor) {
         byId('take-back').disabled = !made || tooLong;
         byId('undo-words').textContent = !made ? `No undo: refused ${undo.number}: ${message(undo.number)}.` :
             tooLong ? 'The result is longer than a document may be, so the undo cannot be applied to it.' :
-                `${many(undo.undo.length, 'byte')}. Applied to the result it gives the document back; only the order of members may differ.`;
+                `${many(undo.undo.length, 'byte')}. Applied to the result it gives the document back; ` +
+                    'only the order of members may differ.';
     };
     const run = () => {
         answer = answerOf(calls, documentEditor.bytes, patchEditor.bytes, how());
@@ -76,6 +81,7 @@ export function applyView(calls, documentEditor, patchEditor) {
         showResult();
         showUndo();
         byId('line').textContent = toolLine(answer);
+        byId('tool-title').textContent = lineTitle(how());
     };
 
     byId('kind').hidden = !calls.merge;

@@ -12,6 +12,9 @@ export function make(name, properties = {}, ...children) {
     return element;
 }
 
+// Whether a file is dragged; words are the text area's own.
+export const hasFile = event => event.dataTransfer.types.includes('Files');
+
 // What is to be said to someone who does not see the page.
 export function announce(words) {
     byId('announcement').textContent = words;
@@ -65,7 +68,8 @@ export function tabs(list, chosen) {
     };
     list.addEventListener('keydown', event => {
         const now = all.indexOf(event.target), last = all.length - 1;
-        const to = { ArrowRight: now === last ? 0 : now + 1, ArrowLeft: now === 0 ? last : now - 1, Home: 0, End: last };
+        const [next, previous] = [now === last ? 0 : now + 1, now === 0 ? last : now - 1];
+        const to = { ArrowRight: next, ArrowLeft: previous, Home: 0, End: last };
         if (!(event.key in to)) return;
         event.preventDefault();
         choose(all[to[event.key]], true);

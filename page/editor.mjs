@@ -1,6 +1,6 @@
 // A text to type, to open or to drop a file on. It keeps the bytes: those of the file
 // until the text is edited, whatever a text area would make of them.
-import { byId, make, announce } from './dom.mjs';
+import { byId, make, announce, hasFile } from './dom.mjs';
 import { many } from './words.mjs';
 
 const MOST = 32768;
@@ -70,15 +70,13 @@ export function editor(place, { name, label, text, changed }) {
         if (chooser.files.length) take(chooser.files[0]);
         chooser.value = '';
     });
-    const dragged = on => event => {
-        event.preventDefault();
-        root.classList.toggle('dropping', on);
-    };
-    root.addEventListener('dragover', dragged(true));
-    root.addEventListener('dragleave', dragged(false));
+    for (const [kind, over] of [['dragover', true], ['dragleave', false], ['drop', false]]) {
+        root.addEventListener(kind, event => root.classList.toggle('dropping', over && hasFile(event)));
+    }
     root.addEventListener('drop', event => {
-        dragged(false)(event);
-        if (event.dataTransfer.files.length) take(event.dataTransfer.files[0]);
+        if (!hasFile(event)) return;
+        event.preventDefault();
+        take(event.dataTransfer.files[0]);
     });
 
     const self = {

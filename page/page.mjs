@@ -1,6 +1,6 @@
 // The page: one document, and what is done with it.
 import { engine } from '../examples/wasm/engine.mjs';
-import { byId, tabs } from './dom.mjs';
+import { byId, hasFile, tabs } from './dom.mjs';
 import { editor } from './editor.mjs';
 import { applyView } from './apply-view.mjs';
 import { shuffleView } from './shuffle-view.mjs';
@@ -57,7 +57,9 @@ function start() {
 }
 
 // A file that misses its place must not replace the page.
-for (const kind of ['dragover', 'drop']) window.addEventListener(kind, event => event.preventDefault());
+for (const kind of ['dragover', 'drop']) {
+    window.addEventListener(kind, event => { if (hasFile(event)) event.preventDefault(); });
+}
 
 try {
     start();

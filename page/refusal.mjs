@@ -24,7 +24,8 @@ function showByte(editor, answer) {
     const start = editor.offset(answer.place), { line, column } = position(editor.text, start);
     const end = start + (editor.text.codePointAt(start) > 0xffff ? 2 : 1);
     editor.mark([{ start, end, kind: 'byte' }], `Line ${line}, column ${column}: ${message(answer.number)}.`);
-    return [['Where', `line ${line}, column ${column}`], ['Byte', `${answer.place}: ${byteWords(editor.bytes, answer.place)}`]];
+    return [['Where', `line ${line}, column ${column}`],
+        ['Byte', `${answer.place}: ${byteWords(editor.bytes, answer.place)}`]];
 }
 
 // The document before an operation: the proved call on those in front of it.
@@ -54,10 +55,10 @@ function operationFacts(calls, documentBytes, elements, answer) {
     const facts = [['Operation', `${answer.op} of ${elements.length}`], ['Its text', short(value.source)]];
     const pointer = stringMember(value, answer.pointer ? pointerName(answer) : 'path');
     if (answer.pointer) {
-        const walked = tokensOf(pointer).slice(0, answer.place), root = before(calls, documentBytes, elements, answer.op);
-        const failed = tokensOf(pointer)[answer.place];
+        const tokens = tokensOf(pointer), walked = tokens.slice(0, answer.place), failed = tokens[answer.place];
+        const root = before(calls, documentBytes, elements, answer.op);
         facts.push([`Its ${pointerName(answer)}`, walkedPointer(pointer, answer.place)],
-            ['Walked', walked.length ? `${pointerOf(walked)}; then "${failed}" failed` : `nothing: "${failed}" failed`]);
+            ['Walked', `${walked.length ? pointerOf(walked) + '; then' : 'nothing:'} "${failed}" failed`]);
         // a move walks `path` in what it has left, which is not shown
         const moved = stringMember(value, 'op') === 'move' && answer.pointer === 1;
         if (!moved) facts.push(...foundAt(root, walked));

@@ -1,7 +1,7 @@
 // The shuffle checker: two patches, their regions, and what every order gives.
 import { byId, make } from './dom.mjs';
-import { isPointer, areApart, operationsOf, outside, countShuffles, allShuffles, someShuffles, nameOrder, shuffled,
-    foretold } from './shuffles.mjs';
+import { regionTrouble, areApart, operationsOf, withPointers, countShuffles, allShuffles, someShuffles, nameOrder,
+    shuffled, foretold } from './shuffles.mjs';
 import { describe, toolLine, many } from './words.mjs';
 
 const NAMES = ['A', 'B'], SEED = 1, AT_ONCE = 100, ROWS = 8, decoder = new TextDecoder();
@@ -12,26 +12,31 @@ const pause = () => new Promise(resolve => setTimeout(resolve));
 const listed = (word, ops) => `${word}${ops.length === 1 ? '' : 's'} ${ops.join(', ')}`;
 
 // A condition of the theorem: whether it holds, and in words.
+function insideCondition(calls, name, operations, region) {
+    const trouble = regionTrouble(calls, region);
+    if (trouble) return [false, `Region ${name} ${trouble}`];
+    const [out, unknown] = [false, undefined].map(inside => withPointers(calls, region, operations, inside));
+    if (out.length) return [false, `Patch ${name} is not strictly inside region ${name}: ${listed('operation', out)}`];
+    if (unknown.length) {
+        return [false, `Patch ${name} has pointers too long to be judged: ${listed('operation', unknown)}`];
+    }
+    return [true, `Patch ${name} is strictly inside region ${name}`];
+}
+
 function patchConditions(calls, name, bytes, text, region) {
     const found = calls.inspect(bytes);
     if (found.number !== 0) {
         return { conditions: [[false, `Patch ${name} is not well formed: ${describe({ ...found, pointer: 0 })}`]] };
     }
-    const operations = operationsOf(text), conditions = [[true, `Patch ${name} is well formed: ${many(operations.length, 'operation')}`]];
-    if (!isPointer(calls, region)) {
-        conditions.push([false, `Region ${name} is no pointer`]);
-    } else {
-        const out = outside(calls, region, operations);
-        conditions.push(out.length ? [false, `Patch ${name} is not strictly inside region ${name}: ${listed('operation', out)}`] :
-            [true, `Patch ${name} is strictly inside region ${name}`]);
-    }
-    return { operations, conditions };
+    const operations = operationsOf(text), count = many(operations.length, 'operation');
+    return { operations, conditions: [[true, `Patch ${name} is well formed: ${count}`],
+        insideCondition(calls, name, operations, region)] };
 }
 
 // Runs each order, and gathers what comes out. told: called now and then with the
 // number of orders so far; it gives false to stop.
 async function runOrders(calls, documentBytes, patches, orders, told) {
-    const alone = patches.map(operations => calls.apply(documentBytes, shuffled(operations.map(() => 0), [operations])));
+    const alone = patches.map(patch => calls.apply(documentBytes, shuffled(patch.map(() => 0), [patch])));
     const outcomes = new Map(), found = { alone, tried: 0, agreed: 0, limits: 0, text: undefined };
     for (const order of orders) {
         const answer = calls.apply(documentBytes, shuffled(order, patches)), line = toolLine(answer);
@@ -54,12 +59,16 @@ function verdict(held, total, { tried, agreed, limits, text, outcomes }) {
     const count = tried.toLocaleString('en'), one = total === 1n;
     const orders = one ? 'The one order' : BigInt(tried) === total ? `All ${count} orders` :
         `${count} of ${total.toLocaleString('en')} orders, chosen by seed ${SEED},`;
-    if (agreed === tried && text) return [true, `${orders} ${one ? 'gives' : 'give the same'} ${many(text.length, 'byte')}.`];
+    if (agreed === tried && text) {
+        return [true, `${orders} ${one ? 'gives' : 'give the same'} ${many(text.length, 'byte')}.`];
+    }
     if (agreed === tried) {
-        return [held, `${orders} ${one ? 'is' : 'are'} refused${one ? '' : ', each'} at the first operation at which its own patch ends alone, with its number.`];
+        return [held, `${orders} ${one ? 'is refused' : 'are refused, each'} at the first operation at which ` +
+            'its own patch ends alone, with its number.'];
     }
     if (agreed + limits === tried) {
-        return [held, `${orders} ${one ? 'does' : 'do'} as the theorem says; ${limits.toLocaleString('en')} of them met a limit (${LIMITS.join(', ')}).`];
+        return [held, `${orders} ${one ? 'does' : 'do'} as the theorem says; ${limits.toLocaleString('en')} of them ` +
+            `met a limit (${LIMITS.join(', ')}).`];
     }
     return [false, `The order matters: ${many(outcomes.length, 'outcome')} in ${many(tried, 'order')}.`];
 }
@@ -72,7 +81,8 @@ export function shuffleView(calls, documentEditor, editors) {
         byId('verdict-words').textContent = words;
     };
     const showConditions = conditions => byId('conditions').replaceChildren(...conditions.map(([good, words]) =>
-        make('li', { className: good ? 'yes' : 'no' }, make('span', { className: 'sign' }, good ? 'yes' : 'no'), words)));
+        make('li', { className: good ? 'yes' : 'no' },
+            make('span', { className: 'sign' }, good ? 'yes' : 'no'), words)));
     const showOutcomes = ({ outcomes, alone }) => {
         byId('alone').textContent = alone.map((answer, one) => `${NAMES[one]} alone: ${describe(answer)}.`).join(' ');
         byId('outcomes').hidden = false;
@@ -86,9 +96,10 @@ export function shuffleView(calls, documentEditor, editors) {
         const [left, right] = editors.map((editor, one) =>
             patchConditions(calls, NAMES[one], editor.bytes, editor.text, regions[one].value));
         const conditions = [...left.conditions, ...right.conditions];
-        if (regions.every(region => isPointer(calls, region.value))) {
+        if (regions.every(region => !regionTrouble(calls, region.value))) {
             const apart = areApart(calls, ...regions.map(region => region.value));
-            conditions.push([apart, apart ? 'The regions are apart' : 'The regions are not apart: one holds the other']);
+            conditions.push([apart === true, apart === undefined ? 'The regions are too long to be compared' :
+                apart ? 'The regions are apart' : 'The regions are not apart: one holds the other']);
         }
         showConditions(conditions);
         byId('outcomes').hidden = true;

@@ -6,12 +6,18 @@ import { outline, stringMember } from './json.mjs';
 const encoder = new TextEncoder();
 const inspected = (calls, operation) => calls.inspect(encoder.encode(JSON.stringify([operation]))).number;
 
-export const isPointer = (calls, pointer) => inspected(calls, { op: 'remove', path: pointer }) === 0;
+// What is wrong with a region, in words, or nothing.
+export const regionTrouble = (calls, region) =>
+    ({ 0: '', 2: 'is too long to be judged' })[inspected(calls, { op: 'remove', path: region })] ?? 'is no pointer';
+// Whether a pointer is strictly inside a region; undefined where both together are too
+// long for one patch.
 export const isInside = (calls, region, pointer) =>
-    inspected(calls, { op: 'move', from: region, path: pointer }) === 14;
-// Neither region's tokens are a prefix of the other's, nor the same.
-export const areApart = (calls, left, right) =>
-    !isInside(calls, left, right + '/x') && !isInside(calls, right, left + '/x');
+    ({ 0: false, 14: true })[inspected(calls, { op: 'move', from: region, path: pointer })];
+// Whether neither region's tokens are a prefix of the other's, nor the same; or undefined.
+export function areApart(calls, left, right) {
+    const inside = [isInside(calls, left, right + '/x'), isInside(calls, right, left + '/x')];
+    return inside.includes(true) ? false : inside.includes(undefined) ? undefined : true;
+}
 
 // The operations of a well-formed patch: their own text, and the pointers that they use.
 export function operationsOf(text) {
@@ -22,9 +28,9 @@ export function operationsOf(text) {
     });
 }
 
-// The operations, from 1, that are not strictly inside the region.
-export const outside = (calls, region, operations) => operations.flatMap(({ pointers }, i) =>
-    pointers.every(pointer => isInside(calls, region, pointer)) ? [] : [i + 1]);
+// The operations, from 1, with a pointer for which isInside gives this.
+export const withPointers = (calls, region, operations, inside) => operations.flatMap(({ pointers }, i) =>
+    pointers.some(pointer => isInside(calls, region, pointer) === inside) ? [i + 1] : []);
 
 // How many shuffles two lists of so many operations have.
 export function countShuffles(left, right) {

@@ -5,12 +5,10 @@ import { pointerOf } from './json.mjs';
 import { many } from './words.mjs';
 
 const HUES = 12;
+const paintName = origin => origin === 0 ? 'document' : `operation ${origin}`;
 const paint = origin => origin === 0 ? 'origin' : `origin origin-${(origin - 1) % HUES + 1}`;
 
-function size({ kind, children }) {
-    if (kind === 'array') return `[ ${many(children.length, 'element')} ]`;
-    return `{ ${many(children.length, 'member')} }`;
-}
+const size = ({ kind, children }) => many(children.length, kind === 'array' ? 'element' : 'member');
 
 // root: an outline. chosen: told the pointer of the row that has the focus. origins: one
 // for each value in written order, or undefined.
@@ -19,12 +17,14 @@ export function showTree(place, root, chosen, origins) {
     const row = (value, token, tokens, level) => {
         const origin = origins?.[next++], inner = ['object', 'array'].includes(value.kind);
         const words = make('span', { className: inner ? 'count' : `value ${value.kind}` },
-            inner ? size(value) : value.source);
+            value.kind === 'array' ? `[ ${size(value)} ]` : inner ? `{ ${size(value)} }` : value.source);
         const line = make('span', { className: 'row' },
-            make('span', { className: 'twist', 'aria-hidden': 'true' }), token === undefined ? '' : make('span', { className: 'token' }, token), words,
-            origin === undefined ? '' : make('span', { className: paint(origin) },
-                origin === 0 ? 'document' : `operation ${origin}`));
-        const item = make('li', { role: 'treeitem', tabIndex: -1, 'aria-level': level }, line);
+            make('span', { className: 'twist', 'aria-hidden': 'true' }),
+            token === undefined ? '' : make('span', { className: 'token' }, token), words,
+            origin === undefined ? '' : make('span', { className: paint(origin) }, paintName(origin)));
+        const from = origin === undefined ? [] : [paintName(origin)];
+        const name = [token ?? 'the root', inner ? size(value) : value.source, ...from].join(', ');
+        const item = make('li', { role: 'treeitem', tabIndex: -1, 'aria-level': level, 'aria-label': name }, line);
         item.tokens = tokens;
         if (inner && value.children.length) {
             item.setAttribute('aria-expanded', 'true');
@@ -87,5 +87,5 @@ export function showLegend(place, origins, operations) {
     place.hidden = !origins;
     const found = [...new Set(origins ?? [])].sort((a, b) => a - b);
     place.replaceChildren(...found.map(origin => make('li', {}, make('span', { className: paint(origin) },
-        origin === 0 ? 'document' : `operation ${origin}`), origin === 0 ? '' : ' ' + operations[origin - 1])));
+        paintName(origin)), origin === 0 ? '' : ' ' + operations[origin - 1])));
 }

@@ -99,7 +99,8 @@ wasm() {
 
 # Runs the cases on the bare machine; what it says goes to target/cross/bare/said.
 machine() { # STACK FILE
-    FLAGS=$(undos "$2" -DUNDOS=1 -DUNDOS=0) "$device/build.sh" "$out/bare/cases" "$1" "$here/cross/bare.c" "$here/cross/cases.c"
+    FLAGS=$(undos "$2" -DUNDOS=1 -DUNDOS=0) "$device/build.sh" "$out/bare/cases" "$1" \
+        "$here/cross/bare.c" "$here/cross/cases.c"
     "$device/machine.sh" "$out/bare/cases.bin" "$out/cases/$2" >"$out/bare/said"
 }
 

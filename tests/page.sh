@@ -10,7 +10,7 @@ set -eu
 here=$(cd "$(dirname "$0")" && pwd -P)
 root=$(dirname "$here")
 out=$root/target/page
-wasm=$root/target/cross/wasm64/json_patch.wasm
+wasm=$out/json_patch.wasm
 fail() { echo "page.sh: $*" >&2; exit 2; }
 need() { # COMMAND PACKAGE
     command -v "$1" >/dev/null || fail "no $1 (Debian: $2)"
@@ -19,10 +19,6 @@ need node nodejs
 need chromium chromium
 need chromedriver chromium-driver
 [ -f "$out/json-patch.html" ] || fail "no target/page/json-patch.html: run 'tools/page.sh' first"
-[ -f "$wasm" ] || fail "no target/cross/wasm64/json_patch.wasm: run 'tools/page.sh' first"
-base64 "$wasm" | tr -d '\n' | cut -c 1-65536 >"$out/begin"
-grep -qF -f "$out/begin" "$out/json-patch.html" || fail "the page has another module: run 'tools/page.sh' again"
-rm "$out/begin"
 
 cases() { # KIND FILE EXPECTED
     node --experimental-wasm-memory64 "$here/cross/cases.mjs" "$wasm" "$1" "$2" | cmp - "$3"

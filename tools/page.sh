@@ -3,7 +3,7 @@
 # browser without a network or a server (docs/PAGE.md).
 #   tools/page.sh          proves and compiles the library, then makes the page
 #   MODULE=json_patch.wasm the module, if it is there already
-# Makes target/page/json-patch.html. Debian: lld
+# Makes target/page/json-patch.html, and json_patch.wasm beside it. Debian: lld
 set -eu
 root=$(cd "$(dirname "$0")/.." && pwd -P)
 out=$root/target/page
@@ -19,6 +19,7 @@ module=${MODULE:-$root/target/cross/wasm64/json_patch.wasm}
 if [ -z "${MODULE:-}" ]; then CRATES=$crates "$root/tools/cross.sh" wasm64; fi
 [ -f "$module" ] || fail "no $module"
 mkdir -p "$out"
+[ "$module" -ef "$out/json_patch.wasm" ] || cp "$module" "$out/json_patch.wasm"
 
 # The modules of the script, each behind those that it imports.
 modules="examples/wasm/engine page/words page/dom page/json page/editor page/tree page/refusal
@@ -40,13 +41,16 @@ bundle() {
                 exported = exported (exported == "" ? "" : ", ") declared
             }
             { body = body $0 "\n" }
-            END { printf "// %s.mjs\nconst { %s } = (() => {\n%sreturn { %s };\n})();\n\n", name, exported, body, exported }
+            END {
+                printf "// %s.mjs\nconst { %s } = (() => {\n%s", name, exported, body
+                printf "return { %s };\n})();\n\n", exported
+            }
         ' "$root/$name.mjs"
     done
 }
 
 bundle >"$out/script.mjs"
-base64 "$module" | tr -d '\n' >"$out/module.txt"
+base64 "$out/json_patch.wasm" | tr -d '\n' >"$out/module.txt"
 if grep -qi '</script' "$out/script.mjs"; then fail "the script would end early"; fi
 version=$(sed -n 's/.*JSON_PATCH_VERSION "\(.*\)"/\1/p' "$root/include/json_patch.h")
 awk -v css="$root/page/page.css" -v script="$out/script.mjs" -v module="$out/module.txt" -v version="$version" '

@@ -11,7 +11,8 @@ export function linesOf(calls, kind, file) {
     const tell = (name, a) => put(name, ': ', a.kept ? '' : 'the memory is not as it must be: ', a.number === 0 ?
         a.written : `refused ${a.number} text ${a.text} op ${a.op} place ${a.place} pointer ${a.pointer}`);
     const run = {
-        plain: (name, [room], [document, patch], rubbish) => tell(name, calls.apply(document, patch, { room, rubbish })),
+        plain: (name, [room], [document, patch], rubbish) =>
+            tell(name, calls.apply(document, patch, { room, rubbish })),
         region: (name, [room], [document, patch, region], rubbish) =>
             tell(name, calls.within(document, patch, region, { room, rubbish })),
         undo: (name, [room, undoRoom], [document, patch], rubbish) => {

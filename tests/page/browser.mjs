@@ -51,8 +51,10 @@ export async function browser() {
         click: async css => post(`/element/${await find(css)}/click`),
         type: async (css, text) => post(`/element/${await find(css)}/value`, { text }),
         // Keys to whatever has the focus.
-        keys: async text => post('/actions', { actions: [{ type: 'key', id: 'keyboard', actions: [...text].flatMap(value =>
-            [{ type: 'keyDown', value }, { type: 'keyUp', value }]) }] }),
+        keys: text => {
+            const actions = [...text].flatMap(value => [{ type: 'keyDown', value }, { type: 'keyUp', value }]);
+            return post('/actions', { actions: [{ type: 'key', id: 'keyboard', actions }] });
+        },
         cdp: (cmd, params = {}) => post('/goog/cdp/execute', { cmd, params }),
         log: () => post('/se/log', { type: 'browser' }),
         shot: async file => writeFileSync(file, Buffer.from(await ask('GET', at('/screenshot')), 'base64')),

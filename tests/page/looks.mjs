@@ -28,11 +28,12 @@ export function lowContrast() {
         const words = element.matches('textarea, input[type=text], input[type=number]') ? element.value :
             [...element.childNodes].filter(node => node.nodeType === 3).map(node => node.data).join('').trim();
         if (!words || element.closest('.backdrop') && !element.matches('mark')) continue;
-        const large = parseFloat(style.fontSize) >= 24 || parseFloat(style.fontSize) >= 18.66 && style.fontWeight >= 700;
+        const size = parseFloat(style.fontSize), large = size >= 24 || size >= 18.66 && style.fontWeight >= 700;
         // the letters over a mark are those of the text area in front of it
         const colour = element.matches('mark') ? ink : parse(style.color).rgb;
         const now = ratio(colour, ground(element));
-        if (now < (large ? 3 : 4.5)) found.push(`${element.tagName}.${element.className} "${words.slice(0, 20)}" ${now.toFixed(2)}`);
+        if (now >= (large ? 3 : 4.5)) continue;
+        found.push(`${element.tagName}.${element.className} "${words.slice(0, 20)}" ${now.toFixed(2)}`);
     }
     for (const element of document.querySelectorAll('textarea, input:enabled, button:enabled:not([role=tab])')) {
         if (!element.getClientRects().length || element.matches('[type=checkbox], [type=radio]')) continue;
