@@ -64,6 +64,7 @@ for (const kind of ['dragover', 'drop']) {
 try {
     start();
 } catch (trouble) {
+    document.querySelector('main').hidden = true;
     byId('trouble').hidden = false;
     byId('trouble-words').textContent = trouble.message;
 }

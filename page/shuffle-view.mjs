@@ -88,7 +88,7 @@ export function shuffleView(calls, documentEditor, editors) {
         byId('outcomes').hidden = false;
         byId('outcome-rows').replaceChildren(...outcomes.slice(0, ROWS).map(({ count, line, example }) => make('tr', {},
             make('td', { className: 'number' }, count.toLocaleString('en')),
-            make('td', { className: 'text' }, line), make('td', { className: 'order' }, example))));
+            make('td', { className: 'line' }, line), make('td', { className: 'order' }, example))));
         byId('more').textContent = outcomes.length > ROWS ? `and ${many(outcomes.length - ROWS, 'outcome')} more` : '';
     };
     const check = async () => {
@@ -98,8 +98,9 @@ export function shuffleView(calls, documentEditor, editors) {
         const conditions = [...left.conditions, ...right.conditions];
         if (regions.every(region => !regionTrouble(calls, region.value))) {
             const apart = areApart(calls, ...regions.map(region => region.value));
-            conditions.push([apart === true, apart === undefined ? 'The regions are too long to be compared' :
-                apart ? 'The regions are apart' : 'The regions are not apart: one holds the other']);
+            conditions.push([apart === true, apart ? 'The regions are apart' :
+                apart === undefined ? 'The regions are too long to be compared' :
+                    'The regions are not apart: one holds the other, or they are the same']);
         }
         showConditions(conditions);
         byId('outcomes').hidden = true;

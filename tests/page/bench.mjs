@@ -20,7 +20,7 @@ export async function openBench(page, shots) {
     const numbers = new Set();
     const look = () => at.run(shown);
     return {
-        at, numbers, look, shots, sums,
+        at, numbers, look, page, shots, sums,
         load: () => at.go(pathToFileURL(resolve(page)).href),
         picture: name => at.shot(join(shots, name + '.png')),
         async check(name, body) {

@@ -1,12 +1,26 @@
 // The page by itself: it loads, it fetches nothing, and its engine answers the committed
 // cases.
 import { deepStrictEqual, ok, strictEqual } from 'node:assert';
-import { readFileSync } from 'node:fs';
+import { readFileSync, writeFileSync } from 'node:fs';
 import { join } from 'node:path';
+import { pathToFileURL } from 'node:url';
 import { root } from './bench.mjs';
 import { linesOf } from '../cross/lines.mjs';
 
-export async function loading({ at, check, load, look }) {
+// A module that no engine can use, in place of the page's: what a browser without 64-bit
+// memories comes to.
+async function withoutModule(at, page, shots) {
+    const broken = join(shots, 'broken.html');
+    const whole = readFileSync(page, 'utf8');
+    writeFileSync(broken, whole.replace(/(id="module">)[^<]*/, '$1AGFzbQEAAAA='));
+    await at.go(pathToFileURL(broken).href);
+}
+
+export async function loading({ at, check, load, look, page, shots }) {
+    await check('a browser that cannot run it is told so', async () => {
+        await withoutModule(at, page, shots);
+        ok(await at.run(() => document.getElementById('trouble').checkVisibility()));
+    });
     await check('the page loads without trouble', async () => {
         await load();
         ok(await at.run(() => document.getElementById('trouble').hidden));
