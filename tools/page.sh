@@ -19,7 +19,7 @@ module=${MODULE:-$root/target/cross/wasm64/json_patch.wasm}
 if [ -z "${MODULE:-}" ]; then CRATES=$crates "$root/tools/cross.sh" wasm64; fi
 [ -f "$module" ] || fail "no $module"
 mkdir -p "$out"
-[ "$module" -ef "$out/json_patch.wasm" ] || cp "$module" "$out/json_patch.wasm"
+cmp -s "$module" "$out/json_patch.wasm" || cp "$module" "$out/json_patch.wasm"
 
 # The modules of the script, each behind those that it imports.
 modules="examples/wasm/engine page/words page/dom page/json page/editor page/tree page/refusal
