@@ -7,10 +7,12 @@
 #   make clean            what make has made; proofs stay
 #   make cross            the library for AArch64, RISC-V and WebAssembly (docs/DEVICE.md)
 #   make check-cross      that library under qemu and in node, and the bootloader
+#   make page             one HTML file with the library in it (docs/PAGE.md)
+#   make check-page       that page in chromium
 #
 # Needs rt (the Rattle toolchain), a C compiler, cargo (Rust 1.82 or later) and
 # GNU make; for 'make check' also a C++ compiler, pkg-config and python3, and gdb
-# if there is one. What the last two need is on the page; each names what is missing.
+# if there is one. What the last four need is on those pages; each names what is missing.
 
 PREFIX ?= /usr/local
 DESTDIR ?=
@@ -151,6 +153,12 @@ check-cross: cross
 	tests/cross.sh sizes aarch64 riscv64 bare wasm64
 	examples/device/run.sh
 
+page:
+	tools/page.sh
+
+check-page: page
+	tests/page.sh
+
 install: all
 	$(INSTALL) -d $(DESTDIR)$(BINDIR) $(DESTDIR)$(INCLUDEDIR) $(DESTDIR)$(LIBDIR)/pkgconfig \
 		$(DESTDIR)$(MANDIR)/man1 $(DESTDIR)$(MANDIR)/man3 $(DESTDIR)$(DOCDIR) $(DESTDIR)$(BASHDIR) \
@@ -190,7 +198,7 @@ uninstall:
 	-rmdir $(DESTDIR)$(DOCDIR) 2>/dev/null
 
 clean:
-	rm -rf $(out) target/examples target/cross rust/target
+	rm -rf $(out) target/examples target/cross target/page rust/target
 
-.PHONY: all check cross check-cross install uninstall clean
+.PHONY: all check cross check-cross page check-page install uninstall clean
 .DELETE_ON_ERROR:

@@ -1,10 +1,11 @@
 #!/bin/sh
 # Proves the library and compiles it for other 64-bit processors.
 #   tools/cross.sh [aarch64] [riscv64] [wasm64]   all three if none is named
-#   CRATES="json_patch hex"                       which crates, if not json_patch alone;
+#   CRATES="json_patch hex"                       which crates, if not json_patch and undo;
 #                                                 not record, with structs by value
-# Makes target/cross/TARGET/libCRATE.a, and for wasm64 also json_patch.wasm, which
-# needs wasm-ld (Debian: lld). docs/DEVICE.md says what is proved of these.
+# Makes target/cross/TARGET/libCRATE.a, and for wasm64 also json_patch.wasm with the calls
+# of all these crates, which needs wasm-ld (Debian: lld). docs/DEVICE.md says what is
+# proved of these. What is there for another target stays.
 #
 # rattle gives one LLVM module to the clang of its toolchain, once the crate is
 # proved. Here rt runs over a view of the toolchain, made of links, with a clang that
@@ -14,7 +15,7 @@
 set -eu
 root=$(cd "$(dirname "$0")/.." && pwd -P)
 out=$root/target/cross
-crates=${CRATES:-json_patch}
+crates=${CRATES:-json_patch undo}
 fail() { echo "cross.sh: $*" >&2; exit 2; }
 
 for target in "$@"; do
@@ -38,7 +39,8 @@ if [ ! -x "$clang" ] || [ ! -x "$ar" ]; then fail "no clang or no llvm-ar in $to
 
 # The view of the toolchain: links to all of it but clang.
 view=$out/kit
-rm -rf "$out"
+rm -rf "$view" "$out/x86_64"
+for target in $targets; do rm -rf "${out:?}/$target"; done
 mkdir -p "$view/on/$machine/toolchain/bin"
 links() { # FROM TO LEFT-OUT
     for file in "$1"/*; do
@@ -97,9 +99,9 @@ compare() { # CRATE
 # aarch64: no floating point registers, and no access that is not aligned. A loader runs
 # before the first are on, and with the MMU off, where each such access is a fault.
 # Where nothing may be unaligned, a record of 16 bytes takes up to 16 loads and stores, and
-# clang would call memmove for that. The two limits let it write them out, so memcpy
-# and memset are all that the library needs, as on x86-64.
-record="-mllvm -max-store-memmove=16 -mllvm -max-store-memcpy=16"
+# clang would call memmove for that; for the undo, one of 32 bytes too. The two limits let
+# it write them out, so memcpy and memset are all that is needed, as on x86-64.
+record="-mllvm -max-store-memmove=32 -mllvm -max-store-memcpy=16"
 cross() { # CRATE TARGET
     case $2 in
     aarch64) compile "$1" aarch64 --target=aarch64-none-elf -mgeneral-regs-only -mstrict-align -fPIC $record ;;
@@ -109,12 +111,12 @@ cross() { # CRATE TARGET
     echo "target/cross/$2/lib$1.a"
 }
 
-# One WebAssembly module with the call. The stack comes first in its memory: a stack
-# that is too small is a trap, and overwrites nothing.
+# One WebAssembly module with the calls of all crates. The stack comes first in its
+# memory: a stack that is too small is a trap, and overwrites nothing.
 module() {
     wasm-ld -mwasm64 --no-entry --gc-sections --strip-all --stack-first -z stack-size=65536 \
-        --initial-memory=524288 --max-memory=524288 --export=json_patch_apply --export=__heap_base \
-        "$out/wasm64/json_patch.o" -o "$out/wasm64/json_patch.wasm"
+        --initial-memory=1048576 --max-memory=1048576 --export-dynamic --export=__heap_base \
+        "$out"/wasm64/*.o -o "$out/wasm64/json_patch.wasm"
     echo "target/cross/wasm64/json_patch.wasm"
 }
 
@@ -123,4 +125,4 @@ for crate in $crates; do
     compare "$crate"
     for target in $targets; do cross "$crate" "$target"; done
 done
-if [ -f "$out/wasm64/json_patch.o" ]; then module; fi
+case " $targets " in *" wasm64 "*) module ;; esac

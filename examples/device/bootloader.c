@@ -1,6 +1,7 @@
 /* A bootloader corrects a charge profile: AArch64, no operating system, no C library.
- * The profile and the makers' patches lie in flash, the result lies in RAM, and what
- * was refused is told on the serial line. Built, run and compared by run.sh.
+ * The profile and the makers' patches lie in flash, the result and its undo lie in RAM, and
+ * what was refused is told on the serial line. Last, the last patch that was applied is taken
+ * back. Built, run and compared by run.sh.
  *
  * The second bank of flash has slots of 64 KiB: first the profile, then patches. A slot
  * is "JSON", the text's length in 12 decimal digits, and the text. */
@@ -16,11 +17,20 @@ typedef struct text {
     size_t length;
 } text;
 
-/* All the RAM that it takes, beside the stack. Two buffers, in turn: the profile that a
- * patch is applied to, and the result. They have the length of a document at most,
+/* What the pack is charged with, and the patch that takes it back. */
+typedef struct state {
+    text profile;
+    text undo;
+    size_t slot; /* where the patch lies that was applied last, or 0 */
+    size_t next; /* the pair of buffers that is free */
+} state;
+
+/* All the RAM that it takes, beside the stack. Two pairs of buffers, in turn: the profile
+ * with its undo, and what a patch makes of it. They have the length of a document at most,
  * so that each result can be patched again; a longer one is refused. */
-static json_patch_work work;
+static json_patch_undo_work work;
 static uint8_t results[2][JSON_PATCH_MAX_BYTES];
+static uint8_t undos[2][JSON_PATCH_MAX_BYTES];
 
 /* The text in a slot. Its length is not believed: more than the slot holds is no text. */
 static int slot(size_t number, text *found) {
@@ -38,50 +48,66 @@ static int slot(size_t number, text *found) {
     return 1;
 }
 
-/* The one place where the library is called. After a refusal the profile is what it
- * was, and the output has not changed. An undo would be kept here too. */
-static int apply(text *profile, text patch, uint8_t *output, json_patch_answer *answer) {
-    json_patch_apply_with(profile->bytes, profile->length, patch.bytes, patch.length, output, JSON_PATCH_MAX_BYTES,
-                          &work, answer);
-    if (answer->number != JSON_PATCH_DONE) return 0;
-    profile->bytes = output;
-    profile->length = answer->length;
-    return 1;
-}
-
-static void tell(size_t number, const json_patch_answer *answer) {
+static void tell(text patch, const json_patch_undo_answer *answer) {
     char words[128];
-    json_patch_describe(answer, words, sizeof words);
-    serial_text("slot ");
-    serial_number(number);
-    serial_text(": ");
+    json_patch_undo_describe(answer, patch.length, words, sizeof words);
     serial_text(words);
     serial_text("\n");
 }
 
+static void tell_text(const char *what, text told) {
+    serial_text(what);
+    serial_bytes(told.bytes, told.length);
+    serial_text("\n");
+}
+
+/* The one place where the library is called. A patch that could not be taken back is
+ * refused too. After a refusal the state is what it was, and no buffer has changed. */
+static int apply(state *now, text patch) {
+    json_patch_undo_answer answer;
+    uint8_t *const output = results[now->next], *const undo = undos[now->next];
+    json_patch_undo_with(now->profile.bytes, now->profile.length, patch.bytes, patch.length,
+                         output, JSON_PATCH_MAX_BYTES, undo, JSON_PATCH_MAX_BYTES, &work, &answer);
+    tell(patch, &answer);
+    if (answer.answer.number != JSON_PATCH_DONE) return 0;
+    now->profile = (text){output, answer.answer.length};
+    now->undo = (text){undo, answer.undo};
+    now->next = 1 - now->next;
+    return 1;
+}
+
 /* Each patch in turn, on what the one before has left. */
-static void apply_all(text *profile) {
-    size_t next = 0;
+static void apply_all(state *now) {
     for (size_t number = 1; number < SLOTS; number++) {
-        json_patch_answer answer;
         text patch;
         if (!slot(number, &patch)) continue;
-        if (apply(profile, patch, results[next], &answer)) next = 1 - next;
-        tell(number, &answer);
+        serial_text("slot ");
+        serial_number(number);
+        serial_text(": ");
+        if (apply(now, patch)) now->slot = number;
     }
 }
 
+/* The undo is a patch like any other, and has an undo itself. */
+static void take_back(state *now) {
+    if (!now->slot) return;
+    serial_text("undo of slot ");
+    serial_number(now->slot);
+    tell_text(": ", now->undo);
+    serial_text("taken back: ");
+    apply(now, now->undo);
+    now->slot = 0;
+}
+
 void device_main(void) {
-    text profile;
-    if (!slot(0, &profile)) {
+    state now = {{0, 0}, {0, 0}, 0, 0};
+    if (!slot(0, &now.profile)) {
         serial_text("no profile in flash\n");
         return;
     }
-    serial_text("profile in flash: ");
-    serial_bytes(profile.bytes, profile.length);
-    serial_text("\n");
-    apply_all(&profile);
-    serial_text("charging with: ");
-    serial_bytes(profile.bytes, profile.length);
-    serial_text("\n");
+    tell_text("profile in flash: ", now.profile);
+    apply_all(&now);
+    tell_text("charging with: ", now.profile);
+    take_back(&now);
+    tell_text("charging with: ", now.profile);
 }

@@ -7,7 +7,7 @@ set -eu
 here=$(cd "$(dirname "$0")" && pwd -P)
 root=$(cd "$here/../.." && pwd -P)
 out=$root/target/cross/bootloader
-[ -f "$root/target/cross/aarch64/libjson_patch.a" ] || "$root/tools/cross.sh" aarch64
+[ -f "$root/target/cross/aarch64/libundo.a" ] || "$root/tools/cross.sh" aarch64
 mkdir -p "$out"
 
 # A slot of 64 KiB for each text, in order.
@@ -21,7 +21,7 @@ for file in "$here/profile.json" "$here"/patches/*.json; do
     number=$((number + 1))
 done
 
-"$here/build.sh" "$out/bootloader" 28672 "$here/bootloader.c"
+"$here/build.sh" "$out/bootloader" 32768 "$here/bootloader.c"
 SECONDS_AT_MOST=60 "$here/machine.sh" "$out/bootloader.bin" "$out/flash" >"$out/said"
 cat "$out/said"
 cmp "$out/said" "$here/bootloader.expected"

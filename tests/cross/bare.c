@@ -1,8 +1,12 @@
 /* The cases that lie in the second bank of flash, on the bare machine of
- * examples/device. The last line tells the stack that a call has taken at most. */
+ * examples/device; with UNDOS, those of undos. The last line tells the stack that a call
+ * has taken at most; of undos, the call with an undo. */
 #include "cases.h"
 #include "device.h"
 
+#ifndef UNDOS
+#define UNDOS 0
+#endif
 #define PAINT UINT64_C(0x9e3779b97f4a7c15)
 
 extern uint64_t stack_low[], stack_high[];
@@ -16,20 +20,43 @@ size_t strlen(const char *text) {
     return length;
 }
 
-/* The stack below this frame is painted; after the call the lowest word that has
+/* The stack below the caller's frame is painted; after the call the lowest word that has
  * another colour tells how deep it went. */
-uint32_t call(const uint8_t *document, size_t document_length, const uint8_t *patch, size_t patch_length,
-              uint8_t *output, size_t output_length, json_patch_node *nodes, size_t nodes_count, uint16_t *index,
-              size_t index_count, json_patch_answer *answer) {
-    volatile uint64_t *frame, *word;
-    __asm__ volatile("mov %0, sp" : "=r"(frame));
-    for (word = stack_low; word < frame; word++) *word = PAINT;
-    const uint32_t number = json_patch_apply(document, document_length, patch, patch_length, output, output_length,
-                                             nodes, nodes_count, index, index_count, answer);
-    for (word = stack_low; *word == PAINT; word++) continue;
+static inline __attribute__((always_inline)) void paint(volatile uint64_t *frame) {
+    for (volatile uint64_t *word = stack_low; word < frame; word++) *word = PAINT;
+}
+
+static inline __attribute__((always_inline)) void measure(volatile uint64_t *frame) {
+    volatile uint64_t *word = stack_low;
+    while (*word == PAINT) word++;
     const uint64_t depth = (uint64_t)(frame - word) * sizeof *word;
     if (depth > most) most = depth;
     calls++;
+}
+
+uint32_t call(const uint8_t *document, size_t document_length, const uint8_t *patch, size_t patch_length,
+              uint8_t *output, size_t output_length, json_patch_node *nodes, size_t nodes_count, uint16_t *index,
+              size_t index_count, json_patch_answer *answer) {
+    volatile uint64_t *frame;
+    __asm__ volatile("mov %0, sp" : "=r"(frame));
+    if (!UNDOS) paint(frame);
+    const uint32_t number = json_patch_apply(document, document_length, patch, patch_length, output, output_length,
+                                             nodes, nodes_count, index, index_count, answer);
+    if (!UNDOS) measure(frame);
+    return number;
+}
+
+uint32_t call_with_undo(const uint8_t *document, size_t document_length, const uint8_t *patch, size_t patch_length,
+                        uint8_t *output, size_t output_length, uint8_t *undo, size_t undo_length,
+                        json_patch_node *nodes, size_t nodes_count, uint16_t *index, size_t index_count,
+                        uint8_t *work, size_t work_length, json_patch_undo_answer *answer) {
+    volatile uint64_t *frame;
+    __asm__ volatile("mov %0, sp" : "=r"(frame));
+    paint(frame);
+    const uint32_t number = json_patch_apply_with_undo(document, document_length, patch, patch_length, output,
+                                                       output_length, undo, undo_length, nodes, nodes_count, index,
+                                                       index_count, work, work_length, answer);
+    measure(frame);
     return number;
 }
 
@@ -53,7 +80,7 @@ static int memory_works(void) {
 
 void device_main(void) {
     if (!memory_works()) serial_text("memcpy or memset is wrong\n");
-    run_cases(DEVICE_FLASH);
+    run_cases(DEVICE_FLASH, UNDOS);
     serial_number(calls);
     serial_text(" calls, at most ");
     serial_number(most);
