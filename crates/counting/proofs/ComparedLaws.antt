@@ -36,6 +36,15 @@ then-assoc a b c = go (a .same) (b .same)
     go true false = refl
     go false t = refl
 
+-- a difference ends it; otherwise the counts add up
+pub then-differs : (a b : Compared) → a .same ≡ false → (a then b) ≡ a
+unfolding _then_
+then-differs a b e = rw e
+
+pub then-further : (n : ℕ) (a b : Compared) → a .same ≡ true → (after n true then (a then b)) ≡ (after (n + a .names) true then b)
+then-further n a b e =
+    sym (then-assoc (after n true) a b) ∙ ap (λ c. c then b) (then-on n a ∙ ap (λ s. after (n + a .names) s) e)
+
 -- a label that differs ends it, whatever was compared before
 then-label : (n : ℕ) (l : Bool) (a : Compared) → (after n l then a) ≡ (after n true then (after 0 l then a))
 then-label n true a = then-on n a ∙ ap (λ k. after (n + k) (a .same)) (sym (zero-add (a .names))) ∙ sym (ap (λ b. after n true then b) (then-on 0 a) ∙ then-on n _)

@@ -8,7 +8,7 @@ use Rattle.spec.specs.Bytes.{Text}
 use Rattle.spec.specs.Forest.{Forest, none, tree, Tree, count, from, nth, _⧺_}
 use Rattle.spec.specs.Value.{Members, find}
 use Rattle.spec.specs.Equality.{partner}
-use Rattle.claims.specs.Equality.{NoRepeats}
+use Rattle.claims.specs.Equality.{NoRepeats, Distinct}
 use Rattle.comparison.specs.Comparison.{lookups, searched}
 use Rattle.tape.specs.declared.fields.Cell.{Cell}
 use Rattle.tape.specs.Lent.{Table}
@@ -16,13 +16,13 @@ use Rattle.tape.specs.Map.{mapForest}
 use Rattle.tape.proofs.Forests.{from-nth}
 use Rattle.tape.proofs.Cells.{blank}
 use Rattle.tape.proofs.Map.{map-from, count-map}
-use Rattle.table.specs.Meaning.{nameText, entryOf, members}
+use Rattle.table.specs.Meaning.{nameText, entryOf, members, meant}
 use Rattle.table.specs.Find.{Found, found, missing}
 use Rattle.table.specs.declared.find.Member.{Member}
 use Rattle.table.specs.declared.find.Member.the-variants.{At, Missing}
 use Rattle.equality.specs.Compare as Compare
 use Rattle.equality.specs.Compare.{PartnerIs, element, in-step, sought, hinted}
-use Rattle.equality.proofs.MatchLaws.{partner-find, partner-there}
+use Rattle.equality.proofs.MatchLaws.{inside, partner-find, partner-there}
 use Rattle.equality.proofs.SiblingLaws.{Siblings, siblings-from, Children, children-child, member-missing}
 use Rattle.equality.proofs.PartnerLaws.{same-names, sought-name}
 use Rattle.counting.specs.Places.{placeAt, Placed}
@@ -67,6 +67,9 @@ module _ {w : Table} {other row end next stop : ℕ} {all : Forest Cell} (second
       pub is : from k all ≡ tree p ps behind
       pub there : Siblings w pair stop (tree p ps behind)
       pub partner-is : partner o (nameText (w .texts) (c .name)) (among w o all (tree d ds after)) ≡ members (w .texts) (tree p ps behind)
+      pub rest-is : (if o then among w o all (tree d ds after) else members (w .texts) behind) ≡ among w o all after
+      pub apart : Distinct (meant (w .texts) p ps)
+      pub below : Placed (placeAt (w .nodes)) (pair + 1) 1 ps
       pub names-are : searched o (nameText (w .texts) (c .name)) (among w o all (tree d ds after)) ≡ namesFor o (w .nodes) pair
 
     still : (k : ℕ) {p : Cell} {ps behind : Forest Cell} → from k all ≡ tree p ps behind
@@ -74,16 +77,16 @@ module _ {w : Table} {other row end next stop : ℕ} {all : Forest Cell} (second
     still k is = sym (map-from (entryOf (w .texts)) k all) ∙ ap (members (w .texts)) is
 
     -- by a search
-    by-search : Found (w .texts) (other + 1) all (nameText (w .texts) (c .name)) (At pair) → Match true
-    unfolding _⧺_ searched namesFor
-    by-search (found k row e few place) =
+    by-search : NoRepeats true (members (w .texts) all) → Found (w .texts) (other + 1) all (nameText (w .texts) (c .name)) (At pair) → Match true
+    unfolding _⧺_ mapForest searched namesFor
+    by-search distinct (found k row e few place) =
         let n = nameText (w .texts) (c .name) in
         let t : Tree Cell = blank in
         let cut : from k all ≡ tree (nth t k all .root) (nth t k all .kids) (from (suc k) all) = from-nth t k all few in
         let at : Siblings w pair stop (from k all) = subst (λ r. Siblings w r stop (from k all)) (sym place) (siblings-from k (second .siblings)) in
         let sib = subst (Siblings w pair stop) cut at in
         let looked = lookups-find n (members (w .texts) all) k e (omega (arith, count-map (entryOf (w .texts)) all)) in
-        let (own, inside) = siblings-place k placed (second .siblings) sib cut in
+        let (own, below) = siblings-place k placed (second .siblings) sib cut in
         record {
           k = k;
           p = nth t k all .root;
@@ -92,6 +95,9 @@ module _ {w : Table} {other row end next stop : ℕ} {all : Forest Cell} (second
           is = cut;
           there = sib;
           partner-is = partner-find n (members (w .texts) all) ∙ ap (λ m. from m (members (w .texts) all)) e ∙ still k cut;
+          rest-is = refl;
+          apart = inside k distinct (still k cut);
+          below = below;
           names-are = omega (arith, looked, own);
         }
 
@@ -101,7 +107,7 @@ module _ {w : Table} {other row end next stop : ℕ} {all : Forest Cell} (second
     unfolding mapForest searched namesFor
     by-place distinct k p ps behind is same there =
         let looked = ap (λ n. lookups n (members (w .texts) all)) same ∙ lookups-there k distinct (still k is) in
-        let (own, inside) = siblings-place k placed (second .siblings) there is in
+        let (own, below) = siblings-place k placed (second .siblings) there is in
         record {
           k = k;
           p = p;
@@ -110,6 +116,9 @@ module _ {w : Table} {other row end next stop : ℕ} {all : Forest Cell} (second
           is = is;
           there = there;
           partner-is = ap (λ n. partner true n (members (w .texts) all)) same ∙ partner-there k distinct (still k is);
+          rest-is = refl;
+          apart = inside k distinct (still k is);
+          below = below;
           names-are = omega (arith, looked, own);
         }
 
@@ -117,12 +126,24 @@ module _ {w : Table} {other row end next stop : ℕ} {all : Forest Cell} (second
     at-pair {place} {f} e s = let same : place ≡ pair = cc in subst (λ n. Siblings w n stop f) same s
 
     pub matched : (o : Bool) → NoRepeats o (members (w .texts) all) → (q : Member) → PartnerIs w other stop row next o q → q ≡ At pair → Match o
-    unfolding partner searched namesFor
+    unfolding mapForest partner searched namesFor
     matched true distinct q (sought (Compare.searched f)) e =
-        by-search (subst (Found (w .texts) (other + 1) all (nameText (w .texts) (c .name))) e (sought-name second x y f))
+        by-search distinct (subst (Found (w .texts) (other + 1) all (nameText (w .texts) (c .name))) e (sought-name second x y f))
     matched true distinct q (sought (hinted k same)) e =
         children-child second k λ n p ps behind is z.
         by-place distinct n p ps behind is (sym (same-names z x same)) (at-pair e z)
     matched true distinct q (in-step same) e = by-place distinct passed d ds after here (same-names x y same) (at-pair e y)
     matched false distinct q element e =
-        record { k = passed; p = d; ps = ds; behind = after; is = here; there = at-pair e y; partner-is = refl; names-are = refl }
+        record {
+          k = passed;
+          p = d;
+          ps = ds;
+          behind = after;
+          is = here;
+          there = at-pair e y;
+          partner-is = refl;
+          rest-is = refl;
+          apart = inside passed distinct (still passed here);
+          below = siblings-place passed placed (second .siblings) (at-pair e y) here .1;
+          names-are = refl;
+        }

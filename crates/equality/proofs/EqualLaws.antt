@@ -42,13 +42,13 @@ labelled T c = labelOf T (c .kind) (c .value)
 -- ---- a value of the kind k, as its word tells it
 module _ {w : Table} {at : ℕ} {c : Cell} {kids : Forest Cell} (x : NodeHeld w at c kids)
     (k : ℕ) (told : k ≡ kindOf (getD (w .nodes) at [])) where
-  pub kind-is : c .kind ≡ k
+  kind-is : c .kind ≡ k
   kind-is = sym (told ∙ kind-here (value-node x))
 
   pub object-is : isObject (labelled (w .texts) c) ≡ eqb k objectKind
   object-is = isObject-label (w .texts) (c .kind) (c .value) (value-fit x .kind) ∙ ap (λ j. eqb j objectKind) kind-is
 
-  pub depth-is : arrayKind ≤ k → depth (meant (w .texts) c kids) ≡ suc (depths (members (w .texts) kids))
+  depth-is : arrayKind ≤ k → depth (meant (w .texts) c kids) ≡ suc (depths (members (w .texts) kids))
   depth-is h =
       let container = isContainer-label (w .texts) (c .kind) (c .value) (value-fit x .kind) ∙ le-leb arrayKind (c .kind) (omega (arith, kind-is)) in
       depth-container (meant (w .texts) c kids) container
@@ -86,14 +86,14 @@ module _ {w : Table} {at other : ℕ} (levels : ℕ) where
 
       -- k is the kind of both
       module _ (k : ℕ) (told : k ≡ kindOf (getD (w .nodes) at [])) where
-        pub kind-other : {c e : Cell} {kids below : Forest Cell} → NodeHeld w at c kids → NodeHeld w other e below → e .kind ≡ k
+        kind-other : {c e : Cell} {kids below : Forest Cell} → NodeHeld w at c kids → NodeHeld w other e below → e .kind ≡ k
         kind-other {c} {e} x y =
             let tags = sameLabel-tag (labelled (w .texts) c) (labelled (w .texts) e) (sym (labels x y) ∙ alike) in
             let tag-c = tag-label (w .texts) (c .kind) (c .value) (value-fit x .kind) in
             let tag-e = tag-label (w .texts) (e .kind) (e .value) (value-fit y .kind) in
             sym tag-e ∙ sym tags ∙ tag-c ∙ kind-is x k told
 
-        pub object-other : {c e : Cell} {kids below : Forest Cell} → NodeHeld w at c kids → NodeHeld w other e below
+        object-other : {c e : Cell} {kids below : Forest Cell} → NodeHeld w at c kids → NodeHeld w other e below
             → isObject (labelled (w .texts) e) ≡ eqb k objectKind
         object-other {e = e} x y = isObject-label (w .texts) (e .kind) (e .value) (value-fit y .kind) ∙ ap (λ j. eqb j objectKind) (kind-other x y)
 
