@@ -64,10 +64,16 @@ pub fn counted<'a>(
     ensures { λ r. ⌜ (Hints (now (nodes .entry)) (now (index .entry)) top → CountedIs (before texts nodes) at other levels r) ⌝ }
 {
     if !alike(texts, nodes, at, other) {
-        return Comparison { same: false, names: 0 };
+        return Comparison {
+            same: false,
+            names: 0,
+        };
     }
     if levels == 0 {
-        return Comparison { same: true, names: 0 };
+        return Comparison {
+            same: true,
+            names: 0,
+        };
     }
     let end = end_of(nodes, at);
     let pair = Pair {
@@ -82,7 +88,10 @@ pub fn counted<'a>(
     while row < end {
         let Member::At(found) = partner(texts, nodes, index, pair, row, next) else {
             let all = arity(nodes, other) as u64;
-            return Comparison { same: false, names: wrapping_add_u64(names, all) };
+            return Comparison {
+                same: false,
+                names: wrapping_add_u64(names, all),
+            };
         };
         names = wrapping_add_u64(names, names_for(nodes, pair.object, found));
         let values = counted(texts, nodes, index, top, row, found, levels - 1);
