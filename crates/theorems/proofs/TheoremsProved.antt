@@ -22,6 +22,7 @@ use Rattle.merging.proofs.MergeTheorem.{merging}
 use Rattle.merging.proofs.ExamplesTheorem as Merging
 use Rattle.comparison.proofs.ComparisonTheorem.{comparison}
 use Rattle.comparison.proofs.ExamplesTheorem as Counting
+use Rattle.comparison.proofs.CallTheorem as Comparing
 use Rattle.fragment.proofs.ClaimTheorems as Link
 use Rattle.hex.proofs.ClaimTheorems as Hex
 use Rattle.theorems.specs.Theorems.{Theorems}
@@ -86,5 +87,6 @@ theorems =
             merging-positions = Merging.positions-hold;
             comparison = comparison;
             comparison-examples = Counting.counted;
+            comparison-call = Comparing.told;
           };
     }

@@ -27,6 +27,7 @@ use Rattle.merging.specs.Claims.{MergeStatement}
 use Rattle.merging.specs.Examples as Merging
 use Rattle.comparison.specs.Comparison.{ComparisonStatement}
 use Rattle.comparison.specs.Examples as Counting
+use Rattle.comparison.specs.Call as Comparing
 use Rattle.fragment.specs.Claims as Link
 use Rattle.hex.specs.Claims as Hex
 
@@ -120,9 +121,10 @@ pub record MoreRequests : Type 0 where
   pub merging : MergeStatement
   pub merging-appendix : Merging.All Merging.appendix
   pub merging-positions : Merging.All Merging.positions
-  -- T-10: the count's verdict is equality's, and the count is at most a times b
+  -- T-10: the count's verdict is equality's, and the count is at most a times b; so it is with the answer of the call on two texts
   pub comparison : ComparisonStatement
   pub comparison-examples : Counting.All Counting.examples
+  pub comparison-call : Comparing.CallStatement
 
 pub record Theorems : Type 2 where
   pub demands : Demands
