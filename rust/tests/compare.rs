@@ -75,7 +75,18 @@ fn the_count_is_that_of_the_definition() {
 #[test]
 fn equal_as_a_test_is() {
     let mut work = Work::new();
-    let texts = ["0", "-0.0", "1e2", "100", "\"1\"", "[1,[]]", "{}", r#"{"a":{}}"#, r#"{"\u0061":{ }}"#, "null"];
+    let texts = [
+        "0",
+        "-0.0",
+        "1e2",
+        "100",
+        "\"1\"",
+        "[1,[]]",
+        "{}",
+        r#"{"a":{}}"#,
+        r#"{"\u0061":{ }}"#,
+        "null",
+    ];
     for first in texts {
         for second in texts {
             let patch = format!(r#"[{{"op":"test","path":"","value":{second}}}]"#);
@@ -101,7 +112,9 @@ fn the_first_refusal_is_given() {
     refused(b"1", b"", 3, 2, 0);
     refused(br#"{"a":1,"a":2}"#, b"", 4, 1, 9);
     refused(b"1", &[b'['; 33], 5, 2, 32);
-    assert!(compare(&[b' '; 32_768], b"1", &mut work).is_err_and(|r| r.kind() == Some(Kind::NotJson)));
+    assert!(
+        compare(&[b' '; 32_768], b"1", &mut work).is_err_and(|r| r.kind() == Some(Kind::NotJson))
+    );
 }
 
 /// The work area is zero for its stated length, and otherwise unchanged.

@@ -9,7 +9,7 @@ pub mod pairs;
 pub mod random;
 pub mod regions;
 mod spelling;
-mod trees;
+pub(crate) mod trees;
 
 use crate::cases::Case;
 use crate::limits::TOOL_ROOM;

@@ -49,7 +49,7 @@ fn run(arguments: &Arguments) -> Result<Status, Trouble> {
         Ok(found) => {
             let (status, verdict) = match found.equal {
                 true => (Status::Done, "equal"),
-                false => (Status::Refused, "different"),
+                false => (Status::Different, "different"),
             };
             if arguments.has("count") {
                 print(format!("{verdict} {}\n", found.names).as_bytes())?;
