@@ -23,17 +23,19 @@ static int is_zero(const void *memory, size_t length) {
 }
 
 static json_patch_comparison compared(const char *first, const char *second) {
+    const size_t first_length = first ? strlen(first) : 0, second_length = second ? strlen(second) : 0;
     json_patch_comparison found;
     memset(&found, 0xFF, sizeof found);
     memset(&work, 0xFF, sizeof work);
-    expect(json_patch_compare_with(first, first ? strlen(first) : 0, second, second ? strlen(second) : 0, &work, &found) ==
-               found.number, "the number");
+    expect(json_patch_compare_with(first, first_length, second, second_length, &work, &found) == found.number,
+           "the number");
     expect(is_zero(&work, sizeof work), "the work area is all zero");
     return found;
 }
 
 int main(void) {
-    json_patch_comparison found = compared("{\"a\":[1,2],\"b\":\"x\"}", " { \"b\" : \"\\u0078\", \"a\" : [1.0, 2e0] } ");
+    json_patch_comparison found =
+        compared("{\"a\":[1,2],\"b\":\"x\"}", " { \"b\" : \"\\u0078\", \"a\" : [1.0, 2e0] } ");
     uint16_t index[1] = {7};
     static const uint8_t empty[2] = {0x5B, 0x5D};
     json_patch_node node;

@@ -47,8 +47,10 @@ then-further n a b e =
 
 -- a label that differs ends it, whatever was compared before
 then-label : (n : ℕ) (l : Bool) (a : Compared) → (after n l then a) ≡ (after n true then (after 0 l then a))
-then-label n true a = then-on n a ∙ ap (λ k. after (n + k) (a .same)) (sym (zero-add (a .names))) ∙ sym (ap (λ b. after n true then b) (then-on 0 a) ∙ then-on n _)
-then-label n false a = then-off n a ∙ ap (λ k. after k false) (sym (add-zero n)) ∙ sym (ap (λ b. after n true then b) (then-off 0 a) ∙ then-on n _)
+then-label n true a =
+    then-on n a ∙ ap (λ k. after (n + k) (a .same)) (sym (zero-add (a .names))) ∙ sym (ap (λ b. after n true then b) (then-on 0 a) ∙ then-on n _)
+then-label n false a =
+    then-off n a ∙ ap (λ k. after k false) (sym (add-zero n)) ∙ sym (ap (λ b. after n true then b) (then-off 0 a) ∙ then-on n _)
 
 -- ---- one value against its partner, then the others
 module _ (e : Entry) (kids f : Members) where

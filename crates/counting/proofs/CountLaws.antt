@@ -33,7 +33,8 @@ use Rattle.table.proofs.MeaningLaws.{tag-label, depth-meant}
 use Rattle.equality.specs.Compare.{SameLabelIs, PartnerIs}
 use Rattle.equality.proofs.MatchLaws.{valueOf, if-same, inside}
 use Rattle.equality.proofs.LabelLaws.{sameLabel-tag}
-use Rattle.equality.proofs.SiblingLaws.{value-node, value-inside, value-fit, Siblings, siblings-all, siblings-none, siblings-first, siblings-value, siblings-next, Children, children-all}
+use Rattle.equality.proofs.SiblingLaws.{value-node, value-inside, value-fit, Children, children-all}
+use Rattle.equality.proofs.SiblingLaws.{Siblings, siblings-all, siblings-none, siblings-first, siblings-value, siblings-next}
 use Rattle.equality.proofs.PendingLaws.{depth-first, depth-rest}
 use Rattle.equality.proofs.EqualLaws.{labelled, labels, object-is}
 use Rattle.counting.specs.Places.{placeAt, Placed}
@@ -180,7 +181,8 @@ module _ {w : Table} {o : Bool} {other row end next stop levels : ℕ} {all : Fo
         first-of none h k = absurd (omega arith)
         first-of (tree d ds behind) h k = k d ds behind refl
 
-    now-left : (f g : Forest Cell) → p .rest ≡ f → p .beside ≡ g → whole ≡ (after (p .so-far) true then comparedItems o (members (w .texts) f) (among w o all g))
+    now-left : (f g : Forest Cell) → p .rest ≡ f → p .beside ≡ g
+        → whole ≡ (after (p .so-far) true then comparedItems o (members (w .texts) f) (among w o all g))
     now-left f g e d = p .is ∙ ap₂ (λ f g. after (p .so-far) true then comparedItems o (members (w .texts) f) (among w o all g)) e d
 
     module _ (children : Children w other stop all) (q : Member) (t : PartnerIs w other stop row next o q) where

@@ -107,7 +107,10 @@ module _ {xs : List Row} {at levels end : ℕ} (ends : end ≡ endOf xs at) wher
     module _ (more : row < end) (low : end ≤ scratchRow) {ys zs' : List Row} (noted : ys ≡ set zs (row + apart) (placeRow (place % values)))
         (below : NotedIs ys zs' row (levels - 1)) (next : ℕ) (nexts : next ≡ endOf zs' row) where
       here : Scratched xs ys
-      here = scratched-then (g .scratched) (subst (Scratched zs) (sym noted) (scratched-set zs (row + apart) (placeRow (place % values)) (omega (arith, g .second, g .further)) (omega arith)))
+      here =
+          scratched-then (g .scratched)
+          (subst (Scratched zs) (sym noted)
+          (scratched-set zs (row + apart) (placeRow (place % values)) (omega (arith, g .second, g .further)) (omega arith)))
 
       then-here : Scratched xs zs'
       then-here = scratched-then here (below .scratched)

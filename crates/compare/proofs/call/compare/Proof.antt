@@ -41,5 +41,9 @@ compare-spec =
     (λ c. search needs)
     -- returns-3
     (λ c.
-    work-done (omega arith) (omega arith) (c .before .before .before .before .before .before .before .before .before .before .checked .ensures) (c .before .before .before .before .before .before .before .before .before .before .checked .last .1 .0) (c .before .before .before .before .before .before .before .before .before .before .checked .kept .1 .0)
-    (c .before .before .before .before .before .wipe .ensures) (c .before .before .before .before .before .before .before .before .before .before .checked .last .1 .1 .0) (c .before .before .before .before .before .before .before .before .before .before .checked .kept .1 .1 .0) (c .before .before .empty .ensures)))
+    work-done (omega arith) (omega arith) (c .before .before .before .before .before .before .before .before .before .before .checked .ensures) (c
+    .before .before .before .before .before .before .before .before .before .before .checked .last .1 .0) (c .before .before .before .before .before
+    .before .before .before .before .before .checked .kept .1 .0)
+    (c .before .before .before .before .before .wipe .ensures) (c .before .before .before .before .before .before .before .before .before .before
+    .checked .last .1 .1 .0) (c .before .before .before .before .before .before .before .before .before .before .checked .kept .1 .1 .0) (c .before
+    .before .empty .ensures)))

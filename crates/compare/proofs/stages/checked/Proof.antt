@@ -37,7 +37,9 @@ checked-spec =
     (λ c. search needs)
     -- returns-3
     (λ c h i.
-    first-unread h i (omega (arith, c .before .before .before .before .before .before .before .before .before .before .if1 .left)) (omega (arith, c .before .before .before .before .before .before .before .before .before .if2 .left)) (c .before .before .before .before .before .before .read-document .ensures) (c .before .enum-told2 .given .1) (c .unread .ensures))
+    first-unread h i (omega (arith, c .before .before .before .before .before .before .before .before .before .before .if1 .left)) (omega (arith, c
+    .before .before .before .before .before .before .before .before .before .if2 .left)) (c .before .before .before .before .before .before
+    .read-document .ensures) (c .before .enum-told2 .given .1) (c .unread .ensures))
     -- read-patch-requires
     (λ c κs. search needs)
     -- enum-told-3
@@ -52,8 +54,14 @@ checked-spec =
     (λ c. search needs)
     -- returns-4
     (λ c h i.
-    second-unread h i (omega (arith, c .before .before .before .before .before .before .before .before .before .before .before .before .before .before .before .before .before .before .if1 .left)) (omega (arith, c .before .before .before .before .before .before .before .before .before .before .before .before .before .before .before .before .before .if2 .left)) (c .before .before .before .before .before .before .before .before .before .before .before .before .before .before .read-document .ensures) (c .before .before .before .before .before .before .before .before .before .enum-told .given .1)
-    (c .before .before .before .before .before .before .before .before .before .before .before .before .before .before .read-document .kept .1 .0) (c .before .before .before .before .before .before .before .before .before .before .before .before .before .before .read-document .kept .1 .1 .0) (c .before .before .before .before .before .before .read-patch .ensures) (c .before .enum-told4 .given .1) (c .unread2 .ensures))
+    second-unread h i (omega (arith, c .before .before .before .before .before .before .before .before .before .before .before .before .before .before
+    .before .before .before .before .if1 .left)) (omega (arith, c .before .before .before .before .before .before .before .before .before .before
+    .before .before .before .before .before .before .before .if2 .left)) (c .before .before .before .before .before .before .before .before .before
+    .before .before .before .before .before .read-document .ensures) (c .before .before .before .before .before .before .before .before .before
+    .enum-told .given .1)
+    (c .before .before .before .before .before .before .before .before .before .before .before .before .before .before .read-document .kept .1 .0) (c
+    .before .before .before .before .before .before .before .before .before .before .before .before .before .before .read-document .kept .1 .1 .0) (c
+    .before .before .before .before .before .before .read-patch .ensures) (c .before .enum-told4 .given .1) (c .unread2 .ensures))
     -- compared-requires
     (λ c κs. search needs)
     -- same-length-5
@@ -62,6 +70,15 @@ checked-spec =
     (λ c. search needs)
     -- returns-5
     (λ c h i.
-    second-read h i (omega (arith, c .before .before .before .before .before .before .before .before .before .before .before .before .before .before .before .before .before .before .before .before .before .before .before .if1 .left)) (omega (arith, c .before .before .before .before .before .before .before .before .before .before .before .before .before .before .before .before .before .before .before .before .before .before .if2 .left)) (c .before .before .before .before .before .before .before .before .before .before .before .before .before .before .before .before .before .before .before .read-document .ensures) (c .before .before .before .before .before .before .before .before .before .before .before .before .before .before .enum-told .given .1)
-    (c .before .before .before .before .before .before .before .before .before .before .before .before .before .before .before .before .before .before .before .read-document .kept .1 .0) (c .before .before .before .before .before .before .before .before .before .before .before .before .before .before .before .before .before .before .before .read-document .kept .1 .1 .0) (c .before .before .before .before .before .before .before .before .before .before .before .read-patch .ensures) (c .before .before .before .before .before .before .enum-told3 .given .1)
-    (c .before .before .before .before .before .before .before .before .before .before .before .read-patch .kept .1 .0) (c .before .before .before .before .before .before .before .before .before .before .before .read-patch .kept .1 .1 .0) (c .before .before .before .compared .ensures)))
+    second-read h i (omega (arith, c .before .before .before .before .before .before .before .before .before .before .before .before .before .before
+    .before .before .before .before .before .before .before .before .before .if1 .left)) (omega (arith, c .before .before .before .before .before
+    .before .before .before .before .before .before .before .before .before .before .before .before .before .before .before .before .before .if2
+    .left)) (c .before .before .before .before .before .before .before .before .before .before .before .before .before .before .before .before .before
+    .before .before .read-document .ensures) (c .before .before .before .before .before .before .before .before .before .before .before .before
+    .before .before .enum-told .given .1)
+    (c .before .before .before .before .before .before .before .before .before .before .before .before .before .before .before .before .before .before
+    .before .read-document .kept .1 .0) (c .before .before .before .before .before .before .before .before .before .before .before .before .before
+    .before .before .before .before .before .before .read-document .kept .1 .1 .0) (c .before .before .before .before .before .before .before .before
+    .before .before .before .read-patch .ensures) (c .before .before .before .before .before .before .enum-told3 .given .1)
+    (c .before .before .before .before .before .before .before .before .before .before .before .read-patch .kept .1 .0) (c .before .before .before
+    .before .before .before .before .before .before .before .before .read-patch .kept .1 .1 .0) (c .before .before .before .compared .ensures)))

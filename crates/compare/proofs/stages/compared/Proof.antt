@@ -21,4 +21,5 @@ compared-spec =
     -- same-length-2
     (λ c. search needs)
     -- returns
-    (λ c. values-compared (c .before .before .before .before .before .before .before .before .before .before .note-places .ensures) (c .before .before .before .before .before .before .index-tree .ensures) (c .before .counted .ensures) (c .success .ensures)))
+    (λ c. values-compared (c .before .before .before .before .before .before .before .before .before .before .note-places .ensures) (c .before .before
+    .before .before .before .before .index-tree .ensures) (c .before .counted .ensures) (c .success .ensures)))
