@@ -41,9 +41,7 @@ compare-spec =
     (λ c. search needs)
     -- returns-3
     (λ c.
-    work-done (omega arith) (omega arith) (c .before .before .before .before .before .before .before .before .before .before .checked .ensures) (c
-    .before .before .before .before .before .before .before .before .before .before .checked .last .1 .0) (c .before .before .before .before .before
-    .before .before .before .before .before .checked .kept .1 .0)
-    (c .before .before .before .before .before .wipe .ensures) (c .before .before .before .before .before .before .before .before .before .before
-    .checked .last .1 .1 .0) (c .before .before .before .before .before .before .before .before .before .before .checked .kept .1 .1 .0) (c .before
-    .before .empty .ensures)))
+    let call = c .before .before .before .before .before .before .before .before .before .before in
+    work-done (omega arith) (omega arith) (call .checked .ensures) (call .checked .last .1 .0) (call .checked .kept .1 .0)
+    (c .before .before .before .before .before .wipe .ensures) (call .checked .last .1 .1 .0) (call .checked .kept .1 .1 .0)
+    (c .before .before .empty .ensures)))

@@ -37,9 +37,10 @@ checked-spec =
     (λ c. search needs)
     -- returns-3
     (λ c h i.
-    first-unread h i (omega (arith, c .before .before .before .before .before .before .before .before .before .before .if1 .left)) (omega (arith, c
-    .before .before .before .before .before .before .before .before .before .if2 .left)) (c .before .before .before .before .before .before
-    .read-document .ensures) (c .before .enum-told2 .given .1) (c .unread .ensures))
+    let reads = c .before .before .before .before .before .before in
+    first-unread h i (omega (arith, reads .before .before .before .before .if1 .left)) (omega (arith, reads .before .before .before .if2 .left))
+    (reads .read-document .ensures)
+    (c .before .enum-told2 .given .1) (c .unread .ensures))
     -- read-patch-requires
     (λ c κs. search needs)
     -- enum-told-3
@@ -54,14 +55,13 @@ checked-spec =
     (λ c. search needs)
     -- returns-4
     (λ c h i.
-    second-unread h i (omega (arith, c .before .before .before .before .before .before .before .before .before .before .before .before .before .before
-    .before .before .before .before .if1 .left)) (omega (arith, c .before .before .before .before .before .before .before .before .before .before
-    .before .before .before .before .before .before .before .if2 .left)) (c .before .before .before .before .before .before .before .before .before
-    .before .before .before .before .before .read-document .ensures) (c .before .before .before .before .before .before .before .before .before
-    .enum-told .given .1)
-    (c .before .before .before .before .before .before .before .before .before .before .before .before .before .before .read-document .kept .1 .0) (c
-    .before .before .before .before .before .before .before .before .before .before .before .before .before .before .read-document .kept .1 .1 .0) (c
-    .before .before .before .before .before .before .read-patch .ensures) (c .before .enum-told4 .given .1) (c .unread2 .ensures))
+    let second = c .before .before .before .before .before .before in
+    let first = second .before .before .before .before .before .before .before .before in
+    second-unread h i (omega (arith, first .before .before .before .before .if1 .left)) (omega (arith, first .before .before .before .if2 .left))
+    (first .read-document .ensures)
+    (second .before .before .before .enum-told .given .1) (first .read-document .kept .1 .0) (first .read-document .kept .1 .1 .0)
+    (second .read-patch .ensures)
+    (c .before .enum-told4 .given .1) (c .unread2 .ensures))
     -- compared-requires
     (λ c κs. search needs)
     -- same-length-5
@@ -70,15 +70,11 @@ checked-spec =
     (λ c. search needs)
     -- returns-5
     (λ c h i.
-    second-read h i (omega (arith, c .before .before .before .before .before .before .before .before .before .before .before .before .before .before
-    .before .before .before .before .before .before .before .before .before .if1 .left)) (omega (arith, c .before .before .before .before .before
-    .before .before .before .before .before .before .before .before .before .before .before .before .before .before .before .before .before .if2
-    .left)) (c .before .before .before .before .before .before .before .before .before .before .before .before .before .before .before .before .before
-    .before .before .read-document .ensures) (c .before .before .before .before .before .before .before .before .before .before .before .before
-    .before .before .enum-told .given .1)
-    (c .before .before .before .before .before .before .before .before .before .before .before .before .before .before .before .before .before .before
-    .before .read-document .kept .1 .0) (c .before .before .before .before .before .before .before .before .before .before .before .before .before
-    .before .before .before .before .before .before .read-document .kept .1 .1 .0) (c .before .before .before .before .before .before .before .before
-    .before .before .before .read-patch .ensures) (c .before .before .before .before .before .before .enum-told3 .given .1)
-    (c .before .before .before .before .before .before .before .before .before .before .before .read-patch .kept .1 .0) (c .before .before .before
-    .before .before .before .before .before .before .before .before .read-patch .kept .1 .1 .0) (c .before .before .before .compared .ensures)))
+    let second = c .before .before .before .before .before .before .before .before .before .before .before in
+    let first = second .before .before .before .before .before .before .before .before in
+    second-read h i (omega (arith, first .before .before .before .before .if1 .left)) (omega (arith, first .before .before .before .if2 .left))
+    (first .read-document .ensures)
+    (second .before .before .before .enum-told .given .1) (first .read-document .kept .1 .0) (first .read-document .kept .1 .1 .0)
+    (second .read-patch .ensures)
+    (c .before .before .before .before .before .before .enum-told3 .given .1) (second .read-patch .kept .1 .0) (second .read-patch .kept .1 .1 .0)
+    (c .before .before .before .compared .ensures)))

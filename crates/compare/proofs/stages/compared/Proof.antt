@@ -21,5 +21,7 @@ compared-spec =
     -- same-length-2
     (λ c. search needs)
     -- returns
-    (λ c. values-compared (c .before .before .before .before .before .before .before .before .before .before .note-places .ensures) (c .before .before
-    .before .before .before .before .index-tree .ensures) (c .before .counted .ensures) (c .success .ensures)))
+    (λ c.
+    let index = c .before .before .before .before .before .before in
+    values-compared (index .before .before .before .before .note-places .ensures) (index .index-tree .ensures) (c .before .counted .ensures)
+    (c .success .ensures)))

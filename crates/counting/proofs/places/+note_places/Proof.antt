@@ -75,11 +75,11 @@ pub +note-places-spec : {M : Type 1} → statement M
     -- loop-less
     (λ c. omega (arith, c .end-of2 .ensures))
     -- loop-again
-    (λ c. noting-next (c .before .before .before .before .before .before .before .before .before .before .before .before .end-of .ensures) (c .before
-    .before .before .before .before .before .before .before .before .loop .inv) (omega arith) (omega (arith, c .before .before .before .before .before
-    .before .before .before .before .before .before .if3 .left)) (c .before .before .before .before .before .before .note .ensures) (c .before .before
-    .before .note-places .ensures) _
-    (c .end-of2 .ensures))
+    (λ c.
+    let head = c .before .before .before .before .before .before .before .before .before in
+    noting-next (head .before .before .before .end-of .ensures) (head .loop .inv) (omega arith) (omega (arith, head .before .before .if3 .left))
+    (c .before .before .before .before .before .before .note .ensures)
+    (c .before .before .before .note-places .ensures) _ (c .end-of2 .ensures))
     -- same-length-3
     (λ c. search needs)
     -- returns-5

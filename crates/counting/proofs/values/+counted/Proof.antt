@@ -80,8 +80,10 @@ pub +counted-spec : {M : Type 1} → statement M
     -- add-next
     (λ c. omega (arith, c .before .before .before .before .before .alike .ensures .inside (not-false _ (c .before .before .before .before .if1 .left))))
     -- loop-holds
-    (λ c hints. counting-all _ (c .before .before .before .before .before .alike .ensures) (not-false _ (c .before .before .before .before .if1
-    .left)) _ (c .before .kind .ensures) _ _ (c .before .before .end-of .ensures) (c .end-of2 .ensures))
+    (λ c hints.
+    counting-all _ (c .before .before .before .before .before .alike .ensures) (not-false _ (c .before .before .before .before .if1 .left))
+    _ (c .before .kind .ensures) _ _ (c .before .before .end-of .ensures)
+    (c .end-of2 .ensures))
     -- partner-requires
     (λ c κs. search needs)
     -- enum-known-found
@@ -94,9 +96,10 @@ pub +counted-spec : {M : Type 1} → statement M
     (λ c κs. search needs)
     -- returns-3
     (λ c hints.
-    counted-alone _ _ _ _ _ _ _ (c .before .before .before .before .before .before .loop .inv hints) (omega arith) (c .before .before .before .before
-    .before .before .before .end-of2 .ensures) _ (c .before .before .before .before .partner .ensures hints) (c .before .before .enum-told .given .1)
-    (c .before .arity .ensures) refl (c .wrapping-add-u64 .ensures))
+    let head = c .before .before .before .before .before .before in
+    counted-alone _ _ _ _ _ _ _ (head .loop .inv hints) (omega arith) (head .before .end-of2 .ensures)
+    _ (c .before .before .before .before .partner .ensures hints)
+    (c .before .before .enum-told .given .1) (c .before .arity .ensures) refl (c .wrapping-add-u64 .ensures))
     -- names-for-requires
     (λ c κs. search needs)
     -- wrapping-add-u64-requires-2
@@ -109,12 +112,12 @@ pub +counted-spec : {M : Type 1} → statement M
     (λ c κs. search needs)
     -- returns-4
     (λ c hints.
-    counted-differs _ _ _ _ _ _ _ (c .before .before .before .before .before .before .before .before .before .before .before .loop .inv hints) (omega
-    arith) (c .before .before .before .before .before .before .before .before .before .before .before .before .end-of2 .ensures) _ (c .before .before
-    .before .before .before .before .before .before .before .partner .ensures hints) _ (c .before .before .before .before .before .before .before
-    .found .given .1) _
-    (c .before .before .before .counted .ensures hints) (c .before .before .before .before .before .names-for .ensures) (c .before .before .before
-    .before .wrapping-add-u642 .ensures) (c .before .before .wrapping-add-u643 .ensures) (not-true _ (c .if3 .taken)) refl refl)
+    let head = c .before .before .before .before .before .before .before .before .before .before .before in
+    let found = c .before .before .before .before .before .before .before in
+    counted-differs _ _ _ _ _ _ _ (head .loop .inv hints) (omega arith) (head .before .end-of2 .ensures) _
+    (found .before .before .partner .ensures hints) _ (found .found .given .1) _ (c .before .before .before .counted .ensures hints)
+    (c .before .before .before .before .before .names-for .ensures)
+    (c .before .before .before .before .wrapping-add-u642 .ensures) (c .before .before .wrapping-add-u643 .ensures) (not-true _ (c .if3 .taken)) refl refl)
     -- end-of-requires-3
     (λ c κs. search needs)
     -- end-of-requires-4
@@ -123,13 +126,13 @@ pub +counted-spec : {M : Type 1} → statement M
     (λ c. omega (arith, c .before .end-of3 .ensures))
     -- loop-again
     (λ c hints.
-    counting-next _ _ _ _ _ _ _ (c .before .before .before .before .before .before .before .before .before .before .before .before .before .loop .inv
-    hints) (omega arith) (c .before .before .before .before .before .before .before .before .before .before .before .before .before .before .end-of2
-    .ensures) _ (c .before .before .before .before .before .before .before .before .before .before .before .partner .ensures hints) _ (c .before
-    .before .before .before .before .before .before .before .before .found .given .1) _
-    (c .before .before .before .before .before .counted .ensures hints) (c .before .before .before .before .before .before .before .names-for
-    .ensures) (c .before .before .before .before .before .before .wrapping-add-u642 .ensures) (c .before .before .before .before .wrapping-add-u643
-    .ensures) (not-false _ (c .before .before .if3 .left)) _ _
+    let same = c .before .before in
+    let head = same .before .before .before .before .before .before .before .before .before .before .before in
+    let found = same .before .before .before .before .before .before .before in
+    counting-next _ _ _ _ _ _ _ (head .loop .inv hints) (omega arith) (head .before .end-of2 .ensures) _
+    (found .before .before .partner .ensures hints) _ (found .found .given .1) _ (same .before .before .before .counted .ensures hints)
+    (same .before .before .before .before .before .names-for .ensures)
+    (same .before .before .before .before .wrapping-add-u642 .ensures) (same .before .before .wrapping-add-u643 .ensures) (not-false _ (same .if3 .left)) _ _
     (c .before .end-of3 .ensures) (c .end-of4 .ensures))
     -- returns-5
     (λ c hints. counted-end _ _ _ _ _ _ _ (c .before .loop .inv hints) (omega arith) refl refl)

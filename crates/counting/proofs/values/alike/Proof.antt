@@ -31,6 +31,7 @@ alike-spec =
     -- arity-requires-2
     (λ c κs. search needs)
     -- returns-4
-    (λ c. alike-counts (c .before .before .before .same-label .ensures) (not-false _ (c .before .before .if3 .left)) (omega (arith, c .before .before
-    .before .before .before .before .before .if1 .left)) (omega (arith, c .before .before .before .before .before .before .if2 .left)) (c .before
-    .arity .ensures) (c .arity2 .ensures)))
+    (λ c.
+    let labels = c .before .before .before in
+    alike-counts (labels .same-label .ensures) (not-false _ (c .before .before .if3 .left)) (omega (arith, labels .before .before .before .before .if1 .left))
+    (omega (arith, labels .before .before .before .if2 .left)) (c .before .arity .ensures) (c .arity2 .ensures)))
