@@ -1,10 +1,12 @@
-/* What comparing two texts costs: nanoseconds of processor time for a call, least
- * of 100 rounds. The second text has the first one's members in step, in reverse
- * and in a fixed disorder; two shapes: one object of n members, and n / 8 objects
- * of 7 members in an array.
+/* What comparing two texts costs, beside the plain call on the first with a test of
+ * the second: nanoseconds of processor time for a call, least of 100 rounds, the two
+ * in turn. The second text has the first one's members in step, in reverse and in a
+ * fixed disorder; two shapes: one object of n members, and n / 8 objects of 7
+ * members in an array.
  *
- *     rt staticlib compare
- *     cc -O2 -Iinclude bench/compare.c target/staticlib/libcompare.a -o target/compare && target/compare */
+ *     rt staticlib json_patch && rt staticlib compare
+ *     cc -O2 -Iinclude bench/compare.c target/staticlib/libcompare.a \
+ *         target/staticlib/libjson_patch.a -o target/compare && target/compare */
 #include "json_patch_compare.h"
 
 #include <stdio.h>
@@ -13,7 +15,7 @@
 enum { ROUNDS = 100, CALLS = 5 };
 
 static json_patch_work work;
-static char texts[2][JSON_PATCH_MAX_BYTES + 1];
+static char texts[2][JSON_PATCH_MAX_BYTES + 1], patch[JSON_PATCH_MAX_BYTES + 64], output[65536];
 
 static double now(void) {
     struct timespec time;
@@ -31,7 +33,7 @@ static size_t object(char *text, int order, int n) {
     int k;
     text[at++] = '{';
     for (k = 0; k < n; k++)
-        at += (size_t)sprintf(text + at, "%s\"n%d\":%d", k ? "," : "", member(order, k, n), member(order, k, n) % 10);
+        at += (size_t)sprintf(text + at, "%s\"m%04d\":%d", k ? "," : "", member(order, k, n), member(order, k, n) % 10);
     text[at++] = '}';
     return at;
 }
@@ -58,18 +60,25 @@ int main(void) {
                 const int n = sizes[size];
                 const size_t first = shape ? array(texts[0], 0, n) : object(texts[0], 0, n);
                 const size_t second = shape ? array(texts[1], order, n) : object(texts[1], order, n);
+                const size_t length = (size_t)sprintf(patch, "[{\"op\":\"test\",\"path\":\"\",\"value\":%.*s}]",
+                                                      (int)second, texts[1]);
                 json_patch_comparison found;
-                double least = 1e18;
+                json_patch_answer answer;
+                double least[2] = {1e18, 1e18};
                 for (round = 0; round < ROUNDS; round++) {
-                    double start = now(), end;
+                    double start = now(), middle, end;
                     for (call = 0; call < CALLS; call++)
                         json_patch_compare_with(texts[0], first, texts[1], second, &work, &found);
+                    middle = now();
+                    for (call = 0; call < CALLS; call++)
+                        json_patch_apply_with(texts[0], first, patch, length, output, sizeof output, &work, &answer);
                     end = now();
-                    if ((end - start) / CALLS < least) least = (end - start) / CALLS;
+                    if ((middle - start) / CALLS < least[0]) least[0] = (middle - start) / CALLS;
+                    if ((end - middle) / CALLS < least[1]) least[1] = (end - middle) / CALLS;
                 }
-                printf("%s, %s, %d values, %zu bytes: number %llu equal %llu names %llu, %.0f ns\n", shapes[shape],
-                       orders[order], n, first, (unsigned long long)found.number, (unsigned long long)found.equal,
-                       (unsigned long long)found.names, least);
+                if (found.number || !found.equal || answer.number) return 1;
+                printf("%s, %s, %d values, %zu bytes: %llu names, %.0f ns; a test %.0f\n", shapes[shape], orders[order], n,
+                       first, (unsigned long long)found.names, least[0], least[1]);
             }
     return 0;
 }

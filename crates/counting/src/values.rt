@@ -51,7 +51,7 @@ fn alike<'a>(texts: Texts<'a>, nodes: &[Node], at: usize, other: usize) -> bool
 
 // The values in the rows `at` and `other`, of which the first nests at most `levels` containers, no object of the
 // second has two members of one name, and the places below the second are noted. `top` is the row of an indexed tree
-// that the second is part of, or 0.
+// that the second is part of, or 0. Where no level is left there is no container, so that alike is equal.
 pub fn counted<'a>(
     texts: Texts<'a>,
     nodes: &[Node],
