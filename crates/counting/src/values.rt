@@ -22,6 +22,12 @@ pub struct Comparison {
     pub names: u64,
 }
 
+fn told(same: bool, names: u64) -> Comparison
+    ensures { λ r. ⌜ (r .same ≡ same) × (r .names ≡ names) ⌝ }
+{
+    Comparison { same, names }
+}
+
 // How many names are compared until the one in the row `found` matches.
 fn names_for(nodes: &[Node], object: bool, found: usize) -> u64
     ensures { λ r. ⌜ r ≡ namesFor object (now (nodes .entry)) found ⌝ }
@@ -64,16 +70,10 @@ pub fn counted<'a>(
     ensures { λ r. ⌜ (Hints (now (nodes .entry)) (now (index .entry)) top → CountedIs (before texts nodes) at other levels r) ⌝ }
 {
     if !alike(texts, nodes, at, other) {
-        return Comparison {
-            same: false,
-            names: 0,
-        };
+        return told(false, 0);
     }
     if levels == 0 {
-        return Comparison {
-            same: true,
-            names: 0,
-        };
+        return told(true, 0);
     }
     let end = end_of(nodes, at);
     let pair = Pair {
@@ -87,20 +87,16 @@ pub fn counted<'a>(
     let mut names: u64 = 0;
     while row < end {
         let Member::At(found) = partner(texts, nodes, index, pair, row, next) else {
-            let all = arity(nodes, other) as u64;
-            return Comparison {
-                same: false,
-                names: wrapping_add_u64(names, all),
-            };
+            return told(false, wrapping_add_u64(names, arity(nodes, other) as u64));
         };
         names = wrapping_add_u64(names, names_for(nodes, pair.object, found));
         let values = counted(texts, nodes, index, top, row, found, levels - 1);
         names = wrapping_add_u64(names, values.names);
         if !values.same {
-            return Comparison { same: false, names };
+            return told(false, names);
         }
         row = end_of(nodes, row);
         next = end_of(nodes, next);
     }
-    Comparison { same: true, names }
+    told(true, names)
 }

@@ -2,7 +2,7 @@
 -- left of both.
 use Prim.Native.Nat.{ℕ, _<_, _-_}
 use native.Mathlib.Omega.{arith}
-use mathlib.Core.Path.{refl}
+use mathlib.Core.Path.{_∙_}
 use borrow.Author.Needs.{needs}
 use borrow.Author.Tests.{not-true, not-false}
 use borrow.Fn.Kinds.{In}
@@ -15,6 +15,7 @@ use Rattle.counting.proofs.values.counted.Kinds as counted-kinds
 use Rattle.counting.proofs.values.+counted.Lts-counted as counted-lts
 use Rattle.counting.proofs.values.alike.Reads as alike-reads
 use Rattle.counting.proofs.values.names_for.Reads as names-for-reads
+use Rattle.counting.proofs.values.told.Reads as told-reads
 use Rattle.equality.proofs.partner.Reads as partner-reads
 use Rattle.std.proofs.num.wrapping_add_u64.Reads as wrapping-add-u64-reads
 use Rattle.tape.proofs.nodes.arity.Reads as arity-reads
@@ -44,6 +45,8 @@ pub +counted-spec : {M : Type 1} → statement M
 +counted-spec = close μ-counted λ t. counted-lts.spec (
   alike-reads.Asked,
   alike-reads.Learnt,
+  told-reads.Asked,
+  told-reads.Learnt,
   end-of-reads.Asked,
   end-of-reads.Learnt,
   kind-reads.Asked,
@@ -65,10 +68,15 @@ pub +counted-spec : {M : Type 1} → statement M
     counted-μ-loop
     -- alike-requires
     (λ c κs. search needs)
+    -- told-requires
+    (λ c κs. search needs)
     -- returns
-    (λ c hints. counted-unlike _ (c .before .alike .ensures) (not-true _ (c .if1 .taken)) refl refl)
+    (λ c hints. counted-unlike _ (c .before .before .alike .ensures) (not-true _ (c .before .if1 .taken)) (c .told .ensures .0) (c .told .ensures .1))
+    -- told-requires-2
+    (λ c κs. search needs)
     -- returns-2
-    (λ c hints. counted-flat _ (c .before .before .alike .ensures) (not-false _ (c .before .if1 .left)) (c .if2 .taken) refl refl)
+    (λ c hints.
+    counted-flat _ (c .before .before .before .alike .ensures) (not-false _ (c .before .before .if1 .left)) (c .before .if2 .taken) (c .told2 .ensures .0) (c .told2 .ensures .1))
     -- end-of-requires
     (λ c κs. search needs)
     -- kind-requires
@@ -94,12 +102,13 @@ pub +counted-spec : {M : Type 1} → statement M
     (λ c κs. search needs)
     -- wrapping-add-u64-requires
     (λ c κs. search needs)
+    -- told-requires-3
+    (λ c κs. search needs)
     -- returns-3
     (λ c hints.
-    let head = c .before .before .before .before .before .before in
-    counted-alone _ _ _ _ _ _ _ (head .loop .inv hints) (omega arith) (head .before .end-of2 .ensures)
-    _ (c .before .before .before .before .partner .ensures hints)
-    (c .before .before .enum-told .given .1) (c .before .arity .ensures) refl (c .wrapping-add-u64 .ensures))
+    let head = c .before .before .before .before .before .before .before in
+    counted-alone _ _ _ _ _ _ _ (head .loop .inv hints) (omega arith) (head .before .end-of2 .ensures) _ (c .before .before .before .before .before .partner .ensures hints)
+    (c .before .before .before .enum-told .given .1) (c .before .before .arity .ensures) (c .told3 .ensures .0) (c .told3 .ensures .1 ∙ c .before .wrapping-add-u64 .ensures))
     -- names-for-requires
     (λ c κs. search needs)
     -- wrapping-add-u64-requires-2
@@ -110,14 +119,17 @@ pub +counted-spec : {M : Type 1} → statement M
     (λ c κs. search needs)
     -- wrapping-add-u64-requires-3
     (λ c κs. search needs)
+    -- told-requires-4
+    (λ c κs. search needs)
     -- returns-4
     (λ c hints.
-    let head = c .before .before .before .before .before .before .before .before .before .before .before in
-    let found = c .before .before .before .before .before .before .before in
+    let same = c .before in
+    let head = same .before .before .before .before .before .before .before .before .before .before .before in
+    let found = same .before .before .before .before .before .before .before in
     counted-differs _ _ _ _ _ _ _ (head .loop .inv hints) (omega arith) (head .before .end-of2 .ensures) _
-    (found .before .before .partner .ensures hints) _ (found .found .given .1) _ (c .before .before .before .counted .ensures hints)
-    (c .before .before .before .before .before .names-for .ensures)
-    (c .before .before .before .before .wrapping-add-u642 .ensures) (c .before .before .wrapping-add-u643 .ensures) (not-true _ (c .if3 .taken)) refl refl)
+    (found .before .before .partner .ensures hints) _ (found .found .given .1) _ (same .before .before .before .counted .ensures hints) (same .before .before .before .before .before .names-for .ensures)
+    (same .before .before .before .before .wrapping-add-u642 .ensures) (same .before .before .wrapping-add-u643 .ensures) (not-true _ (same .if3 .taken)) (c .told4 .ensures .0)
+    (c .told4 .ensures .1))
     -- end-of-requires-3
     (λ c κs. search needs)
     -- end-of-requires-4
@@ -134,5 +146,7 @@ pub +counted-spec : {M : Type 1} → statement M
     (same .before .before .before .before .before .names-for .ensures)
     (same .before .before .before .before .wrapping-add-u642 .ensures) (same .before .before .wrapping-add-u643 .ensures) (not-false _ (same .if3 .left)) _ _
     (c .before .end-of3 .ensures) (c .end-of4 .ensures))
+    -- told-requires-5
+    (λ c κs. search needs)
     -- returns-5
-    (λ c hints. counted-end _ _ _ _ _ _ _ (c .before .loop .inv hints) (omega arith) refl refl)
+    (λ c hints. counted-end _ _ _ _ _ _ _ (c .before .before .loop .inv hints) (omega arith) (c .told5 .ensures .0) (c .told5 .ensures .1))
