@@ -76,7 +76,8 @@ pub +counted-spec : {M : Type 1} → statement M
     (λ c κs. search needs)
     -- returns-2
     (λ c hints.
-    counted-flat _ (c .before .before .before .alike .ensures) (not-false _ (c .before .before .if1 .left)) (c .before .if2 .taken) (c .told2 .ensures .0) (c .told2 .ensures .1))
+    counted-flat _ (c .before .before .before .alike .ensures) (not-false _ (c .before .before .if1 .left)) (c .before .if2 .taken)
+    (c .told2 .ensures .0) (c .told2 .ensures .1))
     -- end-of-requires
     (λ c κs. search needs)
     -- kind-requires
@@ -107,8 +108,10 @@ pub +counted-spec : {M : Type 1} → statement M
     -- returns-3
     (λ c hints.
     let head = c .before .before .before .before .before .before .before in
-    counted-alone _ _ _ _ _ _ _ (head .loop .inv hints) (omega arith) (head .before .end-of2 .ensures) _ (c .before .before .before .before .before .partner .ensures hints)
-    (c .before .before .before .enum-told .given .1) (c .before .before .arity .ensures) (c .told3 .ensures .0) (c .told3 .ensures .1 ∙ c .before .wrapping-add-u64 .ensures))
+    counted-alone _ _ _ _ _ _ _ (head .loop .inv hints) (omega arith) (head .before .end-of2 .ensures)
+    _ (c .before .before .before .before .before .partner .ensures hints)
+    (c .before .before .before .enum-told .given .1) (c .before .before .arity .ensures) (c .told3 .ensures .0)
+    (c .told3 .ensures .1 ∙ c .before .wrapping-add-u64 .ensures))
     -- names-for-requires
     (λ c κs. search needs)
     -- wrapping-add-u64-requires-2
@@ -127,8 +130,10 @@ pub +counted-spec : {M : Type 1} → statement M
     let head = same .before .before .before .before .before .before .before .before .before .before .before in
     let found = same .before .before .before .before .before .before .before in
     counted-differs _ _ _ _ _ _ _ (head .loop .inv hints) (omega arith) (head .before .end-of2 .ensures) _
-    (found .before .before .partner .ensures hints) _ (found .found .given .1) _ (same .before .before .before .counted .ensures hints) (same .before .before .before .before .before .names-for .ensures)
-    (same .before .before .before .before .wrapping-add-u642 .ensures) (same .before .before .wrapping-add-u643 .ensures) (not-true _ (same .if3 .taken)) (c .told4 .ensures .0)
+    (found .before .before .partner .ensures hints) _ (found .found .given .1) _ (same .before .before .before .counted .ensures hints)
+    (same .before .before .before .before .before .names-for .ensures)
+    (same .before .before .before .before .wrapping-add-u642 .ensures) (same .before .before .wrapping-add-u643 .ensures)
+    (not-true _ (same .if3 .taken)) (c .told4 .ensures .0)
     (c .told4 .ensures .1))
     -- end-of-requires-3
     (λ c κs. search needs)
