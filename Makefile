@@ -47,7 +47,7 @@ export JSON_PATCH_LIB
 
 out := target/make
 # As rt makes them: the call, the call with a region, the functions on one record,
-# the links, Intel HEX, the inspection, and the call with an undo.
+# the links, Intel HEX, the inspection, the call with an undo, and the comparison.
 proved_call := $(JSON_PATCH_LIB)/libjson_patch.a
 proved_region := $(JSON_PATCH_LIB)/libregion_call.a
 proved_record := $(JSON_PATCH_LIB)/librecord.a
@@ -55,6 +55,7 @@ links := $(JSON_PATCH_LIB)/libfragment.a
 hex := $(JSON_PATCH_LIB)/libhex.a
 inspect := $(JSON_PATCH_LIB)/libinspect.a
 proved_undo := $(JSON_PATCH_LIB)/libundo.a
+compare := $(JSON_PATCH_LIB)/libcompare.a
 # The library as it is installed: the three calls and the records.
 static := $(out)/libjson_patch.a
 shared := libjson_patch.so.$(VERSION)
@@ -65,7 +66,7 @@ completions := $(out)/json-patch.bash $(out)/_json-patch $(out)/json-patch.fish
 proved := crates.txt $(shell find crates -path '*/must-fail' -prune -o -name '*.rt' -print -o -name '*.antt' -print)
 rust := $(shell find rust/src rust/cli/src -name '*.rs') rust/build.rs rust/Cargo.toml rust/Cargo.lock rust/cli/Cargo.toml
 
-all: $(static) $(links) $(hex) $(inspect) $(out)/$(soname) $(command) $(completions)
+all: $(static) $(links) $(hex) $(inspect) $(compare) $(out)/$(soname) $(command) $(completions)
 
 ifndef prebuilt
 $(proved_call): $(proved)
@@ -97,6 +98,10 @@ $(inspect): $(hex)
 $(proved_undo): $(inspect)
 	rt staticlib undo
 	@touch $@
+
+$(compare): $(proved_undo)
+	rt staticlib compare
+	@touch $@
 endif
 
 # The proved objects, unchanged, in one archive.
@@ -108,15 +113,15 @@ $(static): $(proved_call) $(proved_region) $(proved_record) $(proved_undo)
 	$(AR) rcs $@ $(out)/objects/*.o
 
 # The shared library is the archives, linked whole.
-$(out)/$(shared): $(static) $(links) $(hex) $(inspect)
+$(out)/$(shared): $(static) $(links) $(hex) $(inspect) $(compare)
 	@mkdir -p $(out)
 	$(CC) -shared $(LDFLAGS) -Wl,-soname,$(soname) -Wl,-z,defs -Wl,-z,relro -Wl,-z,now \
-		-Wl,--whole-archive $(static) $(links) $(hex) $(inspect) -Wl,--no-whole-archive -o $@
+		-Wl,--whole-archive $(static) $(links) $(hex) $(inspect) $(compare) -Wl,--no-whole-archive -o $@
 
 $(out)/$(soname): $(out)/$(shared)
 	ln -sf $(shared) $@
 
-$(command): $(rust) $(proved_call) $(proved_region) $(links) $(hex) $(inspect) $(proved_undo)
+$(command): $(rust) $(proved_call) $(proved_region) $(links) $(hex) $(inspect) $(proved_undo) $(compare)
 	@mkdir -p $(out)
 	$(CARGO) build --release $(CARGO_FLAGS) --manifest-path rust/Cargo.toml --package json-patch-cli --target-dir rust/target
 	cp rust/target/release/json-patch $@
@@ -165,8 +170,8 @@ install: all
 		$(DESTDIR)$(ZSHDIR) $(DESTDIR)$(FISHDIR) $(DESTDIR)$(PYTHONDIR)/json_patch
 	$(INSTALL) -m 755 $(command) $(DESTDIR)$(BINDIR)/json-patch
 	$(INSTALL) -m 644 include/json_patch.h include/json_patch_link.h include/json_patch_hex.h \
-		include/json_patch_inspect.h $(DESTDIR)$(INCLUDEDIR)
-	$(INSTALL) -m 644 $(static) $(links) $(hex) $(inspect) $(DESTDIR)$(LIBDIR)
+		include/json_patch_inspect.h include/json_patch_compare.h $(DESTDIR)$(INCLUDEDIR)
+	$(INSTALL) -m 644 $(static) $(links) $(hex) $(inspect) $(compare) $(DESTDIR)$(LIBDIR)
 	$(INSTALL) -m 644 $(out)/$(shared) $(DESTDIR)$(LIBDIR)/$(shared)
 	ln -sf $(shared) $(DESTDIR)$(LIBDIR)/$(soname)
 	ln -sf $(soname) $(DESTDIR)$(LIBDIR)/libjson_patch.so
@@ -187,6 +192,7 @@ uninstall:
 	rm -f $(DESTDIR)$(BINDIR)/json-patch $(DESTDIR)$(INCLUDEDIR)/json_patch.h \
 		$(DESTDIR)$(INCLUDEDIR)/json_patch_link.h $(DESTDIR)$(INCLUDEDIR)/json_patch_hex.h \
 		$(DESTDIR)$(INCLUDEDIR)/json_patch_inspect.h $(DESTDIR)$(LIBDIR)/libinspect.a \
+		$(DESTDIR)$(INCLUDEDIR)/json_patch_compare.h $(DESTDIR)$(LIBDIR)/libcompare.a \
 		$(DESTDIR)$(LIBDIR)/libfragment.a $(DESTDIR)$(LIBDIR)/libhex.a \
 		$(DESTDIR)$(LIBDIR)/libjson_patch.a $(DESTDIR)$(LIBDIR)/libjson_patch.so \
 		$(DESTDIR)$(LIBDIR)/$(soname) $(DESTDIR)$(LIBDIR)/$(shared) \

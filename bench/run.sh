@@ -111,6 +111,14 @@ stack)
     else
         echo "left out: the call with an undo (no $undo: run 'rt staticlib undo')"
     fi
+    compare=${library%/*}/libcompare.a
+    if [ -f "$compare" ]; then
+        cc stack-compared "$here/stack.c" -D_GNU_SOURCE -DCOMPARED -Wl,-z,now -Wl,--push-state,--whole-archive "$compare" -Wl,--pop-state
+        echo "two texts compared:"
+        { "$second" equal-cases; "$second" equal-generate 1 "${COUNT:-3000}"; } | "$bin/stack-compared"
+    else
+        echo "left out: the comparison (no $compare: run 'rt staticlib compare')"
+    fi
     ;;
 *)
     sed -n '2,9p' "$0"

@@ -5,8 +5,11 @@
  * The depth is counted from the frame of the function that calls, so it has the
  * arguments and the return address in it. Link with -z now, since the dynamic
  * linker's own frames would be measured otherwise. With -DWITH_UNDO it is the call
- * with an undo. */
+ * with an undo, and with -DCOMPARED the one that compares two texts. */
 #include "json_patch.h"
+#ifdef COMPARED
+#include "json_patch_compare.h"
+#endif
 
 #include <stdio.h>
 #include <stdlib.h>
@@ -25,6 +28,9 @@ static size_t document_length, patch_length, room;
 static uint8_t undo[JSON_PATCH_MAX_BYTES], text[JSON_PATCH_UNDO_BYTES];
 static json_patch_undo_answer both;
 #define ANSWER both.answer
+#elif defined COMPARED
+static json_patch_comparison answer;
+#define ANSWER answer
 #else
 static json_patch_answer answer;
 #define ANSWER answer
@@ -37,6 +43,9 @@ static void call(void) {
 #ifdef WITH_UNDO
     json_patch_apply_with_undo(document, document_length, patch, patch_length, output, room, undo, sizeof undo, nodes,
                                JSON_PATCH_WORK_NODES, entries, JSON_PATCH_WORK_ENTRIES, text, sizeof text, &both);
+#elif defined COMPARED
+    json_patch_compare(document, document_length, patch, patch_length, nodes, JSON_PATCH_WORK_NODES, entries,
+                       JSON_PATCH_WORK_ENTRIES, &answer);
 #else
     json_patch_apply(document, document_length, patch, patch_length, output, room, nodes, JSON_PATCH_WORK_NODES, entries,
                      JSON_PATCH_WORK_ENTRIES, &answer);

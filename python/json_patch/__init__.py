@@ -62,8 +62,8 @@ from pathlib import Path
 from typing import Any, List, NamedTuple, Tuple, Union
 
 __all__ = [
-    "Counts", "Kind", "Patched", "Pointer", "Refusal", "UndoRefusal", "apply", "apply_with_undo",
-    "inspect", "MAX_BYTES", "OUTPUT", "__version__",
+    "Compared", "Counts", "Kind", "Patched", "Pointer", "Refusal", "UndoRefusal", "apply",
+    "apply_with_undo", "compare", "inspect", "MAX_BYTES", "OUTPUT", "__version__",
 ]
 __version__ = "0.2.0"
 
@@ -143,6 +143,23 @@ class _Inspection(ctypes.Structure):
             "adds", "removes", "replaces", "moves", "copies", "tests",
         )
     ]
+
+
+class _Comparison(ctypes.Structure):
+    """What two texts come to, as in json_patch_compare.h."""
+
+    _fields_ = [
+        (name, ctypes.c_uint64) for name in ("number", "text", "place", "equal", "names")
+    ]
+
+
+class Compared(NamedTuple):
+    """What two values come to."""
+
+    equal: bool
+    """Whether they are equal."""
+    names: int
+    """How many names were compared to tell it."""
 
 
 class Counts(NamedTuple):
@@ -383,6 +400,34 @@ def inspect(patch: Bytes) -> Counts:
     raise Refusal(*fields, _words(*fields, b"", text))
 
 
+def compare(first: Bytes, second: Bytes) -> Compared:
+    """Compares the values of two texts, as a test in a patch does: numbers by exact
+    value, strings by their unescaped text, members in any order.
+
+    The count is that of document 02: the first one's members in order, each against
+    the second one's names from the first until one matches; all stops at the first
+    difference. For values of a and b nodes it is at most a times b.
+
+    Raises `Refusal` where a text is none; its `text` is 1 or 2.
+
+    >>> compare(b'{"mAh": 3000, "cut": [4.2]}', b'{"cut": [4.20], "mAh": 3e3}')
+    Compared(equal=True, names=3)
+    >>> compare(b'{"mAh": 3000}', b'{"mAh": 3001}').equal
+    False
+    >>> compare(b'1', b'[1,]')
+    Traceback (most recent call last):
+    ...
+    json_patch.Refusal: second:1:4: not JSON text
+    """
+    texts = _octets(first, "first text"), _octets(second, "second text")
+    found = _Comparison()
+    _compare(texts[0], len(texts[0]), texts[1], len(texts[1]), *_work().lent(), found)
+    if found.number == 0:
+        return Compared(found.equal == 1, found.names)
+    fields = (found.number, found.text, 0, found.place, 0)
+    raise Refusal(*fields, _words(*fields, *texts, names=("first", "second")))
+
+
 def _octets(text: Bytes, name: str) -> bytes:
     """A text as bytes."""
     if isinstance(text, str):
@@ -393,11 +438,12 @@ def _octets(text: Bytes, name: str) -> bytes:
 
 
 def _words(
-    number: int, text: int, op: int, place: int, pointer: int, document: bytes, patch: bytes
+    number: int, text: int, op: int, place: int, pointer: int, document: bytes, patch: bytes,
+    names: Tuple[str, str] = ("document", "patch"),
 ) -> str:
     """A refusal in words, with the operation or the place in the two texts."""
     kind = Kind(number)
-    name, octets = ("document", document) if text == 1 else ("patch", patch)
+    name, octets = (names[0], document) if text == 1 else (names[1], patch)
     if text and Kind.NOT_JSON <= kind <= Kind.NUMBER_OVER_LIMIT:
         line = octets.count(b"\n", 0, place) + 1
         start = octets.rfind(b"\n", 0, place) + 1
@@ -502,3 +548,4 @@ _apply = _call("json_patch_apply", 3, _Work.types, _Answer)
 _apply_within = _call("json_patch_apply_within", 4, _Work.types, _Answer)
 _apply_with_undo = _call("json_patch_apply_with_undo", 4, _UndoWork.types, _UndoAnswer)
 _inspect = _call("json_patch_inspect", 1, _Work.types, _Inspection)
+_compare = _call("json_patch_compare", 2, _Work.types, _Comparison)

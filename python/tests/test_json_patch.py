@@ -11,7 +11,8 @@ from pathlib import Path
 
 import json_patch
 from json_patch import (
-    Counts, Kind, Patched, Pointer, Refusal, UndoRefusal, apply, apply_with_undo, inspect,
+    Compared, Counts, Kind, Patched, Pointer, Refusal, UndoRefusal, apply, apply_with_undo, compare,
+    inspect,
 )
 
 ROOT = Path(__file__).resolve().parents[2]
@@ -64,6 +65,18 @@ class Calls(unittest.TestCase):
             inspect(b"[1,]")
         with self.assertRaisesRegex(TypeError, "patch is a str: encode it"):
             inspect("[]")
+
+    def test_compare(self):
+        self.assertEqual(compare(b'{"a":1,"b":[2]}', b'{"b":[2.0],"a":1e0}'), Compared(True, 3))
+        self.assertEqual(compare(b'{"a":1,"b":2}', bytearray(b'{"a":9,"b":2}')), Compared(False, 1))
+        self.assertEqual(compare(b'{"a":1,"b":2}', b'{"a":1}'), Compared(False, 0))
+        with self.assertRaisesRegex(Refusal, "first:1:2: not JSON text") as caught:
+            compare(b"[", b"")
+        self.assertEqual((caught.exception.number, caught.exception.text), (Kind.NOT_JSON, 1))
+        with self.assertRaisesRegex(Refusal, "second: the text is longer"):
+            compare(b"0", b" " * 32_769)
+        with self.assertRaisesRegex(TypeError, "second text is a str: encode it"):
+            compare(b"0", "0")
 
     def test_region(self):
         document = b'{"a":{"b":1},"c":2}'

@@ -41,6 +41,7 @@
 #![no_std]
 #![warn(missing_docs)]
 
+pub mod compare;
 mod explain;
 pub mod hex;
 pub mod inspect;

@@ -10,7 +10,7 @@ pub mod random;
 pub mod regions;
 pub mod shelves;
 mod spelling;
-mod trees;
+pub(crate) mod trees;
 
 use crate::cases::Case;
 use crate::limits::TOOL_ROOM;

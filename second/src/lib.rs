@@ -13,6 +13,7 @@ pub mod cases;
 pub mod compare;
 pub mod count;
 pub mod cursor;
+pub mod equal;
 pub mod generate;
 pub mod hex;
 pub mod limits;

@@ -2,7 +2,7 @@
 
 #![forbid(unsafe_code)]
 
-use second::{cases, compare, count, generate, hex, links, makers, tool, undo, vectors};
+use second::{cases, compare, count, equal, generate, hex, links, makers, tool, undo, vectors};
 use std::env;
 use std::ffi::OsString;
 use std::fs;
@@ -36,6 +36,11 @@ const USAGE: &str = "usage:
   second undo-answers FILE
   second undo-vectors FILE
   second undo-generate SEED COUNT
+  second equal FIRST SECOND
+  second equal-cases
+  second equal-answers FILE
+  second equal-vectors FILE
+  second equal-generate SEED COUNT
 ";
 
 /// The line of a call whose work area is too short. This program has none, so
@@ -179,6 +184,27 @@ fn run(arguments: &[OsString]) -> Result<(), Trouble> {
                 out.write_all(&undo::generate::case(seed, index).file())?;
             }
         }
+        (Some("equal"), [first, second]) => {
+            let found = equal::compare(&fs::read(first)?, &fs::read(second)?);
+            out.write_all(&equal::said(&found))?;
+            out.write_all(b"\n")?;
+        }
+        (Some("equal-cases"), []) => {
+            for vector in equal::vectors::all() {
+                out.write_all(&vector.case.file())?;
+            }
+        }
+        (Some("equal-answers"), [file]) => equal_answers(file, &mut out)?,
+        (Some("equal-vectors"), [file]) => {
+            equal_answers(file, &mut out)?;
+            out.write_all(SHORT_WORK)?;
+        }
+        (Some("equal-generate"), [seed, count]) => {
+            let seed = number(seed)?;
+            for index in 0..number(count)? {
+                out.write_all(&equal::generate::case(seed, index).file())?;
+            }
+        }
         (Some("compare"), [seed, count, dashes, command @ ..])
             if dashes == "--" && !command.is_empty() =>
         {
@@ -219,6 +245,16 @@ fn region_answers(file: &OsString, out: &mut impl Write) -> Result<(), Trouble> 
 fn undo_answers(file: &OsString, out: &mut impl Write) -> Result<(), Trouble> {
     for case in undo::cases::parse(&fs::read(file)?).map_err(Trouble::Message)? {
         out.write_all(&case.lines())?;
+    }
+    Ok(())
+}
+
+/// The line of each case of two texts in a file.
+fn equal_answers(file: &OsString, out: &mut impl Write) -> Result<(), Trouble> {
+    for case in equal::cases::parse(&fs::read(file)?).map_err(Trouble::Message)? {
+        write!(out, "{}: ", case.name)?;
+        out.write_all(&case.line())?;
+        out.write_all(b"\n")?;
     }
     Ok(())
 }

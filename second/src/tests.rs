@@ -2,6 +2,7 @@
 
 mod appendix;
 mod count;
+mod equal;
 mod generator;
 mod hex;
 mod links;

@@ -1,2 +1,3 @@
 pub mod ExamplesTheorem
 pub mod ComparisonTheorem
+pub mod CallTheorem

@@ -36,7 +36,7 @@ unfolding depth Value.levels
 depth-container v h = rw h
 
 -- the label of a cell
-abbrev labelled : Texts → Cell → Label
+abbrev pub labelled : Texts → Cell → Label
 labelled T c = labelOf T (c .kind) (c .value)
 
 -- ---- a value of the kind k, as its word tells it
@@ -45,7 +45,7 @@ module _ {w : Table} {at : ℕ} {c : Cell} {kids : Forest Cell} (x : NodeHeld w 
   kind-is : c .kind ≡ k
   kind-is = sym (told ∙ kind-here (value-node x))
 
-  object-is : isObject (labelled (w .texts) c) ≡ eqb k objectKind
+  pub object-is : isObject (labelled (w .texts) c) ≡ eqb k objectKind
   object-is = isObject-label (w .texts) (c .kind) (c .value) (value-fit x .kind) ∙ ap (λ j. eqb j objectKind) kind-is
 
   depth-is : arrayKind ≤ k → depth (meant (w .texts) c kids) ≡ suc (depths (members (w .texts) kids))
@@ -69,7 +69,7 @@ module _ {w : Table} {at other : ℕ} (levels : ℕ) where
   equal-outside-other r h c kids e below x y low apart = absurd (omega (arith, value-inside y))
 
   module _ (same : Bool) (said : SameLabelIs (w .texts) (getD (w .nodes) at []) (getD (w .nodes) other []) same) where
-    labels : {c e : Cell} {kids below : Forest Cell} → NodeHeld w at c kids → NodeHeld w other e below
+    pub labels : {c e : Cell} {kids below : Forest Cell} → NodeHeld w at c kids → NodeHeld w other e below
         → same ≡ sameLabel (labelled (w .texts) c) (labelled (w .texts) e)
     labels x y =
         said (value-labelled x) (value-labelled y)

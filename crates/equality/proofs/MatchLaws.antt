@@ -67,7 +67,7 @@ module _ (e : Entry) (kids f : Members) where
 unfoldable pub agree : Bool → Members → Members → Members → Bool
 agree object all f g = eqb (count f) (count g) && matches object f (if object then all else g)
 
-if-same : (o : Bool) (f : Members) → (if o then f else f) ≡ f
+pub if-same : (o : Bool) (f : Members) → (if o then f else f) ≡ f
 if-same true f = refl
 if-same false f = refl
 

@@ -1,10 +1,10 @@
 -- What `partner` answers, and what the answer means for two containers that have a tree left each.
 use Prim.Native.Nat.{ℕ, _+_, _-_, _≤_, _<_}
 use native.Mathlib.Omega.{arith}
-use mathlib.Core.Path.{_≡_, sym, ap, _∙_, subst}
+use mathlib.Core.Path.{_≡_, refl, sym, ap, _∙_, subst}
 use mathlib.Core.Bool.{Bool, true, false, _&&_, not}
 use mathlib.Core.List.{List, []}
-use lib.ListN.{getD, List·getD-map}
+use lib.ListN.{length, getD, List·getD-map}
 use borrow.Author.Tests.{not-true, not-false}
 use Rattle.spec.specs.Forest.{Forest, tree, from}
 use Rattle.spec.specs.Value.{depth, find}
@@ -18,10 +18,10 @@ use Rattle.tape.specs.Map.{mapForest}
 use Rattle.tape.proofs.Map.{map-from}
 use Rattle.table.specs.Meaning.{nameText, entryOf, members, meant}
 use Rattle.table.specs.Sound.{NodeHeld}
-use Rattle.table.specs.Find.{sameName, FindIs, Found}
+use Rattle.table.specs.Find.{sameName, sought-over, FindIs, Found}
 use Rattle.table.specs.declared.find.Member.{Member}
 use Rattle.table.specs.declared.find.Member.the-variants.{At, Missing}
-use Rattle.table.proofs.Search.{named-hashed}
+use Rattle.table.proofs.Search.{named-hashed, finds}
 use Rattle.index.specs.Members.{Child, NotedIs, LookupIs, noted, not-found}
 use Rattle.equality.specs.Compare.{Hints, SoughtIs, searched, hinted, PartnerIs, element, in-step, sought, EqualIs}
 use Rattle.equality.proofs.MatchLaws.{agree, partner-find, inside, partner-there, agree-element, agree-member, agree-alone}
@@ -34,6 +34,9 @@ pub name-loaded : (nodes : List Row) (row : ℕ) → nameOf (getD nodes row noNo
 name-loaded nodes row = sym (List·getD-map nameOf nodes row noNode) ∙ List·getD-map nameOf nodes row []
 
 -- ---- each way out of `sought`
+pub sought-outside : {w : Table} {other end : ℕ} {name : Name} → length (w .nodes) ≤ other → SoughtIs w other end name Missing
+sought-outside h = searched (finds _ refl (sought-over (omega arith)))
+
 module _ {w : Table} {index : List ℕ} {top other end : ℕ} {name : Name} where
   pub sought-hinted : Hints (w .nodes) index top → 0 < top → {r : Member} (pair : ℕ) → LookupIs w index top other name r → r ≡ At pair
       → SoughtIs w other end name (At pair)
@@ -67,7 +70,7 @@ abbrev pub agreeing : Texts → Bool → Forest Cell → Forest Cell → Forest 
 agreeing T object all f g = agree object (members T all) (members T f) (members T g)
 
 -- two trees whose names are the same
-same-names : {w : Table} {row end next stop : ℕ} {c : Cell} {ks rest : Forest Cell} {d : Cell} {ds after : Forest Cell}
+pub same-names : {w : Table} {row end next stop : ℕ} {c : Cell} {ks rest : Forest Cell} {d : Cell} {ds after : Forest Cell}
     → Siblings w row end (tree c ks rest) → Siblings w next stop (tree d ds after) → sameName (w .texts) (nameOf (getD (w .nodes) row []))
     (nameOf (getD (w .nodes) next [])) ≡ true
     → nameText (w .texts) (c .name) ≡ nameText (w .texts) (d .name)
@@ -81,7 +84,7 @@ same-names {w} x y same =
 module _ {w : Table} {other row end next stop : ℕ} {all : Forest Cell} (second : Children w other stop all)
     {c : Cell} {ks rest : Forest Cell} (x : Siblings w row end (tree c ks rest))
     {d : Cell} {ds after : Forest Cell} (y : Siblings w next stop (tree d ds after)) where
-  sought-name : {q : Member} → FindIs w (other + 1) stop (nameOf (getD (w .nodes) row [])) q → Found (w .texts) (other + 1) all
+  pub sought-name : {q : Member} → FindIs w (other + 1) stop (nameOf (getD (w .nodes) row [])) q → Found (w .texts) (other + 1) all
       (nameText (w .texts) (c .name)) q
   sought-name {q} f =
       subst (λ n. Found (w .texts) (other + 1) all (nameText (w .texts) n) q) (siblings-name x)

@@ -23,11 +23,11 @@ use Rattle.equality.proofs.PartnerLaws.{agreeing, alone, paired}
 use Rattle.tape.specs.Lent.{Texts, Table}
 
 module _ (T : Texts) (c : Cell) (kids rest : Forest Cell) where
-  depth-first : depth (meant T c kids) ≤ depths (members T (tree c kids rest))
+  pub depth-first : depth (meant T c kids) ≤ depths (members T (tree c kids rest))
   unfolding depth depths mapForest
   depth-first = omega arith
 
-  depth-rest : depths (members T rest) ≤ depths (members T (tree c kids rest))
+  pub depth-rest : depths (members T rest) ≤ depths (members T (tree c kids rest))
   unfolding depths mapForest
   depth-rest = omega arith
 

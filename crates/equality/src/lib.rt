@@ -17,13 +17,11 @@ use tape::layout::Texts;
 use tape::moves::load;
 use tape::nodes::end_of;
 use tape::nodes::span;
-ghost use Prim.Native.Nat.{_<_};
-ghost use lib.ListN.{length};
 ghost use Rattle.tape.specs.Lent.{lent, before};
 ghost use Rattle.equality.specs.Compare.{SameLabelIs, Hints, SoughtIs, PartnerOf, EqualIs};
 
 // Whether two nodes have the same label.
-fn same_label<'a>(texts: Texts<'a>, a: Node, b: Node) -> bool
+pub fn same_label<'a>(texts: Texts<'a>, a: Node, b: Node) -> bool
     ensures { λ r. ⌜ SameLabelIs (lent texts) a b r ⌝ }
 {
     let kind = fields::kind_in(a[layout::TAGS]);
@@ -42,7 +40,7 @@ fn same_label<'a>(texts: Texts<'a>, a: Node, b: Node) -> bool
 }
 
 // The member of a name among the children of the node in the row `other`, which end before the row `end`. Where the
-// index of the tree in the row `top` has it, nothing is searched; 0 stands for no index.
+// index of the tree in the row `top` has it, nothing is searched; 0 stands for no index. Behind the table is no member.
 fn sought<'a>(
     texts: Texts<'a>,
     nodes: &[Node],
@@ -52,9 +50,11 @@ fn sought<'a>(
     end: usize,
     name: Name,
 ) -> Member
-    requires { ⌜ other < length (now nodes) ⌝ }
     ensures { λ r. ⌜ (Hints (now (nodes .entry)) (now (index .entry)) top → SoughtIs (before texts nodes) other end name r) ⌝ }
 {
+    if nodes.len() <= other {
+        return Member::Missing;
+    }
     if top == 0 {
         return find(texts, nodes, other + 1, end, name);
     }
@@ -66,17 +66,17 @@ fn sought<'a>(
 
 // Two containers: the first one's children stand in step with the second's, which is in the row `other` and ends
 // before the row `end`.
-struct Pair {
-    top: usize,
-    object: bool,
-    other: usize,
-    end: usize,
+pub struct Pair {
+    pub top: usize,
+    pub object: bool,
+    pub other: usize,
+    pub end: usize,
 }
 
 // The row of what the child in `row` is compared with. In an array that is what stands in the row `next`; in an
 // object, the member of its name among the children of the node in the row `other`. Where both objects have the same
 // order it stands in the row `next` too, so that row is tried first.
-fn partner<'a>(
+pub fn partner<'a>(
     texts: Texts<'a>,
     nodes: &[Node],
     index: &[u16],
@@ -84,7 +84,6 @@ fn partner<'a>(
     row: usize,
     next: usize,
 ) -> Member
-    requires { ⌜ pair .other < length (now nodes) ⌝ }
     ensures { λ r. ⌜ (Hints (now (nodes .entry)) (now (index .entry)) (pair .top) → PartnerOf (before texts nodes) pair row next r) ⌝ }
 {
     if !pair.object {

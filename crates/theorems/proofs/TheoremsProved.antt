@@ -24,6 +24,8 @@ use Rattle.merging.proofs.MergeTheorem.{merging}
 use Rattle.merging.proofs.ExamplesTheorem as Merging
 use Rattle.comparison.proofs.ComparisonTheorem.{comparison}
 use Rattle.comparison.proofs.ExamplesTheorem as Counting
+use Rattle.comparison.proofs.CallTheorem as Comparing
+use Rattle.compare.proofs.compare.Met as Compare
 use Rattle.fragment.proofs.ClaimTheorems as Link
 use Rattle.hex.proofs.ClaimTheorems as Hex
 use Rattle.theorems.specs.Theorems.{Theorems}
@@ -91,5 +93,7 @@ theorems =
             merging-positions = Merging.positions-hold;
             comparison = comparison;
             comparison-examples = Counting.counted;
+            comparison-call = Comparing.told;
+            comparison-exact = Compare.met;
           };
     }

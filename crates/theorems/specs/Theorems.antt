@@ -29,6 +29,8 @@ use Rattle.merging.specs.Claims.{MergeStatement}
 use Rattle.merging.specs.Examples as Merging
 use Rattle.comparison.specs.Comparison.{ComparisonStatement}
 use Rattle.comparison.specs.Examples as Counting
+use Rattle.comparison.specs.Call as Comparing
+use Rattle.compare.proofs.compare.Statement as Compare
 use Rattle.fragment.specs.Claims as Link
 use Rattle.hex.specs.Claims as Hex
 
@@ -107,7 +109,7 @@ pub record Requests : Type 0 where
   pub link-percents : Link.DifferInPercents
 
 -- ---- more of the requests: within a region, merge patches, and how many names equality compares
-pub record MoreRequests : Type 0 where
+pub record MoreRequests : Type 2 where
   -- T-05: a maker's patch is refused exactly where the rule says, its paths are strictly inside its region, and what passes gives the answer of a
   -- plain patch; whole answers, and a patch that passes
   pub maker-shape : Region.ShapeWithinStatement
@@ -125,9 +127,12 @@ pub record MoreRequests : Type 0 where
   pub merging : MergeStatement
   pub merging-appendix : Merging.All Merging.appendix
   pub merging-positions : Merging.All Merging.positions
-  -- T-10: the count's verdict is equality's, and the count is at most a times b
+  -- T-10: the count's verdict is equality's, and the count is at most a times b; so it is with the answer on two texts; and the code of
+  -- `compare::compare` meets its contract, `CompareIs` in crates/compare/specs/Call: on every input it gives that answer
   pub comparison : ComparisonStatement
   pub comparison-examples : Counting.All Counting.examples
+  pub comparison-call : Comparing.CallStatement
+  pub comparison-exact : {M : Type 1} → Compare.statement M
 
 pub record Theorems : Type 2 where
   pub demands : Demands

@@ -53,6 +53,10 @@ pub enum Status {
     Done,
     /// The patch, or what was given in place of one, was refused: exit status 1.
     Refused,
+    /// Two texts have different values: exit status 1.
+    Different,
+    /// A text that was to be compared was refused: exit status 2.
+    Unread,
 }
 
 /// `--output`, of every command that writes a result.

@@ -1,5 +1,5 @@
-//! The command `json-patch`: patches applied to files, pointers as web links,
-//! texts as Intel HEX.
+//! The command `json-patch`: patches applied to files, texts compared, pointers
+//! as web links, texts as Intel HEX.
 //!
 //! The work is the library's. This crate reads files, writes the result so that
 //! it appears whole or not at all, and puts refusals into words. A subcommand is
@@ -10,6 +10,7 @@ mod arguments;
 mod check;
 mod command;
 mod completion;
+mod equal;
 mod files;
 mod found;
 mod help;
@@ -36,6 +37,7 @@ pub const COMMANDS: &[&Command] = &[
     &check::COMMAND,
     &undo::COMMAND,
     &inspect::COMMAND,
+    &equal::COMMAND,
     &link::COMMAND,
     &pointer::COMMAND,
     &hex::COMMAND,
@@ -47,7 +49,8 @@ fn main() -> ExitCode {
     let words: Vec<OsString> = env::args_os().skip(1).collect();
     match run(&words) {
         Ok(Status::Done) => ExitCode::SUCCESS,
-        Ok(Status::Refused) => ExitCode::from(1),
+        Ok(Status::Refused | Status::Different) => ExitCode::from(1),
+        Ok(Status::Unread) => ExitCode::from(2),
         Err(trouble) => {
             report::trouble(&trouble);
             ExitCode::from(2)

@@ -89,6 +89,19 @@ pub fn of_patch(arguments: &Arguments, patch: &Text, refusal: &Refusal) -> Statu
     Status::Refused
 }
 
+/// Says which of two texts was refused that were to be compared, and why, as the
+/// options have it.
+pub fn of_texts(arguments: &Arguments, first: &Text, second: &Text, refusal: &Refusal) -> Status {
+    if arguments.has("porcelain") {
+        say(&format!("{}\n", refusal.line()));
+    } else if !arguments.has("quiet") {
+        let names = [Name(&first.name).to_string(), Name(&second.name).to_string()];
+        let explanation = refusal.explain(&first.bytes, &second.bytes);
+        say(&format!("json-patch: {}\n", explanation.named(&names[0], &names[1]).painted(paint())));
+    }
+    Status::Unread
+}
+
 /// What is said of a refusal where no patch is applied.
 pub struct Words<'a> {
     /// The file and the line, or the text that was given.

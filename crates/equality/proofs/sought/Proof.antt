@@ -1,8 +1,8 @@
--- `sought` meets its contract: a hint, or a search.
+-- `sought` meets its contract: a hint, or a search, and nothing behind the table.
 use native.Mathlib.Omega.{arith}
 use borrow.Author.Needs.{needs}
 use Rattle.equality.specs.Compare.{searched}
-use Rattle.equality.proofs.PartnerLaws.{sought-hinted}
+use Rattle.equality.proofs.PartnerLaws.{sought-outside, sought-hinted}
 use Rattle.equality.proofs.sought.Statement.{statement}
 use Rattle.equality.proofs.sought.Tie as tie
 
@@ -10,11 +10,13 @@ pub sought-spec : {M : Type 1} → statement M
 sought-spec =
     tie.close
     (tie.spec
+    -- returns
+    (λ c hints. sought-outside (c .if1 .taken))
     -- add-find
     (λ c. search needs)
     -- find-requires
     (λ c κs. search needs)
-    -- returns
+    -- returns-2
     (λ c hints. searched (c .find .ensures))
     -- lookup-requires
     (λ c κs. search needs)
@@ -26,7 +28,7 @@ sought-spec =
     (λ c. search needs)
     -- find-requires-2
     (λ c κs. search needs)
-    -- returns-2
-    (λ c hints. searched (c .find2 .ensures))
     -- returns-3
+    (λ c hints. searched (c .find2 .ensures))
+    -- returns-4
     (λ c hints. sought-hinted hints (omega arith) _ (c .before .before .before .lookup .ensures) (c .before .pair .given .1)))

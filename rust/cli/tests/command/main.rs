@@ -1,6 +1,7 @@
 //! The command as a person uses it: every subcommand, every exit status, and
 //! whatever can be wrong with a file.
 
+mod equal;
 mod files;
 mod hex;
 mod inspect;

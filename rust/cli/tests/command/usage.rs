@@ -3,8 +3,8 @@
 use crate::support::{file_of_root, left_out, program, words, Folder, Ran, COMMAND};
 use std::process::Command;
 
-const COMMANDS: [&str; 9] =
-    ["apply", "check", "undo", "inspect", "link", "pointer", "hex", "unhex", "completion"];
+const COMMANDS: [&str; 10] =
+    ["apply", "check", "undo", "inspect", "equal", "link", "pointer", "hex", "unhex", "completion"];
 
 /// The help of a subcommand.
 fn help(name: &str) -> String {
@@ -149,6 +149,7 @@ fn bash_completes() {
     folder.write("two words.json", "");
     assert_eq!(offered(&folder, &["a"]), ["apply"]);
     assert_eq!(offered(&folder, &["c"]), ["check", "completion"]);
+    assert_eq!(offered(&folder, &["equal", "--c"]), ["--count"]);
     assert_eq!(offered(&folder, &["apply", "--o"]), ["--output"]);
     assert_eq!(offered(&folder, &["apply", "--in"]), ["--in-place"]);
     assert_eq!(offered(&folder, &["check", "--o"]), [""; 0]);
