@@ -1,4 +1,5 @@
 pub mod ExamplesTheorem
 pub mod MemberLaws
 pub mod StepLaws
+pub mod PartLaws
 pub mod MergeTheorem

@@ -21,7 +21,8 @@ use Rattle.claims.proofs.Found.{absent-parts}
 use Rattle.merging.specs.MergePatch.{isNull, asObject, memberOf, mergeMembers, mergePatch}
 use Rattle.merging.specs.Claims as Claims
 use Rattle.merging.specs.Claims.{WithoutNulls, MergeStatement}
-use Rattle.merging.proofs.MemberLaws.{get, set, drop, or-else, Single, no-member, one-member, absent, absent-has, get-member, get-set-other, get-is}
+use Rattle.merging.specs.Parts.{get}
+use Rattle.merging.proofs.MemberLaws.{set, drop, or-else, Single, no-member, one-member, absent, absent-has, get-member, get-set-other, get-is}
 use Rattle.merging.proofs.StepLaws.{valueIn, stepped, merge-step, step-other, step-null, step-merged, step-single}
 
 some-same : {A : Type 0} {a b : A} → some a ≡ some b → a ≡ b
