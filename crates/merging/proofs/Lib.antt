@@ -3,3 +3,4 @@ pub mod MemberLaws
 pub mod StepLaws
 pub mod PartLaws
 pub mod MergeTheorem
+pub mod ObjectLaws

@@ -59,7 +59,7 @@ found-some {x} (some v) h = let same : v ≡ x = cc in ap some same
 
 -- All pairs of the patch, one after another
 
-label-kept : (p : Members) (t : Value.Value) → mergeMembers p t .label ≡ t .label
+pub label-kept : (p : Members) (t : Value.Value) → mergeMembers p t .label ≡ t .label
 unfolding mergeMembers
 label-kept Forest.none t = refl
 label-kept (tree e kids rest) t = ap (λ v. v .label) (merge-step e kids rest t) ∙ label-kept rest (withKids t (stepped e kids t))
@@ -231,7 +231,7 @@ depth-member n t = rw (get-member n t) (go (get n (t .kids)) refl)
     go none e = omega arith
     go (some v) e = depth-get n (t .kids) v e
 
-object-label : (l : Label) → isObject l ≡ true → l ≡ Label.object
+pub object-label : (l : Label) → isObject l ≡ true → l ≡ Label.object
 unfolding isObject tag
 object-label Label.null-literal h = absurd (true≢false (sym h))
 object-label Label.true-literal h = absurd (true≢false (sym h))
@@ -242,7 +242,7 @@ object-label (Label.number t) h = absurd (true≢false (sym h))
 object-label (Label.string t) h = absurd (true≢false (sym h))
 
 -- an object is one deeper than its members; the empty one that stands for another value is 1 deep
-depth-as-object : (u : Value.Value) → (asObject u .label ≡ Label.object) × (suc (depths (asObject u .kids)) ≤ max (depth u) 1)
+pub depth-as-object : (u : Value.Value) → (asObject u .label ≡ Label.object) × (suc (depths (asObject u .kids)) ≤ max (depth u) 1)
 unfolding asObject depth levels isContainer tag depths
 depth-as-object u = go (isObject (u .label)) refl
   where

@@ -25,12 +25,12 @@ none≢some {A} {a} h = true≢false (sym (ap isSome h))
 flipped : (m n : Text) → sameText m n ≡ false → sameText n m ≡ false
 flipped m n h = sameText-apart n m (λ e. sameText-false m n h (sym e))
 
-⧺-none : (f : Members) → f ⧺ Forest.none ≡ f
+pub ⧺-none : (f : Members) → f ⧺ Forest.none ≡ f
 unfolding _⧺_
 ⧺-none Forest.none = refl
 ⧺-none (tree e kids rest) = ap (tree e kids) (⧺-none rest)
 
-⧺-assoc : (f g h : Members) → (f ⧺ g) ⧺ h ≡ f ⧺ (g ⧺ h)
+pub ⧺-assoc : (f g h : Members) → (f ⧺ g) ⧺ h ≡ f ⧺ (g ⧺ h)
 unfolding _⧺_
 ⧺-assoc Forest.none g h = refl
 ⧺-assoc (tree e kids rest) g h = ap (tree e kids) (⧺-assoc rest g h)

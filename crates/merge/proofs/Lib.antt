@@ -1,0 +1,9 @@
+pub mod BuildLaws
+pub mod MarkLaws
+pub mod PathLaws
+pub mod PartnerLaws
+pub mod StepLaws
+pub mod LaidLaws
+pub mod KeepLaws
+pub mod AppendLaws
+pub mod ObjectLaws
