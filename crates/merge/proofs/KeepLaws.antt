@@ -171,7 +171,7 @@ depths-from T zero (tree d ds rest) {c} {below} is =
     omega arith
 depths-from T (suc k) (tree d ds rest) is = omega (arith, depths-from T k rest is)
 
-object-levels : (l : Label) (below : ℕ) → isObject l ≡ true → levels l below ≡ suc below
+pub object-levels : (l : Label) (below : ℕ) → isObject l ≡ true → levels l below ≡ suc below
 unfolding levels isContainer isObject
 object-levels l below o = rw (eqb-true (tag l) 6 o)
 

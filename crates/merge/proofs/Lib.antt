@@ -7,3 +7,6 @@ pub mod LaidLaws
 pub mod KeepLaws
 pub mod AppendLaws
 pub mod ObjectLaws
+pub mod StageLaws
+pub mod TreeLaws
+pub mod CallLaws

@@ -222,7 +222,7 @@ module _ {T : Texts} where
   marks-met {xs} {met} {row} (suc k) {c} at is place low near long distinct (marks-tree {c = d} {kids} {rest} e m) =
       let other : noteOf (slotSet xs (parentSlot (at - patchRow)) 0) row ≡ noteOf xs row = note-other xs at 0 row low (omega arith) (λ q. omega arith) in
       let apart : sameText (nameText T (c .name)) (nameText T (d .name)) ≡ false =
-      sameText-apart (nameText T (c .name)) (nameText T (d .name)) 
+      sameText-apart (nameText T (c .name)) (nameText T (d .name))
       (λ q. true≢false (sym (has-from T k rest is) ∙ ap (λ n. has n (members T rest)) q ∙ alone-first distinct)) in
       let next : at ≡ row + 1 + size kids + size (before k rest) = omega arith in
       let low-next : patchRow ≤ row + 1 + size kids = omega arith in

@@ -134,11 +134,10 @@ module _ {w : Table} {patch : ℕ} {name : Name} {xs ys : List ℕ} {m : Member}
               let kind : kindOf (getD (w .nodes) found []) ≡ c .kind = kind-here (held-node (s .left .held)) in
               let changed : Changed (w .nodes) patch (endOf (w .nodes) patch) ys (slotSet ys (parentSlot (found - patchRow)) 0) =
               changed-put ys found 0 low (inside .0) (omega (arith, inside, end-here (held-node (o .held .held)))) (omega arith) (omega arith) long (λ n z. absurd (omega arith)) in
-              let met-now = marks-met k {c = c} {below = below} {after = after} found is here (omega (arith, o .behind)) (omega arith) long (o .distinct) marks in
-              (
+              let met-now = marks-met k {c = c} {below = below} {after = after} found is here (omega (arith, o .behind)) (omega arith) long (o .distinct) marks in (
                 changed-then (searched-changed patch (endOf (w .nodes) patch)) (subst (Changed (w .nodes) patch (endOf (w .nodes) patch) ys) (sym put) changed),
                 subst (Keeps w patch row kids text met zs) (ap (λ n. stepFor n found) (sym kind) ∙ sym step)
-                (keeps-other k c below after found is here name
-                (subst (λ t. Marks (w .texts) zs (λ n. if sameText t n then true else met n) (patch + 1) kids) name
-                (subst (λ vs. Marks (w .texts) vs (λ n. if sameText (nameText (w .texts) (c .name)) n then true else met n) (patch + 1) kids) (sym put) met-now))),
+                    (keeps-other k c below after found is here name
+                    (subst (λ t. Marks (w .texts) zs (λ n. if sameText t n then true else met n) (patch + 1) kids) name
+                    (subst (λ vs. Marks (w .texts) vs (λ n. if sameText (nameText (w .texts) (c .name)) n then true else met n) (patch + 1) kids) (sym put) met-now))),
               )

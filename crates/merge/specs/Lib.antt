@@ -4,3 +4,6 @@ pub mod Paths
 pub mod Partner
 pub mod Steps
 pub mod Merged
+pub mod Trees
+pub mod Stages
+pub mod Call

@@ -12,3 +12,10 @@ mod paths; // the members of the patch entered in the index
 mod partner; // the member of the patch that has a name
 mod steps; // what becomes of one member
 mod objects; // two objects merged
+mod trees; // the two trees merged
+mod stages; // the stages of the call: two texts read, the trees merged, the result written
+mod call; // the call
+mod exports; // the call for C
+
+pub use call::merge;
+pub use exports::json_patch_merge;

@@ -31,7 +31,15 @@ pub fn partner<'a>(
     if enter_by_hash(nodes, index, layout::PATCH, patch, layout::SCRATCH, name) {
         return Member::Missing;
     }
-    if !enter(texts, nodes, index, layout::PATCH, patch, layout::SCRATCH, name) {
+    if !enter(
+        texts,
+        nodes,
+        index,
+        layout::PATCH,
+        patch,
+        layout::SCRATCH,
+        name,
+    ) {
         return Member::Missing;
     }
     let Member::At(row) = lookup(texts, nodes, index, layout::PATCH, patch, name) else {

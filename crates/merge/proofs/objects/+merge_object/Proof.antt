@@ -130,7 +130,7 @@ pub +merge-object-spec : {M : Type 1} → statement M
       stored .3,
       stored .4,
       λ first xs p kids ts q.
-      keeping-nothing (stored .5 first xs p kids ts q) (c .before .before .before .before .before .before .before .before .before .loop-test .taken) _ (c .before .before .before .before .before .before .before .end-of .ensures) (c .before .before .before .before .keep .ensures) (c .enum-told .given .1),
+          keeping-nothing (stored .5 first xs p kids ts q) (c .before .before .before .before .before .before .before .before .before .loop-test .taken) _ (c .before .before .before .before .before .before .before .end-of .ensures) (c .before .before .before .before .keep .ensures) (c .enum-told .given .1),
     ))
     -- enum-known-from
     (λ c. search needs)
@@ -138,7 +138,7 @@ pub +merge-object-spec : {M : Type 1} → statement M
     (λ c κs.
     let stored = c .before .before .before .before .before .before .before .before .before .before .before .before .loop .inv in (
       copy-inside (c .before .before .before .before .before .before .before .before .before .before .before .before .loop .row) _ (c .before .before .before .before .before .before .before .before .before .before .before .before .loop .nodes) (reaches-copy (c .before .before .before .before .before .before .before .before .before .before .before .before .loop .row) (c .before .before .before .before .before .before .keep .ensures .reaches) _ (c .before .before .from .given .1)) (row-inside _ (c .before .before .before .before .before .before .before .before .before .before .before .before .loop .row) _ (stored .1) (c .before .before .before .before .before .before .before .before .before .before .before .loop-test .taken) (stored .3))
-      (stored .0 .framed .same-length ∙ stored .2),
+          (stored .0 .framed .same-length ∙ stored .2),
       stored .0 .few,
     ))
     -- loop-less-2
@@ -158,7 +158,7 @@ pub +merge-object-spec : {M : Type 1} → statement M
       stored .3,
       stored .4,
       λ first xs p kids ts q.
-      keeping-copied (stored .5 first xs p kids ts q) (c .before .before .before .before .before .before .before .before .before .before .before .before .before .loop-test .taken) _ (c .before .before .before .before .before .before .before .before .before .before .before .end-of .ensures) (c .before .before .before .before .before .before .before .before .keep .ensures) _ (c .before .before .before .before .from .given .1) (c .before .copy .ensures),
+          keeping-copied (stored .5 first xs p kids ts q) (c .before .before .before .before .before .before .before .before .before .before .before .before .before .loop-test .taken) _ (c .before .before .before .before .before .before .before .before .before .before .before .end-of .ensures) (c .before .before .before .before .before .before .before .before .keep .ensures) _ (c .before .before .before .before .from .given .1) (c .before .copy .ensures),
     ))
     -- enum-known-from-2
     (λ c. search needs)
@@ -190,7 +190,7 @@ pub +merge-object-spec : {M : Type 1} → statement M
       stored .3,
       stored .4,
       λ first xs p kids ts q.
-      keeping-merged (stored .5 first xs p kids ts q) (c .before .before .before .before .before .before .before .before .before .before .before .before .before .before .before .before .loop-test .taken) _ (c .before .before .before .before .before .before .before .before .before .before .before .before .before .before .end-of .ensures) (c .before .before .before .before .before .before .before .before .before .before .before .keep .ensures) _ (c .before .before .before .before .before .before .before .from2 .given .1) (c .before .before .before .merge-object .ensures),
+          keeping-merged (stored .5 first xs p kids ts q) (c .before .before .before .before .before .before .before .before .before .before .before .before .before .before .before .before .loop-test .taken) _ (c .before .before .before .before .before .before .before .before .before .before .before .before .before .before .end-of .ensures) (c .before .before .before .before .before .before .before .before .before .before .before .keep .ensures) _ (c .before .before .before .before .before .before .before .from2 .given .1) (c .before .before .before .merge-object .ensures),
     ))
     -- end-of-requires-2
     (λ c κs. search needs)
@@ -226,7 +226,7 @@ pub +merge-object-spec : {M : Type 1} → statement M
       stored .3,
       stored .4,
       λ first xs p kids ts q.
-      appending-nothing (stored .5 first xs p kids ts q) (c .before .before .before .before .before .before .before .loop2-test .taken) _ (c .before .before .before .before .before .end-of3 .ensures) (c .before .before .append .ensures) (c .enum-told2 .given .1),
+          appending-nothing (stored .5 first xs p kids ts q) (c .before .before .before .before .before .before .before .loop2-test .taken) _ (c .before .before .before .before .before .end-of3 .ensures) (c .before .before .append .ensures) (c .enum-told2 .given .1),
     ))
     -- enum-known-from-3
     (λ c. search needs)
@@ -235,7 +235,7 @@ pub +merge-object-spec : {M : Type 1} → statement M
     let stored = c .before .before .before .before .before .before .before .before .before .before .loop2 .inv in
     let reach = subst (Reaches (c .before .before .before .before .before .before .before .before .before .before .loop2 .row)) (sym (c .before .before .before .before .append .ensures)) (append-reaches (c .before .before .before .before .before .before .before .before .before .before .loop2 .nodes) (c .before .before .before .before .before .before .before .before .before .before .loop2 .row) (c .before .before .before .before .before .before .before .before .before .before .loop2 .index) (omega (arith, stored .1, c .before .before .before .before .before .before .before .before .before .before .before .before .before .before .before .before .before .before .before .before .before .before .before .before .before .pre .1))) in (
       copy-inside (c .before .before .before .before .before .before .before .before .before .before .loop2 .row) _ (c .before .before .before .before .before .before .before .before .before .before .loop2 .nodes) (reaches-copy (c .before .before .before .before .before .before .before .before .before .before .loop2 .row) reach _ (c .before .before .from3 .given .1)) (omega (arith, c .before .before .before .before .before .before .before .before .before .loop2-test .taken, stored .3))
-      (stored .0 .framed .same-length ∙ stored .2),
+          (stored .0 .framed .same-length ∙ stored .2),
       stored .0 .few,
     ))
     -- loop2-less-2
@@ -256,7 +256,7 @@ pub +merge-object-spec : {M : Type 1} → statement M
       stored .3,
       stored .4,
       λ first xs p kids ts q.
-      appending-copied (stored .5 first xs p kids ts q) (c .before .before .before .before .before .before .before .before .before .before .before .loop2-test .taken) _ (c .before .before .before .before .before .before .before .before .before .end-of3 .ensures) (c .before .before .before .before .before .before .append .ensures) _ (c .before .before .before .before .from3 .given .1) (c .before .copy2 .ensures),
+          appending-copied (stored .5 first xs p kids ts q) (c .before .before .before .before .before .before .before .before .before .before .before .loop2-test .taken) _ (c .before .before .before .before .before .before .before .before .before .end-of3 .ensures) (c .before .before .before .before .before .before .append .ensures) _ (c .before .before .before .before .from3 .given .1) (c .before .copy2 .ensures),
     ))
     -- enum-known-from-4
     (λ c. search needs)
@@ -288,7 +288,7 @@ pub +merge-object-spec : {M : Type 1} → statement M
       stored .3,
       stored .4,
       λ first xs p kids ts q.
-      appending-merged (stored .5 first xs p kids ts q) (c .before .before .before .before .before .before .before .before .before .before .before .before .before .before .loop2-test .taken) _ (c .before .before .before .before .before .before .before .before .before .before .before .before .end-of3 .ensures) (c .before .before .before .before .before .before .before .before .before .append .ensures) _ (c .before .before .before .before .before .before .before .from4 .given .1) (c .before .before .before .merge-object2 .ensures),
+          appending-merged (stored .5 first xs p kids ts q) (c .before .before .before .before .before .before .before .before .before .before .before .before .before .before .loop2-test .taken) _ (c .before .before .before .before .before .before .before .before .before .before .before .before .end-of3 .ensures) (c .before .before .before .before .before .before .before .before .before .append .ensures) _ (c .before .before .before .before .before .before .before .from4 .given .1) (c .before .before .before .merge-object2 .ensures),
     ))
     -- close-requires
     (λ c κs. c .before .before .loop2 .inv .0 .from-to)

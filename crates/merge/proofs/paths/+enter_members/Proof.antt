@@ -91,7 +91,7 @@ pub +enter-members-spec : {M : Type 1} → statement M
     let stored = c .before .before .before .before .before .before .before .before .before .before .before .before .before .loop .inv in (
       omega arith,
       entering-next (stored .1) (omega (arith, c .before .before .before .before .before .before .before .before .before .before .before .before .before .before .before .before .before .before .before .pre)) (omega arith) (omega arith) (omega (arith, stored .0, c .before .before .before .before .before .before .before .before .before .before .before .before .before .before .before .before .before .before .before .pre))
-      (c .before .before .before .before .before .before .before .before .before .name-of .ensures ∙ ap nameOf (c .before .before .before .before .before .before .before .before .before .before .load .ensures)) (c .before .before .before .before .before .before .before .enter .ensures) (c .before .before .before .enter-members .ensures) _ (c .end-of2 .ensures) (c .before .before .before .before .before .before .before .before .before .before .before .before .before .before .end-of .ensures),
+          (c .before .before .before .before .before .before .before .before .before .name-of .ensures ∙ ap nameOf (c .before .before .before .before .before .before .before .before .before .before .load .ensures)) (c .before .before .before .before .before .before .before .enter .ensures) (c .before .before .before .enter-members .ensures) _ (c .end-of2 .ensures) (c .before .before .before .before .before .before .before .before .before .before .before .before .before .before .end-of .ensures),
     ))
     -- same-length-2
     (λ c. search needs)
