@@ -45,7 +45,7 @@ export JSON_PATCH_LIB
 
 out := target/make
 # As rt makes them: the call, the call with a region, the functions on one record,
-# the links, Intel HEX, the inspection, and the call with an undo.
+# the links, Intel HEX, the inspection, the call with an undo, and that for merge patches.
 proved_call := $(JSON_PATCH_LIB)/libjson_patch.a
 proved_region := $(JSON_PATCH_LIB)/libregion_call.a
 proved_record := $(JSON_PATCH_LIB)/librecord.a
@@ -53,7 +53,8 @@ links := $(JSON_PATCH_LIB)/libfragment.a
 hex := $(JSON_PATCH_LIB)/libhex.a
 inspect := $(JSON_PATCH_LIB)/libinspect.a
 proved_undo := $(JSON_PATCH_LIB)/libundo.a
-# The library as it is installed: the three calls and the records.
+proved_merge := $(JSON_PATCH_LIB)/libmerge.a
+# The library as it is installed: the four calls and the records.
 static := $(out)/libjson_patch.a
 shared := libjson_patch.so.$(VERSION)
 soname := libjson_patch.so.$(ABI)
@@ -95,14 +96,18 @@ $(inspect): $(hex)
 $(proved_undo): $(inspect)
 	rt staticlib undo
 	@touch $@
+
+$(proved_merge): $(proved_undo)
+	rt staticlib merge
+	@touch $@
 endif
 
 # The proved objects, unchanged, in one archive.
-$(static): $(proved_call) $(proved_region) $(proved_record) $(proved_undo)
+$(static): $(proved_call) $(proved_region) $(proved_record) $(proved_undo) $(proved_merge)
 	@rm -rf $(out)/objects $@
 	@mkdir -p $(out)/objects
 	cd $(out)/objects && $(AR) x $(proved_call) && $(AR) x $(proved_region) && $(AR) x $(proved_record) && \
-		$(AR) x $(proved_undo)
+		$(AR) x $(proved_undo) && $(AR) x $(proved_merge)
 	$(AR) rcs $@ $(out)/objects/*.o
 
 # The shared library is the archives, linked whole.
@@ -114,7 +119,7 @@ $(out)/$(shared): $(static) $(links) $(hex) $(inspect)
 $(out)/$(soname): $(out)/$(shared)
 	ln -sf $(shared) $@
 
-$(command): $(rust) $(proved_call) $(proved_region) $(links) $(hex) $(inspect) $(proved_undo)
+$(command): $(rust) $(proved_call) $(proved_region) $(links) $(hex) $(inspect) $(proved_undo) $(proved_merge)
 	@mkdir -p $(out)
 	$(CARGO) build --release $(CARGO_FLAGS) --manifest-path rust/Cargo.toml --package json-patch-cli --target-dir rust/target
 	cp rust/target/release/json-patch $@

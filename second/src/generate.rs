@@ -8,8 +8,8 @@ mod oddities;
 pub mod pairs;
 pub mod random;
 pub mod regions;
-mod spelling;
-mod trees;
+pub(crate) mod spelling;
+pub(crate) mod trees;
 
 use crate::cases::Case;
 use crate::limits::TOOL_ROOM;

@@ -1,4 +1,4 @@
-// The call for C: include/json_patch_merge.h declares it.
+// The call for C: include/json_patch.h declares it.
 use crate::call::merge;
 use tape::layout::Node;
 ghost use Rattle.json_patch.specs.Call.{given, memoryBefore, memoryAfter};

@@ -23,6 +23,7 @@ use Rattle.merging.specs.Claims as Claims
 use Rattle.merging.specs.Claims.{WithoutNulls, MergeStatement}
 use Rattle.merging.specs.Parts.{get}
 use Rattle.merging.proofs.MemberLaws.{set, drop, or-else, Single, no-member, one-member, absent, absent-has, get-member, get-set-other, get-is}
+use Rattle.merging.proofs.PartLaws.{parts}
 use Rattle.merging.proofs.StepLaws.{valueIn, stepped, merge-step, step-other, step-null, step-merged, step-single}
 
 some-same : {A : Type 0} {a b : A} → some a ≡ some b → a ≡ b
@@ -339,5 +340,7 @@ merging =
           let object = label-kept (p .kids) (asObject t) ∙ depth-as-object t .0 in
           ap (walk (n ∷ [])) (object-patch t p l) ∙ walk-get (mergeMembers (p .kids) (asObject t)) n object ∙
           ap found (pair-merged (p .kids) (asObject t) n x (single-patch p pp l) met z);
+      positions = λ t p pt pp l.
+          ap (λ v. v .kids) (object-patch t p l) ∙ parts (p .kids) (asObject t) (single-patch p pp l) (single-object t pt);
       no-deeper = λ t p. value-depth (p .label) (p .kids) t (members-depth (p .kids));
     }

@@ -16,6 +16,7 @@ mod help;
 mod hex;
 mod inspect;
 mod link;
+mod merge;
 mod patches;
 mod pointer;
 mod replace;
@@ -35,6 +36,7 @@ pub const COMMANDS: &[&Command] = &[
     &apply::COMMAND,
     &check::COMMAND,
     &undo::COMMAND,
+    &merge::COMMAND,
     &inspect::COMMAND,
     &link::COMMAND,
     &pointer::COMMAND,
