@@ -34,7 +34,6 @@ use Rattle.table.proofs.Search.{named-hashed}
 use Rattle.index.specs.Slots.{room, parents, bucketSlot}
 use Rattle.index.specs.Ways.{Kept, Entered}
 use Rattle.index.specs.Members.{Child, Parents, LookupIs, noted, not-found}
-use Rattle.index.proofs.SlotLaws.{slot-dropped}
 use Rattle.equality.specs.Compare as Compare
 use Rattle.equality.specs.Compare.{Hints, SoughtIs}
 use Rattle.equality.proofs.PartnerLaws.{sought-hinted}
@@ -100,21 +99,27 @@ module _ {w : Table} {patch : ℕ} {name : Name} {xs ys : List ℕ} {b : Bool} (
     partner-searched {end} ends f = partner-by λ c kids o hashed.
         searched-named (f .held kids (siblings-asked (siblings-all end ends (o .held))) hashed)
 
-    pub partner-hinted : {r : Member} (row : ℕ) → LookupIs w ys patchRow patch name r → r ≡ At row → PartnerIs w patch name xs ys (At row)
-    partner-hinted row looked e = partner-by λ c kids o hashed.
-        let hints : Parents patchRow (w .nodes) ys =
-        record { child = λ r q few is. o .hints .child r q few (sym (slot-dropped xs ys parents r (entered .behind)) ∙ is) } in
-        go o hashed (sought-hinted {end = endOf (w .nodes) patch} (record { right = λ _. hints }) (omega arith) row looked e) refl
-      where
-        go : {c : Cell} {kids : Forest Cell} {r : Member} → PatchObject w patch c kids xs → Hashed (w .texts) name
-            → SoughtIs w patch (endOf (w .nodes) patch) name r → r ≡ At row → Named (w .texts) patch kids (nameText (w .texts) name) (At row)
-        go {kids = kids} o hashed (Compare.searched f) q =
-            subst (Named (w .texts) patch kids (nameText (w .texts) name)) q
-            (searched-named (f .held kids (siblings-asked (siblings-all (endOf (w .nodes) patch) refl (o .held))) hashed))
-        go {kids = kids} o hashed (Compare.hinted {pair} child same) q =
-            let to : pair ≡ row = cc in
-            children-child (children-all (endOf (w .nodes) patch) refl (o .held)) child λ k p ps after is s.
-            named-at k p ps after row is
-            (omega (arith, s .left .ends, end-here (held-node (o .held .held)), size-cut k kids, ap size is))
-            (ap (nameText (w .texts)) (sym (siblings-name s))
-            ∙ sameText-true _ _ (sym (named-hashed (w .texts) _ _ _ (siblings-hashed s) (hashed .is)) ∙ same))
+-- ---- the index tells the member
+pub partner-hinted : {w : Table} {patch : ℕ} {name : Name} {xs : List ℕ} {r : Member} (row : ℕ) → LookupIs w xs patchRow patch name r → r ≡ At row
+    → PartnerIs w patch name xs xs (At row)
+partner-hinted {w} {patch} {name} {xs} row looked e =
+    record {
+      paths = λ slot q t low few m. m;
+      behind = refl;
+      same-length = refl;
+      held = λ c kids o hashed.
+          go o hashed (sought-hinted {end = endOf (w .nodes) patch} (record { right = λ _. o .hints }) (omega arith) row looked e) refl;
+    }
+  where
+    go : {c : Cell} {kids : Forest Cell} {r : Member} → PatchObject w patch c kids xs → Hashed (w .texts) name
+        → SoughtIs w patch (endOf (w .nodes) patch) name r → r ≡ At row → Named (w .texts) patch kids (nameText (w .texts) name) (At row)
+    go {kids = kids} o hashed (Compare.searched f) q =
+        subst (Named (w .texts) patch kids (nameText (w .texts) name)) q
+        (searched-named (f .held kids (siblings-asked (siblings-all (endOf (w .nodes) patch) refl (o .held))) hashed))
+    go {kids = kids} o hashed (Compare.hinted {pair} child same) q =
+        let to : pair ≡ row = cc in
+        children-child (children-all (endOf (w .nodes) patch) refl (o .held)) child λ k p ps after is s.
+        named-at k p ps after row is
+        (omega (arith, s .left .ends, end-here (held-node (o .held .held)), size-cut k kids, ap size is))
+        (ap (nameText (w .texts)) (sym (siblings-name s))
+        ∙ sameText-true _ _ (sym (named-hashed (w .texts) _ _ _ (siblings-hashed s) (hashed .is)) ∙ same))

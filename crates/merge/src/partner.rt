@@ -16,8 +16,8 @@ ghost use Rattle.tape.specs.Lent.{before};
 ghost use Rattle.index.specs.Slots.{slots};
 ghost use Rattle.merge.specs.Partner.{PartnerIs};
 
-// Where no row on the name's search path has it, no member has it. A row behind all others is entered, so that no path
-// to a row is lost. Otherwise the index tells the member, or the members are searched.
+// The index tells the member. Where it tells none, and no row on the name's search path has the name, no member has it:
+// a row behind all others is entered, so that no path to a row is lost. Otherwise the members are searched.
 pub fn partner<'a>(
     texts: Texts<'a>,
     nodes: &[Node],
@@ -28,21 +28,21 @@ pub fn partner<'a>(
     requires { ⌜ (patchRow ≤ patch) × (patch < scratchRow) × (slots ≤ length (now index)) ⌝ }
     ensures { λ r. ⌜ PartnerIs (before texts nodes) patch name (now (index .entry)) (now (index .exit)) r ⌝ }
 {
-    if enter_by_hash(nodes, index, layout::PATCH, patch, layout::SCRATCH, name) {
-        return Member::Missing;
-    }
-    if !enter(
-        texts,
-        nodes,
-        index,
-        layout::PATCH,
-        patch,
-        layout::SCRATCH,
-        name,
-    ) {
-        return Member::Missing;
-    }
     let Member::At(row) = lookup(texts, nodes, index, layout::PATCH, patch, name) else {
+        if enter_by_hash(nodes, index, layout::PATCH, patch, layout::SCRATCH, name) {
+            return Member::Missing;
+        }
+        if !enter(
+            texts,
+            nodes,
+            index,
+            layout::PATCH,
+            patch,
+            layout::SCRATCH,
+            name,
+        ) {
+            return Member::Missing;
+        }
         return find(texts, nodes, patch + 1, end_of(nodes, patch), name);
     };
     Member::At(row)

@@ -1,8 +1,7 @@
--- `partner` meets its contract: by the search path of the name, by the index, and else by a search.
+-- `partner` meets its contract: by the index, by the search path of the name, and else by a search.
 use native.Mathlib.Omega.{arith}
-use mathlib.Core.Path.{refl, subst}
+use mathlib.Core.Path.{refl}
 use borrow.Author.Tests.{not-true}
-use Rattle.table.specs.Find.{FindIs}
 use Rattle.index.proofs.WayLaws.{entered-after}
 use Rattle.merge.proofs.PartnerLaws.{partner-absent, partner-searched, partner-hinted}
 use borrow.Author.Needs.{needs}
@@ -13,6 +12,12 @@ pub partner-spec : {M : Type 1} → statement M
 partner-spec =
     tie.close
     (tie.spec
+    -- lookup-requires
+    (λ c κs. search needs)
+    -- enum-known-row
+    (λ c. search needs)
+    -- enum-told
+    (λ c. search needs)
     -- enter-by-hash-requires
     (λ c κs. search needs)
     -- same-length
@@ -25,12 +30,6 @@ partner-spec =
     (λ c. search needs)
     -- returns-2
     (λ c. partner-absent (entered-after (c .before .before .before .before .before .before .before .before .enter-by-hash .ensures) (c .before .before .before .before .before .if1 .left) (c .before .before .before .enter .ensures)) (not-true _ (c .if2 .taken)) (omega arith))
-    -- lookup-requires
-    (λ c κs. search needs)
-    -- enum-known-row
-    (λ c. search needs)
-    -- enum-told
-    (λ c. search needs)
     -- add-find
     (λ c. search needs)
     -- end-of-requires
@@ -40,8 +39,8 @@ partner-spec =
     -- same-length-3
     (λ c. search needs)
     -- returns-3
-    (λ c. partner-searched (entered-after (c .before .before .before .before .before .before .before .before .before .before .before .before .before .before .enter-by-hash .ensures) (c .before .before .before .before .before .before .before .before .before .before .before .if1 .left) (c .before .before .before .before .before .before .before .before .before .enter .ensures)) (omega arith) (c .before .end-of .ensures) (c .find .ensures))
+    (λ c. partner-searched (entered-after (c .before .before .before .before .before .before .before .before .before .before .enter-by-hash .ensures) (c .before .before .before .before .before .before .before .if1 .left) (c .before .before .before .before .before .enter .ensures)) (omega arith) (c .before .end-of .ensures) (c .find .ensures))
     -- same-length-4
     (λ c. search needs)
     -- returns-4
-    (λ c. partner-hinted (entered-after (c .before .before .before .before .before .before .before .before .before .before .before .before .before .enter-by-hash .ensures) (c .before .before .before .before .before .before .before .before .before .before .if1 .left) (c .before .before .before .before .before .before .before .before .enter .ensures)) (omega arith) _ (c .before .before .before .lookup .ensures) (c .before .row .given .1)))
+    (λ c. partner-hinted _ (c .before .before .before .lookup .ensures) (c .before .row .given .1)))
