@@ -47,7 +47,8 @@ export JSON_PATCH_LIB
 
 out := target/make
 # As rt makes them: the call, the call with a region, the functions on one record,
-# the links, Intel HEX, the inspection, the call with an undo, and the comparison.
+# the links, Intel HEX, the inspection, the call with an undo, that for merge patches, and
+# the comparison.
 proved_call := $(JSON_PATCH_LIB)/libjson_patch.a
 proved_region := $(JSON_PATCH_LIB)/libregion_call.a
 proved_record := $(JSON_PATCH_LIB)/librecord.a
@@ -55,8 +56,9 @@ links := $(JSON_PATCH_LIB)/libfragment.a
 hex := $(JSON_PATCH_LIB)/libhex.a
 inspect := $(JSON_PATCH_LIB)/libinspect.a
 proved_undo := $(JSON_PATCH_LIB)/libundo.a
+proved_merge := $(JSON_PATCH_LIB)/libmerge.a
 compare := $(JSON_PATCH_LIB)/libcompare.a
-# The library as it is installed: the three calls and the records.
+# The library as it is installed: the four calls and the records.
 static := $(out)/libjson_patch.a
 shared := libjson_patch.so.$(VERSION)
 soname := libjson_patch.so.$(ABI)
@@ -101,15 +103,18 @@ $(proved_undo): $(inspect)
 
 $(compare): $(proved_undo)
 	rt staticlib compare
+
+$(proved_merge): $(compare)
+	rt staticlib merge
 	@touch $@
 endif
 
 # The proved objects, unchanged, in one archive.
-$(static): $(proved_call) $(proved_region) $(proved_record) $(proved_undo)
+$(static): $(proved_call) $(proved_region) $(proved_record) $(proved_undo) $(proved_merge)
 	@rm -rf $(out)/objects $@
 	@mkdir -p $(out)/objects
 	cd $(out)/objects && $(AR) x $(proved_call) && $(AR) x $(proved_region) && $(AR) x $(proved_record) && \
-		$(AR) x $(proved_undo)
+		$(AR) x $(proved_undo) && $(AR) x $(proved_merge)
 	$(AR) rcs $@ $(out)/objects/*.o
 
 # The shared library is the archives, linked whole.
@@ -121,7 +126,7 @@ $(out)/$(shared): $(static) $(links) $(hex) $(inspect) $(compare)
 $(out)/$(soname): $(out)/$(shared)
 	ln -sf $(shared) $@
 
-$(command): $(rust) $(proved_call) $(proved_region) $(links) $(hex) $(inspect) $(proved_undo) $(compare)
+$(command): $(rust) $(proved_call) $(proved_region) $(links) $(hex) $(inspect) $(proved_undo) $(proved_merge) $(compare)
 	@mkdir -p $(out)
 	$(CARGO) build --release $(CARGO_FLAGS) --manifest-path rust/Cargo.toml --package json-patch-cli --target-dir rust/target
 	cp rust/target/release/json-patch $@

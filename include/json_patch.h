@@ -7,8 +7,9 @@
  *
  * The call is json_patch_apply, proved to answer as the definitions say on every
  * input. json_patch_apply_with_undo does the same and also writes a patch that
- * takes the result back; it is proved too. Both allocate nothing, keep no state
- * and may be called from several threads at once, each with buffers of its own.
+ * takes the result back, and json_patch_merge applies a merge patch (RFC 7396);
+ * both are proved too. They allocate nothing, keep no state and may be called from
+ * several threads at once, each with buffers of its own.
  * Three small functions look at one record of the work area and clear it; they
  * are proved too. The inline functions are not part of the proof: one work area
  * in place of buffers, words for an answer, the parts of a record's tags.
@@ -17,6 +18,7 @@
  * of them. As `rt staticlib` makes them, json_patch_apply is in
  * target/staticlib/libjson_patch.a (`rt staticlib json_patch`),
  * json_patch_apply_with_undo in target/staticlib/libundo.a (`rt staticlib undo`),
+ * json_patch_merge in target/staticlib/libmerge.a (`rt staticlib merge`),
  * and json_patch_node_read, _store and _clear are in target/staticlib/librecord.a
  * (`rt staticlib record`). The library needs memcpy and memset and nothing else.
  * examples/apply.c and examples/undo.c are worked examples, json_patch(3) is the
@@ -154,6 +156,24 @@ uint32_t json_patch_apply_within(const uint8_t *document, size_t document_length
                                  uint16_t *index, size_t index_count,
                                  json_patch_answer *answer);
 
+/* Applies a merge patch (RFC 7396, media type application/merge-patch+json) to the
+ * document: a patch that is an object is merged member by member, a null member
+ * removes, a target that is no object is taken as an empty one, and any other patch
+ * replaces the whole. Existing members keep their position, new ones go last, in
+ * the patch's order.
+ *
+ * Order of refusals: 1, 2, the whole document read, the whole patch read (3 to 7),
+ * then 6 for a result of more than 2,048 nodes, with all other fields 0, then 16.
+ * Nesting never passes its limit: a result is no deeper than the deeper of the two.
+ * All else is as with json_patch_apply. In libmerge.a (`rt staticlib merge`), and
+ * in -ljson_patch. */
+uint32_t json_patch_merge(const uint8_t *document, size_t document_length,
+                          const uint8_t *patch, size_t patch_length,
+                          uint8_t *output, size_t output_length,
+                          json_patch_node *nodes, size_t nodes_count,
+                          uint16_t *index, size_t index_count,
+                          json_patch_answer *answer);
+
 /* The work area as one object. It may hold anything before a call and is all
  * zero after one, so it can be lent again and again. It is too large for a small
  * stack: make it static, or lend memory that is not in use yet. */
@@ -287,6 +307,18 @@ static inline uint32_t json_patch_apply_within_with(const void *document, size_t
                                    region_length ? JSON_PATCH_AS_(const uint8_t *, region) : &none, region_length,
                                    output_length ? JSON_PATCH_AS_(uint8_t *, output) : &none, output_length,
                                    work->nodes, JSON_PATCH_WORK_NODES, work->index, JSON_PATCH_WORK_ENTRIES, answer);
+}
+
+/* json_patch_merge in a work area. A pointer may be null where its length is 0. */
+static inline uint32_t json_patch_merge_with(const void *document, size_t document_length,
+                                             const void *patch, size_t patch_length,
+                                             void *output, size_t output_length,
+                                             json_patch_work *work, json_patch_answer *answer) {
+    uint8_t none = 0;
+    return json_patch_merge(document_length ? JSON_PATCH_AS_(const uint8_t *, document) : &none, document_length,
+                            patch_length ? JSON_PATCH_AS_(const uint8_t *, patch) : &none, patch_length,
+                            output_length ? JSON_PATCH_AS_(uint8_t *, output) : &none, output_length,
+                            work->nodes, JSON_PATCH_WORK_NODES, work->index, JSON_PATCH_WORK_ENTRIES, answer);
 }
 
 /* json_patch_apply_with_undo in a work area. A pointer may be null where its length

@@ -13,7 +13,7 @@ fn main() {
             .join("../target/staticlib"),
     };
     println!("cargo:rustc-link-search=native={}", folder.display());
-    for name in ["json_patch", "region_call", "fragment", "hex", "inspect", "undo", "compare"] {
+    for name in ["json_patch", "region_call", "fragment", "hex", "inspect", "undo", "merge", "compare"] {
         let library = folder.join(format!("lib{name}.a"));
         println!("cargo:rerun-if-changed={}", library.display());
         if !library.is_file() {

@@ -47,6 +47,11 @@ b'[{"op":"add","path":"/cut/0","value":4.2}]'
 >>> apply(patched, undo)
 b'{"mAh":3000,"cut":[4.2,3.0]}'
 
+`merge` applies a merge patch (RFC 7396, application/merge-patch+json) instead:
+
+>>> merge(document, b'{"mAh": null, "maker": "acme"}')
+b'{"cut":[4.2,3.0],"maker":"acme"}'
+
 The library is looked for at $JSON_PATCH_LIBRARY, beside this package as
 ``make`` and ``make install`` lay it down, and where the system's loader looks.
 """
@@ -63,7 +68,7 @@ from typing import Any, List, NamedTuple, Tuple, Union
 
 __all__ = [
     "Compared", "Counts", "Kind", "Patched", "Pointer", "Refusal", "UndoRefusal", "apply",
-    "apply_with_undo", "compare", "inspect", "MAX_BYTES", "OUTPUT", "__version__",
+    "apply_with_undo", "compare", "inspect", "merge", "MAX_BYTES", "OUTPUT", "__version__",
 ]
 __version__ = "0.2.0"
 
@@ -369,6 +374,28 @@ def apply_with_undo(
     raise Refusal(*fields, _words(*fields, *texts))
 
 
+def merge(document: Bytes, patch: Bytes, *, room: int = OUTPUT) -> bytes:
+    """Applies a merge patch (RFC 7396) to the document; returns the result.
+
+    A patch that is an object is merged member by member, and a null member removes;
+    any other patch replaces the whole. Members keep their position, new ones go
+    last. Raises `Refusal` otherwise; a result of more than 2,048 values is refused
+    with 6. `room` is the length that the result may have.
+
+    >>> merge(b'{"a": {"b": 1, "c": 2}}', b'{"a": {"b": null, "d": [null]}}')
+    b'{"a":{"c":2,"d":[null]}}'
+    """
+    texts = _octets(document, "document"), _octets(patch, "patch")
+    if room < 0:
+        raise ValueError("room is less than 0")
+    answer, output = _Answer(), ctypes.create_string_buffer(max(room, 1))
+    _merge(texts[0], len(texts[0]), texts[1], len(texts[1]), output, room, *_work().lent(), answer)
+    if answer.number == 0:
+        return ctypes.string_at(output, answer.length)
+    fields = (answer.number, answer.text, answer.op, answer.place, answer.pointer)
+    raise Refusal(*fields, _words(*fields, *texts))
+
+
 def _of_undo(number: int, text: int, place: int, patch: bytes) -> bool:
     """Whether a refusal is the undo's: a patch that was read is refused with a
     place, and one that was not was too long."""
@@ -547,5 +574,6 @@ _shared = _library()
 _apply = _call("json_patch_apply", 3, _Work.types, _Answer)
 _apply_within = _call("json_patch_apply_within", 4, _Work.types, _Answer)
 _apply_with_undo = _call("json_patch_apply_with_undo", 4, _UndoWork.types, _UndoAnswer)
+_merge = _call("json_patch_merge", 3, _Work.types, _Answer)
 _inspect = _call("json_patch_inspect", 1, _Work.types, _Inspection)
 _compare = _call("json_patch_compare", 2, _Work.types, _Comparison)

@@ -36,7 +36,8 @@
 //! ```
 //!
 //! [`Refusal::explain`] shows a person where and why, given the two texts.
-//! [`undo`] also writes the patch that takes the result back.
+//! [`undo`] also writes the patch that takes the result back. [`merge`] applies a
+//! merge patch (RFC 7396) instead.
 
 #![no_std]
 #![warn(missing_docs)]
@@ -56,7 +57,8 @@ pub use explain::{Explanation, Paint, Walked};
 pub use json::elements;
 pub use place::{Place, Shown};
 pub use raw::{
-    apply, apply_in, apply_within, apply_within_in, Node, Work, WORK_ENTRIES, WORK_NODES,
+    apply, apply_in, apply_within, apply_within_in, merge, merge_in, Node, Work, WORK_ENTRIES,
+    WORK_NODES,
 };
 pub use refusal::{Kind, Line, Pointer, Refusal};
 

@@ -126,6 +126,24 @@ extern "C" {
         index_count: usize,
         answer: *mut Answer,
     ) -> u32;
+
+    /// Applies a merge patch to the document, or refuses; gives the answer's number.
+    ///
+    /// # Safety
+    /// As above.
+    pub fn json_patch_merge(
+        document: *const u8,
+        document_length: usize,
+        patch: *const u8,
+        patch_length: usize,
+        output: *mut u8,
+        output_length: usize,
+        nodes: *mut Node,
+        nodes_count: usize,
+        index: *mut u16,
+        index_count: usize,
+        answer: *mut Answer,
+    ) -> u32;
 }
 
 /// The work area: a list of nodes and an index, 114,688 bytes in all.
@@ -293,6 +311,65 @@ pub fn apply_within_in(
             patch.len(),
             region.as_ptr(),
             region.len(),
+            output.as_mut_ptr(),
+            output.len(),
+            nodes.as_mut_ptr(),
+            nodes.len(),
+            index.as_mut_ptr(),
+            index.len(),
+            &mut answer,
+        );
+    }
+    answer.result()
+}
+
+/// Applies a merge patch (RFC 7396, `application/merge-patch+json`) to the document
+/// and writes the result to the output.
+///
+/// A patch that is an object is merged member by member, and a null member removes;
+/// a target that is no object is taken as an empty one; any other patch replaces
+/// the whole. Existing members keep their position, new ones go last, in the
+/// patch's order. Otherwise as [`apply`]; a result of more than
+/// [`MAX_NODES`](crate::MAX_NODES) values is refused with 6 and no other field.
+///
+/// ```
+/// # fn main() -> Result<(), json_patch::Refusal> {
+/// use json_patch::{merge, Work};
+///
+/// let document = br#"{"mAh":3000,"cut":[4.2,3.0],"note":"old"}"#;
+/// let patch = br#"{"note":null,"mAh":3100,"maker":{"name":"acme","lot":null}}"#;
+/// let (mut output, mut work) = ([0; 128], Work::new());
+/// let length = merge(document, patch, &mut output, &mut work)?;
+/// assert_eq!(&output[..length], br#"{"mAh":3100,"cut":[4.2,3.0],"maker":{"name":"acme"}}"#);
+/// # Ok(())
+/// # }
+/// ```
+pub fn merge(
+    document: &[u8],
+    patch: &[u8],
+    output: &mut [u8],
+    work: &mut Work,
+) -> Result<usize, Refusal> {
+    merge_in(document, patch, output, &mut work.nodes, &mut work.index)
+}
+
+/// The same in any two lists, as [`apply_in`].
+pub fn merge_in(
+    document: &[u8],
+    patch: &[u8],
+    output: &mut [u8],
+    nodes: &mut [Node],
+    index: &mut [u16],
+) -> Result<usize, Refusal> {
+    let mut answer = Answer::default();
+    // Safety: every pointer and length is of a slice, and the borrows keep those
+    // that are written apart from all others.
+    unsafe {
+        json_patch_merge(
+            document.as_ptr(),
+            document.len(),
+            patch.as_ptr(),
+            patch.len(),
             output.as_mut_ptr(),
             output.len(),
             nodes.as_mut_ptr(),

@@ -154,6 +154,7 @@ fn the_functions_are_declared_alike() {
         ("json_patch_apply", "crates/json_patch/src/exports.rt", "rust/src/raw.rs", 11),
         ("json_patch_apply_within", "crates/region_call/src/exports.rt", "rust/src/raw.rs", 13),
         ("json_patch_apply_with_undo", "crates/undo/src/exports.rt", "rust/src/undo.rs", 15),
+        ("json_patch_merge", "crates/merge/src/exports.rt", "rust/src/raw.rs", 11),
     ];
     for (name, source, rust, parameters) in calls {
         let source = of_source(name, source);

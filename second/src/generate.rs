@@ -9,7 +9,7 @@ pub mod pairs;
 pub mod random;
 pub mod regions;
 pub mod shelves;
-mod spelling;
+pub(crate) mod spelling;
 pub(crate) mod trees;
 
 use crate::cases::Case;

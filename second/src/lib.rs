@@ -19,6 +19,7 @@ pub mod hex;
 pub mod limits;
 pub mod links;
 pub mod makers;
+pub mod merges;
 mod number;
 mod numeral;
 pub mod operations;

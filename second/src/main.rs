@@ -2,7 +2,9 @@
 
 #![forbid(unsafe_code)]
 
-use second::{cases, compare, count, equal, generate, hex, links, makers, tool, undo, vectors};
+use second::{
+    cases, compare, count, equal, generate, hex, links, makers, merges, tool, undo, vectors,
+};
 use std::env;
 use std::ffi::OsString;
 use std::fs;
@@ -41,6 +43,11 @@ const USAGE: &str = "usage:
   second equal-answers FILE
   second equal-vectors FILE
   second equal-generate SEED COUNT
+  second merge DOC PATCH
+  second merge-cases
+  second merge-answers FILE
+  second merge-vectors FILE
+  second merge-generate SEED COUNT
 ";
 
 /// The line of a call whose work area is too short. This program has none, so
@@ -205,6 +212,23 @@ fn run(arguments: &[OsString]) -> Result<(), Trouble> {
                 out.write_all(&equal::generate::case(seed, index).file())?;
             }
         }
+        (Some("merge"), files) => out.write_all(&tool::merge_output(files))?,
+        (Some("merge-cases"), []) => {
+            for vector in merges::vectors::all() {
+                out.write_all(&vector.case.text())?;
+            }
+        }
+        (Some("merge-answers"), [file]) => merge_answers(file, &mut out)?,
+        (Some("merge-vectors"), [file]) => {
+            merge_answers(file, &mut out)?;
+            out.write_all(SHORT_WORK)?;
+        }
+        (Some("merge-generate"), [seed, count]) => {
+            let seed = number(seed)?;
+            for index in 0..number(count)? {
+                out.write_all(&merges::generate::case(seed, index).text())?;
+            }
+        }
         (Some("compare"), [seed, count, dashes, command @ ..])
             if dashes == "--" && !command.is_empty() =>
         {
@@ -254,6 +278,16 @@ fn equal_answers(file: &OsString, out: &mut impl Write) -> Result<(), Trouble> {
     for case in equal::cases::parse(&fs::read(file)?).map_err(Trouble::Message)? {
         write!(out, "{}: ", case.name)?;
         out.write_all(&case.line())?;
+        out.write_all(b"\n")?;
+    }
+    Ok(())
+}
+
+/// The line of each case of merge patches in a file.
+fn merge_answers(file: &OsString, out: &mut impl Write) -> Result<(), Trouble> {
+    for case in cases::parse(&fs::read(file)?).map_err(Trouble::Message)? {
+        write!(out, "{}: ", case.name)?;
+        out.write_all(&merges::line_of(&case))?;
         out.write_all(b"\n")?;
     }
     Ok(())

@@ -7,6 +7,7 @@ mod generator;
 mod hex;
 mod links;
 mod makers;
+mod merges;
 mod pairs;
 mod parts;
 mod regions;

@@ -1,6 +1,7 @@
 //! The patch tool: two file names in, one line out.
 
 use crate::limits::{LONGEST_TEXT, TOOL_READS, TOOL_ROOM};
+use crate::merges::merge;
 use crate::undo::apply_with_undo;
 use crate::{apply, line};
 use std::ffi::OsString;
@@ -12,6 +13,16 @@ use std::path::Path;
 pub fn output(arguments: &[OsString]) -> Vec<u8> {
     let mut printed = match inputs(arguments) {
         Some((document, patch)) => line(&apply(&document, &patch, TOOL_ROOM)),
+        None => b"unreadable".to_vec(),
+    };
+    printed.push(b'\n');
+    printed
+}
+
+/// The same for a merge patch.
+pub fn merge_output(arguments: &[OsString]) -> Vec<u8> {
+    let mut printed = match inputs(arguments) {
+        Some((document, patch)) => line(&merge(&document, &patch, TOOL_ROOM)),
         None => b"unreadable".to_vec(),
     };
     printed.push(b'\n');

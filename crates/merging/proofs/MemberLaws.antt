@@ -17,11 +17,7 @@ use Rattle.spec.specs.Operation.{withKids, put, insertMember}
 use Rattle.spec.proofs.TextLaws.{sameText-true, sameText-refl, sameText-false, sameText-apart}
 use Rattle.claims.proofs.Found.{has-cons}
 use Rattle.merging.specs.MergePatch.{without, memberOf}
-
--- the value so named
-unfoldable pub get : Text → Members → Option Value.Value
-get n Forest.none = none
-get n (tree e kids rest) = if sameText (e .name) n then some (record { label = e .label; kids = kids }) else get n rest
+use Rattle.merging.specs.Parts.{get}
 
 -- it is another; or it is put last
 unfoldable pub set : Text → Value.Value → Members → Members
@@ -33,7 +29,7 @@ unfoldable pub drop : Text → Members → Members
 drop n Forest.none = Forest.none
 drop n (tree e kids rest) = if sameText (e .name) n then rest else tree e kids (drop n rest)
 
-isSome : {A : Type 0} → Option A → Bool
+unfoldable pub isSome : {A : Type 0} → Option A → Bool
 isSome none = false
 isSome (some a) = true
 
@@ -84,7 +80,7 @@ get-is z other n (tree e kids rest) = rw (has-cons n e kids rest) (go (sameText 
     go false true ih = ih
     go false false ih = ih
 
-has-get : (n : Text) (f : Members) → has n f ≡ isSome (get n f)
+pub has-get : (n : Text) (f : Members) → has n f ≡ isSome (get n f)
 unfolding isSome get find count
 has-get n Forest.none = refl
 has-get n (tree e kids rest) = rw (has-cons n e kids rest) (go (sameText (e .name) n) (has-get n rest))

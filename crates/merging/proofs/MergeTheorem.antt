@@ -21,7 +21,9 @@ use Rattle.claims.proofs.Found.{absent-parts}
 use Rattle.merging.specs.MergePatch.{isNull, asObject, memberOf, mergeMembers, mergePatch}
 use Rattle.merging.specs.Claims as Claims
 use Rattle.merging.specs.Claims.{WithoutNulls, MergeStatement}
-use Rattle.merging.proofs.MemberLaws.{get, set, drop, or-else, Single, no-member, one-member, absent, absent-has, get-member, get-set-other, get-is}
+use Rattle.merging.specs.Parts.{get}
+use Rattle.merging.proofs.MemberLaws.{set, drop, or-else, Single, no-member, one-member, absent, absent-has, get-member, get-set-other, get-is}
+use Rattle.merging.proofs.PartLaws.{parts}
 use Rattle.merging.proofs.StepLaws.{valueIn, stepped, merge-step, step-other, step-null, step-merged, step-single}
 
 some-same : {A : Type 0} {a b : A} → some a ≡ some b → a ≡ b
@@ -58,7 +60,7 @@ found-some {x} (some v) h = let same : v ≡ x = cc in ap some same
 
 -- All pairs of the patch, one after another
 
-label-kept : (p : Members) (t : Value.Value) → mergeMembers p t .label ≡ t .label
+pub label-kept : (p : Members) (t : Value.Value) → mergeMembers p t .label ≡ t .label
 unfolding mergeMembers
 label-kept Forest.none t = refl
 label-kept (tree e kids rest) t = ap (λ v. v .label) (merge-step e kids rest t) ∙ label-kept rest (withKids t (stepped e kids t))
@@ -232,7 +234,7 @@ depth-member n t = rw (get-member n t) (go (get n (t .kids)) refl)
     go none e = omega arith
     go (some v) e = depth-get n (t .kids) v e
 
-object-label : (l : Label) → isObject l ≡ true → l ≡ Label.object
+pub object-label : (l : Label) → isObject l ≡ true → l ≡ Label.object
 unfolding isObject tag
 object-label Label.null-literal h = absurd (true≢false (sym h))
 object-label Label.true-literal h = absurd (true≢false (sym h))
@@ -243,7 +245,7 @@ object-label (Label.number t) h = absurd (true≢false (sym h))
 object-label (Label.string t) h = absurd (true≢false (sym h))
 
 -- an object is one deeper than its members; the empty one that stands for another value is 1 deep
-depth-as-object : (u : Value.Value) → (asObject u .label ≡ Label.object) × (suc (depths (asObject u .kids)) ≤ max (depth u) 1)
+pub depth-as-object : (u : Value.Value) → (asObject u .label ≡ Label.object) × (suc (depths (asObject u .kids)) ≤ max (depth u) 1)
 unfolding asObject depth levels isContainer tag depths
 depth-as-object u = go (isObject (u .label)) refl
   where
@@ -340,5 +342,7 @@ merging =
           let object = label-kept (p .kids) (asObject t) ∙ depth-as-object t .0 in
           ap (walk (n ∷ [])) (object-patch t p l) ∙ walk-get (mergeMembers (p .kids) (asObject t)) n object ∙
           ap found (pair-merged (p .kids) (asObject t) n x (single-patch p pp l) met z);
+      positions = λ t p pt pp l.
+          ap (λ v. v .kids) (object-patch t p l) ∙ parts (p .kids) (asObject t) (single-patch p pp l) (single-object t pt);
       no-deeper = λ t p. value-depth (p .label) (p .kids) t (members-depth (p .kids));
     }

@@ -9,8 +9,9 @@ use Rattle.spec.specs.Value as Value
 use Rattle.spec.specs.Value.{Label, Entry, Members, isObject, sameText, has}
 use Rattle.spec.specs.Operation.{withKids, insertMember}
 use Rattle.merging.specs.MergePatch.{isNull, asObject, without, memberOf, mergeMembers, mergePatch}
-use Rattle.merging.proofs.MemberLaws.{get, set, drop, Single, single-set, single-drop, set-member, drop-member, get-set, get-set-other, get-drop}
-use Rattle.merging.proofs.MemberLaws.{get-drop-other}
+use Rattle.merging.specs.Parts.{get}
+use Rattle.merging.proofs.MemberLaws.{set, drop, Single, single-set, single-drop, set-member, drop-member, get-set, get-set-other}
+use Rattle.merging.proofs.MemberLaws.{get-drop, get-drop-other}
 
 -- the value of a pair, by itself
 abbrev pub valueIn : Entry → Members → Value.Value

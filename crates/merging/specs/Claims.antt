@@ -11,6 +11,7 @@ use Rattle.spec.specs.Value.{Label, Entry, Members, leaf, isObject, has, depth}
 use Rattle.spec.specs.Pointer.{walk}
 use Rattle.claims.specs.Proper.{Proper}
 use Rattle.merging.specs.MergePatch.{isNull, asObject, memberOf, mergePatch}
+use Rattle.merging.specs.Parts.{mergedMembers}
 
 -- no null among the members, at whatever depth of objects in objects; a null in an array does not count
 pub data WithoutNulls : Members → Type 0 where
@@ -35,5 +36,7 @@ pub record MergeStatement : Type 0 where
   -- "merged member by member": any other member is what the procedure makes of the two
   pub merges : (t p x : Value.Value) (n : Text) → Proper t → Proper p → p .label ≡ Label.object → walk (n ∷ []) p ≡ ok x → isNull (x .label) ≡ false →
       walk (n ∷ []) (mergePatch t p) ≡ ok (mergePatch (memberOf n (asObject t)) x)
+  -- "Existing members keep their position, new ones go last"
+  pub positions : (t p : Value.Value) → Proper t → Proper p → p .label ≡ Label.object → mergePatch t p .kids ≡ mergedMembers (asObject t .kids) (p .kids)
   -- depth never passes that of the deeper of the two
   pub no-deeper : (t p : Value.Value) → depth (mergePatch t p) ≤ max (depth t) (depth p)

@@ -1,3 +1,4 @@
 pub mod MergePatch
+pub mod Parts
 pub mod Examples
 pub mod Claims

@@ -17,6 +17,7 @@ mod help;
 mod hex;
 mod inspect;
 mod link;
+mod merge;
 mod patches;
 mod pointer;
 mod replace;
@@ -36,6 +37,7 @@ pub const COMMANDS: &[&Command] = &[
     &apply::COMMAND,
     &check::COMMAND,
     &undo::COMMAND,
+    &merge::COMMAND,
     &inspect::COMMAND,
     &equal::COMMAND,
     &link::COMMAND,

@@ -5,7 +5,9 @@ use crate::command::Command;
 use crate::files::{Name, Text};
 use crate::trouble::Trouble;
 use json_patch::undo::{self, apply_with_undo, UndoWork, Written};
-use json_patch::{apply, apply_within, elements, Kind, Refusal, Work, MAX_BYTES, TOOL_OUTPUT};
+use json_patch::{
+    apply, apply_within, elements, merge, Kind, Refusal, Work, MAX_BYTES, TOOL_OUTPUT,
+};
 use std::os::unix::ffi::OsStrExt;
 
 /// A document, and the patches for it.
@@ -101,6 +103,21 @@ impl Run {
             applied_within(text, patch, region).map_err(undo::Refused::Patch)?;
         }
         applied_with_undo(text, patch)
+    }
+
+    /// The text that the first patch leaves as a merge patch, or its refusal.
+    pub fn merged(&self) -> Result<Vec<u8>, Refused> {
+        let document = &self.document.bytes;
+        let mut output = vec![0; TOOL_OUTPUT];
+        match merge(document, &self.patches[0].bytes, &mut output, &mut Work::new()) {
+            Ok(length) => {
+                output.truncate(length);
+                Ok(output)
+            }
+            Err(refusal) => {
+                Err(Refused { refusal, index: 0, document: document.clone(), undo: false })
+            }
+        }
     }
 
     /// What the patch with this index is applied to, in words.

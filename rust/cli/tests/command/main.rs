@@ -6,6 +6,7 @@ mod files;
 mod hex;
 mod inspect;
 mod links;
+mod merge;
 mod regions;
 mod replacing;
 mod statuses;

@@ -1,0 +1,12 @@
+pub mod BuildLaws
+pub mod MarkLaws
+pub mod PathLaws
+pub mod PartnerLaws
+pub mod StepLaws
+pub mod LaidLaws
+pub mod KeepLaws
+pub mod AppendLaws
+pub mod ObjectLaws
+pub mod StageLaws
+pub mod TreeLaws
+pub mod CallLaws

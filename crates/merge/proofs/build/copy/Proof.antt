@@ -1,0 +1,23 @@
+-- `copy` meets its contract.
+use mathlib.Core.Path.{sym, ap, _∙_}
+use native.Mathlib.Omega.{arith}
+use borrow.Author.Needs.{needs}
+use Rattle.merge.proofs.build.copy.Statement.{statement}
+use Rattle.merge.proofs.build.copy.Tie as tie
+
+pub copy-spec : {M : Type 1} → statement M
+copy-spec =
+    tie.close
+    (tie.spec
+    -- end-of-requires
+    (λ c κs. search needs)
+    -- sub-count
+    (λ c. search needs)
+    -- slide-requires
+    (λ c κs. search needs)
+    -- advance-requires
+    (λ c κs. search needs)
+    -- same-length
+    (λ c. search needs)
+    -- returns
+    (λ c. record { nodes-are = rw (c .before .before .slide .ensures, c .before .before .before .before .end-of .ensures); next-is = rw (c .advance .ensures, c .before .before .before .before .end-of .ensures) }))

@@ -1,0 +1,46 @@
+-- `partner` meets its contract: by the index, by the search path of the name, and else by a search.
+use native.Mathlib.Omega.{arith}
+use mathlib.Core.Path.{refl}
+use borrow.Author.Tests.{not-true}
+use Rattle.index.proofs.WayLaws.{entered-after}
+use Rattle.merge.proofs.PartnerLaws.{partner-absent, partner-searched, partner-hinted}
+use borrow.Author.Needs.{needs}
+use Rattle.merge.proofs.partner.partner.Statement.{statement}
+use Rattle.merge.proofs.partner.partner.Tie as tie
+
+pub partner-spec : {M : Type 1} → statement M
+partner-spec =
+    tie.close
+    (tie.spec
+    -- lookup-requires
+    (λ c κs. search needs)
+    -- enum-known-row
+    (λ c. search needs)
+    -- enum-told
+    (λ c. search needs)
+    -- enter-by-hash-requires
+    (λ c κs. search needs)
+    -- same-length
+    (λ c. search needs)
+    -- returns
+    (λ c. partner-absent (c .before .before .before .enter-by-hash .ensures .entered (c .if1 .taken) _) refl (omega arith))
+    -- enter-requires
+    (λ c κs. search needs)
+    -- same-length-2
+    (λ c. search needs)
+    -- returns-2
+    (λ c. partner-absent (entered-after (c .before .before .before .before .before .before .before .before .enter-by-hash .ensures) (c .before .before .before .before .before .if1 .left) (c .before .before .before .enter .ensures)) (not-true _ (c .if2 .taken)) (omega arith))
+    -- add-find
+    (λ c. search needs)
+    -- end-of-requires
+    (λ c κs. search needs)
+    -- find-requires
+    (λ c κs. search needs)
+    -- same-length-3
+    (λ c. search needs)
+    -- returns-3
+    (λ c. partner-searched (entered-after (c .before .before .before .before .before .before .before .before .before .before .enter-by-hash .ensures) (c .before .before .before .before .before .before .before .if1 .left) (c .before .before .before .before .before .enter .ensures)) (omega arith) (c .before .end-of .ensures) (c .find .ensures))
+    -- same-length-4
+    (λ c. search needs)
+    -- returns-4
+    (λ c. partner-hinted _ (c .before .before .before .lookup .ensures) (c .before .row .given .1)))

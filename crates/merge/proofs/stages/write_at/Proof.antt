@@ -1,0 +1,26 @@
+-- `write_at` meets its contract, by whether the text fits.
+use native.Mathlib.Omega.{arith}
+use borrow.Author.Tests.{not-true, not-false}
+use Rattle.merge.proofs.StageLaws.{text-refused, text-written}
+use borrow.Author.Needs.{needs}
+use Rattle.merge.proofs.stages.write_at.Statement.{statement}
+use Rattle.merge.proofs.stages.write_at.Tie as tie
+
+pub write-at-spec : {M : Type 1} → statement M
+write-at-spec =
+    tie.close
+    (tie.spec
+    -- fits-requires
+    (λ c κs. search needs)
+    -- refused-requires
+    (λ c κs. search needs)
+    -- returns
+    (λ c v d low. text-refused d low _ (c .before .before .fits2 .ensures) (not-true _ (c .before .if1 .taken)) (c .refused .ensures))
+    -- write-requires
+    (λ c κs. search needs)
+    -- success-requires
+    (λ c κs. search needs)
+    -- same-length
+    (λ c. search needs)
+    -- returns-2
+    (λ c v d low. text-written d low _ (c .before .before .before .before .before .before .fits2 .ensures) (not-false _ (c .before .before .before .before .before .if1 .left)) (c .before .before .before .write .ensures) (c .success .ensures)))

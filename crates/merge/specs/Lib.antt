@@ -1,0 +1,9 @@
+pub mod Building
+pub mod Marks
+pub mod Paths
+pub mod Partner
+pub mod Steps
+pub mod Merged
+pub mod Trees
+pub mod Stages
+pub mod Call

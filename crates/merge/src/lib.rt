@@ -1,0 +1,21 @@
+// A merge patch applied to a document: RFC 7396, as document 02, T-02, reads it. `merge` is the whole library.
+//
+// What is proved: on every input the answer is that of the definition `mergeAnswer` of crate `merging`. Of the output
+// and the work area it holds what holds of the plain call.
+//
+// The result is built in the scratch rows, in written order: no row is laid down that is not part of it. So a result
+// with too many nodes is known by the rows that it would take, and nothing overflows on the way.
+
+mod build; // rows of the result laid down
+mod marks; // which members of the patch the target has
+mod paths; // the members of the patch entered in the index
+mod partner; // the member of the patch that has a name
+mod steps; // what becomes of one member
+mod objects; // two objects merged
+mod trees; // the two trees merged
+mod stages; // the stages of the call: two texts read, the trees merged, the result written
+mod call; // the call
+mod exports; // the call for C
+
+pub use call::merge;
+pub use exports::json_patch_merge;

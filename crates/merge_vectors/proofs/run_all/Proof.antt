@@ -1,0 +1,39 @@
+-- `run_all` ends: each case ends behind its beginning.
+use Prim.Native.Nat.{_-_}
+use borrow.Author.Needs.{needs}
+use native.Mathlib.Omega.{arith}
+use lib.ListN.{length}
+use Rattle.merge_vectors.proofs.PlaceLaws.{behind}
+use Rattle.merge_vectors.proofs.run_all.Statement.{statement}
+use Rattle.merge_vectors.proofs.run_all.Tie as tie
+
+abbrev Inv-loop : tie.InvT-loop
+Inv-loop file at₀ at = Unit {0}
+
+abbrev μ-loop : tie.MeasureT-loop
+μ-loop file at₀ at = length file - at
+
+pub run-all-spec : {M : Type 1} → statement M
+run-all-spec =
+    tie.close
+    (tie.spec
+    Inv-loop
+    μ-loop
+    -- loop-holds
+    (λ c. search needs)
+    -- run-at-requires
+    (λ c κs. search needs)
+    -- enum-known-next
+    (λ c. search needs)
+    -- enum-told
+    (λ c. search needs)
+    -- print-no-case-requires
+    (λ c κs. search needs)
+    -- returns
+    (λ c. search needs)
+    -- loop-less
+    (λ c. omega (arith, behind _ _ (c .before .next .given .1) (c .before .before .before .run-at .ensures)))
+    -- loop-again
+    (λ c. search needs)
+    -- returns-2
+    (λ c. search needs))
