@@ -4,3 +4,8 @@ pub mod ListedLaws
 pub mod RunLaws
 pub mod AnswerLaws
 pub mod ForgettingTheorem
+pub mod ExchangeLaws
+pub mod OperationLaws
+pub mod EachLaws
+pub mod FoundLaws
+pub mod OriginTheorem

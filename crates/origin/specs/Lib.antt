@@ -5,3 +5,4 @@ pub mod Patch
 pub mod MergePatch
 pub mod Answer
 pub mod Forgetting
+pub mod Claims
