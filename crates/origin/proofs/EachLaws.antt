@@ -19,7 +19,8 @@ use Rattle.tape.specs.Map.{mapForest}
 use Rattle.tape.proofs.Map.{count-map}
 use Rattle.merging.specs.MergePatch.{isNull}
 use Rattle.origin.specs.Value as Value
-use Rattle.origin.specs.Value.{Members, leaf, named, valueOf, forgetEntry, forgetMembers, forget, paintedEntry, painted, nodes, originsOf, origins, find, has}
+use Rattle.origin.specs.Value.{Members, leaf, named, valueOf, forgetEntry, forgetMembers, forget, paintedEntry, painted, nodes}
+use Rattle.origin.specs.Value.{originsOf, origins, find, has}
 use Rattle.origin.specs.Pointer.{child, walk}
 use Rattle.origin.specs.Operation.{withKids, put, insertMember, perform, limited}
 use Rattle.origin.specs.Patch.{run}

@@ -41,8 +41,7 @@ exchanged-whole old new = record { left = []; right = []; was = sym (append-nil 
 pub originsOf-⧺ : (f g : Members) → originsOf (f ⧺ g) ≡ originsOf f ++ originsOf g
 unfolding originsOf _⧺_
 originsOf-⧺ none g = refl
-originsOf-⧺ (tree e kids rest) g =
-    ap (λ xs. e .origin ∷ xs) (ap (λ xs. originsOf kids ++ xs) (originsOf-⧺ rest g) ∙ sym (append-assoc (originsOf kids) (originsOf rest) (originsOf g)))
+originsOf-⧺ (tree e kids rest) g = simp (originsOf-⧺ rest g, append-assoc)
 
 -- a value under a name, between others
 pub originsOf-between : (f g : Members) (n : Text) (x : Value.Value) → originsOf (f ⧺ single (named n x) ⧺ g) ≡ originsOf f ++ (origins x ++ originsOf g)

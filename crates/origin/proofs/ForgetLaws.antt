@@ -167,7 +167,7 @@ unfolding moveTo PlainOperation.moveTo forgotten
 forget-moveTo [] path v = refl
 forget-moveTo (t ∷ ts) path v =
     forgotten-then (walk (t ∷ ts) v) _ (λ x. PlainOperation.removeAtPath (t ∷ ts) (forget v) >>= λ left. PlainOperation.addAt path x left)
-    (λ x. forgotten-then (removeAtPath (t ∷ ts) v) _ _ (λ left. forget-addAt path x left) ∙
+    (λ x. forgotten-then (removeAtPath (t ∷ ts) v) _ _ (λ left. forget-addAt path _ left) ∙
     ap (λ o. o >>= λ left. PlainOperation.addAt path (forget x) left) (forget-removeAtPath (t ∷ ts) v)) ∙
     ap (λ o. o >>= λ x. PlainOperation.removeAtPath (t ∷ ts) (forget v) >>= λ left. PlainOperation.addAt path x left) (forget-walk (t ∷ ts) v)
 
@@ -175,7 +175,7 @@ pub forget-copyTo : (k : ℕ) (from path : Tokens) (v : Value.Value) → forgott
 unfolding copyTo PlainOperation.copyTo
 forget-copyTo k from path v =
     forgotten-then (walk from v) _ (λ x. PlainOperation.addAt path x (forget v))
-    (λ x. forget-addAt path (painted k (forget x)) v ∙ ap (λ y. PlainOperation.addAt path y (forget v)) (forget-painted k (forget x))) ∙
+    (λ x. forget-addAt path _ v ∙ ap (λ y. PlainOperation.addAt path y (forget v)) (forget-painted _ (forget x))) ∙
     ap (λ o. o >>= λ x. PlainOperation.addAt path x (forget v)) (forget-walk from v)
 
 pub forget-testAt : (path : Tokens) (x : Plain.Value) (v : Value.Value) → forgotten (testAt path x v) ≡ PlainOperation.testAt path x (forget v)

@@ -25,7 +25,7 @@ forget-if false x y p q = q
 
 forget-asObject : (t : Value.Value) → forget (asObject t) ≡ PlainMerge.asObject (forget t)
 unfolding asObject PlainMerge.asObject mapForest
-forget-asObject t = forget-if (isObject (t .label)) t (leaf mergeOrigin Label.object) refl refl
+forget-asObject t = forget-if (isObject (t .label)) t _ refl refl
 
 forget-without : (n : Text) (t : Value.Value) → forget (without n t) ≡ PlainMerge.without n (forget t)
 unfolding without PlainMerge.without

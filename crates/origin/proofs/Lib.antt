@@ -1,3 +1,4 @@
+pub mod ExamplesTheorem
 pub mod ForgetLaws
 pub mod ForgetMerge
 pub mod ListedLaws

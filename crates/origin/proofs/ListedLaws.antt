@@ -1,7 +1,8 @@
 -- The list of origins: as many as there are values.
-use mathlib.Core.Path.{_≡_, refl, ap, ap₂, sym, _∙_}
-use mathlib.Core.List.{List, [], _∷_, _++_}
+use mathlib.Core.Path.{_≡_, refl, ap, sym, _∙_}
+use mathlib.Core.List.{List, [], _∷_}
 use Prim.Native.Nat.{ℕ, suc, _+_}
+use native.Mathlib.Omega.{arith}
 use lib.ListN.{length, length-append}
 use Rattle.spec.specs.Forest.{none, tree, size}
 use Rattle.spec.specs.Value as Plain
@@ -12,7 +13,7 @@ use Rattle.origin.specs.Value.{Members, forgetEntry, forget, nodes, orig
 pub length-originsOf : (f : Members) → length (originsOf f) ≡ size f
 unfolding originsOf size
 length-originsOf none = refl
-length-originsOf (tree e kids rest) = ap suc (length-append (originsOf kids) (originsOf rest) ∙ ap₂ _+_ (length-originsOf kids) (length-originsOf rest))
+length-originsOf (tree e kids rest) = simp length-append (omega (arith, length-originsOf kids, length-originsOf rest))
 
 pub length-origins : (v : Value.Value) → length (origins v) ≡ nodes v
 unfolding origins Plain.nodes

@@ -119,7 +119,8 @@ module _ {P : ℕ → Type 0} where
   pub no-list : (list : ℕ) → Right P list []
   no-list list = record { fits = omega arith; each = Claims.nothing }
 
-  pub if-right : (b : Bool) {list : ℕ} (x y : Listed Answer) → Right P list (x .origins) → Right P list (y .origins) → Right P list ((if b then x else y) .origins)
+  pub if-right : (b : Bool) {list : ℕ} (x y : Listed Answer) → Right P list (x .origins) → Right P list (y .origins) →
+      Right P list ((if b then x else y) .origins)
   if-right true x y p q = p
   if-right false x y p q = q
 
@@ -161,7 +162,8 @@ shape-few v os e = go (isArray (v .label)) (leb (count (v .kids)) maxOperations)
     go true false few h = absurd (stopped≢finished h)
     go false b few h = absurd (stopped≢finished h)
 
-pub applied-right : (room list : ℕ) (d : Plain.Value) (shaped : Run (List Operation)) → ((os : List Operation) → shaped ≡ finished os → length os ≤ maxOperations) →
+pub applied-right : (room list : ℕ) (d : Plain.Value) (shaped : Run (List Operation)) →
+    ((os : List Operation) → shaped ≡ finished os → length os ≤ maxOperations) →
     Right (λ k. k ≤ maxOperations) list (applied room list d shaped .origins)
 unfolding applied answerOf onFinish
 applied-right room list d (stopped s) few = no-list list

@@ -6,3 +6,4 @@ pub mod MergePatch
 pub mod Answer
 pub mod Forgetting
 pub mod Claims
+pub mod Examples
