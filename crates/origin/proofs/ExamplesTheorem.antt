@@ -20,11 +20,11 @@ use Rattle.origin.specs.Answer.{fitting, answerOf, applied, onPatch, onD
 use Rattle.origin.specs.Answer.{beside, afterPatch, undoAnswer}
 use Rattle.origin.specs.Examples.{AllPatches, AllMerges, patches, transfers, merges, Edges}
 
-unfoldable compute-steps : Unit {0}
+unfoldable pub compute-steps : Unit {0}
 unfolding mapForest originsOf origins child walk put atParent insertElement insertMember insertChild removeChild replaceChild addAt removeAtPath
 compute-steps = tt
 
-unfoldable compute-origins : Unit {0}
+unfoldable pub compute-origins : Unit {0}
 unfolding replaceAtPath moveTo copyTo testAt perform notTooDeep notTooLarge limited run fitting answerOf applied onPatch onDocument answer
 compute-origins = tt
 

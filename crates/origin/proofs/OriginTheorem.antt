@@ -151,7 +151,7 @@ operations-count op (tree e kids rest) os h =
     go (finished o) (stopped s) is ih h = absurd (stopped≢finished h)
     go (stopped s) b is ih h = absurd (stopped≢finished h)
 
-shape-few : (v : Plain.Value) (os : List Operation) → shape v ≡ finished os → length os ≤ maxOperations
+pub shape-few : (v : Plain.Value) (os : List Operation) → shape v ≡ finished os → length os ≤ maxOperations
 unfolding shape
 shape-few v os e = go (isArray (v .label)) (leb (count (v .kids)) maxOperations) refl e
   where

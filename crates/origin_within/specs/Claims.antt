@@ -1,0 +1,23 @@
+-- The call with a region that lists origins, beside the one that lists none.
+use mathlib.Core.Path.{_≡_}
+use Prim.Native.Nat.{ℕ, _≤_}
+use lib.ListN.{length}
+use Rattle.spec.specs.Limits.{maxNodes, maxOperations}
+use Rattle.spec.specs.Bytes.{Bytes}
+use Rattle.spec.specs.Answer.{Lent}
+use Rattle.region.specs.Answer as Plain
+use Rattle.origin.specs.Answer.{Lending}
+use Rattle.origin.specs.Forgetting.{Lists}
+use Rattle.origin.specs.Claims.{Each}
+use Rattle.origin_within.specs.Answer.{answerWithin}
+
+pub record WithinStatement : Type 0 where
+  pub answers : (document patch region : Bytes) (lent : Lending Lent) →
+      Lists (lent .list) (Plain.answerWithin document patch region (lent .call)) (answerWithin document patch region lent)
+  -- with a list of as many entries as a document has values at most
+  pub same-answer : (document patch region : Bytes) (lent : Lending Lent) → maxNodes ≤ lent .list →
+      answerWithin document patch region lent .answer ≡ Plain.answerWithin document patch region (lent .call)
+  -- the list suffices, and 16 bits hold each entry
+  pub fits : (document patch region : Bytes) (lent : Lending Lent) → length (answerWithin document patch region lent .origins) ≤ lent .list
+  pub small : (document patch region : Bytes) (lent : Lending Lent) →
+      Each (λ k. k ≤ maxOperations) (answerWithin document patch region lent .origins)
