@@ -10,3 +10,4 @@ pub mod OperationLaws
 pub mod EachLaws
 pub mod FoundLaws
 pub mod OriginTheorem
+pub mod OrderTheorem

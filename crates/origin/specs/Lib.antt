@@ -7,3 +7,4 @@ pub mod Answer
 pub mod Forgetting
 pub mod Claims
 pub mod Examples
+pub mod Order
