@@ -1,23 +1,43 @@
 -- Origins are listed in the order of the values' first written bytes: specs/Order.
 use mathlib.Core.Path.{_≡_, refl, ap, sym, subst, _∙_}
-use mathlib.Core.Bool.{Bool, true, false}
+use mathlib.Core.Bool.{Bool, true, false, not}
 use mathlib.Core.List.{List, [], _∷_, _++_, map, append-assoc, append-nil}
 use Prim.Native.Nat.{ℕ, suc, _+_, _≤_, _<_}
 use native.Mathlib.Omega.{arith}
 use lib.ListN.{length, drop, length-append}
+use lib.Dec.{leb, ltb, eqb}
+use borrow.Author.Tests.{le-ltb}
+use Rattle.spec.specs.Outcome.{if_then_else_}
+use Rattle.spec.specs.Refusal.{done}
+use Rattle.spec.specs.Limits.{maxBytes}
 use Rattle.spec.specs.Bytes.{Bytes, ascii}
 use Rattle.spec.specs.Forest.{none, tree}
 use Rattle.spec.specs.Value as Plain
 use Rattle.spec.specs.Value.{Label, isObject}
 use Rattle.spec.specs.Write.{opening, closing, writeName, comma, writeItems, write}
+use Rattle.spec.specs.Read.{read}
+use Rattle.spec.specs.Operation as PlainOperation
+use Rattle.spec.specs.Operation.{Operation}
+use Rattle.spec.specs.Patch as PlainPatch
+use Rattle.spec.specs.Patch.{Run, finished, stopped, onFinish}
+use Rattle.spec.specs.Answer.{Answer, Lent, success, refusal, workSuffices}
+use Rattle.spec.specs.Region.{Accepted, WellFormed}
 use Rattle.claims.specs.Proper as Proper
-use Rattle.claims.specs.Proper.{Allows, ProperItems, Proper}
+use Rattle.claims.specs.Proper.{Allows, ProperItems, Proper, Readable}
 use Rattle.claims.proofs.Rest.{Rest, rest-more}
-use Rattle.claims.proofs.ProperPatch.{proper-first}
+use Rattle.claims.proofs.ProperPatch.{proper-first, stopped≢finished}
+use Rattle.claims.proofs.RoundTripTheorem.{round-trip}
 use Rattle.tape.specs.Map.{mapForest}
 use Rattle.origin.specs.Value as Value
-use Rattle.origin.specs.Value.{Entry, Members, forgetMembers, forget, originsOf, origins}
-use Rattle.origin.specs.Order.{valuesOf, values, StandsAt, InOrder, no-more, next, OrderStatement}
+use Rattle.origin.specs.Value.{Entry, Members, forgetMembers, forget, painted, originsOf, origins}
+use Rattle.origin.specs.Operation.{limited}
+use Rattle.origin.specs.Patch.{run}
+use Rattle.origin.specs.Answer.{listed, unlisted, Lending, fitting, answerOf, applied, onPatch, onDocument, answer}
+use Rattle.origin.specs.Forgetting.{forgottenRun, listing}
+use Rattle.origin.specs.Order.{valuesOf, values, StandsAt, InOrder, no-more, next, Traced, OrderStatement}
+use Rattle.origin.proofs.ForgetLaws.{forget-painted}
+use Rattle.origin.proofs.RunLaws.{forget-run}
+use Rattle.origin.proofs.AnswerLaws.{answer-lists}
 
 -- ---- the origins of the values
 map-++ : {A B : Type 0} (f : A → B) (xs ys : List A) → map f (xs ++ ys) ≡ map f xs ++ map f ys
@@ -120,10 +140,85 @@ value-ordered v p =
     let end : 0 + length o + length k + 1 ≤ length (o ++ k ++ z) + 1 = omega (arith, value-length o k z) in
     next {start = 0} {at = 0} (omega arith) (record { after = []; is = sym (append-nil (o ++ k ++ z)) }) (order-wider inner end)
 
+-- ---- the call
+-- a success with a list is a success of the plain call
+listing-success : (list : ℕ) (os os' : List ℕ) (a : Answer) (text : Bytes) → listing list os' a ≡ listed (success text) os → a ≡ success text
+unfolding listing
+listing-success list os os' a text h = go (eqb (a .number) done) (leb (length os') list) h
+  where
+    go : (b c : Bool) → (if b then (if c then listed a os' else unlisted (refusal 16 0 0 0)) else unlisted a) ≡ listed (success text) os → a ≡ success text
+    go true true h = ap (λ r. r .answer) h
+    go true false h = absurd (let z : _≡_ {A = ℕ} 16 0 = ap (λ r. r .answer .number) h in omega arith)
+    go false c h = ap (λ r. r .answer) h
+
+fitting-success : (room list : ℕ) (v : Value.Value) (text : Bytes) (os : List ℕ) → fitting room list v ≡ listed (success text) os →
+    (text ≡ write (forget v)) × (os ≡ origins v)
+unfolding fitting
+fitting-success room list v text os h = go (leb (length (write (forget v))) room) (leb (length (origins v)) list) h
+  where
+    no : {A : Type 0} → unlisted (refusal 16 0 0 0) ≡ listed (success text) os → A
+    no h = absurd (let z : _≡_ {A = ℕ} 16 0 = ap (λ r. r .answer .number) h in omega arith)
+
+    go : (b c : Bool) →
+        (if b then (if c then listed (success (write (forget v))) (origins v) else unlisted (refusal 16 0 0 0)) else unlisted (refusal 16 0 0 0)) ≡
+        listed (success text) os → (text ≡ write (forget v)) × (os ≡ origins v)
+    go true true h = (sym (ap (λ r. r .answer .written) h), sym (ap (λ r. r .origins) h))
+    go true false h = no h
+    go false c h = no h
+
+-- the run of a patch text on a document text, with enough work area
+reads-as : (document patch : Bytes) (lent : Lending Lent) (d : Plain.Value) (os : List Operation) → workSuffices (lent .call) ≡ true → Accepted document d →
+    WellFormed patch os → answer document patch lent ≡ answerOf (lent .call .output) (lent .list) (run limited 1 os (painted 0 d))
+unfolding answer onDocument onPatch applied onFinish
+reads-as document patch lent d os work accepted formed =
+    rw (work, le-ltb maxBytes _ (accepted .fits), le-ltb maxBytes _ (formed .fits), accepted .reads, formed .reads, formed .shaped)
+
+work-there : (document patch text : Bytes) (lent : Lending Lent) (os : List ℕ) → answer document patch lent ≡ listed (success text) os →
+    workSuffices (lent .call) ≡ true
+unfolding answer
+work-there document patch text lent os h = go (workSuffices (lent .call)) refl h
+  where
+    go : (b : Bool) → workSuffices (lent .call) ≡ b →
+        (if not b then unlisted (refusal 1 0 0 0) else
+        if ltb maxBytes (length document) then unlisted (refusal 2 1 0 0) else
+        if ltb maxBytes (length patch) then unlisted (refusal 2 2 0 0) else onDocument (lent .call .output) (lent .list) (read document) patch) ≡
+        listed (success text) os → workSuffices (lent .call) ≡ true
+    go true q h = q
+    go false q h = absurd (let z : _≡_ {A = ℕ} 1 0 = ap (λ r. r .answer .number) h in omega arith)
+
+answer-traced : (document patch text : Bytes) (lent : Lending Lent) (os : List ℕ) → answer document patch lent ≡ listed (success text) os → Traced text os
+unfolding answerOf forgottenRun
+answer-traced document patch text lent os h =
+    let lists = answer-lists document patch lent in
+    let plain = listing-success (lent .list) os (lists .origins) _ text (sym (lists .is) ∙ h) in
+    let p = round-trip .written document patch text (lent .call) plain in
+    let d = p .before in
+    let good : Readable (p .after) =
+    round-trip .run-readable patch (p .operations) d (p .after) (p .formed) (round-trip .readable document d (p .accepted .reads)) (p .runs) in
+    let here : answerOf (lent .call .output) (lent .list) (run limited 1 (p .operations) (painted 0 d)) ≡ listed (success text) os =
+    sym (reads-as document patch lent d (p .operations) (work-there document patch text lent os h) (p .accepted) (p .formed)) ∙ h in
+    let same : forgottenRun (run limited 1 (p .operations) (painted 0 d)) ≡ finished (p .after) =
+    forget-run 1 (p .operations) (painted 0 d) ∙ ap (PlainPatch.run PlainOperation.limited 1 (p .operations)) (forget-painted 0 d) ∙ p .runs in
+    go (run limited 1 (p .operations) (painted 0 d)) here (p .after) good same
+  where
+    go : (r : Run Value.Value) → answerOf (lent .call .output) (lent .list) r ≡ listed (success text) os → (w : Plain.Value) → Readable w →
+        forgottenRun r ≡ finished w → Traced text os
+    go (finished v) h w good same =
+        let (is, list) = fitting-success (lent .call .output) (lent .list) v text os h in
+        let value : w ≡ forget v = cc in
+        record {
+          value = v;
+          written = is;
+          listed = list;
+          ordered = subst (λ t. InOrder t 0 (values v) (length t + 1)) (sym is) (value-ordered v (subst Proper value (good .proper)));
+        }
+    go (stopped s) h w good same = absurd (stopped≢finished same)
+
 pub order : OrderStatement
 unfolding origins values
 order =
     record {
       of-values = λ v. ap (λ xs. v .origin ∷ xs) (of-members (v .kids));
       ordered = value-ordered;
+      traced = answer-traced;
     }
