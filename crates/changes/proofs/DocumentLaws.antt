@@ -35,7 +35,8 @@ use Rattle.walk.specs.declared.path.Reached.the-variants as Reached
 use Rattle.changes.specs.Site.{Surroundings, Standing, Site, table}
 use Rattle.changes.specs.Rows.{Frame}
 use Rattle.changes.specs.Change.{Answers, done, refusal}
-use Rattle.changes.specs.Document.{Document, judged, Bearing, judgedBearing, ResultsBearing, results-bearing, refusal-bearing}
+use Rattle.changes.specs.Document as Document
+use Rattle.changes.specs.Document.{Document, judged, Bearing, judgedBearing, ResultsBearing, results}
 use Rattle.changes.specs.declared.answers.Altered.{Altered}
 use Rattle.changes.proofs.LimitLaws as LimitLaws
 use Rattle.changes.proofs.LimitLaws.{limited-whole, limited-same, judged-fits}
@@ -98,8 +99,8 @@ unfolding document-site
 document-answers {w} d {o} frame (done {kids = kids} e stands) =
     let within = limited-same maxDepth maxNodes o (borne (w .texts) (d .c) kids) e in
     let kept = frame-done refl frame in
-    results-bearing (sym (limited-whole o) ∙ e) (standing-document stands (kept .0) (within .1) (behind-long (kept .1) (d .long)))
-document-answers d {o} frame (refusal e) = refusal-bearing (sym (limited-whole o) ∙ e)
+    results (sym (limited-whole o) ∙ e) (standing-document stands (kept .0) (within .1) (behind-long (kept .1) (d .long)))
+document-answers d {o} frame (refusal e) = Document.refusal (sym (limited-whole o) ∙ e)
 
 -- ---- a document is within the limits
 module _ {w : Table} {used : ℕ} {v : Value.Value} (d : Document w used v) where

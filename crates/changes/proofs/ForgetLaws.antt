@@ -25,7 +25,7 @@ use Rattle.walk.specs.Path.{PathIs}
 use Rattle.walk.proofs.Children.{forget-borne}
 use Rattle.changes.specs.Rows.{Frame}
 use Rattle.changes.specs.Document.{Document, judged, Results, results, refusal, AtLocation, MakesAt, adds-at, removes-at, replaces-at, ChangeAtIs}
-use Rattle.changes.specs.Document.{Bearing, judgedBearing, ResultsBearing, results-bearing, refusal-bearing, AtLocationBearing}
+use Rattle.changes.specs.Document.{Bearing, judgedBearing, ResultsBearing, AtLocationBearing}
 use Rattle.changes.specs.Document.{MakesBearing, adds-bearing, removes-bearing, replaces-bearing}
 use Rattle.changes.specs.declared.answers.Change.{Change}
 use Rattle.changes.specs.declared.answers.Altered.{Altered}
@@ -66,8 +66,8 @@ forget-judged o =
 -- ---- what becomes of the document
 pub plain-results : {T : Texts} {nodes' : List Row} {o : Outcome Value.Value} {r : Altered} → ResultsBearing T nodes' o r → Results T nodes' (forgotten o) r
 unfolding forgotten
-plain-results (results-bearing e b) = results (ap forgotten e) (b .document)
-plain-results (refusal-bearing e) = refusal (ap forgotten e)
+plain-results (results e b) = results (ap forgotten e) (b .document)
+plain-results (refusal e) = refusal (ap forgotten e)
 
 -- a change at a location
 pub bearing-makes : {C : Type 0} {w : Table} {change : Change} {f : AtLocation} → MakesAt w change f

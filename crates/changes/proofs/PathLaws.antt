@@ -39,7 +39,7 @@ use Rattle.walk.proofs.PathLaws.{farther-none, first-of}
 use Rattle.changes.specs.Site.{Standing, Offered, table}
 use Rattle.changes.specs.Rows.{Frame, framed, unchanged}
 use Rattle.changes.specs.Change.{ByToken, Makes, adds, removes, replaces, AlterIs}
-use Rattle.changes.specs.Document.{Bearing, judgedBearing, ResultsBearing, results-bearing, refusal-bearing, AtLocationBearing}
+use Rattle.changes.specs.Document.{Bearing, judgedBearing, ResultsBearing, results, refusal, AtLocationBearing}
 use Rattle.changes.specs.Document.{MakesBearing, adds-bearing, removes-bearing, replaces-bearing}
 use Rattle.changes.specs.Document.{ReplaceDocumentIs, ChangeDocumentIs, ChangeAtIs}
 use Rattle.changes.specs.declared.answers.Change.{Change}
@@ -85,7 +85,7 @@ module _ {w : Table} {source : ℕ} {x : Cell} {kids : Forest Cell} (offered : O
       → ResultsBearing (w .texts) nodes' (judgedBearing (ok new-value)) (Refused too-deep 0)
   replace-deep is e =
       let l = leb-false (level x (deep kids)) maxDepth (sym (is x kids (held-node (offered .held .held))) ∙ e) in
-      refusal-bearing (bearing-deep new-value (omega (arith, depth-offered)))
+      refusal (bearing-deep new-value (omega (arith, depth-offered)))
 
   module _ {r : Bool} (is : WithinIs (w .nodes) source maxDepth r) (e : r ≡ true) (count : ℕ) (count-is : count ≡ spanOf (getD (w .nodes) source []) + 1) where
     shallow : depth new-value ≤ maxDepth
@@ -97,7 +97,7 @@ module _ {w : Table} {source : ℕ} {x : Cell} {kids : Forest Cell} (offered : O
     count-size = omega (arith, offered-size offered)
 
     pub replace-large : {nodes' : List Row} → maxNodes < count → ResultsBearing (w .texts) nodes' (judgedBearing (ok new-value)) (Refused too-many-nodes 0)
-    replace-large h = refusal-bearing (bearing-large new-value shallow (omega (arith, nodes-borne (w .texts) x kids, count-size)))
+    replace-large h = refusal (bearing-large new-value shallow (omega (arith, nodes-borne (w .texts) x kids, count-size)))
 
     pub replace-done : {nodes' : List Row} {used : ℕ} {v : Value.Value} → Bearing w used v → count ≤ maxNodes
         → nodes' ≡ spliced (w .nodes) used 0 used source count → ResultsBearing (w .texts) nodes' (judgedBearing (ok new-value)) (Done count)
@@ -117,7 +117,7 @@ module _ {w : Table} {source : ℕ} {x : Cell} {kids : Forest Cell} (offered : O
           sound = offered .held .sound;
         } in
         rw is-spliced
-        (results-bearing (bearing-fits new-value shallow (omega (arith, nodes-borne (w .texts) x kids, count-size)))
+        (results (bearing-fits new-value shallow (omega (arith, nodes-borne (w .texts) x kids, count-size)))
         (standing-document stands few shallow (behind-long same (d .long))))
 
 -- ---- the whole document changed
@@ -147,7 +147,7 @@ root-kept : {T : Texts} {nodes nodes' : List Row} {change : Change} (v : Value.V
     → ResultsBearing T nodes' (judgedBearing (f [] v)) (Refused remove-of-root 0)
 unfolding removeAtPath _>>=_
 root-kept v f (adds-bearing source' x kids offered) e = absurd (let w : _≡_ {A = ℕ} 0 1 = cc in omega arith)
-root-kept v f removes-bearing e = refusal-bearing refl
+root-kept v f removes-bearing e = refusal refl
 root-kept v f (replaces-bearing source' x kids offered) e = absurd (let w : _≡_ {A = ℕ} 0 1 = cc in omega arith)
 
 pub document-kept : {nodes : List Row} {used : ℕ} (change : Change) → change ≡ Remove → ChangeDocumentIs nodes nodes used change (Refused remove-of-root 0)

@@ -46,10 +46,13 @@ abbrev pub judged : Outcome Value.Value → Outcome Value.Value
 judged o = o >>= notTooDeep >>= notTooLarge
 
 -- The outcome of a change of the document, given what it is by the definitions: the document is then the result; or the refusal's number
--- and its place.
-pub data Results (T : Texts) (nodes' : List Row) (o : Outcome Value.Value) : Altered → Type 0 where
-  results : {used : ℕ} {v : Value.Value} → o ≡ ok v → Document (table T nodes') used v → Results T nodes' o (Done used)
-  refusal : {number place : ℕ} → o ≡ refused number place → Results T nodes' o (Refused number place)
+-- and its place. What the document is, is told with its origins or without them.
+pub data ResultsBy {A : Type 0} (Is : ℕ → A → Type 0) (o : Outcome A) : Altered → Type 0 where
+  results : {used : ℕ} {v : A} → o ≡ ok v → Is used v → ResultsBy Is o (Done used)
+  refusal : {number place : ℕ} → o ≡ refused number place → ResultsBy Is o (Refused number place)
+
+abbrev pub Results : Texts → List Row → Outcome Value.Value → Altered → Type 0
+Results T nodes' o r = ResultsBy (Document (table T nodes')) o r
 
 -- a value changed at a location, as the definitions have it
 abbrev pub AtLocation : Type 0
@@ -71,9 +74,8 @@ pub record Bearing (w : Table) (used : ℕ) (v : Origin.Value) : Type 0 where
 abbrev pub judgedBearing : Outcome Origin.Value → Outcome Origin.Value
 judgedBearing o = o >>= Origins.notTooDeep >>= Origins.notTooLarge
 
-pub data ResultsBearing (T : Texts) (nodes' : List Row) (o : Outcome Origin.Value) : Altered → Type 0 where
-  results-bearing : {used : ℕ} {v : Origin.Value} → o ≡ ok v → Bearing (table T nodes') used v → ResultsBearing T nodes' o (Done used)
-  refusal-bearing : {number place : ℕ} → o ≡ refused number place → ResultsBearing T nodes' o (Refused number place)
+abbrev pub ResultsBearing : Texts → List Row → Outcome Origin.Value → Altered → Type 0
+ResultsBearing T nodes' o r = ResultsBy (Bearing (table T nodes')) o r
 
 abbrev pub AtLocationBearing : Type 0
 AtLocationBearing = Tokens → Origin.Value → Outcome Origin.Value
