@@ -2,7 +2,7 @@
 use native.Mathlib.Omega.{arith}
 use borrow.Author.Needs.{needs}
 use Rattle.spec.specs.Bytes.{ascii}
-use mathlib.Core.Path.{ap}
+use mathlib.Core.Path.{refl, ap}
 use Rattle.spec.specs.Operation as Operation
 use Rattle.shape.specs.Kinds.{kindOutcome}
 use Rattle.operations.proofs.PerformLaws.{path-missing, of-kind, unknown, remove-done}
@@ -39,7 +39,7 @@ perform-spec =
     of-kind (c .before .before .before .before .before .before .before .before .before .before .string-member .ensures)
     (c .before .before .before .before .before .kind-of .ensures) Operation.add _
     (c .before .before .before .before .before .before .before .before .path .given .1) (ap kindOutcome (c .before .before .before .enum-told2 .given .1))
-    (c .before .add .ensures))
+    tt (c .before .add .ensures))
     -- enum-told-3
     (λ c. search needs)
     -- change-at-requires
@@ -51,7 +51,7 @@ perform-spec =
     -- returns-3
     (λ c.
     of-kind (c .before .before .before .before .before .before .before .before .before .before .before .string-member .ensures) (c .before .before .before .before .before .before .kind-of .ensures) Operation.remove _ (c .before .before .before .before .before .before .before .before .before .path .given .1) (ap kindOutcome (c .before .before .before .before .enum-told3 .given .1))
-    (remove-done (c .before .before .change-at .ensures) (c .at-path .ensures)))
+    tt (remove-done (c .before .before .change-at .ensures) (c .at-path .ensures)))
     -- enum-told-4
     (λ c. search needs)
     -- replace-requires
@@ -63,7 +63,7 @@ perform-spec =
     of-kind (c .before .before .before .before .before .before .before .before .before .before .string-member .ensures)
     (c .before .before .before .before .before .kind-of .ensures) Operation.replace _
     (c .before .before .before .before .before .before .before .before .path .given .1) (ap kindOutcome (c .before .before .before .enum-told4 .given .1))
-    (c .before .replace .ensures))
+    tt (c .before .replace .ensures))
     -- enum-told-5
     (λ c. search needs)
     -- move-to-requires
@@ -75,7 +75,7 @@ perform-spec =
     of-kind (c .before .before .before .before .before .before .before .before .before .before .string-member .ensures)
     (c .before .before .before .before .before .kind-of .ensures) Operation.move _
     (c .before .before .before .before .before .before .before .before .path .given .1) (ap kindOutcome (c .before .before .before .enum-told5 .given .1))
-    (c .before .move-to .ensures))
+    tt (c .before .move-to .ensures))
     -- enum-told-6
     (λ c. search needs)
     -- copy-requires
@@ -87,7 +87,7 @@ perform-spec =
     of-kind (c .before .before .before .before .before .before .before .before .before .before .string-member .ensures)
     (c .before .before .before .before .before .kind-of .ensures) Operation.copy _
     (c .before .before .before .before .before .before .before .before .path .given .1) (ap kindOutcome (c .before .before .before .enum-told6 .given .1))
-    (c .before .copy .ensures))
+    refl (c .before .copy .ensures))
     -- enum-told-7
     (λ c. search needs)
     -- test-requires
@@ -102,7 +102,7 @@ perform-spec =
     (c .before .before .before .before .before .before .before .kind-of .ensures) Operation.test _
     (c .before .before .before .before .before .before .before .before .before .before .path .given .1)
     (ap kindOutcome (c .before .before .before .before .before .enum-told7 .given .1))
-    (c .before .before .test .ensures))
+    tt (c .before .before .test .ensures))
     -- enum-told-8
     (λ c. search needs)
     -- same-length-9
