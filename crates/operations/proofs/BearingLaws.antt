@@ -1,11 +1,11 @@
 -- Laws of an operation of the patch on values that bear origins: forgetting them gives the plain operation, and values that bear the operation's
 -- number give that of crate origin.
-use Prim.Native.Nat.{ℕ, _+_, _<_}
-use mathlib.Core.Path.{_≡_, refl, ap, sym, _∙_}
+use Prim.Native.Nat.{ℕ, _+_}
+use mathlib.Core.Path.{_≡_, refl, ap, _∙_}
 use mathlib.Core.Bool.{Bool, true, false}
 use mathlib.Core.List.{List, [], _∷_}
 use lib.Dec.{ltb}
-use Rattle.spec.specs.Outcome.{Outcome, ok, refused, _>>=_, if_then_else_}
+use Rattle.spec.specs.Outcome.{ok, refused, if_then_else_}
 use Rattle.spec.specs.Refusal.{wrong-shape}
 use Rattle.spec.specs.Bytes.{Text, ascii}
 use Rattle.spec.specs.Forest.{Forest, count, nth}
@@ -15,9 +15,8 @@ use Rattle.spec.specs.Operation as Operation
 use Rattle.spec.specs.Operation.{Kind, add, remove, replace, move, copy, test, limited}
 use Rattle.spec.specs.Patch.{Run, onFinish, atOp, whichPointer, member, usesValue}
 use Rattle.spec.proofs.OutcomeLaws.{refused≢ok}
-use Rattle.tape.specs.Fields.{Row}
 use Rattle.tape.specs.declared.fields.Cell.{Cell}
-use Rattle.tape.specs.Lent.{Texts, Table}
+use Rattle.tape.specs.Lent.{Texts}
 use Rattle.tape.proofs.Cells.{blank}
 use Rattle.table.specs.Meaning.{members, meant}
 use Rattle.origin.specs.Value as Value
@@ -33,7 +32,7 @@ use Rattle.walk.proofs.Children.{forget-borne, child-borne}
 use Rattle.changes.specs.Document.{judged, judgedBearing}
 use Rattle.changes.proofs.BorneLaws.{members-borne}
 use Rattle.changes.proofs.ForgetLaws.{forget-judged}
-use Rattle.operations.specs.Bearing.{performWith, limitedWith, valueIn, Valued, paintedFrom, runWith}
+use Rattle.operations.specs.Bearing.{performWith, limitedWith, valueIn, paintedFrom, runWith}
 
 -- ---- each kind is its own function, judged
 module _ (k : ℕ) (o : Operation.Operation) (x v : Value.Value) where

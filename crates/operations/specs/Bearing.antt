@@ -3,7 +3,7 @@
 use Prim.Native.Nat.{ℕ, _+_}
 use mathlib.Core.List.{List, [], _∷_}
 use Rattle.spec.specs.Outcome.{Outcome, _>>=_}
-use Rattle.spec.specs.Bytes.{Text, ascii}
+use Rattle.spec.specs.Bytes.{ascii}
 use Rattle.spec.specs.Forest.{none, tree}
 use Rattle.spec.specs.Operation.{add, remove, replace, move, copy, test, Operation}
 use Rattle.spec.specs.Patch.{Run, finished, atOp, onFinish, whichPointer}
