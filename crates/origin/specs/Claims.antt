@@ -8,20 +8,23 @@ use Rattle.spec.specs.Outcome.{ok}
 use Rattle.spec.specs.Limits.{maxOperations}
 use Rattle.spec.specs.Bytes.{Bytes, Text}
 use Rattle.spec.specs.Value as Plain
-use Rattle.spec.specs.Value.{isObject}
+use Rattle.spec.specs.Value.{Label, isObject}
+use Rattle.spec.specs.Pointer as PlainPointer
 use Rattle.spec.specs.Pointer.{Tokens}
 use Rattle.spec.specs.Operation.{Kind, Operation}
 use Rattle.spec.specs.Patch.{finished}
 use Rattle.spec.specs.Effects.{FoundAt}
 use Rattle.spec.specs.Answer.{Lent}
+use Rattle.claims.specs.Proper.{Proper}
 use Rattle.merging.specs.MergePatch as PlainMerge
+use Rattle.merging.specs.MergePatch.{isNull}
 use Rattle.reversal.specs.UndoAnswer.{UndoLent}
 use Rattle.origin.specs.Value as Value
 use Rattle.origin.specs.Value.{forget, painted, nodes, origins}
 use Rattle.origin.specs.Pointer.{walk}
 use Rattle.origin.specs.Operation.{removeAtPath, perform, limited}
 use Rattle.origin.specs.Patch.{run}
-use Rattle.origin.specs.MergePatch.{mergeOrigin, mergePatch}
+use Rattle.origin.specs.MergePatch.{mergeOrigin, asObject, memberOf, mergePatch}
 use Rattle.origin.specs.Answer.{Lending, answer, mergeAnswer, undoAnswer}
 
 pub data Each (P : ℕ → Type 0) : List ℕ → Type 0 where
@@ -96,6 +99,11 @@ pub record OriginStatement : Type 0 where
   pub merge-whole : (t : Value.Value) (p : Plain.Value) → isObject (p .label) ≡ false → mergePatch t p ≡ painted mergeOrigin p
   pub merge-made : (t : Value.Value) (p : Plain.Value) → isObject (t .label) ≡ false →
       mergePatch t p ≡ painted mergeOrigin (PlainMerge.mergePatch (forget t) p)
+  -- a member that the patch does not name is as it was; one that it names, and not with null, is merged in turn
+  pub merge-unnamed : (t : Value.Value) (p : Plain.Value) (n : Text) → p .label ≡ Label.object → Plain.has n (p .kids) ≡ false →
+      memberOf n (mergePatch t p) ≡ memberOf n (asObject t)
+  pub merge-named : (t : Value.Value) (p x : Plain.Value) (n : Text) → Proper p → p .label ≡ Label.object → PlainPointer.walk (n ∷ []) p ≡ ok x →
+      isNull (x .label) ≡ false → memberOf n (mergePatch t p) ≡ mergePatch (memberOf n (asObject t)) x
   pub merge-bounded : (d p : Plain.Value) → Each (λ k. k ≤ mergeOrigin) (origins (mergePatch (painted 0 d) p))
   -- the calls: the list suffices, and 16 bits hold each entry
   pub fits : (document patch : Bytes) (lent : Lending Lent) → length (answer document patch lent .origins) ≤ lent .list

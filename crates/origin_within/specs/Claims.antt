@@ -1,6 +1,6 @@
 -- The call with a region that lists origins, beside the one that lists none.
 use mathlib.Core.Path.{_≡_}
-use Prim.Native.Nat.{ℕ, _≤_}
+use Prim.Native.Nat.{_≤_}
 use lib.ListN.{length}
 use Rattle.spec.specs.Limits.{maxNodes, maxOperations}
 use Rattle.spec.specs.Bytes.{Bytes}
