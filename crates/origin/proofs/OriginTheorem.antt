@@ -36,6 +36,7 @@ use Rattle.origin.specs.Claims as Claims
 use Rattle.origin.specs.Claims.{Each, AllTests, no-more, test, OriginStatement}
 use Rattle.origin.proofs.ForgetMerge.{forget-mergePatch}
 use Rattle.origin.proofs.RunLaws.{run-first, limited-made}
+use Rattle.origin.proofs.AnswerLaws.{answer-lists, merge-lists, lists-nothing, undo-nothing}
 use Rattle.origin.proofs.ListedLaws.{length-origins}
 use Rattle.origin.proofs.ExchangeLaws.{origins-painted}
 use Rattle.origin.proofs.OperationLaws.{one-operation}
@@ -247,6 +248,9 @@ origin =
       merge-unnamed = merge-unnamed;
       merge-named = merge-named;
       merge-bounded = merge-bounded;
+      nothing-listed = λ document patch lent fails. lists-nothing (answer-lists document patch lent) fails;
+      merge-nothing-listed = λ document patch lent fails. lists-nothing (merge-lists document patch lent) fails;
+      undo-nothing-listed = undo-nothing;
       fits = λ document patch lent. answer-right document patch lent .fits;
       small = λ document patch lent. answer-right document patch lent .each;
       merge-fits = λ document patch lent. merge-right document patch lent .fits;
