@@ -10,10 +10,13 @@ use Rattle.spec.specs.Refusal.{location-missing}
 use Rattle.spec.specs.Limits.{maxDepth, maxNodes}
 use Rattle.spec.specs.Bytes.{Text}
 use Rattle.spec.specs.Forest.{Forest, Tree, count, size, before, from, nth, replaceAt}
-use Rattle.spec.specs.Value as Value
-use Rattle.spec.specs.Value.{valueOf, depth, nodes}
-use Rattle.spec.specs.Pointer.{Tokens, childAt, child, farther}
-use Rattle.spec.specs.Operation.{put, atParent, removeChild, replaceChild}
+use Rattle.spec.specs.Value as Plain
+use Rattle.spec.specs.Pointer as PlainPointer
+use Rattle.spec.specs.Pointer.{Tokens, farther}
+use Rattle.origin.specs.Value as Value
+use Rattle.origin.specs.Value.{valueOf, nodes}
+use Rattle.origin.specs.Pointer.{childAt, child}
+use Rattle.origin.specs.Operation.{put, atParent, removeChild, replaceChild}
 use Rattle.spec.proofs.ChildLaws.{depth-child}
 use Rattle.tape.specs.Layout.{arrayKind, objectKind, values}
 use Rattle.tape.specs.Fields.{Row, spanOf}
@@ -30,16 +33,17 @@ use Rattle.tape.proofs.Depth.{level-container}
 use Rattle.tape.proofs.Changes.{laid-length, laid-child, laid-put, child-front, laid-word, laid-span-child}
 use Rattle.table.specs.Meaning.{partOf, nameText, meant}
 use Rattle.table.specs.Sound.{CellFits}
-use Rattle.table.proofs.MeaningLaws.{depth-meant, nodes-meant}
+use Rattle.table.proofs.MeaningLaws.{depth-meant}
 use Rattle.table.proofs.AllLaws.{all-first, all-kids, all-single, all-replaceAt}
 use Rattle.pointer.specs.declared.answers.Token.{Token}
 use Rattle.pointer.specs.declared.answers.Token.the-variants as Token
 use Rattle.pointer.proofs.WalkLaws.{next-order}
+use Rattle.walk.specs.Bearing.{borne}
 use Rattle.walk.specs.Path.{fartherBy}
 use Rattle.walk.specs.Step.{StepIs}
 use Rattle.walk.specs.declared.steps.Child.{Child}
 use Rattle.walk.specs.declared.steps.Child.the-variants as Child
-use Rattle.walk.proofs.Children.{child-meant, sound-child}
+use Rattle.walk.proofs.Children.{forget-borne, child-meant, child-borne, childAt-borne, sound-child}
 use Rattle.walk.proofs.StepLaws.{child-scalar}
 use Rattle.changes.specs.Limited.{limitedTo}
 use Rattle.changes.specs.Site.{Surroundings, Standing, Site}
@@ -52,7 +56,7 @@ use Rattle.changes.specs.declared.answers.Altered.the-variants.{Done, Re
 use Rattle.changes.proofs.LimitLaws.{limited-put}
 use Rattle.changes.proofs.KeptLaws.{formed-alone, behind-set, behind-long, frame-done, frame-refused}
 use Rattle.changes.proofs.SiteLaws.{site-fit, site-inside}
-use Rattle.changes.proofs.MeantLaws.{put-meant, name-fits}
+use Rattle.changes.proofs.BorneLaws.{nodes-borne, put-borne, name-fits}
 use Rattle.changes.proofs.ChangeLaws.{same-answers, answers-refused, insert-scalar, no-child, the-child}
 use Rattle.changes.proofs.TokenLaws.{TokenRead, one-left, more-left}
 
@@ -64,17 +68,17 @@ module _ (w : Table) (c : Cell) (kids : Forest Cell) (fit : Fit c kids) (scalar 
   no-object : c .kind ≡ objectKind → ⊥
   no-object e = omega arith
 
-  scalar-child : (t : Text) → childAt t (meant (w .texts) c kids) ≡ refused location-missing 0
-  scalar-child t = child-scalar (w .texts) c kids (fit .kind) t no-array no-object
+  scalar-child : (t : Text) → childAt t (borne (w .texts) c kids) ≡ refused location-missing 0
+  scalar-child t = childAt-borne (w .texts) t c kids (child-scalar (w .texts) c kids (fit .kind) t no-array no-object)
 
-  scalar-change : {change : Change} {f : ByToken} → Makes w change f → (t : Text) → f t (meant (w .texts) c kids) ≡ refused location-missing 0
+  scalar-change : {change : Change} {f : ByToken} → Makes w change f → (t : Text) → f t (borne (w .texts) c kids) ≡ refused location-missing 0
   unfolding removeChild replaceChild _>>=_
-  scalar-change (adds source x below offered) t = insert-scalar (w .texts) c kids (fit .kind) (meant (w .texts) x below) t no-array no-object
+  scalar-change (adds source x below offered) t = insert-scalar (w .texts) c kids (fit .kind) (borne (w .texts) x below) t no-array no-object
   scalar-change removes t = rw (scalar-child t)
   scalar-change (replaces source x below offered) t = rw (scalar-child t)
 
   scalar-alters : {change : Change} {f : ByToken} → Makes w change f → (t : Text) (ts : Tokens)
-      → atParent f t ts (meant (w .texts) c kids) ≡ refused location-missing 0
+      → atParent f t ts (borne (w .texts) c kids) ≡ refused location-missing 0
   unfolding atParent _>>=_
   scalar-alters makes t [] = scalar-change makes t
   scalar-alters makes t (u ∷ ts) = rw (scalar-child t)
@@ -110,7 +114,7 @@ module _ {w : Table} {p : Parent} {path : Spelling} {at : ℕ} {name : Name} {t 
         frame = changed .frame;
         held = λ z f u us makes short inside from.
             let o = one-left read short inside from end e in
-            let v = meant (w .texts) (z .c) (z .kids) in
+            let v = borne (w .texts) (z .c) (z .kids) in
             let only : atParent f u us v ≡ f (nameText (w .texts) name) v = rw (o .0, o .1) in
             same-answers (ap (fartherBy (walkedTo p)) only) (changed .held f makes z (read .named .names short inside .token));
       }
@@ -129,12 +133,12 @@ module _ {w : Table} {p : Parent} {path : Spelling} {at : ℕ} {name : Name} {t 
 
 -- ---- down to a child
 module _ {w : Table} {used row levels : ℕ} (z : Site w used row levels) (t : Text) (k below : ℕ) (one-less : levels ≡ suc below)
-    (named : childAt t (meant (w .texts) (z .c) (z .kids)) ≡ ok k) (kth : k < count (z .kids)) (inner : ℕ) (place : inner ≡ childRow row k (z .kids)) where
+    (named : childAt t (borne (w .texts) (z .c) (z .kids)) ≡ ok k) (kth : k < count (z .kids)) (inner : ℕ) (place : inner ≡ childRow row k (z .kids)) where
   abbrev b : Tree Cell
   b = nth blank k (z .kids)
 
   abbrev v : Value.Value
-  v = meant (w .texts) (z .c) (z .kids)
+  v = borne (w .texts) (z .c) (z .kids)
 
   -- the changed child in its place
   abbrev put-back : Outcome Value.Value → Outcome Value.Value
@@ -148,8 +152,18 @@ module _ {w : Table} {used row levels : ℕ} (z : Site w used row levels) (t : T
         back = tape rowOf (z .around .rest) ++ z .around .back;
       }
 
-  value-child : valueOf (child k v) ≡ meant (w .texts) (b .root) (b .kids)
-  value-child = ap valueOf (child-meant (w .texts) k (z .c) (z .kids))
+  value-child : valueOf (child k v) ≡ borne (w .texts) (b .root) (b .kids)
+  value-child = ap valueOf (child-borne (w .texts) k (z .c) (z .kids))
+
+  -- and without origins
+  abbrev plain : Plain.Value
+  plain = meant (w .texts) (z .c) (z .kids)
+
+  plain-named : PlainPointer.childAt t plain ≡ ok k
+  plain-named = ap (PlainPointer.childAt t) (sym (forget-borne (w .texts) (z .c) (z .kids))) ∙ named
+
+  plain-child : Plain.valueOf (PlainPointer.child k plain) ≡ meant (w .texts) (b .root) (b .kids)
+  plain-child = ap Plain.valueOf (child-meant (w .texts) k (z .c) (z .kids))
 
   pub child-site : Site w used inner below
   child-site =
@@ -169,14 +183,14 @@ module _ {w : Table} {used row levels : ℕ} (z : Site w used row levels) (t : T
             };
         few = z .few;
         fits = omega (arith, z .few);
-        shallow = omega (arith, depth-child t v k named, ap depth value-child, z .shallow);
+        shallow = omega (arith, depth-child t plain k plain-named, ap Plain.depth plain-child, z .shallow);
         long = z .long;
       }
 
   -- ---- and up again
   -- what the definitions say of the child, put in its place
   pub child-outcome : (f : ByToken) (u : Text) (us : Tokens)
-      → atParent f t (u ∷ us) v ≡ put-back (farther (atParent f u us (meant (w .texts) (b .root) (b .kids))))
+      → atParent f t (u ∷ us) v ≡ put-back (farther (atParent f u us (borne (w .texts) (b .root) (b .kids))))
   unfolding atParent _>>=_
   child-outcome f u us = rw named (ap (λ x. put-back (farther (atParent f u us x))) value-child)
 
@@ -189,9 +203,10 @@ module _ {w : Table} {used row levels : ℕ} (z : Site w used row levels) (t : T
   limits : (o : Outcome Value.Value) → limitedTo levels (z .room) (put-back o) ≡ put-back (limitedTo below (child-site .room) o)
   unfolding child-site
   limits o =
-      limited-put t v k named levels below (z .room) (child-site .room) used (z .shallow) one-less
-      (z .fits ∙ ap (_+_ maxNodes) (sym (nodes-meant (w .texts) (z .c) (z .kids))))
-      (child-site .fits ∙ ap (_+_ maxNodes) (sym (ap nodes value-child ∙ nodes-meant (w .texts) (b .root) (b .kids)))) o
+      let shallow : Value.depth v ≤ levels = omega (arith, ap Plain.depth (forget-borne (w .texts) (z .c) (z .kids)), z .shallow) in
+      limited-put t v k named levels below (z .room) (child-site .room) used shallow one-less
+      (z .fits ∙ ap (_+_ maxNodes) (sym (nodes-borne (w .texts) (z .c) (z .kids))))
+      (child-site .fits ∙ ap (_+_ maxNodes) (sym (ap nodes value-child ∙ nodes-borne (w .texts) (b .root) (b .kids)))) o
 
   container : arrayKind ≤ z .c .kind
   container = container-fit (site-fit z) (omega arith)
@@ -239,9 +254,9 @@ module _ {w : Table} {used row levels : ℕ} (z : Site w used row levels) (t : T
         → Answers z (resized nodes' row used now) (put-back o) (Done now)
     unfolding child-site _>>=_
     up-done few same (done {kids = changed} e stands) =
-        let then-value = meant (w .texts) (z .c) (replaceAt k (record { root = b .root; kids = changed }) (z .kids)) in
+        let then-value = borne (w .texts) (z .c) (replaceAt k (record { root = b .root; kids = changed }) (z .kids)) in
         let passed : limitedTo levels (z .room) (put-back o) ≡ ok then-value =
-        limits o ∙ ap put-back e ∙ ap ok (put-meant (w .texts) k (z .c) (z .kids) (b .root) changed) in
+        limits o ∙ ap put-back e ∙ ap ok (put-borne (w .texts) k (z .c) (z .kids) (b .root) changed) in
         done passed (up-standing few same stands)
 
     up-refused : {number place : ℕ} → Answers child-site nodes' o (Refused number place) → Answers z nodes' (put-back o) (Refused number place)
@@ -252,7 +267,7 @@ module _ {w : Table} {used row levels : ℕ} (z : Site w used row levels) (t : T
 -- a token names the k-th child, which stands in the row `inner`
 abbrev ChildOf : (w : Table) (p : Parent) → Name → ℕ → SiteOf w p → ℕ → Type 0
 ChildOf w p name inner z k =
-    (childAt (nameText (w .texts) name) (meant (w .texts) (z .c) (z .kids)) ≡ ok k) × (k < count (z .kids)) × (inner ≡ childRow (p .row) k (z .kids))
+    (childAt (nameText (w .texts) name) (borne (w .texts) (z .c) (z .kids)) ≡ ok k) × (k < count (z .kids)) × (inner ≡ childRow (p .row) k (z .kids))
 
 abbrev down : (w : Table) (p : Parent) (name : Name) (inner below : ℕ) → p .below ≡ below → (z : SiteOf w p) (k : ℕ) → ChildOf w p name inner z k
     → Site w (p .used) inner below
@@ -265,25 +280,25 @@ module _ {w : Table} {p : Parent} {path : Spelling} {at : ℕ} {name : Name} {en
   through : {nodes' ended : List Row} {r : Altered} (z : SiteOf w p)
       → ((y : Site w (p .used) inner below) → Alters (walkedTo p + 1) y nodes' path next change r)
       → ((k : ℕ) (n : ChildOf w p name inner z k) (o : Outcome Value.Value) → Answers (down w p name inner below one-less z k n) nodes' o r
-      → Answers z ended (o >>= λ x. ok (put k x (meant (w .texts) (z .c) (z .kids)))) r)
+      → Answers z ended (o >>= λ x. ok (put k x (borne (w .texts) (z .c) (z .kids)))) r)
       → Alters (walkedTo p) z ended path at change r
   unfolding child-site
   through {nodes'} {ended} {r} z alters up f u us makes short inside from =
       more-left read short inside from end next e λ v vs more first later.
       the-child s is z (read .named .names short inside .token) there λ k named kth place.
       let n : ChildOf w p name inner z k = (named, kth, place) in
-      let o = atParent f v vs (meant (w .texts) (nth blank k (z .kids) .root) (nth blank k (z .kids) .kids)) in
+      let o = atParent f v vs (borne (w .texts) (nth blank k (z .kids) .root) (nth blank k (z .kids) .kids)) in
       let within = next-order (partOf (w .texts) path) at t (read .is) end next e .2 in
       let y = down w p name inner below one-less z k n in
       let answer : Answers y nodes' (fartherBy (walkedTo p + 1) o) r = alters y f v vs makes short within later in
-      let same : atParent f u us (meant (w .texts) (z .c) (z .kids)) ≡ farther o >>= λ x. ok (put k x (meant (w .texts) (z .c) (z .kids))) =
+      let same : atParent f u us (borne (w .texts) (z .c) (z .kids)) ≡ farther o >>= λ x. ok (put k x (borne (w .texts) (z .c) (z .kids))) =
       rw (more, first) (child-outcome z (nameText (w .texts) name) k below (ap suc one-less) named kth inner place f v vs) in
       let behind = farther-back z (nameText (w .texts) name) k below (ap suc one-less) named kth inner place (walkedTo p) o in
       same-answers (ap (fartherBy (walkedTo p)) same ∙ behind) (up k n (fartherBy (walkedTo p + 1) o) answer)
 
   back-refused : {nodes' : List Row} {number told : ℕ} (z : SiteOf w p) (k : ℕ) (n : ChildOf w p name inner z k) (o : Outcome Value.Value)
       → Answers (down w p name inner below one-less z k n) nodes' o (Refused number told)
-      → Answers z nodes' (o >>= λ x. ok (put k x (meant (w .texts) (z .c) (z .kids)))) (Refused number told)
+      → Answers z nodes' (o >>= λ x. ok (put k x (borne (w .texts) (z .c) (z .kids)))) (Refused number told)
   back-refused z k n o answer = up-refused z (nameText (w .texts) name) k below (ap suc one-less) (n .0) (n .1) inner (n .2) answer
 
   -- a child that nests no container has none of its own

@@ -9,10 +9,13 @@ use Rattle.spec.specs.Outcome.{Outcome, ok, refused, _>>=_, if_then_else_}
 use Rattle.spec.specs.Refusal.{location-missing, no-index}
 use Rattle.spec.specs.Bytes.{Text}
 use Rattle.spec.specs.Forest.{Forest, count, before, from, nth, insertAt, removeAt, replaceAt}
-use Rattle.spec.specs.Value as Value
-use Rattle.spec.specs.Value.{find, named}
-use Rattle.spec.specs.Pointer.{childAt, elementBelow, isDash}
-use Rattle.spec.specs.Operation.{put, withKids, insertElement, insertMember, insertChild, removeChild, replaceChild}
+use Rattle.spec.specs.Value.{find}
+use Rattle.spec.specs.Pointer as Plain
+use Rattle.spec.specs.Pointer.{elementBelow, isDash}
+use Rattle.origin.specs.Value as Value
+use Rattle.origin.specs.Value.{named}
+use Rattle.origin.specs.Pointer.{childAt}
+use Rattle.origin.specs.Operation.{put, withKids, insertElement, insertMember, insertChild, removeChild, replaceChild}
 use Rattle.tape.specs.Layout.{arrayKind, objectKind}
 use Rattle.tape.specs.Fields.{Row, noNode, kindOf, spanOf, nameOf}
 use Rattle.tape.specs.declared.fields.Name.{Name}
@@ -27,6 +30,7 @@ use Rattle.tape.proofs.Rows.{kind-here, end-here, childRow-end, childOf-at, chi
 use Rattle.tape.proofs.Held.{held-node}
 use Rattle.tape.proofs.Map.{count-map}
 use Rattle.table.specs.Meaning.{nameText, entryOf, members, meant}
+use Rattle.walk.specs.Bearing.{bearing, borneMembers, borne}
 use Rattle.table.specs.Find.{Found, found, missing, FindIs}
 use Rattle.table.specs.declared.find.Member.{Member}
 use Rattle.table.specs.declared.find.Member.the-variants as Member
@@ -40,6 +44,7 @@ use Rattle.walk.specs.Path.{fartherBy}
 use Rattle.walk.specs.Step.{Stepped, stepped, missed, StepIs}
 use Rattle.walk.specs.declared.steps.Child.{Child}
 use Rattle.walk.specs.declared.steps.Child.the-variants as Child
+use Rattle.walk.proofs.Children.{childAt-borne}
 use Rattle.walk.proofs.StepLaws.{few-children, asked}
 use Rattle.changes.specs.Cut.{renamed}
 use Rattle.changes.specs.Site.{Site, Offered, table}
@@ -55,7 +60,7 @@ use Rattle.changes.specs.declared.answers.Altered.the-variants.{Refused}
 use Rattle.changes.proofs.LimitLaws.{limited-refused}
 use Rattle.changes.proofs.CutLaws.{cut-before, cut-around}
 use Rattle.changes.proofs.SiteLaws.{site-held, site-fit, child-rows, child-name, child-told}
-use Rattle.changes.proofs.MeantLaws.{no-name, no-name-fits, no-name-told, removed-meant, inserted-meant, put-meant, name-fits, token-fits}
+use Rattle.changes.proofs.BorneLaws.{members-borne, no-name, no-name-fits, no-name-told, removed-borne, inserted-borne, put-borne, name-fits, token-fits}
 
 module _ {w : Table} {used row levels : ℕ} {z : Site w used row levels} {nodes' : List Row} where
   pub same-answers : {o p : Outcome Value.Value} {r : Altered} → o ≡ p → Answers z nodes' p r → Answers z nodes' o r
@@ -81,7 +86,7 @@ module _ {nodes nodes' : List Row} {p : Parent} {at source : ℕ} {r : Altered} 
         frame = is .frame;
         held = λ T z x kids k offered kth place.
             let same : name ≡ nth blank k (z .kids) .root .name = name-is ∙ child-name z k kth place in
-            let outcome = ap ok (put-meant T k (z .c) (z .kids) x kids ∙ ap (λ n. meant T (z .c) (replaceAt k (renamed n x kids) (z .kids))) (sym same)) in
+            let outcome = ap ok (put-borne T k (z .c) (z .kids) x kids ∙ ap (λ n. borne T (z .c) (replaceAt k (renamed n x kids) (z .kids))) (sym same)) in
             let container = container-fit (site-fit z) (omega arith) in
             let told : Told (name .text) = rw same (child-told z k kth place) in
             let cut = cut-around k place kth removed (child-rows z k kth place removed-is) in
@@ -136,31 +141,32 @@ module _ {nodes : List Row} {row : ℕ} where
 -- ---- an element added
 module _ {T : Texts} {token : Name} (i : Index) (index-of : IsToken T token → indexOf (nameText T token) ≡ i) (c x : Cell) (kids below : Forest Cell)
     (fit : Fit c kids) (t : IsToken T token) where
-  element-position : (if isDash (nameText T token) then ok (count (members T kids)) else elementBelow (suc (count (members T kids))) (nameText T token))
+  element-position :
+      (if isDash (nameText T token) then ok (count (borneMembers T kids)) else elementBelow (suc (count (borneMembers T kids))) (nameText T token))
       ≡ insertionAt (count kids) i
   element-position =
-      rw (count-map (entryOf T) kids) (insertion (count kids) (nameText T token) (few-children fit) ∙ ap (insertionAt (count kids)) (index-of t))
+      rw (count-map (bearing T) kids) (insertion (count kids) (nameText T token) (few-children fit) ∙ ap (insertionAt (count kids)) (index-of t))
 
   element-placed : (k : ℕ) → insertionAt (count kids) i ≡ ok k
-      → insertElement (meant T x below) (nameText T token) (meant T c kids) ≡ ok (meant T c (insertAt k (renamed noName x below) kids))
+      → insertElement (borne T x below) (nameText T token) (borne T c kids) ≡ ok (borne T c (insertAt k (renamed noName x below) kids))
   unfolding insertElement _>>=_
   element-placed k e =
       rw (element-position ∙ e)
-      (ap (λ n. ok (withKids (meant T c kids) (insertAt k (named n (meant T x below)) (members T kids)))) (sym (no-name T))
-      ∙ ap ok (inserted-meant T k c kids x below noName))
+      (ap (λ n. ok (withKids (borne T c kids) (insertAt k (named n (borne T x below)) (borneMembers T kids)))) (sym (no-name T))
+      ∙ ap ok (inserted-borne T k c kids x below noName))
 
   element-unplaced : (number : ℕ) → insertionAt (count kids) i ≡ refused number 0
-      → insertElement (meant T x below) (nameText T token) (meant T c kids) ≡ refused number 0
+      → insertElement (borne T x below) (nameText T token) (borne T c kids) ≡ refused number 0
   unfolding insertElement _>>=_
   element-unplaced number e = rw (element-position ∙ e)
 
 -- what the definitions say of a new element, and of a new member
 module _ (w : Table) (p : Parent) (token : Name) (z : SiteOf w p) (x : Cell) (kids : Forest Cell) where
   abbrev with-element : Outcome Value.Value
-  with-element = fartherBy (walkedTo p) (insertElement (meant (w .texts) x kids) (nameText (w .texts) token) (meant (w .texts) (z .c) (z .kids)))
+  with-element = fartherBy (walkedTo p) (insertElement (borne (w .texts) x kids) (nameText (w .texts) token) (borne (w .texts) (z .c) (z .kids)))
 
   abbrev with-member : Outcome Value.Value
-  with-member = ok (insertMember (meant (w .texts) x kids) (nameText (w .texts) token) (meant (w .texts) (z .c) (z .kids)))
+  with-member = ok (insertMember (borne (w .texts) x kids) (nameText (w .texts) token) (borne (w .texts) (z .c) (z .kids)))
 
 module _ {w : Table} {p : Parent} {token : Name} (i : Index) (index-of : IsToken (w .texts) token → indexOf (nameText (w .texts) token) ≡ i) (z : SiteOf w p)
     (x : Cell) (kids : Forest Cell) (t : IsToken (w .texts) token) where
@@ -205,15 +211,15 @@ module _ {w : Table} {p : Parent} {token : Name} {source : ℕ} (i : Index) (ind
 -- ---- a member added
 module _ (T : Texts) (c x : Cell) (kids below : Forest Cell) (name : Text) where
   member-there : (k : ℕ) → find name (members T kids) ≡ k → k < count kids
-      → insertMember (meant T x below) name (meant T c kids) ≡ put k (meant T x below) (meant T c kids)
+      → insertMember (borne T x below) name (borne T c kids) ≡ put k (borne T x below) (borne T c kids)
   unfolding insertMember
-  member-there k e l = rw (count-map (entryOf T) kids, e, lt-ltb k (count kids) l)
+  member-there k e l = rw (members-borne T kids, count-map (entryOf T) kids, e, lt-ltb k (count kids) l)
 
   member-new : find name (members T kids) ≡ count kids
-      → insertMember (meant T x below) name (meant T c kids)
-      ≡ withKids (meant T c kids) (insertAt (count kids) (named name (meant T x below)) (members T kids))
+      → insertMember (borne T x below) name (borne T c kids)
+      ≡ withKids (borne T c kids) (insertAt (count kids) (named name (borne T x below)) (borneMembers T kids))
   unfolding insertMember
-  member-new e = rw (count-map (entryOf T) kids, e, le-ltb (count kids) (count kids) (omega arith))
+  member-new e = rw (members-borne T kids, count-map (entryOf T) kids, count-map (bearing T) kids, e, le-ltb (count kids) (count kids) (omega arith))
 
 module _ {w : Table} {p : Parent} {token : Name} (z : SiteOf w p) (x : Cell) (kids : Forest Cell) (t : IsToken (w .texts) token) {nodes' : List Row}
     {source : ℕ} {r : Altered} (offered : Offered w source x kids) where
@@ -234,7 +240,7 @@ module _ {w : Table} {p : Parent} {token : Name} (z : SiteOf w p) (x : Cell) (ki
       let n : ℕ = count (z .kids) in
       let cut = cut-before n (at-end end n ends (held-node (site-held z .held)) (omega arith)) in
       same-answers
-      (ap ok (member-new (w .texts) (z .c) x (z .kids) kids (nameText (w .texts) token) f ∙ inserted-meant (w .texts) n (z .c) (z .kids) x kids token))
+      (ap ok (member-new (w .texts) (z .c) x (z .kids) kids (nameText (w .texts) token) f ∙ inserted-borne (w .texts) n (z .c) (z .kids) x kids token))
       (put-is .held (w .texts) z x kids (before n (z .kids)) (from n (z .kids)) (omega (arith, kind)) offered (token-fits t) (t .told) cut)
 
 module _ {w : Table} {p : Parent} {token : Name} {source : ℕ} (end : ℕ) (ends : end ≡ endOf (w .nodes) (p .row)) (m : Member)
@@ -262,11 +268,11 @@ here : {w : Table} {used row levels k : ℕ} → k ≡ kindOf (getD (w .nodes) r
 here kind z = kind ∙ kind-here (held-node (site-held z .held))
 
 module _ (T : Texts) (c : Cell) (kids : Forest Cell) (fits : c .kind ≤ objectKind) (x : Value.Value) (t : Text) where
-  insert-array : c .kind ≡ arrayKind → insertChild x t (meant T c kids) ≡ insertElement x t (meant T c kids)
+  insert-array : c .kind ≡ arrayKind → insertChild x t (borne T c kids) ≡ insertElement x t (borne T c kids)
   unfolding insertChild
   insert-array e = rw (isArray-label T (c .kind) (c .value) fits, eq-eqb (c .kind) arrayKind e)
 
-  insert-object : c .kind ≡ objectKind → insertChild x t (meant T c kids) ≡ ok (insertMember x t (meant T c kids))
+  insert-object : c .kind ≡ objectKind → insertChild x t (borne T c kids) ≡ ok (insertMember x t (borne T c kids))
   unfolding insertChild
   insert-object e =
       rw (
@@ -276,7 +282,7 @@ module _ (T : Texts) (c : Cell) (kids : Forest Cell) (fits : c .kind ≤ objectK
         eq-eqb (c .kind) objectKind e,
       )
 
-  pub insert-scalar : (c .kind ≡ arrayKind → ⊥) → (c .kind ≡ objectKind → ⊥) → insertChild x t (meant T c kids) ≡ refused location-missing 0
+  pub insert-scalar : (c .kind ≡ arrayKind → ⊥) → (c .kind ≡ objectKind → ⊥) → insertChild x t (borne T c kids) ≡ refused location-missing 0
   unfolding insertChild
   insert-scalar e f =
       rw (
@@ -296,7 +302,7 @@ module _ {w : Table} {p : Parent} {token : Name} {source : ℕ} (k : ℕ) (kind 
               let array = sym (here kind z) ∙ e in
               same-answers
               (ap (fartherBy (walkedTo p))
-              (insert-array (w .texts) (z .c) (z .kids) (site-fit z .kind) (meant (w .texts) x kids) (nameText (w .texts) token) array))
+              (insert-array (w .texts) (z .c) (z .kids) (site-fit z .kind) (borne (w .texts) x kids) (nameText (w .texts) token) array))
               (is .held z x kids array offered t);
         }
 
@@ -309,7 +315,7 @@ module _ {w : Table} {p : Parent} {token : Name} {source : ℕ} (k : ℕ) (kind 
               let object = sym (here kind z) ∙ e in
               same-answers
               (ap (fartherBy (walkedTo p))
-              (insert-object (w .texts) (z .c) (z .kids) (site-fit z .kind) (meant (w .texts) x kids) (nameText (w .texts) token) object))
+              (insert-object (w .texts) (z .c) (z .kids) (site-fit z .kind) (borne (w .texts) x kids) (nameText (w .texts) token) object))
               (is .held z x kids object offered t);
         }
 
@@ -320,7 +326,7 @@ module _ {w : Table} {p : Parent} {token : Name} {source : ℕ} (k : ℕ) (kind 
         frame = unchanged refl;
         held = λ x kids offered z t.
             answers-refused
-            (insert-scalar (w .texts) (z .c) (z .kids) (site-fit z .kind) (meant (w .texts) x kids) (nameText (w .texts) token) (λ g. e (here kind z ∙ g))
+            (insert-scalar (w .texts) (z .c) (z .kids) (site-fit z .kind) (borne (w .texts) x kids) (nameText (w .texts) token) (λ g. e (here kind z ∙ g))
             (λ g. f (here kind z ∙ g)))
             walked;
       }
@@ -329,21 +335,24 @@ module _ {w : Table} {p : Parent} {token : Name} {source : ℕ} (k : ℕ) (kind 
 module _ {w : Table} {row : ℕ} {token : Name} (s : Child) (is : StepIs w row token s) {used levels : ℕ}
     (z : Site w used row levels) (t : IsToken (w .texts) token) where
   abbrev child-of : Outcome ℕ
-  child-of = childAt (nameText (w .texts) token) (meant (w .texts) (z .c) (z .kids))
+  child-of = childAt (nameText (w .texts) token) (borne (w .texts) (z .c) (z .kids))
+
+  abbrev plain-child : Outcome ℕ
+  plain-child = Plain.childAt (nameText (w .texts) token) (meant (w .texts) (z .c) (z .kids))
 
   -- where the token names no child, neither has one
   pub no-child : {number : ℕ} → s ≡ Child.Refused number → child-of ≡ refused number 0
   no-child {number} e = go (is .held t (z .c) (z .kids) (site-held z)) e
     where
-      go : {q : Child} → Stepped row (z .kids) child-of q → q ≡ Child.Refused number → child-of ≡ refused number 0
+      go : {q : Child} → Stepped row (z .kids) plain-child q → q ≡ Child.Refused number → child-of ≡ refused number 0
       go (stepped k at f l p) g = absurd (let w : _≡_ {A = ℕ} 0 1 = cc in omega arith)
-      go (missed n f) g = let same : n ≡ number = cc in f ∙ ap (λ m. refused m 0) same
+      go (missed n f) g = let same : n ≡ number = cc in childAt-borne (w .texts) _ (z .c) (z .kids) f ∙ ap (λ m. refused m 0) same
 
   pub the-child : {C : Type 0} {at : ℕ} → s ≡ Child.At at → ((k : ℕ) → child-of ≡ ok k → k < count (z .kids) → at ≡ childRow row k (z .kids) → C) → C
   the-child {C} {at} e then-it = go (is .held t (z .c) (z .kids) (site-held z)) e
     where
-      go : {q : Child} → Stepped row (z .kids) child-of q → q ≡ Child.At at → C
-      go (stepped k at' f l p) g = let same : at' ≡ at = cc in then-it k f l (sym same ∙ p)
+      go : {q : Child} → Stepped row (z .kids) plain-child q → q ≡ Child.At at → C
+      go (stepped k at' f l p) g = let same : at' ≡ at = cc in then-it k (childAt-borne (w .texts) _ (z .c) (z .kids) f) l (sym same ∙ p)
       go (missed n f) g = absurd (let w : _≡_ {A = ℕ} 0 1 = cc in omega arith)
 
 module _ {w : Table} {p : Parent} {token : Name} (s : Child) (is : StepIs w (p .row) token s) where
@@ -366,8 +375,8 @@ module _ {w : Table} {p : Parent} {token : Name} (s : Child) (is : StepIs w (p .
           frame = out .frame;
           held = λ z t.
               the-child s is z t e λ k f l place.
-              let gives : removeChild (nameText (w .texts) token) (meant (w .texts) (z .c) (z .kids)) ≡ ok (meant (w .texts) (z .c) (removeAt k (z .kids))) =
-              rw f (ap ok (removed-meant (w .texts) k (z .c) (z .kids))) in
+              let gives : removeChild (nameText (w .texts) token) (borne (w .texts) (z .c) (z .kids)) ≡ ok (borne (w .texts) (z .c) (removeAt k (z .kids))) =
+              rw f (ap ok (removed-borne (w .texts) k (z .c) (z .kids))) in
               same-answers (ap (fartherBy (walkedTo p)) gives) (out .held (w .texts) z k l place);
         }
 
@@ -378,8 +387,8 @@ module _ {w : Table} {p : Parent} {token : Name} (s : Child) (is : StepIs w (p .
           frame = replaced .frame;
           held = λ x kids offered z t.
               the-child s is z t e λ k f l place.
-              let v = meant (w .texts) (z .c) (z .kids) in
-              let gives : replaceChild (meant (w .texts) x kids) (nameText (w .texts) token) v ≡ ok (put k (meant (w .texts) x kids) v) = rw f in
+              let v = borne (w .texts) (z .c) (z .kids) in
+              let gives : replaceChild (borne (w .texts) x kids) (nameText (w .texts) token) v ≡ ok (put k (borne (w .texts) x kids) v) = rw f in
               same-answers (ap (fartherBy (walkedTo p)) gives) (replaced .held (w .texts) z x kids k offered l place);
         }
 

@@ -3,9 +3,10 @@ pub mod CutLaws
 pub mod KeptLaws
 pub mod SiteLaws
 pub mod PutLaws
-pub mod MeantLaws
+pub mod BorneLaws
 pub mod TokenLaws
 pub mod ChangeLaws
 pub mod AlterLaws
+pub mod ForgetLaws
 pub mod DocumentLaws
 pub mod PathLaws

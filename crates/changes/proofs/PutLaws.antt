@@ -10,8 +10,8 @@ use Rattle.spec.specs.Outcome.{Outcome, ok, refused}
 use Rattle.spec.specs.Refusal.{too-deep, too-many-nodes}
 use Rattle.spec.specs.Limits.{maxNodes}
 use Rattle.spec.specs.Forest.{Forest, none, tree, single, count, size, before, from, removeAt, _⧺_}
-use Rattle.spec.specs.Value as Value
-use Rattle.spec.specs.Value.{depth}
+use Rattle.origin.specs.Value as Value
+use Rattle.origin.specs.Value.{depth}
 use Rattle.tape.specs.Layout.{arrayKind, values, rows}
 use Rattle.tape.specs.Fields.{Row, noNode, spanOf, withSpan, cellOf, rowWith}
 use Rattle.tape.specs.Columns.{usedAfter, spliced}
@@ -29,10 +29,9 @@ use Rattle.tape.proofs.Forests.{size-single}
 use Rattle.tape.proofs.Changes.{laid-word, laid-span}
 use Rattle.tape.proofs.Rows.{span-here, inside-here}
 use Rattle.tape.proofs.Held.{held-node}
-use Rattle.table.specs.Meaning.{meant}
+use Rattle.walk.specs.Bearing.{borne}
 use Rattle.table.specs.All.{all-none}
 use Rattle.table.specs.Sound.{NameFits, Sound}
-use Rattle.table.proofs.MeaningLaws.{depth-meant, nodes-meant}
 use Rattle.table.proofs.AllLaws.{all-single}
 use Rattle.changes.specs.Limited.{limitedTo}
 use Rattle.changes.specs.Site.{Standing, Site, Offered}
@@ -42,6 +41,7 @@ use Rattle.changes.specs.Change.{Answers, done, refusal, PutIs, TakeOutI
 use Rattle.changes.specs.declared.trees.Parent.{Parent}
 use Rattle.changes.specs.declared.answers.Altered.the-variants.{Done, Refused}
 use Rattle.changes.proofs.LimitLaws.{limited-deep, limited-large, limited-fits}
+use Rattle.changes.proofs.BorneLaws.{depth-borne, nodes-borne}
 use Rattle.changes.proofs.CutLaws.{cut-inside, cut-formed, cut-sound, cut-size, cut-deep, cut-around, past-front, laid-exchange}
 use Rattle.changes.proofs.KeptLaws.{behind-set, behind-spliced}
 use Rattle.changes.proofs.SiteLaws.{site-fit, site-inside, site-deep, child-rows, renamed-fit, laid-rename}
@@ -92,10 +92,10 @@ module _ {w : Table} {used row levels : ℕ} (z : Site w used row levels) {at re
     changed-formed = cut-formed cut (formed-kids (z .standing .formed)) formed
 
     abbrev then-value : Value.Value
-    then-value = meant (w .texts) (z .c) changed
+    then-value = borne (w .texts) (z .c) changed
 
     depth-changed : depth then-value ≡ suc (deep changed)
-    depth-changed = depth-meant (w .texts) (z .c) changed (site-fit z .kind) changed-formed ∙ level-container (z .c) (deep changed) container
+    depth-changed = depth-borne (w .texts) (z .c) changed (site-fit z .kind) changed-formed ∙ level-container (z .c) (deep changed) container
 
     -- ---- the limits, by what is new
     pub changed-deep : levels < suc (deep new) → limitedTo levels (z .room) (ok then-value) ≡ refused too-deep 0
@@ -108,12 +108,12 @@ module _ {w : Table} {used row levels : ℕ} (z : Site w used row levels) {at re
       pub changed-large : maxNodes < usedAfter used removed (size new) → limitedTo levels (z .room) (ok then-value) ≡ refused too-many-nodes 0
       changed-large l =
           limited-large levels (z .room) then-value shallow
-          (omega (arith, nodes-meant (w .texts) (z .c) changed, cut-size cut new, z .fits, site-inside z, cut-inside cut))
+          (omega (arith, nodes-borne (w .texts) (z .c) changed, cut-size cut new, z .fits, site-inside z, cut-inside cut))
 
       pub changed-fits : usedAfter used removed (size new) ≤ maxNodes → limitedTo levels (z .room) (ok then-value) ≡ ok then-value
       changed-fits l =
           limited-fits levels (z .room) then-value shallow
-          (omega (arith, nodes-meant (w .texts) (z .c) changed, cut-size cut new, z .fits, site-inside z, cut-inside cut))
+          (omega (arith, nodes-borne (w .texts) (z .c) changed, cut-size cut new, z .fits, site-inside z, cut-inside cut))
 
     -- ---- the list, where rows are exchanged and the node's span is set
     module _ (sound : Sound (w .texts) new) (now : ℕ) (now-is : now ≡ usedAfter used removed (size new)) (few : now ≤ maxNodes) {nodes' : List Row}
@@ -179,7 +179,7 @@ module _ {w : Table} {source : ℕ} {x : Cell} {kids : Forest Cell} (offered : O
     module _ {used row below : ℕ} (z : Site w used row (suc below)) {at removed : ℕ} {left right : Forest Cell} (container : arrayKind ≤ z .c .kind)
         (cut : Cut row (z .kids) at removed left right) where
       abbrev outcome : Outcome Value.Value
-      outcome = ok (meant (w .texts) (z .c) (left ⧺ new ⧺ right))
+      outcome = ok (borne (w .texts) (z .c) (left ⧺ new ⧺ right))
 
       pub put-deep : {nodes' : List Row} {r : Bool} → WithinIs (w .nodes) source below r → r ≡ false → Answers z nodes' outcome (Refused too-deep 0)
       put-deep is e =
@@ -240,7 +240,7 @@ module _ {w : Table} {used row levels : ℕ} (z : Site w used row levels) (k : �
   no-rows = record { before = omega arith; after = omega arith; there = omega (arith, z .few, z .long) }
 
   pub taken-out : (now : ℕ) → now ≡ used - removed → {nodes' : List Row} → nodes' ≡ resized (spliced (w .nodes) used at removed used 0) row used now
-      → Answers z nodes' (ok (meant (w .texts) (z .c) (removeAt k (z .kids)))) (Done now)
+      → Answers z nodes' (ok (borne (w .texts) (z .c) (removeAt k (z .kids)))) (Done now)
   unfolding removeAt _⧺_ tape deep size
   taken-out now now-is e =
       let left : usedAfter used removed 0 ≡ now = omega arith in

@@ -1,4 +1,4 @@
--- What a change of a node's children answers.
+-- What a change of a node's children answers. Values bear their origins: document 02, T-11.
 use Prim.Native.Nat.{ℕ, suc, _≤_, _<_}
 use mathlib.Core.Path.{_≡_}
 use mathlib.Core.List.{List, _∷_}
@@ -6,9 +6,9 @@ use lib.ListN.{length}
 use Rattle.spec.specs.Outcome.{Outcome, ok, refused}
 use Rattle.spec.specs.Bytes.{Text}
 use Rattle.spec.specs.Forest.{Forest, single, count, removeAt, _⧺_}
-use Rattle.spec.specs.Value as Value
+use Rattle.origin.specs.Value as Value
 use Rattle.spec.specs.Pointer.{Tokens}
-use Rattle.spec.specs.Operation.{put, atParent, insertElement, insertMember, insertChild, removeChild, replaceChild}
+use Rattle.origin.specs.Operation.{put, atParent, insertElement, insertMember, insertChild, removeChild, replaceChild}
 use Rattle.tape.specs.Layout.{arrayKind, objectKind}
 use Rattle.tape.specs.Fields.{Row}
 use Rattle.tape.specs.declared.fields.Spelling.{Spelling}
@@ -17,12 +17,13 @@ use Rattle.tape.specs.declared.fields.Cell.{Cell}
 use Rattle.tape.specs.Cell.{Told}
 use Rattle.tape.specs.Rows.{childRow, ForNode}
 use Rattle.tape.specs.Lent.{Texts, Table}
-use Rattle.table.specs.Meaning.{nameText, partOf, meant}
+use Rattle.table.specs.Meaning.{nameText, partOf}
 use Rattle.table.specs.Sound.{NameFits}
 use Rattle.pointer.specs.Index.{insertionAt}
 use Rattle.pointer.specs.declared.answers.Index.{Index}
 use Rattle.walk.specs.declared.steps.Child.{Child}
 use Rattle.walk.specs.declared.steps.Child.the-variants as Child
+use Rattle.walk.specs.Bearing.{borne}
 use Rattle.walk.specs.Names.{IsToken, Short}
 use Rattle.walk.specs.Path.{fartherBy, TokensFrom}
 use Rattle.changes.specs.Limited.{limitedTo}
@@ -42,7 +43,7 @@ ByToken = Text → Value.Value → Outcome Value.Value
 -- The outcome of a change of the children of the node at a site, given what it is by the definitions before the limits are judged. Where it is done
 -- the node has other children in their place, and nothing around it has changed.
 pub data Answers {w : Table} {used row levels : ℕ} (z : Site w used row levels) (nodes' : List Row) (o : Outcome Value.Value) : Altered → Type 0 where
-  done : {now : ℕ} {kids : Forest Cell} → limitedTo levels (z .room) o ≡ ok (meant (w .texts) (z .c) kids)
+  done : {now : ℕ} {kids : Forest Cell} → limitedTo levels (z .room) o ≡ ok (borne (w .texts) (z .c) kids)
       → Standing (w .texts) nodes' now row (z .around) (z .c) kids → Answers z nodes' o (Done now)
   refusal : {number place : ℕ} → limitedTo levels (z .room) o ≡ refused number place → Answers z nodes' o (Refused number place)
 
@@ -58,14 +59,14 @@ pub record PutIs (nodes nodes' : List Row) (p : Parent) (at removed source : ℕ
   pub frame : Frame nodes nodes' r
   pub held : (T : Texts) (z : SiteOf (table T nodes) p) (x : Cell) (kids left right : Forest Cell) → arrayKind ≤ z .c .kind
       → Offered (table T nodes) source x kids → NameFits T name → Told (name .text) → Cut (p .row) (z .kids) at removed left right
-      → Answers z nodes' (ok (meant T (z .c) (left ⧺ single (renamed name x kids) ⧺ right))) r
+      → Answers z nodes' (ok (borne T (z .c) (left ⧺ single (renamed name x kids) ⧺ right))) r
 
 -- a child taken out
 pub record TakeOutIs (nodes nodes' : List Row) (p : Parent) (at : ℕ) (r : Altered) : Type 0 where
   pub rows : TakenRows nodes nodes' p at r
   pub frame : Frame nodes nodes' r
   pub held : (T : Texts) (z : SiteOf (table T nodes) p) (k : ℕ) → k < count (z .kids) → at ≡ childRow (p .row) k (z .kids)
-      → Answers z nodes' (ok (meant T (z .c) (removeAt k (z .kids)))) r
+      → Answers z nodes' (ok (borne T (z .c) (removeAt k (z .kids)))) r
 
 -- ---- a child changed by its token
 -- the row where a child is to stand among the children of the node in a row, at a position up to their number, or the refusal's number
@@ -81,7 +82,7 @@ InsertionIs nodes row i r = ForNode nodes row (λ c kids. Placed row kids (inser
 abbrev pub Replaced : Table → List Row → Parent → ℕ → ℕ → Altered → Type 0
 Replaced w nodes' p at source r =
     (z : SiteOf w p) (x : Cell) (kids : Forest Cell) (k : ℕ) → Offered w source x kids → k < count (z .kids) → at ≡ childRow (p .row) k (z .kids)
-    → Answers z nodes' (ok (put k (meant (w .texts) x kids) (meant (w .texts) (z .c) (z .kids)))) r
+    → Answers z nodes' (ok (put k (borne (w .texts) x kids) (borne (w .texts) (z .c) (z .kids)))) r
 
 pub record ReplaceTreeIs (nodes nodes' : List Row) (p : Parent) (at source : ℕ) (r : Altered) : Type 0 where
   pub frame : Frame nodes nodes' r
@@ -91,26 +92,26 @@ pub record ReplaceTreeIs (nodes nodes' : List Row) (p : Parent) (at source : ℕ
 abbrev pub Changed : Table → List Row → Parent → Name → ByToken → Altered → Type 0
 Changed w nodes' p token f r =
     (z : SiteOf w p) → IsToken (w .texts) token
-    → Answers z nodes' (fartherBy (walkedTo p) (f (nameText (w .texts) token) (meant (w .texts) (z .c) (z .kids)))) r
+    → Answers z nodes' (fartherBy (walkedTo p) (f (nameText (w .texts) token) (borne (w .texts) (z .c) (z .kids)))) r
 
 module _ (w : Table) (nodes' : List Row) (p : Parent) (token : Name) (source : ℕ) (r : Altered) where
   pub record AddElementIs : Type 0 where
     pub frame : Frame (w .nodes) nodes' r
     pub held : (z : SiteOf w p) (x : Cell) (kids : Forest Cell) → z .c .kind ≡ arrayKind → Offered w source x kids → IsToken (w .texts) token
-        → Answers z nodes' (fartherBy (walkedTo p) (insertElement (meant (w .texts) x kids) (nameText (w .texts) token) (meant (w .texts) (z .c) (z .kids)))) r
+        → Answers z nodes' (fartherBy (walkedTo p) (insertElement (borne (w .texts) x kids) (nameText (w .texts) token) (borne (w .texts) (z .c) (z .kids)))) r
 
   pub record AddMemberIs : Type 0 where
     pub frame : Frame (w .nodes) nodes' r
     pub held : (z : SiteOf w p) (x : Cell) (kids : Forest Cell) → z .c .kind ≡ objectKind → Offered w source x kids → IsToken (w .texts) token
-        → Answers z nodes' (ok (insertMember (meant (w .texts) x kids) (nameText (w .texts) token) (meant (w .texts) (z .c) (z .kids)))) r
+        → Answers z nodes' (ok (insertMember (borne (w .texts) x kids) (nameText (w .texts) token) (borne (w .texts) (z .c) (z .kids)))) r
 
   pub record AddIs : Type 0 where
     pub frame : Frame (w .nodes) nodes' r
-    pub held : (x : Cell) (kids : Forest Cell) → Offered w source x kids → Changed w nodes' p token (insertChild (meant (w .texts) x kids)) r
+    pub held : (x : Cell) (kids : Forest Cell) → Offered w source x kids → Changed w nodes' p token (insertChild (borne (w .texts) x kids)) r
 
   pub record ReplaceIs : Type 0 where
     pub frame : Frame (w .nodes) nodes' r
-    pub held : (x : Cell) (kids : Forest Cell) → Offered w source x kids → Changed w nodes' p token (replaceChild (meant (w .texts) x kids)) r
+    pub held : (x : Cell) (kids : Forest Cell) → Offered w source x kids → Changed w nodes' p token (replaceChild (borne (w .texts) x kids)) r
 
 pub record RemoveIs (w : Table) (nodes' : List Row) (p : Parent) (token : Name) (r : Altered) : Type 0 where
   pub frame : Frame (w .nodes) nodes' r
@@ -118,9 +119,9 @@ pub record RemoveIs (w : Table) (nodes' : List Row) (p : Parent) (token : Name) 
 
 -- what a change is by the definitions
 pub data Makes (w : Table) : Change → ByToken → Type 0 where
-  adds : (source : ℕ) (x : Cell) (kids : Forest Cell) → Offered w source x kids → Makes w (Add source) (insertChild (meant (w .texts) x kids))
+  adds : (source : ℕ) (x : Cell) (kids : Forest Cell) → Offered w source x kids → Makes w (Add source) (insertChild (borne (w .texts) x kids))
   removes : Makes w Remove removeChild
-  replaces : (source : ℕ) (x : Cell) (kids : Forest Cell) → Offered w source x kids → Makes w (Replace source) (replaceChild (meant (w .texts) x kids))
+  replaces : (source : ℕ) (x : Cell) (kids : Forest Cell) → Offered w source x kids → Makes w (Replace source) (replaceChild (borne (w .texts) x kids))
 
 pub record ChangeChildIs (w : Table) (nodes' : List Row) (p : Parent) (token : Name) (change : Change) (r : Altered) : Type 0 where
   pub frame : Frame (w .nodes) nodes' r
@@ -130,7 +131,7 @@ pub record ChangeChildIs (w : Table) (nodes' : List Row) (p : Parent) (token : N
 abbrev pub Alters : {w : Table} {used row levels : ℕ} → ℕ → Site w used row levels → List Row → Spelling → ℕ → Change → Altered → Type 0
 Alters {w} walked z nodes' path at change r =
     (f : ByToken) (t : Text) (ts : Tokens) → Makes w change f → Short (w .texts) → at ≤ length (partOf (w .texts) path)
-    → TokensFrom (w .texts) path at (t ∷ ts) → Answers z nodes' (fartherBy walked (atParent f t ts (meant (w .texts) (z .c) (z .kids)))) r
+    → TokensFrom (w .texts) path at (t ∷ ts) → Answers z nodes' (fartherBy walked (atParent f t ts (borne (w .texts) (z .c) (z .kids)))) r
 
 pub record AlterIs (w : Table) (nodes' : List Row) (p : Parent) (path : Spelling) (at : ℕ) (change : Change) (r : Altered) : Type 0 where
   pub frame : Frame (w .nodes) nodes' r

@@ -17,6 +17,10 @@ use Rattle.tape.specs.declared.fields.Cell.{Cell}
 use Rattle.tape.specs.Lent.{Texts, Table}
 use Rattle.table.specs.Meaning.{meant}
 use Rattle.table.specs.Sound.{NodeHeld}
+use Rattle.origin.specs.Value as Origin
+use Rattle.origin.specs.Value.{forget}
+use Rattle.origin.specs.Operation as Origins
+use Rattle.walk.specs.Bearing.{borne}
 use Rattle.walk.specs.Names.{Short}
 use Rattle.walk.specs.Path.{PathIs}
 use Rattle.changes.specs.Site.{Offered, table}
@@ -42,10 +46,13 @@ abbrev pub judged : Outcome Value.Value → Outcome Value.Value
 judged o = o >>= notTooDeep >>= notTooLarge
 
 -- The outcome of a change of the document, given what it is by the definitions: the document is then the result; or the refusal's number
--- and its place.
-pub data Results (T : Texts) (nodes' : List Row) (o : Outcome Value.Value) : Altered → Type 0 where
-  results : {used : ℕ} {v : Value.Value} → o ≡ ok v → Document (table T nodes') used v → Results T nodes' o (Done used)
-  refusal : {number place : ℕ} → o ≡ refused number place → Results T nodes' o (Refused number place)
+-- and its place. What the document is, is told with its origins or without them.
+pub data ResultsBy {A : Type 0} (Is : ℕ → A → Type 0) (o : Outcome A) : Altered → Type 0 where
+  results : {used : ℕ} {v : A} → o ≡ ok v → Is used v → ResultsBy Is o (Done used)
+  refusal : {number place : ℕ} → o ≡ refused number place → ResultsBy Is o (Refused number place)
+
+abbrev pub Results : Texts → List Row → Outcome Value.Value → Altered → Type 0
+Results T nodes' o r = ResultsBy (Document (table T nodes')) o r
 
 -- a value changed at a location, as the definitions have it
 abbrev pub AtLocation : Type 0
@@ -58,20 +65,46 @@ pub data MakesAt (w : Table) : Change → AtLocation → Type 0 where
   replaces-at : (source : ℕ) (x : Cell) (kids : Forest Cell) → Offered w source x kids
       → MakesAt w (Replace source) (λ ts v. replaceAtPath ts (meant (w .texts) x kids) v)
 
+-- ---- The same with origins: document 02, T-11, "Every node shall carry its origin".
+-- the document's nodes bear the origins of a value
+pub record Bearing (w : Table) (used : ℕ) (v : Origin.Value) : Type 0 where
+  pub document : Document w used (forget v)
+  pub bears : borne (w .texts) (document .c) (document .kids) ≡ v
+
+abbrev pub judgedBearing : Outcome Origin.Value → Outcome Origin.Value
+judgedBearing o = o >>= Origins.notTooDeep >>= Origins.notTooLarge
+
+abbrev pub ResultsBearing : Texts → List Row → Outcome Origin.Value → Altered → Type 0
+ResultsBearing T nodes' o r = ResultsBy (Bearing (table T nodes')) o r
+
+abbrev pub AtLocationBearing : Type 0
+AtLocationBearing = Tokens → Origin.Value → Outcome Origin.Value
+
+-- a value put in bears the origins that its nodes have where it is offered
+pub data MakesBearing (w : Table) : Change → AtLocationBearing → Type 0 where
+  adds-bearing : (source : ℕ) (x : Cell) (kids : Forest Cell) → Offered w source x kids
+      → MakesBearing w (Add source) (λ ts v. Origins.addAt ts (borne (w .texts) x kids) v)
+  removes-bearing : MakesBearing w Remove Origins.removeAtPath
+  replaces-bearing : (source : ℕ) (x : Cell) (kids : Forest Cell) → Offered w source x kids
+      → MakesBearing w (Replace source) (λ ts v. Origins.replaceAtPath ts (borne (w .texts) x kids) v)
+
 -- ---- Each contract says what holds whatever the table holds, and what holds where it holds a document. Where it holds none, the answer and the
 -- document's rows are free within that frame; so they are where the path spells no pointer, or no tree is offered in the row of a new value.
 -- the tree in a row behind the document's becomes the document
 pub record ReplaceDocumentIs (nodes nodes' : List Row) (used source : ℕ) (r : Altered) : Type 0 where
   pub frame : Frame nodes nodes' r
-  pub held : (T : Texts) (v : Value.Value) → Document (table T nodes) used v → (x : Cell) (kids : Forest Cell) → Offered (table T nodes) source x kids
-      → Results T nodes' (judged (ok (meant T x kids))) r
+  pub bearing : (T : Texts) (v : Origin.Value) → Bearing (table T nodes) used v → (x : Cell) (kids : Forest Cell) → Offered (table T nodes) source x kids
+      → ResultsBearing T nodes' (judgedBearing (ok (borne T x kids))) r
 
 pub record ChangeDocumentIs (nodes nodes' : List Row) (used : ℕ) (change : Change) (r : Altered) : Type 0 where
   pub frame : Frame nodes nodes' r
-  pub held : (T : Texts) (v : Value.Value) → Document (table T nodes) used v → (f : AtLocation) → MakesAt (table T nodes) change f
-      → Results T nodes' (judged (f [] v)) r
+  pub bearing : (T : Texts) (v : Origin.Value) → Bearing (table T nodes) used v → (f : AtLocationBearing) → MakesBearing (table T nodes) change f
+      → ResultsBearing T nodes' (judgedBearing (f [] v)) r
 
+-- the field `bearing` speaks of values with their origins, and `held` of the same without
 pub record ChangeAtIs (w : Table) (nodes' : List Row) (used : ℕ) (path : Spelling) (change : Change) (r : Altered) : Type 0 where
   pub frame : Frame (w .nodes) nodes' r
   pub held : (v : Value.Value) → Document w used v → Short (w .texts) → (ts : Tokens) → PathIs (w .texts) path ts
       → (f : AtLocation) → MakesAt w change f → Results (w .texts) nodes' (judged (f ts v)) r
+  pub bearing : (v : Origin.Value) → Bearing w used v → Short (w .texts) → (ts : Tokens) → PathIs (w .texts) path ts
+      → (f : AtLocationBearing) → MakesBearing w change f → ResultsBearing (w .texts) nodes' (judgedBearing (f ts v)) r

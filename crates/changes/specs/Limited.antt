@@ -1,11 +1,11 @@
 -- The limits after an operation, on a part of the document: of a node's value so many containers may be nested, and it may have so many nodes. Of
--- the whole document these are the two limits of `limited`.
+-- the whole document these are the two limits of `limited`. The values bear their origins.
 use Prim.Native.Nat.{ℕ}
 use lib.Dec.{leb}
 use Rattle.spec.specs.Outcome.{Outcome, ok, refused, _>>=_, if_then_else_}
 use Rattle.spec.specs.Refusal.{too-deep, too-many-nodes}
-use Rattle.spec.specs.Value as Value
-use Rattle.spec.specs.Value.{depth, nodes}
+use Rattle.origin.specs.Value as Value
+use Rattle.origin.specs.Value.{depth, nodes}
 
 unfoldable pub withinLevels : ℕ → Value.Value → Outcome Value.Value
 withinLevels levels v = if leb (depth v) levels then ok v else refused too-deep 0

@@ -2,7 +2,6 @@
 use Prim.Native.Nat.{ℕ}
 use mathlib.Core.Path.{_≡_, refl, ap, sym, _∙_, subst}
 use mathlib.Core.Bool.{Bool, true, false, _&&_, _||_}
-use mathlib.Core.List.{List}
 use borrow.Author.Tests.{eq-eqb, ne-eqb}
 use Rattle.spec.specs.Outcome.{Outcome, ok, refused, isRefused, if_then_else_}
 use Rattle.spec.specs.Refusal.{location-missing, no-index}
@@ -10,12 +9,15 @@ use Rattle.spec.specs.Value as Value
 use Rattle.spec.specs.Pointer.{Tokens, walk}
 use Rattle.spec.specs.Operation as Operation
 use Rattle.spec.specs.Patch.{usesFrom, whichPointer}
-use Rattle.tape.specs.Fields.{Row}
-use Rattle.tape.specs.Lent.{Texts}
-use Rattle.changes.specs.Document.{Results, results, refusal}
+use Rattle.origin.specs.Value as Origin
+use Rattle.origin.specs.Value.{forget}
+use Rattle.origin.specs.Pointer as Origins
+use Rattle.origin.specs.Forgetting.{forgotten}
+use Rattle.origin.proofs.ForgetLaws.{forget-walk}
+use Rattle.changes.specs.Document.{ResultsBy, results, refusal}
 use Rattle.changes.specs.declared.answers.Altered.{Altered}
 use Rattle.changes.specs.declared.answers.Altered.the-variants as Altered
-use Rattle.operations.specs.Answers.{pointerOf, fromOrPath, atPath, atFrom, Performs, performs, fails}
+use Rattle.operations.specs.Answers.{pointerOf, fromOrPath, atPath, atFrom, PerformsBy, performs, fails}
 use Rattle.operations.specs.declared.answers.Performed.{Performed}
 use Rattle.operations.specs.declared.answers.Performed.the-variants as Performed
 
@@ -72,25 +74,35 @@ module _ (from : Tokens) (v : Value.Value) (number : ℕ) where
   unfolding fromOrPath isRefused
   from-lost e = rw e
 
-module _ {T : Texts} {nodes' : List Row} {o : Outcome Value.Value} {pointer : ℕ → ℕ} where
+-- and where it is walked with origins
+module _ (from : Tokens) (v : Origin.Value) (number : ℕ) where
+  pub bearing-there : {x : Origin.Value} → Origins.walk from v ≡ ok x → fromOrPath from (forget v) number ≡ pointerOf 1 number
+  unfolding forgotten
+  bearing-there {x} e = from-there from (forget v) number {w = forget x} (sym (forget-walk from v) ∙ ap forgotten e)
+
+  pub bearing-lost : {n k : ℕ} → Origins.walk from v ≡ refused n k → fromOrPath from (forget v) number ≡ pointerOf 2 number
+  unfolding forgotten
+  bearing-lost {n} {k} e = from-lost from (forget v) number {n = n} {k = k} (sym (forget-walk from v) ∙ ap forgotten e)
+
+module _ {A : Type 0} {Is : ℕ → A → Type 0} {o : Outcome A} {pointer : ℕ → ℕ} where
   -- ---- an outcome, and a pointer for each number, that are the same
-  pub same-performs : {p : Outcome Value.Value} {which : ℕ → ℕ} {r : Performed} → o ≡ p → ((number : ℕ) → pointer number ≡ which number)
-      → Performs T nodes' p which r → Performs T nodes' o pointer r
+  pub same-performs : {p : Outcome A} {which : ℕ → ℕ} {r : Performed} → o ≡ p → ((number : ℕ) → pointer number ≡ which number)
+      → PerformsBy Is p which r → PerformsBy Is o pointer r
   same-performs e f (performs g d) = performs (e ∙ g) d
   same-performs e f (fails {number = number} g h) = fails (e ∙ g) (h ∙ sym (f number))
 
   -- ---- what a change at `path` gives
-  pub path-performs : ((number : ℕ) → pointer number ≡ pointerOf 1 number) → {q : Altered} {r : Performed} → r ≡ atPath q → Results T nodes' o q
-      → Performs T nodes' o pointer r
+  pub path-performs : ((number : ℕ) → pointer number ≡ pointerOf 1 number) → {q : Altered} {r : Performed} → r ≡ atPath q → ResultsBy Is o q
+      → PerformsBy Is o pointer r
   unfolding atPath
-  path-performs f {q} e d = subst (Performs T nodes' o pointer) (sym e) (go d)
+  path-performs f {q} e d = subst (PerformsBy Is o pointer) (sym e) (go d)
     where
-      go : {q : Altered} → Results T nodes' o q → Performs T nodes' o pointer (atPath q)
+      go : {q : Altered} → ResultsBy Is o q → PerformsBy Is o pointer (atPath q)
       go (results g d) = performs g d
       go (refusal {number = number} g) = fails g (sym (f number))
 
   -- ---- and a walk along `from` that is lost
   pub from-performs : {number place : ℕ} {r : Performed} → ((n : ℕ) → pointer n ≡ pointerOf 2 n) → r ≡ atFrom number place → o ≡ refused number place
-      → Performs T nodes' o pointer r
+      → PerformsBy Is o pointer r
   unfolding atFrom
-  from-performs {number} f e g = subst (Performs T nodes' o pointer) (sym e) (fails g (sym (f number)))
+  from-performs {number} f e g = subst (PerformsBy Is o pointer) (sym e) (fails g (sym (f number)))

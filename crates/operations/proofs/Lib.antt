@@ -1,8 +1,10 @@
+pub mod StampLaws
 pub mod PatchLaws
 pub mod AnswerLaws
 pub mod RemovalLaws
 pub mod AsideLaws
 pub mod TransferLaws
 pub mod ToldLaws
+pub mod BearingLaws
 pub mod PerformLaws
 pub mod RunLaws

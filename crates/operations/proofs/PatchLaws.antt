@@ -23,7 +23,9 @@ use Rattle.changes.specs.Site.{table}
 use Rattle.changes.specs.Rows.{SameBehind, Frame}
 use Rattle.changes.specs.declared.answers.Altered.{Altered}
 use Rattle.changes.proofs.KeptLaws.{SameRows, held-same, frame-behind}
+use Rattle.operations.specs.Stamp.{stamped}
 use Rattle.operations.specs.Perform.{SamePatch, SetAsideIs}
+use Rattle.operations.proofs.StampLaws.{stamped-before}
 
 -- ---- rows copied to the scratch rows, wherever they are from, leave those before as they were
 take-aside : (xs : List Row) (start n : ℕ) → take scratchRow (moved xs scratchRow start n) ≡ take scratchRow xs
@@ -56,6 +58,9 @@ module _ {xs : List Row} where
 
   pub patch-aside : {ys : List Row} (row : ℕ) → SetAsideIs xs ys row → SamePatch xs ys
   patch-aside row is = patch-before (ap (take scratchRow) is ∙ take-aside xs row _)
+
+  pub patch-stamped : {ys : List Row} (n k : ℕ) → ys ≡ stamped xs scratchRow n k → SamePatch xs ys
+  patch-stamped n k is = patch-before (ap (take scratchRow) is ∙ stamped-before xs scratchRow n k)
 
   same-patch : {ys : List Row} {row n : ℕ} → patchRow ≤ row → row + n ≤ scratchRow → SamePatch xs ys → SameRows xs ys row n
   same-patch {ys} {row} {n} behind before same =

@@ -8,13 +8,19 @@ use Rattle.spec.specs.Outcome.{Outcome, ok, refused, _>>=_, if_then_else_}
 use Rattle.spec.specs.Refusal.{wrong-shape, test-differs}
 use Rattle.spec.specs.Limits.{maxDepth}
 use Rattle.spec.specs.Bytes.{Text, ascii}
-use Rattle.spec.specs.Forest.{Forest, size}
-use Rattle.spec.specs.Value as Value
-use Rattle.spec.specs.Value.{depth}
-use Rattle.spec.specs.Pointer.{Tokens, tokens, walk}
+use Rattle.spec.specs.Forest.{Forest, size, nth}
+use Rattle.spec.specs.Value as Plain
+use Rattle.spec.specs.Pointer as Pointer
+use Rattle.spec.specs.Pointer.{Tokens, tokens}
 use Rattle.spec.specs.Operation as Operation
-use Rattle.spec.specs.Operation.{addAt, removeAtPath, replaceAtPath, moveTo, copyTo, testAt, perform, limited}
-use Rattle.spec.specs.Patch.{member, usesValue, usesFrom}
+use Rattle.spec.specs.Operation.{limited}
+use Rattle.spec.specs.Patch.{usesValue, usesFrom, whichPointer}
+use Rattle.origin.specs.Value as Value
+use Rattle.origin.specs.Value.{forget, depth}
+use Rattle.origin.specs.Pointer.{walk}
+use Rattle.origin.specs.Operation.{addAt, removeAtPath, replaceAtPath, copyTo, testAt}
+use Rattle.origin.specs.Forgetting.{forgotten}
+use Rattle.origin.proofs.ForgetLaws.{forget-walk}
 use Rattle.spec.proofs.OutcomeLaws.{refused≢ok}
 use Rattle.spec.proofs.PlaceLaws.{plant-walk, depth-plant}
 use Rattle.claims.specs.Equality.{Distinct}
@@ -27,9 +33,16 @@ use Rattle.tape.specs.declared.fields.Spelling.{Spelling}
 use Rattle.tape.specs.declared.fields.Cell.{Cell}
 use Rattle.tape.specs.Lent.{Texts, Table}
 use Rattle.table.specs.Meaning.{partOf, meant}
-use Rattle.table.specs.Sound.{NodeHeld}
+use Rattle.table.specs.Sound.{NodeHeld, RowsHeld}
+use Rattle.table.specs.Find.{Found, found, missing}
+use Rattle.tape.specs.Rows.{endOf, childRow}
+use Rattle.tape.proofs.Cells.{blank}
+use Rattle.tape.proofs.Rows.{end-here}
+use Rattle.tape.proofs.Held.{held-node, held-kids}
 use Rattle.table.specs.declared.find.Member.{Member}
 use Rattle.table.specs.declared.find.Member.the-variants as Member
+use Rattle.walk.specs.Bearing.{borne}
+use Rattle.walk.proofs.Children.{forget-borne, child-held}
 use Rattle.walk.specs.Names.{Short}
 use Rattle.walk.specs.Path.{PathIs, WalkIs}
 use Rattle.walk.specs.declared.path.Reached.{Reached}
@@ -41,87 +54,91 @@ use Rattle.shape.specs.Operation.{KindIs}
 use Rattle.shape.specs.declared.kinds.Kind.{Kind}
 use Rattle.shape.specs.declared.members.Spelled.{Spelled}
 use Rattle.shape.specs.declared.members.Spelled.the-variants as Spelled
-use Rattle.shape.proofs.MemberLaws.{sought-missing, sought-at}
+use Rattle.shape.proofs.MemberLaws.{sought-missing}
 use Rattle.shape.proofs.AnswerLaws.{text-refused, text-decoded}
 use Rattle.changes.specs.Site.{Offered}
-use Rattle.changes.specs.Document.{Document, judged, results, refusal, adds-at, removes-at, replaces-at, ChangeAtIs}
+use Rattle.changes.specs.Document.{judged, results, refusal, ChangeAtIs}
+use Rattle.changes.specs.Document.{Bearing, judgedBearing, adds-bearing, removes-bearing, replaces-bearing}
 use Rattle.changes.specs.declared.answers.Change.the-variants.{Add, Remove, Replace}
 use Rattle.changes.specs.declared.answers.Altered.{Altered}
 use Rattle.changes.specs.declared.answers.Altered.the-variants.{Done, Refused}
-use Rattle.changes.proofs.DocumentLaws.{document-fits, the-value, no-value}
-use Rattle.operations.specs.Answers.{atPath}
+use Rattle.changes.proofs.ForgetLaws.{document-bearing}
+use Rattle.changes.proofs.DocumentLaws.{bearing-fits, the-bearing, no-bearing}
+use Rattle.operations.specs.Bearing.{limitedWith, valueIn}
+use Rattle.operations.specs.Answers.{atPath, Performs, PerformsBearing, performs, fails}
 use Rattle.operations.specs.declared.answers.Performed.{Performed}
-use Rattle.operations.specs.Perform.{CopyIs, MoveIs, EqualToIs, Listed, OperationIs, PerformIs}
+use Rattle.operations.specs.Perform.{SamePatch, CopyIs, MoveIs, EqualToIs, Listed, ForOperation, OperationFor, OperationIs, CopyOperationIs, PerformIs}
 use Rattle.operations.proofs.PatchLaws.{patch-same, patch-framed}
 use Rattle.operations.proofs.AnswerLaws.{which-path, which-from, same-performs, path-performs}
 use Rattle.operations.proofs.TransferLaws.{same-results}
 use Rattle.operations.proofs.ToldLaws.{told}
+use Rattle.operations.proofs.BearingLaws.{add-with, remove-with, replace-with, move-with, copy-with, test-with}
+use Rattle.operations.proofs.BearingLaws.{forget-limited, value-forgotten, value-borne}
 
 -- ---- a test
 -- what a walk leads to nests no deeper than the value where it begins
-depth-walk : (ts : Tokens) (v w : Value.Value) → walk ts v ≡ ok w → depth w ≤ depth v
-depth-walk ts v w e = omega (arith, depth-plant ts v w e w, ap depth (plant-walk ts v w e))
+depth-walk : (ts : Tokens) (v w : Plain.Value) → Pointer.walk ts v ≡ ok w → Plain.depth w ≤ Plain.depth v
+depth-walk ts v w e = omega (arith, depth-plant ts v w e w, ap Plain.depth (plant-walk ts v w e))
+
+depth-bearing : (ts : Tokens) (v w : Value.Value) → walk ts v ≡ ok w → depth w ≤ depth v
+unfolding forgotten
+depth-bearing ts v w e = depth-walk ts (forget v) (forget w) (sym (forget-walk ts v) ∙ ap forgotten e)
 
 module _ {w : Table} {path : Spelling} {s : Reached} (walked : WalkIs w documentRow path s) where
   pub test-lost : {used value : ℕ} (number place : ℕ) → s ≡ Reached.Lost number place → EqualToIs w used path value (Refused number place)
   unfolding testAt _>>=_
-  test-lost number place e v d short ts p x kids held distinct = refusal {number = number} {place = place} (rw (no-value s walked d short p e))
+  test-lost number place e v d short ts p x kids held distinct = refusal {number = number} {place = place} (rw (no-bearing s walked d short p e))
 
   module _ (at : ℕ) (e : s ≡ Reached.At at) {value : ℕ} {same : Bool} (compared : EqualIs w at value maxDepth same) where
-    test-found : {used : ℕ} {v : Value.Value} → Document w used v → Short (w .texts) → (ts : Tokens) → PathIs (w .texts) path ts
+    test-found : {used : ℕ} {v : Value.Value} → Bearing w used v → Short (w .texts) → (ts : Tokens) → PathIs (w .texts) path ts
         → (x : Cell) (kids : Forest Cell) → NodeHeld w value x kids → Distinct (meant (w .texts) x kids)
         → testAt ts (meant (w .texts) x kids) v ≡ (if same then ok v else refused test-differs 0)
     unfolding testAt _>>=_
     test-found {v = v} d short ts p x kids held distinct =
-        the-value s walked d short p e λ c below f n inside.
-        let shallow : depth (meant (w .texts) c below) ≤ maxDepth = omega (arith, depth-walk ts v (meant (w .texts) c below) f, d .shallow) in
-        rw (f, ← compared c below x kids n held shallow distinct)
+        the-bearing s walked d short p e λ c below f n inside.
+        let plain = forget-borne (w .texts) c below in
+        let shallow : Plain.depth (meant (w .texts) c below) ≤ maxDepth =
+        omega (arith, depth-bearing ts v (borne (w .texts) c below) f, ap Plain.depth plain, d .document .shallow) in
+        rw (f, plain, ← compared c below x kids n held shallow distinct)
 
     pub test-equal : {used : ℕ} → same ≡ true → EqualToIs w used path value (Done used)
-    test-equal is v d short ts p x kids held distinct = results {v = v} (rw (test-found d short ts p x kids held distinct, is) (document-fits d)) d
+    test-equal is v d short ts p x kids held distinct = results {v = v} (rw (test-found d short ts p x kids held distinct, is) (bearing-fits d)) d
 
     pub test-unequal : {used : ℕ} → same ≡ false → EqualToIs w used path value (Refused test-differs 0)
     unfolding _>>=_
     test-unequal is v d short ts p x kids held distinct = refusal {number = test-differs} {place = 0} (rw (test-found d short ts p x kids held distinct, is))
 
--- ---- an operation by its kind
--- each kind is its own function, judged
-module _ (o : Operation.Operation) (v : Value.Value) where
-  add-is : o .kind ≡ Operation.add → limited o v ≡ judged (addAt (o .path) (o .value) v)
-  unfolding limited perform
-  add-is e = rw e
-
-  remove-is : o .kind ≡ Operation.remove → limited o v ≡ judged (removeAtPath (o .path) v)
-  unfolding limited perform
-  remove-is e = rw e
-
-  replace-is : o .kind ≡ Operation.replace → limited o v ≡ judged (replaceAtPath (o .path) (o .value) v)
-  unfolding limited perform
-  replace-is e = rw e
-
-  pub move-is : o .kind ≡ Operation.move → limited o v ≡ judged (moveTo (o .from) (o .path) v)
-  unfolding limited perform
-  move-is e = rw e
-
-  copy-is : o .kind ≡ Operation.copy → limited o v ≡ judged (copyTo (o .from) (o .path) v)
-  unfolding limited perform
-  copy-is e = rw e
-
-  test-is : o .kind ≡ Operation.test → limited o v ≡ judged (testAt (o .path) (o .value) v)
-  unfolding limited perform
-  test-is e = rw e
+-- ---- a plain move
+pub move-is : (o : Operation.Operation) (v : Plain.Value) → o .kind ≡ Operation.move
+    → limited o v ≡ judged (Operation.moveTo (o .from) (o .path) v)
+unfolding limited Operation.perform
+move-is o v e = rw e
 
 -- ---- with a value
 -- it stands in the rows of its object, and so behind the document's
 module _ {w : Table} {row : ℕ} {m : Member} (is : MemberIs w row (ascii "value") m) (at : ℕ) (e : m ≡ Member.At at) where
-  operand : {C : Type 0} {o : Operation.Operation} → Listed w row o → usesValue (o .kind) ≡ true
-      → ((x : Cell) (kids : Forest Cell) → Offered w at x kids → meant (w .texts) x kids ≡ o .value → Distinct (meant (w .texts) x kids) → C) → C
-  operand {o = o} l uses then-it =
-      let (x, kids, low, high, node, found) = sought-at at e (is .held (l .c) (l .kids) (l .held)) in
-      let value-is = told _ o (l .is) .value uses in
-      let same : meant (w .texts) x kids ≡ o .value = cc in
-      let distinct = proper-repeats (operation-proper _ o (l .proper) (l .is) .value-proper .items) in
-      then-it x kids (record { behind = omega (arith, l .behind); held = node }) same (subst Distinct (sym same) distinct)
+  operand : {C : Type 0} {o : Operation.Operation} (l : Listed w row o) → usesValue (o .kind) ≡ true
+      → ((x : Cell) (kids : Forest Cell) → Offered w at x kids → borne (w .texts) x kids ≡ valueIn (borne (w .texts) (l .c) (l .kids))
+      → meant (w .texts) x kids ≡ o .value → Distinct (meant (w .texts) x kids) → C) → C
+  unfolding childRow
+  operand {C} {o} l uses then-it = go (is .rows .held (l .kids) rows) e
+    where
+      rows : RowsHeld w (row + 1) (endOf (w .nodes) row) (l .kids)
+      rows = record { held = held-kids (l .held .held); ends = sym (end-here (held-node (l .held .held))); sound = l .held .sound }
+
+      go : {n : Member} → Found (w .texts) (row + 1) (l .kids) (ascii "value") n → n ≡ Member.At at → C
+      go (found k at' f kth place) g =
+          let same : at' ≡ at = cc in
+          let x = nth blank k (l .kids) .root in
+          let below = nth blank k (l .kids) .kids in
+          let bears = value-borne (w .texts) (l .c) (l .kids) k f in
+          let value-is = value-forgotten (w .texts) (l .c) (l .kids) (told _ o (l .is) .value uses) in
+          let means : meant (w .texts) x below ≡ o .value = sym (forget-borne (w .texts) x below) ∙ ap forget (sym bears) ∙ value-is in
+          let distinct = proper-repeats (operation-proper _ o (l .proper) (l .is) .value-proper .items) in
+          let there : at ≡ childRow row k (l .kids) = sym same ∙ place in
+          let node : NodeHeld w at x below = rw there (child-held (l .held) k kth) in
+          then-it x below (record { behind = omega (arith, l .behind, place); held = node }) (sym bears) means (subst Distinct (sym means) distinct)
+      go (missing f) g = absurd (let z : _≡_ {A = ℕ} 0 1 = cc in omega arith)
 
 module _ {w : Table} {used row : ℕ} {path : Spelling} {m : Member} (is : MemberIs w row (ascii "value") m) where
   -- an operation that uses a value has one
@@ -129,9 +146,9 @@ module _ {w : Table} {used row : ℕ} {path : Spelling} {m : Member} (is : Membe
   value-missing uses e =
       record {
         patch = patch-same;
-        held = λ v d short o l kind p.
+        bearing = λ op any v d short o l p.
             let none = sought-missing e (is .held (l .c) (l .kids) (l .held)) in
-            absurd (refused≢ok (sym none ∙ told _ o (l .is) .value (ap usesValue kind ∙ uses)));
+            absurd (refused≢ok (sym none ∙ told _ o (l .is) .value (ap usesValue (p .0) ∙ uses)));
       }
 
   module _ (at : ℕ) (e : m ≡ Member.At at) where
@@ -141,11 +158,11 @@ module _ {w : Table} {used row : ℕ} {path : Spelling} {m : Member} (is : Membe
     add-done changed from-path =
         record {
           patch = patch-framed (changed .frame);
-          held = λ v d short o l kind p.
-              operand is at e l (ap usesValue kind) λ x kids offered means distinct.
-              path-performs (which-path o v (ap usesFrom kind)) from-path
-              (same-results (add-is o v kind ∙ ap (λ u. judged (addAt (o .path) u v)) (sym means))
-              (changed .held v d short (o .path) p _ (adds-at at x kids offered)));
+          bearing = λ op any v d short o l p.
+              operand is at e l (ap usesValue (p .0)) λ x kids offered bears means distinct.
+              path-performs (which-path o (forget v) (ap usesFrom (p .0))) from-path
+              (same-results (add-with op o _ v (p .0) ∙ ap (λ u. judgedBearing (addAt (o .path) u v)) (sym bears))
+              (changed .bearing v d short (o .path) (p .1) _ (adds-bearing at x kids offered)));
         }
 
     pub replace-done : {nodes' : List Row} {q : Altered} {r : Performed} → ChangeAtIs w nodes' used path (Replace at) q → r ≡ atPath q
@@ -154,11 +171,11 @@ module _ {w : Table} {used row : ℕ} {path : Spelling} {m : Member} (is : Membe
     replace-done changed from-path =
         record {
           patch = patch-framed (changed .frame);
-          held = λ v d short o l kind p.
-              operand is at e l (ap usesValue kind) λ x kids offered means distinct.
-              path-performs (which-path o v (ap usesFrom kind)) from-path
-              (same-results (replace-is o v kind ∙ ap (λ u. judged (replaceAtPath (o .path) u v)) (sym means))
-              (changed .held v d short (o .path) p _ (replaces-at at x kids offered)));
+          bearing = λ op any v d short o l p.
+              operand is at e l (ap usesValue (p .0)) λ x kids offered bears means distinct.
+              path-performs (which-path o (forget v) (ap usesFrom (p .0))) from-path
+              (same-results (replace-with op o _ v (p .0) ∙ ap (λ u. judgedBearing (replaceAtPath (o .path) u v)) (sym bears))
+              (changed .bearing v d short (o .path) (p .1) _ (replaces-bearing at x kids offered)));
         }
 
     pub test-done : {q : Altered} {r : Performed} → EqualToIs w used path at q → r ≡ atPath q → OperationIs w (w .nodes) used row path Operation.test r
@@ -166,11 +183,11 @@ module _ {w : Table} {used row : ℕ} {path : Spelling} {m : Member} (is : Membe
     test-done tested from-path =
         record {
           patch = patch-same;
-          held = λ v d short o l kind p.
-              operand is at e l (ap usesValue kind) λ x kids offered means distinct.
-              path-performs (which-path o v (ap usesFrom kind)) from-path
-              (same-results (test-is o v kind ∙ ap (λ u. judged (testAt (o .path) u v)) (sym means))
-              (tested v d short (o .path) p x kids (offered .held) distinct));
+          bearing = λ op any v d short o l p.
+              operand is at e l (ap usesValue (p .0)) λ x kids offered bears means distinct.
+              path-performs (which-path o (forget v) (ap usesFrom (p .0))) from-path
+              (same-results (test-with op o _ v (p .0) ∙ ap (λ u. judgedBearing (testAt (o .path) u v)) (sym means))
+              (tested v d short (o .path) (p .1) x kids (offered .held) distinct));
         }
 
 -- ---- with a string that spells a pointer
@@ -191,12 +208,13 @@ module _ {w : Table} {row : ℕ} {s : Spelled} (is : StringIs w row (ascii "from
       spelled-path (is .held (l .c) (l .kids) (l .held)) (t .from-there uses) e (t .from-is)
 
 module _ {w : Table} {used row : ℕ} {path : Spelling} {s : Spelled} (is : StringIs w row (ascii "from") s) where
-  pub from-missing : {k : Operation.Kind} {r : Performed} → usesFrom k ≡ true → s ≡ Spelled.Not → OperationIs w (w .nodes) used row path k r
+  pub from-missing : {Number : ℕ → Type 0} {k : Operation.Kind} {r : Performed} → usesFrom k ≡ true → s ≡ Spelled.Not
+      → OperationFor Number w (w .nodes) used row path k r
   from-missing uses e =
       record {
         patch = patch-same;
-        held = λ v d short o l kind p.
-            absurd (spelled-not (is .held (l .c) (l .kids) (l .held)) (told _ o (l .is) .from-there (ap usesFrom kind ∙ uses)) e);
+        bearing = λ op any v d short o l p.
+            absurd (spelled-not (is .held (l .c) (l .kids) (l .held)) (told _ o (l .is) .from-there (ap usesFrom (p .0) ∙ uses)) e);
       }
 
   module _ (from : Spelling) (e : s ≡ Spelled.As from) where
@@ -205,19 +223,22 @@ module _ {w : Table} {used row : ℕ} {path : Spelling} {s : Spelled} (is : Stri
     move-done moved =
         record {
           patch = moved .patch;
-          held = λ v d short o l kind p.
-              same-performs (move-is o v kind) (which-from o v (ap usesFrom kind))
-              (moved .held v d short (o .from) (source is from e l (ap usesFrom kind)) (o .path) p);
+          bearing = λ op any v d short o l p.
+              same-performs (move-with op o _ v (p .0)) (which-from o (forget v) (ap usesFrom (p .0)))
+              (moved .bearing v d short (o .from) (source is from e l (ap usesFrom (p .0))) (o .path) (p .1));
         }
 
-    pub copy-done : {nodes' : List Row} {r : Performed} → CopyIs w nodes' used from path r → OperationIs w nodes' used row path Operation.copy r
+    pub copy-done : {nodes' : List Row} {origin : ℕ} {r : Performed} → CopyIs w nodes' used from path origin r
+        → CopyOperationIs w nodes' used row path origin r
     unfolding usesFrom
     copy-done copied =
         record {
           patch = copied .patch;
-          held = λ v d short o l kind p.
-              same-performs (copy-is o v kind) (which-from o v (ap usesFrom kind))
-              (copied .held v d short (o .from) (source is from e l (ap usesFrom kind)) (o .path) p);
+          bearing = λ op number v d short o l p.
+              same-performs
+              (copy-with op o _ v (p .0) ∙ ap (λ k. judgedBearing (copyTo k (o .from) (o .path) v)) number)
+              (which-from o (forget v) (ap usesFrom (p .0)))
+              (copied .bearing v d short (o .from) (source is from e l (ap usesFrom (p .0))) (o .path) (p .1));
         }
 
 pub remove-done : {w : Table} {nodes' : List Row} {used row : ℕ} {path : Spelling} {q : Altered} {r : Performed} → ChangeAtIs w nodes' used path Remove q
@@ -226,35 +247,53 @@ unfolding usesFrom
 remove-done changed from-path =
     record {
       patch = patch-framed (changed .frame);
-      held = λ v d short o l kind p.
-          path-performs (which-path o v (ap usesFrom kind)) from-path
-          (same-results (remove-is o v kind) (changed .held v d short (o .path) p removeAtPath removes-at));
+      bearing = λ op any v d short o l p.
+          path-performs (which-path o (forget v) (ap usesFrom (p .0))) from-path
+          (same-results (remove-with op o _ v (p .0)) (changed .bearing v d short (o .path) (p .1) removeAtPath removes-bearing));
+    }
+
+-- ---- the contract, by what it says with origins
+plain-performs : {T : Texts} {nodes' : List Row} {o : Outcome Value.Value} {pointer : ℕ → ℕ} {r : Performed} → PerformsBearing T nodes' o pointer r
+    → Performs T nodes' (forgotten o) pointer r
+unfolding forgotten
+plain-performs (performs e b) = performs (ap forgotten e) (b .document)
+plain-performs (fails e f) = fails (ap forgotten e) f
+
+perform-is : {w : Table} {nodes' : List Row} {used row op : ℕ} {r : Performed} → SamePatch (w .nodes) nodes'
+    → ForOperation w used row op (λ o. Unit {0}) (λ o pointer. PerformsBearing (w .texts) nodes' o pointer r) → PerformIs w nodes' used row op r
+perform-is {w} {op = op} patch all =
+    record {
+      patch = patch;
+      held = λ v d short o l.
+          let b = borne (w .texts) (d .c) (d .kids) in
+          let plain : forget b ≡ v = forget-borne (w .texts) (d .c) (d .kids) ∙ d .means in
+          let x = valueIn (borne (w .texts) (l .c) (l .kids)) in
+          let given : usesValue (o .kind) ≡ true → forget x ≡ o .value =
+          λ uses. value-forgotten (w .texts) (l .c) (l .kids) (told _ o (l .is) .value uses) in
+          same-performs (sym (forget-limited op o x b given ∙ ap (limited o) plain)) (λ n. ap (λ u. whichPointer o u n) (sym plain))
+          (plain-performs (all b (document-bearing d) short o l tt));
+      bearing = all;
     }
 
 -- ---- the path and the kind, which every operation has
-module _ {w : Table} {used row : ℕ} {r : Performed} {s : Spelled} (is : StringIs w row (ascii "path") s) where
-  pub path-missing : s ≡ Spelled.Not → PerformIs w (w .nodes) used row r
+module _ {w : Table} {used row op : ℕ} {r : Performed} {s : Spelled} (is : StringIs w row (ascii "path") s) where
+  pub path-missing : s ≡ Spelled.Not → PerformIs w (w .nodes) used row op r
   path-missing e =
-      record { patch = patch-same; held = λ v d short o l. absurd (spelled-not (is .held (l .c) (l .kids) (l .held)) (told _ o (l .is) .path-there) e) }
+      perform-is patch-same (λ v d short o l any. absurd (spelled-not (is .held (l .c) (l .kids) (l .held)) (told _ o (l .is) .path-there) e))
 
   module _ {kind : Kind} (kind-is : KindIs w row kind) where
-    pub of-kind : {nodes' : List Row} (k : Operation.Kind) (path : Spelling) → s ≡ Spelled.As path → kindOutcome kind ≡ ok k
-        → OperationIs w nodes' used row path k r → PerformIs w nodes' used row r
-    of-kind k path e known done =
-        record {
-          patch = done .patch;
-          held = λ v d short o l.
-              let t = told _ o (l .is) in
-              let found = kind-is .held (l .c) (l .kids) (l .held) in
-              let asked = t .kind in
-              let same : o .kind ≡ k = cc in
-              done .held v d short o l same (spelled-path (is .held (l .c) (l .kids) (l .held)) (t .path-there) e (t .path-is));
-        }
+    pub of-kind : {Number : ℕ → Type 0} {nodes' : List Row} (k : Operation.Kind) (path : Spelling) → s ≡ Spelled.As path → kindOutcome kind ≡ ok k
+        → Number op → OperationFor Number w nodes' used row path k r → PerformIs w nodes' used row op r
+    of-kind k path e known number done =
+        perform-is (done .patch) λ v d short o l any.
+        let t = told _ o (l .is) in
+        let found = kind-is .held (l .c) (l .kids) (l .held) in
+        let asked = t .kind in
+        let same : o .kind ≡ k = cc in
+        done .bearing op number v d short o l (same, spelled-path (is .held (l .c) (l .kids) (l .held)) (t .path-there) e (t .path-is))
 
     -- no operation is of an unknown kind
-    pub unknown : kindOutcome kind ≡ refused wrong-shape 0 → PerformIs w (w .nodes) used row r
+    pub unknown : kindOutcome kind ≡ refused wrong-shape 0 → PerformIs w (w .nodes) used row op r
     unknown known =
-        record {
-          patch = patch-same;
-          held = λ v d short o l. absurd (refused≢ok (sym known ∙ kind-is .held (l .c) (l .kids) (l .held) ∙ told _ o (l .is) .kind));
-        }
+        perform-is patch-same λ v d short o l any.
+        absurd (refused≢ok (sym known ∙ kind-is .held (l .c) (l .kids) (l .held) ∙ told _ o (l .is) .kind))

@@ -1,10 +1,10 @@
 -- A removal breaks no limit: what is left of a value is no larger than it was.
 use Prim.Native.Nat.{ℕ, zero, suc, _≤_}
 use native.Mathlib.Omega.{arith}
-use mathlib.Core.Path.{_≡_, refl, subst}
+use mathlib.Core.Path.{_≡_, refl, ap, sym, _∙_, subst}
 use mathlib.Core.Bool.{Bool, true, false}
 use mathlib.Core.List.{List, [], _∷_}
-use Rattle.spec.specs.Outcome.{Outcome, ok, refused, if_then_else_}
+use Rattle.spec.specs.Outcome.{Outcome, ok, refused, _>>=_, if_then_else_}
 use Rattle.spec.specs.Limits.{maxDepth, maxNodes}
 use Rattle.spec.specs.Bytes.{Text}
 use Rattle.spec.specs.Forest.{none, tree, before, from, removeAt, _⧺_}
@@ -15,10 +15,15 @@ use Rattle.spec.specs.Operation.{put, withKids, atParent, removeChild, removeAt
 use Rattle.spec.proofs.OutcomeLaws.{refused≢ok, both-ok}
 use Rattle.spec.proofs.FartherLaws.{farther-ok}
 use Rattle.spec.proofs.ChildLaws.{child-there, depth-child, depth-put}
+use Rattle.origin.specs.Value as Origin
+use Rattle.origin.specs.Value.{forget}
+use Rattle.origin.specs.Operation as Origins
+use Rattle.origin.specs.Forgetting.{forgotten}
+use Rattle.origin.proofs.ForgetLaws.{forget-removeAtPath}
 use Rattle.tape.specs.Lent.{Table}
 use Rattle.tape.proofs.Forests.{size-removeAt}
-use Rattle.changes.specs.Document.{Document, judged}
-use Rattle.changes.proofs.LimitLaws.{nodes-put, judged-fits, judged-refused}
+use Rattle.changes.specs.Document.{Document, judged, Bearing, judgedBearing}
+use Rattle.changes.proofs.LimitLaws.{nodes-put, judged-fits, judged-refused, bearing-fits}
 use Rattle.changes.proofs.DocumentLaws.{few-nodes}
 
 -- a value with no more containers nested, and no more nodes, than another
@@ -82,3 +87,15 @@ judged-removed ts v d n = go (removeAtPath ts v) refl
 
 pub document-removed : {w : Table} {used : ℕ} {v : Value.Value} → Document w used v → (ts : Tokens) → judged (removeAtPath ts v) ≡ removeAtPath ts v
 document-removed {v = v} d ts = judged-removed ts v (d .shallow) (few-nodes d)
+
+-- with its origins
+pub bearing-removed : {w : Table} {used : ℕ} {v : Origin.Value} → Bearing w used v → (ts : Tokens)
+    → judgedBearing (Origins.removeAtPath ts v) ≡ Origins.removeAtPath ts v
+unfolding forgotten _>>=_
+bearing-removed {v = v} b ts = go (Origins.removeAtPath ts v) refl
+  where
+    go : (o : Outcome Origin.Value) → Origins.removeAtPath ts v ≡ o → judgedBearing o ≡ o
+    go (ok w) h =
+        let s = removed-no-larger ts (forget v) (forget w) (sym (forget-removeAtPath ts v) ∙ ap forgotten h) in
+        bearing-fits w (omega (arith, s .deep, b .document .shallow)) (omega (arith, s .many, few-nodes (b .document)))
+    go (refused number place) h = refl

@@ -5,66 +5,77 @@ use mathlib.Core.Path.{_≡_, sym, ap, _∙_, subst}
 use mathlib.Core.List.{List, [], _∷_}
 use Rattle.spec.specs.Outcome.{Outcome, _>>=_}
 use Rattle.spec.specs.Bytes.{Bytes}
-use Rattle.spec.specs.Value as Value
-use Rattle.spec.specs.Operation.{addAt, removeAtPath, moveTo, copyTo}
+use Rattle.spec.specs.Value as Plain
+use Rattle.spec.specs.Operation as PlainOperation
+use Rattle.origin.specs.Value as Value
+use Rattle.origin.specs.Operation.{addAt, removeAtPath, moveTo, copyTo}
 use Rattle.tape.specs.Layout.{documentRow, scratchRow}
 use Rattle.tape.specs.Fields.{Row}
 use Rattle.tape.specs.declared.fields.Spelling.{Spelling}
-use Rattle.tape.specs.Lent.{Texts, Table}
+use Rattle.tape.specs.Lent.{Table}
 use Rattle.table.specs.Meaning.{partOf, meant}
 use Rattle.pointer.specs.Tokens.{FirstOf}
 use Rattle.pointer.specs.declared.answers.First.{First}
 use Rattle.pointer.specs.declared.answers.First.the-variants as First
 use Rattle.pointer.proofs.WalkLaws.{first-root, first-at, first-malformed}
+use Rattle.walk.specs.Bearing.{borne}
 use Rattle.walk.specs.Path.{WalkIs}
 use Rattle.walk.specs.declared.path.Reached.{Reached}
 use Rattle.walk.specs.declared.path.Reached.the-variants as Reached
 use Rattle.walk.proofs.PathLaws.{first-of}
 use Rattle.changes.specs.Site.{table}
-use Rattle.changes.specs.Document.{Document, judged, Results, results, refusal, adds-at, removes-at, ChangeAtIs}
+use Rattle.changes.specs.Document.{Document, judged, ResultsBy, Results, results, refusal, adds-at, removes-at, ChangeAtIs}
+use Rattle.changes.specs.Document.{Bearing, judgedBearing, ResultsBearing, adds-bearing, removes-bearing}
 use Rattle.changes.specs.declared.answers.Change.the-variants.{Add, Remove}
 use Rattle.changes.specs.declared.answers.Altered.{Altered}
 use Rattle.changes.specs.declared.answers.Altered.the-variants.{Done, Refused}
 use Rattle.changes.proofs.KeptLaws.{offered-behind, frame-behind}
 use Rattle.changes.proofs.TokenLaws.{some-token}
-use Rattle.changes.proofs.DocumentLaws.{document-fits, the-value, no-value}
+use Rattle.changes.proofs.DocumentLaws.{bearing-fits, the-bearing, no-bearing}
 use Rattle.operations.specs.Answers.{atPath, atFrom, performs}
+use Rattle.operations.specs.Stamp.{StampAsideIs}
 use Rattle.operations.specs.Perform.{SetAsideIs, CopyIs, MoveAsideIs, MoveBelowIs, MoveIs}
 use Rattle.operations.specs.declared.answers.Performed.{Performed}
 use Rattle.operations.specs.declared.answers.Performed.the-variants as Performed
-use Rattle.operations.proofs.AnswerLaws.{from-there, from-lost, path-performs, from-performs}
-use Rattle.operations.proofs.PatchLaws.{patch-same, patch-then, patch-framed, patch-aside}
-use Rattle.operations.proofs.RemovalLaws.{document-removed}
-use Rattle.operations.proofs.AsideLaws.{aside-offered, aside-document}
+use Rattle.operations.proofs.AnswerLaws.{bearing-there, bearing-lost, path-performs, from-performs}
+use Rattle.operations.proofs.PatchLaws.{patch-same, patch-then, patch-framed, patch-aside, patch-stamped}
+use Rattle.operations.proofs.RemovalLaws.{document-removed, bearing-removed}
+use Rattle.operations.proofs.AsideLaws.{aside-offered, aside-bearing, stamped-offered, stamped-bearing}
+use Rattle.operations.proofs.StampLaws.{stampCell, borne-stamped}
 
 -- an outcome that is the same gives the same results
-pub same-results : {T : Texts} {nodes' : List Row} {o p : Outcome Value.Value} {r : Altered} → o ≡ p → Results T nodes' p r → Results T nodes' o r
+pub same-results : {A : Type 0} {Is : ℕ → A → Type 0} {o p : Outcome A} {r : Altered} → o ≡ p → ResultsBy Is p r → ResultsBy Is o r
 same-results e (results f d) = results (e ∙ f) d
 same-results e (refusal f) = refusal (e ∙ f)
 
 -- ---- a value copied
-module _ {w : Table} {used : ℕ} {from path : Spelling} (s : Reached) (is : WalkIs w documentRow from s) where
-  pub copy-done : {aside nodes' : List Row} {q : Altered} {r : Performed} (row : ℕ) → s ≡ Reached.At row → SetAsideIs (w .nodes) aside row
-      → ChangeAtIs (table (w .texts) aside) nodes' used path (Add scratchRow) q → r ≡ atPath q → CopyIs w nodes' used from path r
+module _ {w : Table} {used : ℕ} {from path : Spelling} (s : Reached) (is : WalkIs w documentRow from s) (origin : ℕ) where
+  pub copy-done : {aside stamps nodes' : List Row} {q : Altered} {r : Performed} (row : ℕ) → s ≡ Reached.At row → SetAsideIs (w .nodes) aside row
+      → StampAsideIs aside stamps origin → ChangeAtIs (table (w .texts) stamps) nodes' used path (Add scratchRow) q → r ≡ atPath q
+      → CopyIs w nodes' used from path origin r
   unfolding copyTo _>>=_
-  copy-done row e aside changed told =
+  copy-done row e aside stamps changed told =
       record {
-        patch = patch-then (patch-aside row aside) (patch-framed (changed .frame));
-        held = λ v d short gs from-is ts path-is.
-            the-value s is d short from-is e λ c kids found node inside.
-            let there = adds-at scratchRow c kids (aside-offered d node inside aside) in
-            path-performs (λ n. from-there gs v n found) told
-            (same-results (rw found) (changed .held v (aside-document d node inside aside) short ts path-is _ there));
+        patch = patch-then (patch-then (patch-aside row aside) (patch-stamped _ origin stamps)) (patch-framed (changed .frame));
+        bearing = λ v b short gs from-is ts path-is.
+            the-bearing s is b short from-is e λ c kids found node inside.
+            let d = aside-bearing b node inside aside in
+            let offered = aside-offered (b .document) node inside aside in
+            let there = adds-bearing scratchRow (stampCell origin c) _ (stamped-offered origin offered stamps) in
+            path-performs (λ n. bearing-there gs v n found) told
+            (same-results (rw found (ap (λ x. judgedBearing (addAt ts x v)) (sym (borne-stamped (w .texts) origin c kids))))
+            (changed .bearing v (stamped-bearing origin offered stamps d) short ts path-is _ there));
       }
 
-  pub copy-refused : {number place : ℕ} {r : Performed} → s ≡ Reached.Lost number place → r ≡ atFrom number place → CopyIs w (w .nodes) used from path r
+  pub copy-refused : {number place : ℕ} {r : Performed} → s ≡ Reached.Lost number place → r ≡ atFrom number place
+      → CopyIs w (w .nodes) used from path origin r
   unfolding copyTo _>>=_
   copy-refused {number} {place} e told =
       record {
         patch = patch-same;
-        held = λ v d short gs from-is ts path-is.
-            let none = no-value s is d short from-is e in
-            from-performs {number = number} {place = place} (λ n. from-lost gs v n none) told (rw none);
+        bearing = λ v b short gs from-is ts path-is.
+            let none = no-bearing s is b short from-is e in
+            from-performs {number = number} {place = place} (λ n. bearing-lost gs v n none) told (rw none);
       }
 
 -- ---- a value moved
@@ -76,14 +87,22 @@ module _ {w : Table} {left-nodes : List Row} {used : ℕ} {from path : Spelling}
       record {
         patch = patch-framed (is .frame);
         held = λ v d short g gs from-is ts path-is x kids offered.
-            go v d g gs (addAt ts (meant (w .texts) x kids)) (is .held v d short (g ∷ gs) from-is removeAtPath removes-at) e;
+            plain (document-removed d (g ∷ gs)) (PlainOperation.addAt ts (meant (w .texts) x kids))
+            (is .held v d short (g ∷ gs) from-is PlainOperation.removeAtPath removes-at) e;
+        bearing = λ v b short g gs from-is ts path-is x kids offered.
+            bears (bearing-removed b (g ∷ gs)) (addAt ts (borne (w .texts) x kids)) (is .bearing v b short (g ∷ gs) from-is removeAtPath removes-bearing) e;
       }
     where
-      go : {r : Altered} {number place : ℕ} (v : Value.Value) (d : Document w used v) (g : _) (gs : _) (then-it : Value.Value → Outcome Value.Value)
-          → Results (w .texts) left-nodes (judged (removeAtPath (g ∷ gs) v)) r → r ≡ Refused number place
-          → Results (w .texts) left-nodes (judged (removeAtPath (g ∷ gs) v >>= then-it)) r
-      go v d g gs then-it (results f d') h = absurd (let z : _≡_ {A = ℕ} 0 1 = cc in omega arith)
-      go v d g gs then-it (refusal {number = n} {place = k} f) h = refusal {number = n} {place = k} (rw (sym (document-removed d (g ∷ gs)) ∙ f))
+      plain : {r : Altered} {number place : ℕ} {o : Outcome Plain.Value} → judged o ≡ o → (then-it : Plain.Value → Outcome Plain.Value)
+          → Results (w .texts) left-nodes (judged o) r → r ≡ Refused number place → Results (w .texts) left-nodes (judged (o >>= then-it)) r
+      plain same then-it (results f d') h = absurd (let z : _≡_ {A = ℕ} 0 1 = cc in omega arith)
+      plain same then-it (refusal {number = n} {place = k} f) h = refusal {number = n} {place = k} (rw (sym same ∙ f))
+
+      bears : {r : Altered} {number place : ℕ} {o : Outcome Value.Value} → judgedBearing o ≡ o → (then-it : Value.Value → Outcome Value.Value)
+          → ResultsBearing (w .texts) left-nodes (judgedBearing o) r → r ≡ Refused number place
+          → ResultsBearing (w .texts) left-nodes (judgedBearing (o >>= then-it)) r
+      bears same then-it (results f d') h = absurd (let z : _≡_ {A = ℕ} 0 1 = cc in omega arith)
+      bears same then-it (refusal {number = n} {place = k} f) h = refusal {number = n} {place = k} (rw (sym same ∙ f))
 
   pub aside-done : {nodes' : List Row} {r : Altered} (left : ℕ) → q ≡ Done left → ChangeAtIs (table (w .texts) left-nodes) nodes' left path (Add scratchRow) r
       → MoveAsideIs w nodes' used from path r
@@ -92,19 +111,30 @@ module _ {w : Table} {left-nodes : List Row} {used : ℕ} {from path : Spelling}
       record {
         patch = patch-then (patch-framed (is .frame)) (patch-framed (changed .frame));
         held = λ v d short g gs from-is ts path-is x kids offered.
-            go v d g gs (addAt ts (meant (w .texts) x kids))
+            plain (document-removed d (g ∷ gs)) (PlainOperation.addAt ts (meant (w .texts) x kids))
             (λ u then-it. changed .held u then-it short ts path-is _ (adds-at scratchRow x kids (offered-behind (frame-behind (is .frame)) offered)))
-            (is .held v d short (g ∷ gs) from-is removeAtPath removes-at) e;
+            (is .held v d short (g ∷ gs) from-is PlainOperation.removeAtPath removes-at) e;
+        bearing = λ v b short g gs from-is ts path-is x kids offered.
+            bears (bearing-removed b (g ∷ gs)) (addAt ts (borne (w .texts) x kids))
+            (λ u then-it. changed .bearing u then-it short ts path-is _ (adds-bearing scratchRow x kids (offered-behind (frame-behind (is .frame)) offered)))
+            (is .bearing v b short (g ∷ gs) from-is removeAtPath removes-bearing) e;
       }
     where
-      go : {p : Altered} (v : Value.Value) (d : Document w used v) (g : _) (gs : _) (add : Value.Value → Outcome Value.Value)
-          → ((u : Value.Value) → Document (table (w .texts) left-nodes) left u → Results (w .texts) nodes' (judged (add u)) r)
-          → Results (w .texts) left-nodes (judged (removeAtPath (g ∷ gs) v)) p → p ≡ Done left
-          → Results (w .texts) nodes' (judged (removeAtPath (g ∷ gs) v >>= add)) r
-      go v d g gs add added (results {used = now} {v = u} f d') h =
-          let same : now ≡ left = cc in
-          same-results (rw (sym (document-removed d (g ∷ gs)) ∙ f)) (added u (subst (λ n. Document (table (w .texts) left-nodes) n u) same d'))
-      go v d g gs add added (refusal f) h = absurd (let z : _≡_ {A = ℕ} 0 1 = cc in omega arith)
+      plain : {p : Altered} {o : Outcome Plain.Value} → judged o ≡ o → (add : Plain.Value → Outcome Plain.Value)
+          → ((u : Plain.Value) → Document (table (w .texts) left-nodes) left u → Results (w .texts) nodes' (judged (add u)) r)
+          → Results (w .texts) left-nodes (judged o) p → p ≡ Done left → Results (w .texts) nodes' (judged (o >>= add)) r
+      plain same add added (results {used = now} {v = u} f d') h =
+          let left-same : now ≡ left = cc in
+          same-results (rw (sym same ∙ f)) (added u (subst (λ n. Document (table (w .texts) left-nodes) n u) left-same d'))
+      plain same add added (refusal f) h = absurd (let z : _≡_ {A = ℕ} 0 1 = cc in omega arith)
+
+      bears : {p : Altered} {o : Outcome Value.Value} → judgedBearing o ≡ o → (add : Value.Value → Outcome Value.Value)
+          → ((u : Value.Value) → Bearing (table (w .texts) left-nodes) left u → ResultsBearing (w .texts) nodes' (judgedBearing (add u)) r)
+          → ResultsBearing (w .texts) left-nodes (judgedBearing o) p → p ≡ Done left → ResultsBearing (w .texts) nodes' (judgedBearing (o >>= add)) r
+      bears same add added (results {used = now} {v = u} f d') h =
+          let left-same : now ≡ left = cc in
+          same-results (rw (sym same ∙ f)) (added u (subst (λ n. Bearing (table (w .texts) left-nodes) n u) left-same d'))
+      bears same add added (refusal f) h = absurd (let z : _≡_ {A = ℕ} 0 1 = cc in omega arith)
 
 -- from another location than the root
 module _ {w : Table} {used : ℕ} {from path : Spelling} (s : Reached) (is : WalkIs w documentRow from s) where
@@ -114,11 +144,11 @@ module _ {w : Table} {used : ℕ} {from path : Spelling} (s : Reached) (is : Wal
   value-moved row e aside moves told =
       record {
         patch = patch-then (patch-aside row aside) (moves .patch);
-        held = λ v d short g gs from-is ts path-is.
-            the-value s is d short from-is e λ c kids found node inside.
-            path-performs (λ n. from-there (g ∷ gs) v n found) told
+        bearing = λ v b short g gs from-is ts path-is.
+            the-bearing s is b short from-is e λ c kids found node inside.
+            path-performs (λ n. bearing-there (g ∷ gs) v n found) told
             (same-results (rw found)
-            (moves .held v (aside-document d node inside aside) short g gs from-is ts path-is c kids (aside-offered d node inside aside)));
+            (moves .bearing v (aside-bearing b node inside aside) short g gs from-is ts path-is c kids (aside-offered (b .document) node inside aside)));
       }
 
   pub value-lost : {number place : ℕ} {r : Performed} → s ≡ Reached.Lost number place → r ≡ atFrom number place
@@ -127,9 +157,9 @@ module _ {w : Table} {used : ℕ} {from path : Spelling} (s : Reached) (is : Wal
   value-lost {number} {place} e told =
       record {
         patch = patch-same;
-        held = λ v d short g gs from-is ts path-is.
-            let none = no-value s is d short from-is e in
-            from-performs {number = number} {place = place} (λ n. from-lost (g ∷ gs) v n none) told (rw none);
+        bearing = λ v b short g gs from-is ts path-is.
+            let none = no-bearing s is b short from-is e in
+            from-performs {number = number} {place = place} (λ n. bearing-lost (g ∷ gs) v n none) told (rw none);
       }
 
 -- from any location
@@ -140,24 +170,24 @@ module _ {w : Table} {used : ℕ} {from path : Spelling} (pointer : Bytes) (poin
     move-root e =
         record {
           patch = patch-same;
-          held = λ v d short gs from-is ts path-is.
+          bearing = λ v d short gs from-is ts path-is.
               let none-is : gs ≡ [] = first-root (partOf (w .texts) from) f (first-of pointer pointer-is is) gs e (from-is .is) in
-              performs {v = v} (rw none-is (document-fits d)) d;
+              performs {v = v} (rw none-is (bearing-fits d)) d;
         }
 
     pub move-malformed : {r : Performed} → f ≡ First.Malformed → MoveIs w (w .nodes) used from path r
     move-malformed e =
         record {
           patch = patch-same;
-          held = λ v d short gs from-is ts path-is. absurd (first-malformed (partOf (w .texts) from) f (first-of pointer pointer-is is) gs e (from-is .is));
+          bearing = λ v d short gs from-is ts path-is. absurd (first-malformed (partOf (w .texts) from) f (first-of pointer pointer-is is) gs e (from-is .is));
         }
 
     pub move-at : {nodes' : List Row} {r : Performed} (at : ℕ) → f ≡ First.At at → MoveBelowIs w nodes' used from path r → MoveIs w nodes' used from path r
     move-at at e moves =
         record {
           patch = moves .patch;
-          held = λ v d short gs from-is ts path-is.
-              some-token (partOf (w .texts) from) at gs
-              (first-at (partOf (w .texts) from) f (first-of pointer pointer-is is) at gs e (from-is .is)) λ h hs some.
-              rw some (moves .held v d short h hs (rw some at from-is) ts path-is);
+          bearing = λ v d short gs from-is ts path-is.
+              let there = first-at (partOf (w .texts) from) f (first-of pointer pointer-is is) at gs e (from-is .is) in
+              some-token (partOf (w .texts) from) at gs there λ h hs some.
+              rw some (moves .bearing v d short h hs (rw some at from-is) ts path-is);
         }

@@ -11,7 +11,7 @@ use Rattle.spec.specs.Forest.{Forest, size}
 use Rattle.spec.specs.Value as Value
 use Rattle.spec.specs.Pointer.{Tokens}
 use Rattle.spec.specs.Operation as Operation
-use Rattle.spec.specs.Operation.{addAt, removeAtPath, moveTo, copyTo, testAt, limited}
+use Rattle.spec.specs.Operation.{addAt, removeAtPath, limited}
 use Rattle.spec.specs.Patch.{operation, whichPointer}
 use Rattle.claims.specs.Proper.{Proper}
 use Rattle.claims.specs.Equality.{Distinct}
@@ -23,12 +23,17 @@ use Rattle.tape.specs.declared.fields.Cell.{Cell}
 use Rattle.tape.specs.Lent.{Table}
 use Rattle.table.specs.Meaning.{meant}
 use Rattle.table.specs.Sound.{NodeHeld}
+use Rattle.origin.specs.Value as Origin
+use Rattle.origin.specs.Value.{forget}
+use Rattle.origin.specs.Operation as Origins
+use Rattle.walk.specs.Bearing.{borne}
 use Rattle.walk.specs.Names.{Short}
 use Rattle.walk.specs.Path.{PathIs}
 use Rattle.changes.specs.Site.{Offered}
-use Rattle.changes.specs.Document.{Document, judged, Results}
+use Rattle.changes.specs.Document.{Document, judged, Results, Bearing, judgedBearing, ResultsBearing}
 use Rattle.changes.specs.declared.answers.Altered.{Altered}
-use Rattle.operations.specs.Answers.{fromOrPath, Performs}
+use Rattle.operations.specs.Bearing.{limitedWith, valueIn}
+use Rattle.operations.specs.Answers.{fromOrPath, Performs, PerformsBearing}
 use Rattle.operations.specs.declared.answers.Performed.{Performed}
 
 -- a list of nodes, and the same with other rows for the document and for scratch: those of the patch are kept
@@ -40,24 +45,26 @@ pub record SamePatch (xs ys : List Row) : Type 0 where
 abbrev pub SetAsideIs : List Row → List Row → ℕ → Type 0
 SetAsideIs nodes nodes' row = nodes' ≡ moved nodes scratchRow row (spanOf (getD nodes row []) + 1)
 
--- from one location to another
-pub record Transfers (f : Tokens → Tokens → Value.Value → Outcome Value.Value) (w : Table) (nodes' : List Row) (used : ℕ) (from path : Spelling)
+-- from one location to another. From here on the field `bearing` speaks of values with their origins, and `held` of the same without.
+pub record Transfers (f : Tokens → Tokens → Origin.Value → Outcome Origin.Value) (w : Table) (nodes' : List Row) (used : ℕ) (from path : Spelling)
     (r : Performed) : Type 0 where
   pub patch : SamePatch (w .nodes) nodes'
-  pub held : (v : Value.Value) → Document w used v → Short (w .texts) → (gs : Tokens) → PathIs (w .texts) from gs → (ts : Tokens) → PathIs (w .texts) path ts
-      → Performs (w .texts) nodes' (judged (f gs ts v)) (fromOrPath gs v) r
+  pub bearing : (v : Origin.Value) → Bearing w used v → Short (w .texts) → (gs : Tokens) → PathIs (w .texts) from gs
+      → (ts : Tokens) → PathIs (w .texts) path ts → PerformsBearing (w .texts) nodes' (judgedBearing (f gs ts v)) (fromOrPath gs (forget v)) r
 
-abbrev pub CopyIs : Table → List Row → ℕ → Spelling → Spelling → Performed → Type 0
-CopyIs w nodes' used from path r = Transfers copyTo w nodes' used from path r
+-- the copy bears the number of the operation that makes it
+abbrev pub CopyIs : Table → List Row → ℕ → Spelling → Spelling → ℕ → Performed → Type 0
+CopyIs w nodes' used from path op r = Transfers (Origins.copyTo op) w nodes' used from path r
 
 abbrev pub MoveIs : Table → List Row → ℕ → Spelling → Spelling → Performed → Type 0
-MoveIs w nodes' used from path r = Transfers moveTo w nodes' used from path r
+MoveIs w nodes' used from path r = Transfers Origins.moveTo w nodes' used from path r
 
 -- from another location than the root
 pub record MoveBelowIs (w : Table) (nodes' : List Row) (used : ℕ) (from path : Spelling) (r : Performed) : Type 0 where
   pub patch : SamePatch (w .nodes) nodes'
-  pub held : (v : Value.Value) → Document w used v → Short (w .texts) → (g : Text) (gs : Tokens) → PathIs (w .texts) from (g ∷ gs)
-      → (ts : Tokens) → PathIs (w .texts) path ts → Performs (w .texts) nodes' (judged (moveTo (g ∷ gs) ts v)) (fromOrPath (g ∷ gs) v) r
+  pub bearing : (v : Origin.Value) → Bearing w used v → Short (w .texts) → (g : Text) (gs : Tokens) → PathIs (w .texts) from (g ∷ gs)
+      → (ts : Tokens) → PathIs (w .texts) path ts
+      → PerformsBearing (w .texts) nodes' (judgedBearing (Origins.moveTo (g ∷ gs) ts v)) (fromOrPath (g ∷ gs) (forget v)) r
 
 -- where the value is set aside
 pub record MoveAsideIs (w : Table) (nodes' : List Row) (used : ℕ) (from path : Spelling) (r : Altered) : Type 0 where
@@ -65,13 +72,16 @@ pub record MoveAsideIs (w : Table) (nodes' : List Row) (used : ℕ) (from path :
   pub held : (v : Value.Value) → Document w used v → Short (w .texts) → (g : Text) (gs : Tokens) → PathIs (w .texts) from (g ∷ gs)
       → (ts : Tokens) → PathIs (w .texts) path ts → (x : Cell) (kids : Forest Cell) → Offered w scratchRow x kids
       → Results (w .texts) nodes' (judged (removeAtPath (g ∷ gs) v >>= addAt ts (meant (w .texts) x kids))) r
+  pub bearing : (v : Origin.Value) → Bearing w used v → Short (w .texts) → (g : Text) (gs : Tokens) → PathIs (w .texts) from (g ∷ gs)
+      → (ts : Tokens) → PathIs (w .texts) path ts → (x : Cell) (kids : Forest Cell) → Offered w scratchRow x kids
+      → ResultsBearing (w .texts) nodes' (judgedBearing (Origins.removeAtPath (g ∷ gs) v >>= Origins.addAt ts (borne (w .texts) x kids))) r
 
 -- ---- a test, with a value no object of which has two members of one name
 abbrev pub EqualToIs : Table → ℕ → Spelling → ℕ → Altered → Type 0
 EqualToIs w used path value r =
-    (v : Value.Value) → Document w used v → Short (w .texts) → (ts : Tokens) → PathIs (w .texts) path ts
+    (v : Origin.Value) → Bearing w used v → Short (w .texts) → (ts : Tokens) → PathIs (w .texts) path ts
     → (x : Cell) (kids : Forest Cell) → NodeHeld w value x kids → Distinct (meant (w .texts) x kids)
-    → Results (w .texts) (w .nodes) (judged (testAt ts (meant (w .texts) x kids) v)) r
+    → ResultsBearing (w .texts) (w .nodes) (judgedBearing (Origins.testAt ts (meant (w .texts) x kids) v)) r
 
 -- ---- an operation of the patch
 -- the operation that the element in a row of the patch is, a value as texts are read
@@ -84,14 +94,29 @@ pub record Listed (w : Table) (row : ℕ) (o : Operation.Operation) : Type 0 whe
   pub before : row + size kids < scratchRow
   pub is : operation (meant (w .texts) c kids) ≡ ok o
 
--- of a kind, and with a path
-pub record OperationIs (w : Table) (nodes' : List Row) (used row : ℕ) (path : Spelling) (k : Operation.Kind) (r : Performed) : Type 0 where
-  pub patch : SamePatch (w .nodes) nodes'
-  pub held : (v : Value.Value) → Document w used v → Short (w .texts) → (o : Operation.Operation) → Listed w row o → o .kind ≡ k
-      → PathIs (w .texts) path (o .path) → Performs (w .texts) nodes' (limited o v) (whichPointer o v) r
+-- what holds of an operation, op of the run, given what becomes of the document by the definitions
+abbrev pub ForOperation : Table → ℕ → ℕ → ℕ → (Operation.Operation → Type 0) → (Outcome Origin.Value → (ℕ → ℕ) → Type 0) → Type 0
+ForOperation w used row op P Q =
+    (v : Origin.Value) → Bearing w used v → Short (w .texts) → (o : Operation.Operation) (l : Listed w row o) → P o
+    → Q (limitedWith op o (valueIn (borne (w .texts) (l .c) (l .kids))) v) (whichPointer o (forget v))
 
--- any
-pub record PerformIs (w : Table) (nodes' : List Row) (used row : ℕ) (r : Performed) : Type 0 where
+-- of a kind, and with a path; for which numbers of the operation
+pub record OperationFor (Number : ℕ → Type 0) (w : Table) (nodes' : List Row) (used row : ℕ) (path : Spelling) (k : Operation.Kind) (r : Performed) : Type 0
+  where
+    pub patch : SamePatch (w .nodes) nodes'
+    pub bearing : (op : ℕ) → Number op
+        → ForOperation w used row op (λ o. (o .kind ≡ k) × PathIs (w .texts) path (o .path)) (λ o pointer. PerformsBearing (w .texts) nodes' o pointer r)
+
+-- only a copy looks at its number
+abbrev pub OperationIs : Table → List Row → ℕ → ℕ → Spelling → Operation.Kind → Performed → Type 0
+OperationIs w nodes' used row path k r = OperationFor (λ op. Unit {0}) w nodes' used row path k r
+
+abbrev pub CopyOperationIs : Table → List Row → ℕ → ℕ → Spelling → ℕ → Performed → Type 0
+CopyOperationIs w nodes' used row path origin r = OperationFor (λ op. op ≡ origin) w nodes' used row path Operation.copy r
+
+-- any, of a number
+pub record PerformIs (w : Table) (nodes' : List Row) (used row op : ℕ) (r : Performed) : Type 0 where
   pub patch : SamePatch (w .nodes) nodes'
   pub held : (v : Value.Value) → Document w used v → Short (w .texts) → (o : Operation.Operation) → Listed w row o
       → Performs (w .texts) nodes' (limited o v) (whichPointer o v) r
+  pub bearing : ForOperation w used row op (λ o. Unit {0}) (λ o pointer. PerformsBearing (w .texts) nodes' o pointer r)

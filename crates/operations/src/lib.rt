@@ -9,6 +9,7 @@
 // nodes are free. So is the index after every answer.
 
 mod answers; // what an operation answers
+mod stamps; // nodes that get another origin
 mod transfers; // a value moved and copied
 pub mod perform; // one operation of the patch
 mod runs; // the operations one after another
@@ -17,4 +18,5 @@ pub use answers::Performed;
 pub use answers::at_path;
 pub use runs::Ran;
 pub use runs::run;
+pub use stamps::stamp;
 pub use transfers::set_aside;

@@ -24,7 +24,7 @@ use walk::walk;
 ghost use mathlib.Core.Path.{_≡_};
 ghost use Rattle.spec.specs.Operation as Operation;
 ghost use Rattle.tape.specs.Lent.{before};
-ghost use Rattle.operations.specs.Perform.{OperationIs, EqualToIs, PerformIs};
+ghost use Rattle.operations.specs.Perform.{OperationIs, CopyOperationIs, EqualToIs, PerformIs};
 
 // RFC 6902, section 4.1: the value is added at `path`.
 fn add<'a>(
@@ -81,13 +81,14 @@ fn copy<'a>(
     used: usize,
     row: usize,
     path: Spelling,
+    op: u16,
 ) -> Performed
-    ensures { λ r. ⌜ OperationIs (before texts nodes) (now (nodes .exit)) used row path Operation.copy r ⌝ }
+    ensures { λ r. ⌜ CopyOperationIs (before texts nodes) (now (nodes .exit)) used row path op r ⌝ }
 {
     let Spelled::As(from) = string_member(texts, nodes, row, b"from") else {
         return Performed::Refused(refusal::WRONG_SHAPE, 0, 0);
     };
-    copy_value(texts, nodes, used, from, path)
+    copy_value(texts, nodes, used, from, path, op)
 }
 
 // The value at `path` must be equal to that in the row `value`.
@@ -129,15 +130,16 @@ fn test<'a>(
     at_path(equal_to(texts, nodes, index, used, path, value))
 }
 
-// The operation in a row of the patch.
+// The operation in a row of the patch, and its number in the run: a copy bears it.
 pub fn perform<'a>(
     texts: Texts<'a>,
     nodes: &mut [Node],
     index: &mut [u16],
     used: usize,
     row: usize,
+    op: u16,
 ) -> Performed
-    ensures { λ r. ⌜ PerformIs (before texts nodes) (now (nodes .exit)) used row r ⌝ }
+    ensures { λ r. ⌜ PerformIs (before texts nodes) (now (nodes .exit)) used row op r ⌝ }
 {
     let Spelled::As(path) = string_member(texts, nodes, row, b"path") else {
         return Performed::Refused(refusal::WRONG_SHAPE, 0, 0);
@@ -148,7 +150,7 @@ pub fn perform<'a>(
         Kind::Remove => return at_path(change_at(texts, nodes, used, path, Change::Remove)),
         Kind::Replace => return replace(texts, nodes, used, row, path),
         Kind::Move => return move_to(texts, nodes, used, row, path),
-        Kind::Copy => return copy(texts, nodes, used, row, path),
+        Kind::Copy => return copy(texts, nodes, used, row, path, op),
         Kind::Test => return test(texts, nodes, index, used, row, path),
         Kind::Unknown => return Performed::Refused(refusal::WRONG_SHAPE, 0, 0),
     }

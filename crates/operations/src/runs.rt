@@ -1,6 +1,7 @@
 // The operations of a patch, one after another.
 use crate::answers::Performed;
 use crate::perform::perform;
+use tape::fields::narrow;
 use tape::layout;
 use tape::layout::Node;
 use tape::layout::Texts;
@@ -35,7 +36,7 @@ fn elements<'a>(
             return Ran::Done(rows);
         }
         op += 1;
-        match perform(texts, nodes, index, rows, row) {
+        match perform(texts, nodes, index, rows, row, narrow(op)) {
             Performed::Done(n) => {
                 rows = n;
                 row = end_of(nodes, row);

@@ -2,6 +2,7 @@
 use crate::answers::Performed;
 use crate::answers::at_from;
 use crate::answers::at_path;
+use crate::stamps::stamp_aside;
 use changes::Altered;
 use changes::Change;
 use changes::change_at;
@@ -28,19 +29,21 @@ pub fn set_aside(nodes: &mut [Node], row: usize)
     slide(nodes, layout::SCRATCH, row, count);
 }
 
-// RFC 6902, section 4.5: the value at `from` is added at `path`.
+// RFC 6902, section 4.5: the value at `from` is added at `path`. All nodes of the copy bear an origin.
 pub fn copy_value<'a>(
     texts: Texts<'a>,
     nodes: &mut [Node],
     used: usize,
     from: Spelling,
     path: Spelling,
+    origin: u16,
 ) -> Performed
-    ensures { λ r. ⌜ CopyIs (before texts nodes) (now (nodes .exit)) used from path r ⌝ }
+    ensures { λ r. ⌜ CopyIs (before texts nodes) (now (nodes .exit)) used from path origin r ⌝ }
 {
     match walk(texts, nodes, layout::DOCUMENT, from) {
         Reached::At(row) => {
             set_aside(nodes, row);
+            stamp_aside(nodes, origin);
             return at_path(change_at(texts, nodes, used, path, Change::Add(layout::SCRATCH)));
         }
         Reached::Lost(number, walked) => return at_from(number, walked),

@@ -210,7 +210,7 @@ steps-as {work' = work'} {r} e g f s =
     record { results = same-performs e g (s .results); noted = λ v h. subst (Noted (r .log) work') (sym f) (s .noted v (sym e ∙ h)) }
 
 -- an operation as it is, with what is noted before it
-pub plain-steps : {w : Table} {nodes' : List Row} {used row : ℕ} {log : Log} {r : Stepped} → PlainIs w nodes' used row log r → {v : Value.Value}
+pub plain-steps : {w : Table} {nodes' : List Row} {used row op : ℕ} {log : Log} {r : Stepped} → PlainIs w nodes' used row op log r → {v : Value.Value}
     → Document w used v → Short (w .texts) → {o : Operation} → Listed w row o → {us : List Operation} {work : Bytes}
     → ((u : Value.Value) → limited o v ≡ ok u → Noted log work us) → StepsTo (w .texts) nodes' (limited o v) (whichPointer o v) us work r
 plain-steps p {v} d short {o} l {us} {work} noted =
@@ -228,7 +228,7 @@ move-pointer o v kind from n = which-from o v (ap usesFrom kind) n ∙ ap (λ g.
 
 module _ {w : Table} {used row at : ℕ} {from path : Spelling} {b : Bool} (holds : HoldsIs w path from b) where
   pub from-over : b ≡ true → {log replaced : Log} {work work' : Bytes} → NoteReplacedIs w log path work work' replaced → {nodes' : List Row} {r : Stepped}
-      → PlainIs w nodes' used row replaced r → MoveFromIs w nodes' work work' used row from path at log r
+      → {op : ℕ} → PlainIs w nodes' used row op replaced r → MoveFromIs w nodes' work work' used row from path at log r
   from-over e {log} {replaced} {work} {work'} note plain =
       record {
         patch = plain .performs .patch;
@@ -267,7 +267,7 @@ module _ {w : Table} {used row at : ℕ} {from path : Spelling} {b : Bool} (hold
 
 -- ---- by what the walk to `from` leads to
 module _ {w : Table} {used row : ℕ} {from path : Spelling} (s : Reached) (is : WalkIs w documentRow from s) {nodes' : List Row} {log : Log} {r : Stepped} where
-  pub below-lost : {number place : ℕ} → s ≡ Reached.Lost number place → {work : Bytes} → PlainIs w nodes' used row log r
+  pub below-lost : {number place : ℕ} → s ≡ Reached.Lost number place → {work : Bytes} → {op : ℕ} → PlainIs w nodes' used row op log r
       → MoveBelowIs w nodes' work work used row from path log r
   below-lost e plain =
       record {
@@ -298,7 +298,7 @@ unfolding usesFrom
 move-source is from e l kind = source is from e l (ap usesFrom kind)
 
 module _ {w : Table} {used row : ℕ} {path : Spelling} {s : Spelled} (is : StringIs w row (ascii "from") s) {nodes' : List Row} {log : Log} {r : Stepped} where
-  pub from-missing : s ≡ Spelled.Not → {work : Bytes} → PlainIs w nodes' used row log r → MoveStepIs w nodes' work work used row path log r
+  pub from-missing : s ≡ Spelled.Not → {work : Bytes} → {op : ℕ} → PlainIs w nodes' used row op log r → MoveStepIs w nodes' work work used row path log r
   unfolding usesFrom
   from-missing e plain =
       record {
@@ -309,7 +309,7 @@ module _ {w : Table} {used row : ℕ} {path : Spelling} {s : Spelled} (is : Stri
 
   module _ (from : Spelling) (e : s ≡ Spelled.As from) (pointer : Bytes) (pointer-is : pointer ≡ partOf (w .texts) from) (f : First)
       (first : FirstOf pointer f) where
-    pub step-root : f ≡ First.Root → {work : Bytes} → PlainIs w nodes' used row log r → MoveStepIs w nodes' work work used row path log r
+    pub step-root : f ≡ First.Root → {work : Bytes} → {op : ℕ} → PlainIs w nodes' used row op log r → MoveStepIs w nodes' work work used row path log r
     unfolding undoOf undoMove
     step-root at-root {work} plain =
         record {
@@ -332,7 +332,7 @@ module _ {w : Table} {used row : ℕ} {path : Spelling} {s : Spelled} (is : Stri
               moved .held v d short o l kind g gs some (subst (PathIs (w .texts) from) some p) path-is os noted;
         }
 
-    pub step-malformed : f ≡ First.Malformed → {work : Bytes} → PlainIs w nodes' used row log r → MoveStepIs w nodes' work work used row path log r
+    pub step-malformed : f ≡ First.Malformed → {work : Bytes} {op : ℕ} → PlainIs w nodes' used row op log r → MoveStepIs w nodes' work work used row path log r
     step-malformed bad plain =
         record {
           patch = plain .performs .patch;

@@ -150,7 +150,7 @@ module _ {w : Table} {path : Spelling} {kind : Kind} {log : Log} {work : Bytes} 
 
 -- ---- an operation, by its path and its kind
 module _ {w : Table} {used row : ℕ} {s : Spelled} (is : StringIs w row (ascii "path") s) {nodes' : List Row} {log : Log} {r : Stepped} where
-  pub path-missing : s ≡ Spelled.Not → {work : Bytes} → PlainIs w nodes' used row log r → StepIs w nodes' work work used row log r
+  pub path-missing : s ≡ Spelled.Not → {work : Bytes} → {op : ℕ} → PlainIs w nodes' used row op log r → StepIs w nodes' work work used row log r
   path-missing e plain =
       record {
         patch = plain .performs .patch;
@@ -189,7 +189,8 @@ module _ {w : Table} {used row : ℕ} {s : Spelled} (is : StringIs w row (ascii 
             moved .held v d short o l k (path-told is path e l) os noted;
       }
 
-  pub step-other : uses .moves ≡ false → {before-log : Log} → NoteBeforeIs w work work' kind path log before-log → PlainIs w nodes' used row before-log r
+  pub step-other : uses .moves ≡ false → {before-log : Log} → NoteBeforeIs w work work' kind path log before-log
+      → {op : ℕ} → PlainIs w nodes' used row op before-log r
       → StepIs w nodes' work work' used row log r
   step-other m note plain =
       record {

@@ -38,8 +38,8 @@ pub record StepsTo (T : Texts) (nodes' : List Row) (o : Outcome Value.Value) (po
   pub noted : (v : Value.Value) → o ≡ ok v → Noted (r .log) work' undo
 
 -- ---- an operation as it is, with what is noted
-pub record PlainIs (w : Table) (nodes' : List Row) (used row : ℕ) (log : Log) (r : Stepped) : Type 0 where
-  pub performs : PerformIs w nodes' used row (r .outcome)
+pub record PlainIs (w : Table) (nodes' : List Row) (used row op : ℕ) (log : Log) (r : Stepped) : Type 0 where
+  pub performs : PerformIs w nodes' used row op (r .outcome)
   pub same : r .log ≡ log
 
 -- ---- a move

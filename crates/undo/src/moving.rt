@@ -93,18 +93,19 @@ fn move_apart<'a>(
     }
 }
 
-// The operation in a row of the patch as it is, with what is noted.
+// The operation in a row of the patch, by its number, as it is, with what is noted.
 pub fn plain<'a>(
     texts: Texts<'a>,
     nodes: &mut [Node],
     index: &mut [u16],
     used: usize,
     row: usize,
+    op: u16,
     log: Log,
 ) -> Stepped
-    ensures { λ r. ⌜ PlainIs (before texts nodes) (now (nodes .exit)) used row log r ⌝ }
+    ensures { λ r. ⌜ PlainIs (before texts nodes) (now (nodes .exit)) used row op log r ⌝ }
 {
-    let outcome = perform(texts, nodes, index, used, row);
+    let outcome = perform(texts, nodes, index, used, row, op);
     Stepped { outcome, log }
 }
 
@@ -115,6 +116,7 @@ fn move_from<'a>(
     index: &mut [u16],
     used: usize,
     row: usize,
+    op: u16,
     from: Spelling,
     path: Spelling,
     at: usize,
@@ -126,7 +128,7 @@ fn move_from<'a>(
 {
     if holds(texts, nodes, path, from) {
         let replaced = note_replaced(texts, nodes, log, path, work);
-        return plain(texts, nodes, index, used, row, replaced);
+        return plain(texts, nodes, index, used, row, op, replaced);
     }
     let added = note(texts, nodes, log, Action::Add(at), Target::At(from), work);
     move_apart(texts, nodes, used, from, path, at, added, work)
@@ -139,6 +141,7 @@ fn move_below<'a>(
     index: &mut [u16],
     used: usize,
     row: usize,
+    op: u16,
     from: Spelling,
     path: Spelling,
     log: Log,
@@ -148,9 +151,21 @@ fn move_below<'a>(
         used row from path log r ⌝ }
 {
     let Reached::At(at) = walk(texts, nodes, layout::DOCUMENT, from) else {
-        return plain(texts, nodes, index, used, row, log);
+        return plain(texts, nodes, index, used, row, op, log);
     };
-    move_from(texts, nodes, index, used, row, from, path, at, log, work)
+    move_from(
+        texts,
+        nodes,
+        index,
+        used,
+        row,
+        op,
+        from,
+        path,
+        at,
+        log,
+        work,
+    )
 }
 
 // The move in a row of the patch. "Nor does a move of root to root" give an operation.
@@ -160,6 +175,7 @@ pub fn move_step<'a>(
     index: &mut [u16],
     used: usize,
     row: usize,
+    op: u16,
     path: Spelling,
     log: Log,
     work: &mut [u8],
@@ -168,11 +184,22 @@ pub fn move_step<'a>(
         (now (work .exit)) used row path log r ⌝ }
 {
     let Spelled::As(from) = string_member(texts, nodes, row, b"from") else {
-        return plain(texts, nodes, index, used, row, log);
+        return plain(texts, nodes, index, used, row, op, log);
     };
     match first(part(texts, from)) {
-        First::Root => return plain(texts, nodes, index, used, row, log),
-        First::At(_) => return move_below(texts, nodes, index, used, row, from, path, log, work),
-        First::Malformed => return plain(texts, nodes, index, used, row, log),
+        First::Root => return plain(texts, nodes, index, used, row, op, log),
+        First::At(_) => return move_below(
+            texts,
+            nodes,
+            index,
+            used,
+            row,
+            op,
+            from,
+            path,
+            log,
+            work,
+        ),
+        First::Malformed => return plain(texts, nodes, index, used, row, op, log),
     }
 }

@@ -2,6 +2,7 @@
 use crate::steps::step;
 use operations::Performed;
 use operations::Ran;
+use tape::fields::narrow;
 use tape::layout;
 use tape::layout::Node;
 use tape::layout::Texts;
@@ -43,7 +44,7 @@ fn elements<'a>(
             };
         }
         op += 1;
-        let stepped = step(texts, nodes, index, rows, row, noted, work);
+        let stepped = step(texts, nodes, index, rows, row, narrow(op), noted, work);
         noted = stepped.log;
         let outcome = stepped.outcome;
         match outcome {

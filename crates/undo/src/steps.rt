@@ -40,13 +40,14 @@ fn note_before<'a>(
     }
 }
 
-// The operation in a row of the patch.
+// The operation in a row of the patch, by its number.
 pub fn step<'a>(
     texts: Texts<'a>,
     nodes: &mut [Node],
     index: &mut [u16],
     used: usize,
     row: usize,
+    op: u16,
     log: Log,
     work: &mut [u8],
 ) -> Stepped
@@ -54,12 +55,12 @@ pub fn step<'a>(
         (now (work .exit)) used row log r ⌝ }
 {
     let Spelled::As(path) = string_member(texts, nodes, row, b"path") else {
-        return plain(texts, nodes, index, used, row, log);
+        return plain(texts, nodes, index, used, row, op, log);
     };
     let kind = kind_of(texts, nodes, row);
     if uses_of(kind).moves {
-        return move_step(texts, nodes, index, used, row, path, log, work);
+        return move_step(texts, nodes, index, used, row, op, path, log, work);
     }
     let noted = note_before(texts, nodes, kind, path, log, work);
-    plain(texts, nodes, index, used, row, noted)
+    plain(texts, nodes, index, used, row, op, noted)
 }

@@ -3,9 +3,11 @@ use Prim.Native.Nat.{ℕ, suc, _+_, _<_, _≤_}
 use native.Mathlib.Omega.{arith}
 use mathlib.Core.Path.{_≡_, refl, ap, sym, _∙_, subst}
 use mathlib.Core.List.{List, []}
+use Rattle.spec.specs.Outcome.{Outcome}
+use Rattle.spec.specs.Bytes.{Text}
 use Rattle.spec.specs.Forest.{Forest, none, tree, Tree, count, size, from, nth, _⧺_}
 use Rattle.spec.specs.Value.{Label, leaf, named}
-use Rattle.spec.specs.Pointer.{child}
+use Rattle.spec.specs.Pointer.{child, childAt}
 use Rattle.text.specs.Decode.{textFrom, textOf}
 use Rattle.tape.specs.declared.fields.Cell.{Cell}
 use Rattle.tape.specs.Rows.{childRow}
@@ -18,6 +20,11 @@ use Rattle.table.specs.Meaning.{labelOf, spelled, entryOf, members, meant}
 use Rattle.table.specs.Sound.{Sound, NodeHeld}
 use Rattle.table.proofs.AllLaws.{all-first, all-from, all-kids}
 use Rattle.tape.specs.Lent.{Texts, Table}
+use Rattle.origin.specs.Value as Origin
+use Rattle.origin.specs.Value.{forget, forgetEntry}
+use Rattle.origin.specs.Pointer as Origins
+use Rattle.origin.proofs.ForgetLaws.{map-map}
+use Rattle.walk.specs.Bearing.{bearing, borneMembers, borne}
 
 blank-means : (T : Texts) → mapTree (entryOf T) blank ≡ named [] (leaf Label.null-literal)
 unfolding labelOf spelled textOf textFrom mapForest
@@ -26,6 +33,24 @@ blank-means T = refl
 pub child-meant : (T : Texts) (k : ℕ) (c : Cell) (kids : Forest Cell) → child k (meant T c kids) ≡ mapTree (entryOf T) (nth blank k kids)
 unfolding child
 child-meant T k c kids = sym (map-nth (entryOf T) blank k kids ∙ ap (λ t. nth t k (members T kids)) (blank-means T))
+
+-- ---- with origins
+-- they are forgotten node by node
+pub forget-borne : (T : Texts) (c : Cell) (kids : Forest Cell) → forget (borne T c kids) ≡ meant T c kids
+forget-borne T c kids = ap (λ f. record { label = labelOf T (c .kind) (c .value); kids = f }) (map-map forgetEntry (bearing T) kids)
+
+blank-bears : (T : Texts) → mapTree (bearing T) blank ≡ Origin.named [] (Origin.leaf 0 Label.null-literal)
+unfolding labelOf spelled textOf textFrom mapForest
+blank-bears T = refl
+
+pub child-borne : (T : Texts) (k : ℕ) (c : Cell) (kids : Forest Cell) → Origins.child k (borne T c kids) ≡ mapTree (bearing T) (nth blank k kids)
+unfolding Origins.child
+child-borne T k c kids = sym (map-nth (bearing T) blank k kids ∙ ap (λ t. nth t k (borneMembers T kids)) (blank-bears T))
+
+-- a token names the child that it names without them
+pub childAt-borne : (T : Texts) (t : Text) (c : Cell) (kids : Forest Cell) {o : Outcome ℕ} → childAt t (meant T c kids) ≡ o
+    → Origins.childAt t (borne T c kids) ≡ o
+childAt-borne T t c kids e = ap (childAt t) (forget-borne T c kids) ∙ e
 
 -- the trees from the k-th on, by the k-th
 pub sound-child : {T : Texts} {kids : Forest Cell} (k : ℕ) → k < count kids → Sound T kids

@@ -1,3 +1,4 @@
+pub mod Bearing
 pub mod Names
 pub mod Step
 pub mod Path

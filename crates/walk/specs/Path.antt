@@ -16,6 +16,9 @@ use Rattle.pointer.specs.Tokens.{accepted, tokensFrom, FirstOf, TokenAt}
 use Rattle.pointer.specs.declared.answers.First.the-variants as First
 use Rattle.pointer.specs.declared.answers.Token.{Token}
 use Rattle.pointer.specs.declared.answers.Token.the-variants as Token
+use Rattle.origin.specs.Value as Origin
+use Rattle.origin.specs.Pointer as Origins
+use Rattle.walk.specs.Bearing.{borne}
 use Rattle.walk.specs.Names.{Short, tokenName}
 use Rattle.walk.specs.Step.{StepRows}
 use Rattle.table.specs.Sound.{NodeHeld, ForHeld}
@@ -42,11 +45,18 @@ reachedBehind n (At row) = At row
 reachedBehind n (Lost number walked) = Lost number (n + walked)
 
 -- The outcome of a walk from a node with so many nodes below it: the row of a node that is the value reached, and that lies in the tree where
--- the walk began; or the refusal's number, and the count of tokens walked before the one that failed.
-pub data Walked (w : Table) (row span : ℕ) (o : Outcome Value.Value) : Reached → Type 0 where
-  reached : {at : ℕ} {c : Cell} {kids : Forest Cell} → o ≡ ok (meant (w .texts) c kids) → NodeHeld w at c kids → row ≤ at
-      → at + size kids ≤ row + span → Walked w row span o (At at)
-  lost : {number walked : ℕ} → o ≡ refused number walked → Walked w row span o (Lost number walked)
+-- the walk began; or the refusal's number, and the count of tokens walked before the one that failed. What a node is, is told with its origins or
+-- without them.
+pub data WalkedBy {A : Type 0} (is : Texts → Cell → Forest Cell → A) (w : Table) (row span : ℕ) (o : Outcome A) : Reached → Type 0 where
+  reached : {at : ℕ} {c : Cell} {kids : Forest Cell} → o ≡ ok (is (w .texts) c kids) → NodeHeld w at c kids → row ≤ at
+      → at + size kids ≤ row + span → WalkedBy is w row span o (At at)
+  lost : {number walked : ℕ} → o ≡ refused number walked → WalkedBy is w row span o (Lost number walked)
+
+abbrev pub Walked : Table → ℕ → ℕ → Outcome Value.Value → Reached → Type 0
+Walked w row span o r = WalkedBy meant w row span o r
+
+abbrev pub WalkedBearing : Table → ℕ → ℕ → Outcome Origin.Value → Reached → Type 0
+WalkedBearing w row span o r = WalkedBy borne w row span o r
 
 -- ---- whatever the records hold: token after token from a place of the pointer on, each a step, up to the first refusal or the last token
 pub data WalkRows (w : Table) (path : Spelling) : ℕ → ℕ → Reached → Type 0 where
@@ -67,14 +77,19 @@ pub data PathRows (w : Table) (row : ℕ) (path : Spelling) : Reached → Type 0
 abbrev pub isPointer : Texts → Spelling → Bool
 isPointer T path = accepted (tokens (decode (partOf T path)))
 
--- ---- from a node in a row, along the tokens from a place of the pointer on, or along all
+-- ---- from a node in a row, along the tokens from a place of the pointer on, or along all. The field `bearing` speaks of values with their
+-- origins, and `held` of the same without.
 pub record WalkFromIs (w : Table) (row : ℕ) (path : Spelling) (at : ℕ) (r : Reached) : Type 0 where
   pub rows : WalkRows w path at row r
   pub held : (ts : Tokens) → Short (w .texts) → at ≤ length (partOf (w .texts) path) → TokensFrom (w .texts) path at ts
       → ForHeld w row (λ c kids. Walked w row (size kids) (walk ts (meant (w .texts) c kids)) r)
+  pub bearing : (ts : Tokens) → Short (w .texts) → at ≤ length (partOf (w .texts) path) → TokensFrom (w .texts) path at ts
+      → ForHeld w row (λ c kids. WalkedBearing w row (size kids) (Origins.walk ts (borne (w .texts) c kids)) r)
 
 pub record WalkIs (w : Table) (row : ℕ) (path : Spelling) (r : Reached) : Type 0 where
   pub malformed : isPointer (w .texts) path ≡ false → r ≡ Lost malformed-pointer 0
   pub rows : isPointer (w .texts) path ≡ true → PathRows w row path r
   pub held : (ts : Tokens) → Short (w .texts) → PathIs (w .texts) path ts
       → ForHeld w row (λ c kids. Walked w row (size kids) (walk ts (meant (w .texts) c kids)) r)
+  pub bearing : (ts : Tokens) → Short (w .texts) → PathIs (w .texts) path ts
+      → ForHeld w row (λ c kids. WalkedBearing w row (size kids) (Origins.walk ts (borne (w .texts) c kids)) r)

@@ -20,7 +20,7 @@ replace-document-spec =
     (λ c.
     record {
       frame = unchanged refl;
-      held = λ T v d x kids offered. replace-deep offered (c .before .within .ensures) (not-true _ (c .if1 .taken));
+      bearing = λ T v d x kids offered. replace-deep offered (c .before .within .ensures) (not-true _ (c .if1 .taken));
     })
     -- size-requires
     (λ c κs. search needs)
@@ -33,7 +33,7 @@ replace-document-spec =
     let at-within = at-if1 .before in
     record {
       frame = unchanged refl;
-      held = λ T v d x kids offered.
+      bearing = λ T v d x kids offered.
           replace-large offered (at-within .within .ensures) (not-false _ (at-if1 .if1 .left)) _ (at-size .size .ensures) (c .if2 .taken);
     })
     -- splice-requires
@@ -50,7 +50,7 @@ replace-document-spec =
     let at-pre = at-within .before .before in
     record {
       frame = replace-frame _ _ _ (at-pre .pre) (at-if2 .if2 .left) (at-splice .splice .ensures);
-      held = λ T v d x kids offered.
+      bearing = λ T v d x kids offered.
           replace-done offered (at-within .within .ensures) (not-false _ (at-if1 .if1 .left)) _ (at-size .size .ensures) d (at-if2 .if2 .left)
           (at-splice .splice .ensures);
     }))

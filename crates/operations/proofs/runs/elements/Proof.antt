@@ -33,6 +33,8 @@ elements-spec =
     (λ c. run-inside (c .before .before .loop .inv .3) (omega arith) (omega arith))
     -- add-op
     (λ c. search needs)
+    -- narrow-requires
+    (λ c κs. search needs)
     -- perform-requires
     (λ c κs. search needs)
     -- enum-known-n
@@ -46,9 +48,11 @@ elements-spec =
       search needs,
       search needs,
       search needs,
-      run-next
-          (c .before .before .before .before .before .before .before .before .before .before .before .before .before .loop .inv .3) (omega arith)
-          (c .before .before .before .before .before .before .before .before .perform .ensures) (c .before .before .before .n .given .1) _ (c .end-of .ensures),
+      (let at-perform = c .before .before .before .before .before .before .before .before in
+          let at-narrow = at-perform .before in
+          let inv = at-narrow .before .before .before .before .before .loop .inv in
+          run-next (inv .3) (omega arith) (at-perform .perform .ensures) (at-narrow .narrow .ensures) (inv .0) (c .before .before .before .n .given .1) _
+          (c .end-of .ensures)),
     ))
     -- enum-known-number
     (λ c. search needs)
@@ -57,8 +61,11 @@ elements-spec =
     -- same-length-4
     (λ c. search needs)
     -- returns-2
-    (λ c. run-halts (c .before .before .before .before .before .before .before .before .before .before .before .loop .inv .3) (omega arith)
-    (c .before .before .before .before .before .before .perform .ensures) (c .before .number .given .1))
+    (λ c.
+    let at-perform = c .before .before .before .before .before .before in
+    let at-narrow = at-perform .before in
+    let inv = at-narrow .before .before .before .before .before .loop .inv in
+    run-halts (inv .3) (omega arith) (at-perform .perform .ensures) (at-narrow .narrow .ensures) (inv .0) (c .before .number .given .1))
     -- same-length-5
     (λ c. search needs)
     -- same-length-6

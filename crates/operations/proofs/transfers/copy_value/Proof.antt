@@ -15,6 +15,8 @@ copy-value-spec =
     (λ c. search needs)
     -- set-aside-requires
     (λ c κs. search needs)
+    -- stamp-aside-requires
+    (λ c κs. search needs)
     -- change-at-requires
     (λ c κs. search needs)
     -- at-path-requires
@@ -24,10 +26,12 @@ copy-value-spec =
     -- returns
     (λ c.
     let at-change-at = c .before .before in
-    let at-set-aside = at-change-at .before .before .before in
+    let at-stamp-aside = at-change-at .before .before .before in
+    let at-set-aside = at-stamp-aside .before .before .before in
     let at-row = at-set-aside .before .before .before in
     let at-walk = at-row .before .before in
-    copy-done _ (at-walk .walk .ensures) _ (at-row .row .given .1) (at-set-aside .set-aside .ensures) (at-change-at .change-at .ensures) (c .at-path .ensures))
+    copy-done _ (at-walk .walk .ensures) _ _ (at-row .row .given .1) (at-set-aside .set-aside .ensures)
+    (at-stamp-aside .stamp-aside .ensures) (at-change-at .change-at .ensures) (c .at-path .ensures))
     -- enum-known-number
     (λ c. search needs)
     -- at-from-requires
@@ -38,4 +42,4 @@ copy-value-spec =
     (λ c.
     let at-number = c .before .before in
     let at-walk = at-number .before .before in
-    copy-refused _ (at-walk .walk .ensures) (at-number .number .given .1) (c .at-from .ensures)))
+    copy-refused _ (at-walk .walk .ensures) _ (at-number .number .given .1) (c .at-from .ensures)))

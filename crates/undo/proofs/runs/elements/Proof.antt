@@ -36,6 +36,8 @@ elements-spec =
     (λ c. logged-inside (c .before .before .loop .inv .4) (omega arith) (omega arith))
     -- add-op
     (λ c. search needs)
+    -- narrow-requires
+    (λ c κs. search needs)
     -- step-requires
     (λ c κs. search needs)
     -- enum-known-outcome
@@ -52,7 +54,8 @@ elements-spec =
       search needs,
       logged-next
           (c .before .before .before .before .before .before .before .before .before .before .before .before .before .before .before .before
-          .before .loop .inv .4) (omega arith) (c .before .before .before .before .before .before .before .before .before .before .before .step .ensures)
+          .before .before .loop .inv .4) (omega arith)
+          (c .before .before .before .before .before .before .before .before .before .before .before .step .ensures)
           (c .before .before .before .outcome .given .1) _ (c .end-of .ensures),
     ))
     -- enum-known-outcome-2
@@ -65,7 +68,7 @@ elements-spec =
     (λ c. search needs)
     -- returns-2
     (λ c. logged-halts
-    (c .before .before .before .before .before .before .before .before .before .before .before .before .before .before .before .loop .inv .4)
+    (c .before .before .before .before .before .before .before .before .before .before .before .before .before .before .before .before .loop .inv .4)
     (omega arith) (c .before .before .before .before .before .before .before .before .before .step .ensures) (c .before .outcome2 .given .1))
     -- same-length-7
     (λ c. search needs)

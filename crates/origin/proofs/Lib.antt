@@ -1,0 +1,15 @@
+pub mod ForgetLaws
+pub mod ForgetMerge
+pub mod ListedLaws
+pub mod RunLaws
+pub mod AnswerLaws
+pub mod ForgettingTheorem
+pub mod ExchangeLaws
+pub mod OperationLaws
+pub mod EachLaws
+pub mod FoundLaws
+pub mod MemberLaws
+pub mod MergeLaws
+pub mod OriginTheorem
+pub mod OrderTheorem
+pub mod ExamplesTheorem

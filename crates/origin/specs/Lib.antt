@@ -1,0 +1,10 @@
+pub mod Value
+pub mod Pointer
+pub mod Operation
+pub mod Patch
+pub mod MergePatch
+pub mod Answer
+pub mod Forgetting
+pub mod Claims
+pub mod Examples
+pub mod Order

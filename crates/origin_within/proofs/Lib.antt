@@ -1,0 +1,2 @@
+pub mod ExamplesTheorem
+pub mod WithinTheorem
