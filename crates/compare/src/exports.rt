@@ -26,7 +26,8 @@ pub extern "C" fn json_patch_compare<'a>(
     index: &mut [u16],
     answer: &mut [u64; 5],
 ) -> u32
-    ensures { λ r. ⌜ ExportIs (given first second) (workBefore nodes index) (workAfter nodes index) (now (answer .exit)) r ⌝ }
+    ensures { λ r. ⌜ ExportIs (given first second) (workBefore nodes index) (workAfter nodes index)
+        (now (answer .exit)) r ⌝ }
 {
     let r = compare(first, second, nodes, index);
     *answer = [

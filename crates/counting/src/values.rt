@@ -67,7 +67,8 @@ pub fn counted<'a>(
     other: usize,
     levels: u32,
 ) -> Comparison
-    ensures { λ r. ⌜ (Hints (now (nodes .entry)) (now (index .entry)) top → CountedIs (before texts nodes) at other levels r) ⌝ }
+    ensures { λ r. ⌜ (Hints (now (nodes .entry)) (now (index .entry)) top
+        → CountedIs (before texts nodes) at other levels r) ⌝ }
 {
     if !alike(texts, nodes, at, other) {
         return told(false, 0);

@@ -50,7 +50,8 @@ fn sought<'a>(
     end: usize,
     name: Name,
 ) -> Member
-    ensures { λ r. ⌜ (Hints (now (nodes .entry)) (now (index .entry)) top → SoughtIs (before texts nodes) other end name r) ⌝ }
+    ensures { λ r. ⌜ (Hints (now (nodes .entry)) (now (index .entry)) top
+        → SoughtIs (before texts nodes) other end name r) ⌝ }
 {
     if nodes.len() <= other {
         return Member::Missing;
@@ -84,7 +85,8 @@ pub fn partner<'a>(
     row: usize,
     next: usize,
 ) -> Member
-    ensures { λ r. ⌜ (Hints (now (nodes .entry)) (now (index .entry)) (pair .top) → PartnerOf (before texts nodes) pair row next r) ⌝ }
+    ensures { λ r. ⌜ (Hints (now (nodes .entry)) (now (index .entry)) (pair .top)
+        → PartnerOf (before texts nodes) pair row next r) ⌝ }
 {
     if !pair.object {
         return Member::At(next);
@@ -109,7 +111,8 @@ fn equal<'a>(
     other: usize,
     levels: u32,
 ) -> bool
-    ensures { λ r. ⌜ (Hints (now (nodes .entry)) (now (index .entry)) top → EqualIs (before texts nodes) at other levels r) ⌝ }
+    ensures { λ r. ⌜ (Hints (now (nodes .entry)) (now (index .entry)) top
+        → EqualIs (before texts nodes) at other levels r) ⌝ }
 {
     if nodes.len() <= at {
         return false;

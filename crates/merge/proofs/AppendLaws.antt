@@ -77,7 +77,8 @@ module _ (nodes : List Row) (row : ℕ) (ys : List ℕ) (near : row < scratchRow
   step-unmet h = rw (lt-leb scratchRow row near, h)
 
 -- ---- the loop: the patch's members from the k-th on are left
-pub record Appending (w : Table) (xs : List ℕ) (patch to levels last : ℕ) (c : Cell) (kids ts : Forest Cell) (nodes : List Row) (ys : List ℕ) (next row : ℕ) : Type 0 where
+pub record Appending (w : Table) (xs : List ℕ) (patch to levels last : ℕ) (c : Cell)
+    (kids ts : Forest Cell) (nodes : List Row) (ys : List ℕ) (next row : ℕ) : Type 0 where
   pub given : Given w xs patch to levels c kids
   pub k : ℕ
   pub place : row ≡ patch + 1 + size (before k kids)
@@ -146,7 +147,8 @@ module _ {w : Table} {xs : List ℕ} {patch to levels last : ℕ} {c : Cell} {ki
             place = omega (arith, q .place, row-next, size-cut (q .k) kids, size-cut (suc (q .k)) kids, ap size is, ap size behind);
             ends = q .ends;
             all = q .all ⧺ one;
-            so-far = so-far-more (q .given) (q .so-far) laid (changed-wider patch (patch + 1 + size kids) (omega (arith, inside)) (omega (arith, inside)) changed);
+            so-far = so-far-more (q .given) (q .so-far) laid
+                (changed-wider patch (patch + 1 + size kids) (omega (arith, inside)) (omega (arith, inside)) changed);
             whole =
                 q .whole ∙ ap (λ f. q .all ⧺ gather (appended (members T ts)) (members T f)) is
                 ∙ sym (⧺-assoc (q .all) one (gather (appended (members T ts)) (members T rest)))
@@ -199,7 +201,8 @@ module _ {w : Table} {xs : List ℕ} {patch to levels last : ℕ} {c : Cell} {ki
             changed-self)
 
         object-merged : (from : ℕ) → step ≡ Merge from → {nodes' : List Row} {ws : List ℕ} {next' : ℕ}
-            → MergeObjectIs (with-nodes w nodes) rows from next (levels - 1) ys nodes' ws next' → Appending w xs patch to levels last c kids ts nodes' ws next' row'
+            → MergeObjectIs (with-nodes w nodes) rows from next (levels - 1) ys nodes' ws next'
+            → Appending w xs patch to levels last c kids ts nodes' ws next' row'
         object-merged from e {nodes'} {ws} {next'} merges =
             by-note (λ h told. absurd (let z : _≡_ {A = ℕ} 0 1 = cc in omega arith))
             (λ h told.
@@ -222,7 +225,8 @@ module _ {w : Table} {xs : List ℕ} {patch to levels last : ℕ} {c : Cell} {ki
       appending-copied from e copy = turn λ d ds rest is. value-copied d ds rest is steps from e copy
 
       pub appending-merged : (from : ℕ) → step ≡ Merge from → {nodes' : List Row} {ws : List ℕ} {next' : ℕ}
-          → MergeObjectIs (with-nodes w nodes) rows from next (levels - 1) ys nodes' ws next' → Appending w xs patch to levels last c kids ts nodes' ws next' row'
+          → MergeObjectIs (with-nodes w nodes) rows from next (levels - 1) ys nodes' ws next'
+          → Appending w xs patch to levels last c kids ts nodes' ws next' row'
       appending-merged from e merges = turn λ d ds rest is. object-merged d ds rest is steps from e merges
 
   -- ---- behind the last turn: the object is closed
@@ -242,6 +246,7 @@ module _ {w : Table} {xs : List ℕ} {patch to levels last : ℕ} {c : Cell} {ki
         built = λ room.
             subst (λ xs. BuiltNode T xs to next c (mergedMembers (members T ts) (members T kids))) (sym is)
             (subst (BuiltNode T (closed nodes patch to next) to next c) (sym is-all)
-            (close-built node-now (omega (arith, q .given .object .object)) (omega (arith, q .so-far .counted)) (omega (arith, long-here)) (omega (arith, long-here))
+            (close-built node-now (omega (arith, q .given .object .object))
+            (omega (arith, q .so-far .counted)) (omega (arith, long-here)) (omega (arith, long-here))
             (q .so-far .built room)));
       }

@@ -83,7 +83,8 @@ module _ {T : Texts} where
       record { cells = none; ends = add-zero start; rows = between-none start nodes; formed = formed-none; means = refl; sound = all-none }
 
   -- they stand as long as only rows behind them change
-  pub built-kept : {start end : ℕ} {all : Members} {nodes nodes' : List Row} → Framed end nodes nodes' → Built T nodes start end all → Built T nodes' start end all
+  pub built-kept : {start end : ℕ} {all : Members} {nodes nodes' : List Row}
+      → Framed end nodes nodes' → Built T nodes start end all → Built T nodes' start end all
   built-kept {start} f b =
       record { cells = b .cells; ends = b .ends; rows = ap (drop start) (f .before) ∙ b .rows; formed = b .formed; means = b .means; sound = b .sound }
 
@@ -163,7 +164,8 @@ module _ {T : Texts} where
         alone-size : size (tree c kids none) ≡ suc (size kids)
         alone-size = size-single (record { root = c; kids = kids })
 
-    pub copy-built : NameFits T (c .name) → r ≤ length nodes → length nodes < full → Built T nodes' to r (single (named (nameText T (c .name)) (meant T c kids)))
+    pub copy-built : NameFits T (c .name) → r ≤ length nodes → length nodes < full
+        → Built T nodes' to r (single (named (nameText T (c .name)) (meant T c kids)))
     unfolding mapForest
     copy-built name room short =
         let n : ℕ = suc (size kids) in

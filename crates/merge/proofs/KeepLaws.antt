@@ -50,10 +50,12 @@ use Rattle.merge.specs.Merged.{membersEnd, Target, target-object, target
 use Rattle.merge.specs.declared.steps.Step.{Step}
 use Rattle.merge.specs.declared.steps.Step.the-variants.{Nothing, Copy, Merge}
 use Rattle.merge.proofs.BuildLaws.{framed-self, built-none, framed-then, framed-before, built-kept, built-join}
-use Rattle.merge.proofs.MarkLaws.{changed-self, changed-then, changed-wider, marks-inside, marks-as, marks-absent, has-from, alone-first, alone-kids, alone-rest}
+use Rattle.merge.proofs.MarkLaws.{changed-self, changed-then, changed-wider, marks-inside, marks-as, marks-absent, has-from, alone-first, alone-kids}
+use Rattle.merge.proofs.MarkLaws.{alone-rest}
 use Rattle.merge.proofs.PathLaws.{ways-kept, ways-member}
 use Rattle.merge.proofs.StepLaws.{member-siblings, member-inside}
-use Rattle.merge.proofs.LaidLaws.{with-nodes, framed-back, siblings-stay, node-stays, object-stays, changed-on, Laid, laid-none, laid-copy, laid-merge, is-object, AsTarget, as-target, merged-value}
+use Rattle.merge.proofs.LaidLaws.{with-nodes, framed-back, siblings-stay, node-stays, object-stays, changed-on, Laid, laid-none, laid-copy, laid-merge}
+use Rattle.merge.proofs.LaidLaws.{is-object, AsTarget, as-target, merged-value}
 
 -- ---- what a step tells
 module _ (kind found : ℕ) where
@@ -211,7 +213,11 @@ module _ {w : Table} {patch : ℕ} {p : Cell} {kids : Forest Cell} {ys : List �
 
   pub member-depth : {most : ℕ} → c .kind ≡ objectKind → depths (members (w .texts) kids) < most → depths (members (w .texts) below) < most - 1
   member-depth kind h =
-      omega (arith, depths-from (w .texts) k kids is, object-levels (entryOf (w .texts) c .label) (depths (members (w .texts) below)) (is-object (w .texts) c kind))
+      omega (
+        arith,
+        depths-from (w .texts) k kids is,
+        object-levels (entryOf (w .texts) c .label) (depths (members (w .texts) below)) (is-object (w .texts) c kind),
+      )
 
   -- it is merged with a value
   module _ {at : ℕ} {v : Value.Value} (t : AsTarget w at v) (kind : c .kind ≡ objectKind) {zs ws : List ℕ} {nodes' : List Row} {next next' levels : ℕ}
@@ -233,7 +239,8 @@ module _ {w : Table} {patch : ℕ} {p : Cell} {kids : Forest Cell} {ys : List �
         subst (λ n. Changed (w .nodes) found n zs ws) e (merged-here .changed)
 
 -- ---- the loop
-pub record Keeping (w : Table) (xs : List ℕ) (patch to levels end : ℕ) (c : Cell) (kids ts : Forest Cell) (nodes : List Row) (ys : List ℕ) (next row : ℕ) : Type 0 where
+pub record Keeping (w : Table) (xs : List ℕ) (patch to levels end : ℕ) (c : Cell)
+    (kids ts : Forest Cell) (nodes : List Row) (ys : List ℕ) (next row : ℕ) : Type 0 where
   pub given : Given w xs patch to levels c kids
   pub left : Forest Cell
   pub siblings : Siblings (with-nodes w nodes) row end left
@@ -250,7 +257,8 @@ module _ {w : Table} {xs : List ℕ} {patch to levels end : ℕ} {c : Cell} {kid
     (q : Keeping w xs patch to levels end c kids ts nodes ys next row) (more : row < end) (row' : ℕ) (goes : row' ≡ endOf nodes row) where
   -- the first of those left is done
   keeping-on : (d : Cell) (ds rest : Forest Cell) → q .left ≡ tree d ds rest → Siblings (with-nodes w nodes) row end (tree d ds rest)
-      → {nodes' : List Row} {ws : List ℕ} {next' : ℕ} → Laid (w .texts) nodes next (kept (members (w .texts) kids) (entryOf (w .texts) d) (members (w .texts) ds)) nodes' next'
+      → {nodes' : List Row} {ws : List ℕ} {next' : ℕ}
+      → Laid (w .texts) nodes next (kept (members (w .texts) kids) (entryOf (w .texts) d) (members (w .texts) ds)) nodes' next'
       → Changed nodes patch (patch + 1 + size kids) ys ws
       → Marks (w .texts) ws (λ n. if sameText (nameText (w .texts) (d .name)) n then true else q .met n) (patch + 1) kids
       → Keeping w xs patch to levels end c kids ts nodes' ws next' row'
@@ -316,7 +324,8 @@ module _ {w : Table} {xs : List ℕ} {patch to levels end : ℕ} {c : Cell} {kid
       target-distinct = alone-kids (subst (λ f. NoRepeats true (members (w .texts) f)) is (q .distinct))
 
       -- the value of the patch that has the name
-      value-here : (k : ℕ) {e : Cell} {below after : Forest Cell} → from k kids ≡ tree e below after → nameText (w .texts) (e .name) ≡ nameText (w .texts) (d .name)
+      value-here : (k : ℕ) {e : Cell} {below after : Forest Cell}
+          → from k kids ≡ tree e below after → nameText (w .texts) (e .name) ≡ nameText (w .texts) (d .name)
           → get (nameText (w .texts) (d .name)) (members (w .texts) kids) ≡ Option.some (meant (w .texts) e below)
       value-here k at name = ap (λ n. get n (members (w .texts) kids)) (sym name) ∙ get-from (w .texts) k kids at (q .given .object .distinct)
 
@@ -430,7 +439,10 @@ module _ {w : Table} {xs ys : List ℕ} {patch to levels : ℕ} {c : Cell} {kids
         left = none;
         siblings =
             record {
-              left = record { held = record { after = drop (target + 1) (w .nodes); rows = record { is = refl }; formed = formed-none }; ends = omega (arith, end-is) };
+              left = record {
+                held = record { after = drop (target + 1) (w .nodes); rows = record { is = refl }; formed = formed-none };
+                ends = omega (arith, end-is);
+              };
               sound = all-none;
             };
         low = λ h. absurd (omega arith);

@@ -42,7 +42,8 @@ use Rattle.merge.specs.Building.{full, treeRows, CopyIs, Framed, Built, 
 use Rattle.merge.specs.Marks.{Changed}
 use Rattle.merge.specs.Partner.{PatchObject}
 use Rattle.merge.specs.Merged.{Target, target-object, target-other, Merges, MergeObjectIs}
-use Rattle.merge.proofs.BuildLaws.{framed-self, framed-then, framed-before, framed-moved, built-none, built-kept, built-join, built-single, copy-next, copy-built}
+use Rattle.merge.proofs.BuildLaws.{framed-self, framed-then, framed-before, framed-moved, built-none, built-kept, built-join, built-single, copy-next}
+use Rattle.merge.proofs.BuildLaws.{copy-built}
 use Rattle.merge.proofs.MarkLaws.{changed-then, row-kept, parents-kept}
 use Rattle.merge.proofs.PathLaws.{ways-kept}
 
@@ -57,7 +58,8 @@ framed-back f = record { before = sym (f .before); same-length = sym (f .same-le
 same-rows : {nodes nodes' : List Row} → Framed scratchRow nodes nodes' → (row n : ℕ) → row + n ≤ scratchRow → SameRows nodes nodes' row n
 same-rows {nodes} {nodes'} f row n low =
     let count : row + n - row ≡ n = omega arith in
-    let part : (xs : List Row) → take n (drop row xs) ≡ drop row (take (row + n) xs) = λ xs. sym (drop-take row (row + n) xs ∙ ap (λ k. take k (drop row xs)) count) in
+    let part : (xs : List Row)
+    → take n (drop row xs) ≡ drop row (take (row + n) xs) = λ xs. sym (drop-take row (row + n) xs ∙ ap (λ k. take k (drop row xs)) count) in
     record { is = part nodes' ∙ ap (drop row) (framed-before (row + n) low f .before) ∙ sym (part nodes) }
 
 module _ {T : Texts} {nodes nodes' : List Row} (f : Framed scratchRow nodes nodes') where
@@ -130,7 +132,8 @@ laid-copy {T} {nodes} {nodes'} {from} {next} copy {c} {kids} held name long =
     }
 
 -- two objects are merged
-pub laid-merge : {w : Table} {patch to : ℕ} {c : Cell} {kids : Forest Cell} {all : Members} {xs ys : List ℕ} {nodes' : List Row} {r : ℕ} → Framed to (w .nodes) nodes'
+pub laid-merge : {w : Table} {patch to : ℕ} {c : Cell} {kids : Forest Cell} {all : Members} {xs ys : List ℕ} {nodes' : List Row} {r : ℕ}
+    → Framed to (w .nodes) nodes'
     → Merges w patch to c kids all xs nodes' ys r → NameFits (w .texts) (c .name) → LabelFits (w .texts) (c .kind) (c .value)
     → Laid (w .texts) (w .nodes) to (tree (entryOf (w .texts) c) all none) nodes' r
 unfolding size
@@ -190,7 +193,10 @@ no-target {w} long =
 
 pub merged-value : {w : Table} {at : ℕ} {v : Value.Value} (t : AsTarget w at v) (c : Cell) (below : Forest Cell) → c .kind ≡ objectKind
     → NoRepeats true (members (w .texts) below)
-    → mergePatch v (meant (w .texts) c below) ≡ record { label = entryOf (w .texts) c .label; kids = mergedMembers (members (w .texts) (t .cells)) (members (w .texts) below) }
+    → mergePatch v (meant (w .texts) c below) ≡ record {
+      label = entryOf (w .texts) c .label;
+      kids = mergedMembers (members (w .texts) (t .cells)) (members (w .texts) below);
+    }
 merged-value {w} {at} {v} t c below kind distinct =
     merge-object v (meant (w .texts) c below) (is-object (w .texts) c kind) (single-distinct distinct)
     (subst Single (sym (t .are)) (single-distinct (t .distinct)))

@@ -128,7 +128,8 @@ module _ {nodes nodes' : List Row} (f : Framed scratchRow nodes nodes') where
       let below = among-low (k .among) in
       record {
         low = k .low;
-        among = subst (λ r. Among nodes' (parent + 1 + spanOf r) row (parent + 1)) (sym (row-kept parent (omega (arith, k .low)))) (among-kept (k .low) (k .among));
+        among = subst (λ r. Among nodes' (parent + 1 + spanOf r) row (parent + 1))
+            (sym (row-kept parent (omega (arith, k .low)))) (among-kept (k .low) (k .among));
       }
 
   pub parents-kept : {xs : List ℕ} → Parents patchRow nodes xs → Parents patchRow nodes' xs
@@ -188,7 +189,8 @@ module _ {T : Texts} where
       marks-tree {kids = kids} (ap (λ n. eqb n 0) (c .notes row low .0 (omega arith)) ∙ e) (marks-inside k at is next low-next c m)
 
   -- other tests that tell the same of these members
-  pub marks-as : {xs : List ℕ} {met met' : Text → Bool} {row : ℕ} {f : Forest Cell} → ((n : Text) → met n ≡ met' n) → Marks T xs met row f → Marks T xs met' row f
+  pub marks-as : {xs : List ℕ} {met met' : Text → Bool} {row : ℕ} {f : Forest Cell}
+      → ((n : Text) → met n ≡ met' n) → Marks T xs met row f → Marks T xs met' row f
   marks-as same marks-none = marks-none
   marks-as same (marks-tree {c = c} e m) = marks-tree (e ∙ same (nameText T (c .name))) (marks-as same m)
 
@@ -214,7 +216,8 @@ module _ {T : Texts} where
       let here : at ≡ row = omega arith in
       let cell : d ≡ c = cc in
       let name : nameText T (d .name) ≡ nameText T (c .name) = ap (λ (x : Cell). nameText T (x .name)) cell in
-      let put : noteOf (slotSet xs (parentSlot (at - patchRow)) 0) row ≡ 0 = ap (λ r. noteOf (slotSet xs (parentSlot (at - patchRow)) 0) r) (sym here) ∙ note-put xs at 0 long near (omega arith) in
+      let put : noteOf (slotSet xs (parentSlot (at - patchRow)) 0) row ≡ 0 = ap (λ r. noteOf (slotSet xs (parentSlot (at - patchRow)) 0) r) (sym here)
+      ∙ note-put xs at 0 long near (omega arith) in
       let absent : has (nameText T (c .name)) (members T rest) ≡ false = ap (λ n. has n (members T rest)) (sym name) ∙ alone-first distinct in
       let met-now : sameText (nameText T (c .name)) (nameText T (d .name)) ≡ true = rw name (sameText-refl (nameText T (c .name))) in
       marks-tree {c = d} {kids = kids} (ap (λ n. eqb n 0) put ∙ rw met-now)
@@ -286,7 +289,8 @@ module _ {nodes : List Row} {patch end : ℕ} (ends : end ≡ endOf nodes patch)
                   l .whole ws
                   (λ r h k. same r h (omega arith) ∙ ap (λ s. noteOf s r) put
                   ∙ note-other ys row v r (omega arith) (omega (arith, n .above)) (λ q. omega arith))
-                  (subst (Marks T ws (λ n. false) row) (sym e) (marks-tree {c = d} {kids = ds} first-noted (subst (λ a. Marks T ws (λ n. false) a rest) after m)));
+                  (subst (Marks T ws (λ n. false) row) (sym e)
+                  (marks-tree {c = d} {kids = ds} first-noted (subst (λ a. Marks T ws (λ n. false) a rest) after m)));
             };
       }
 

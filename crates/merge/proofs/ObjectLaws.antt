@@ -38,7 +38,8 @@ module _ {to : ℕ} {nodes₀ nodes : List Row} {index₀ index : List ℕ} {nex
   pub onward-index : {index' : List ℕ} → length index' ≡ length index → Onward to nodes₀ nodes index₀ index' next
   onward-index e = record { framed = o .framed; same-index = e ∙ o .same-index; from-to = o .from-to; few = o .few }
 
-  pub onward-copy : {nodes' : List Row} {from next' : ℕ} → CopyIs nodes from next nodes' next' → from < length nodes → Onward to nodes₀ nodes' index₀ index next'
+  pub onward-copy : {nodes' : List Row} {from next' : ℕ} → CopyIs nodes from next nodes' next'
+      → from < length nodes → Onward to nodes₀ nodes' index₀ index next'
   onward-copy {nodes'} {from} copy there =
       record {
         framed = framed-then (o .framed) (framed-before to (o .from-to)

@@ -139,7 +139,8 @@ module _ (w : Table) (xs : List ℕ) (object : ℕ) (name : Name) (hashed : Hash
       ∙ go (sameText (nameText (w .texts) (c .name)) (nameText (w .texts) name)) refl
       (absent more rest (held-next h) sound (omega arith) (omega arith))
     where
-      go : (b : Bool) → sameText (nameText (w .texts) (c .name)) (nameText (w .texts) name) ≡ b → has (nameText (w .texts) name) (members (w .texts) more) ≡ false
+      go : (b : Bool) → sameText (nameText (w .texts) (c .name)) (nameText (w .texts) name) ≡ b
+          → has (nameText (w .texts) name) (members (w .texts) more) ≡ false
           → (if b then true else has (nameText (w .texts) name) (members (w .texts) more)) ≡ false
       go true q i =
           let reached = subst (Reached xs patchRow object at) (sameText-true (nameText (w .texts) (c .name)) (nameText (w .texts) name) q) (ways-first ways) in

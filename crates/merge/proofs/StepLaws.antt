@@ -35,7 +35,8 @@ use Rattle.merge.specs.declared.steps.Step.the-variants.{Nothing, Copy, 
 use Rattle.merge.proofs.MarkLaws.{changed-then, changed-put, marks-kept, marks-met}
 
 -- ---- a member of an object of the patch
-module _ {w : Table} {patch : ℕ} {p : Cell} {kids : Forest Cell} {xs : List ℕ} (o : PatchObject w patch p kids xs) (k : ℕ) {c : Cell} {below after : Forest Cell}
+module _ {w : Table} {patch : ℕ} {p : Cell} {kids : Forest Cell} {xs : List ℕ}
+    (o : PatchObject w patch p kids xs) (k : ℕ) {c : Cell} {below after : Forest Cell}
     (row : ℕ) (is : from k kids ≡ tree c below after) (place : row ≡ patch + 1 + size (before k kids)) where
   pub member-siblings : Siblings w row (endOf (w .nodes) patch) (tree c below after)
   member-siblings =
@@ -122,7 +123,8 @@ module _ {w : Table} {patch : ℕ} {name : Name} {xs ys : List ℕ} {m : Member}
             held = λ c kids o d below h fits met marks. go o (named o h fits) e (marks-kept (λ r _. note-same r) marks);
           }
         where
-          go : {c : Cell} {kids : Forest Cell} {text : Text} {q : Member} {met : Text → Bool} → PatchObject w patch c kids xs → Named (w .texts) patch kids text q
+          go : {c : Cell} {kids : Forest Cell} {text : Text} {q : Member} {met : Text → Bool}
+              → PatchObject w patch c kids xs → Named (w .texts) patch kids text q
               → q ≡ At found → Marks (w .texts) ys met (patch + 1) kids
               → Changed (w .nodes) patch (endOf (w .nodes) patch) xs zs × Keeps w patch row kids text met zs r
           go o (named-none nothing) e marks = absurd (let z : _≡_ {A = ℕ} 0 1 = cc in omega arith)
@@ -133,11 +135,14 @@ module _ {w : Table} {patch : ℕ} {name : Name} {xs ys : List ℕ} {m : Member}
               let inside = member-inside o k found is here in
               let kind : kindOf (getD (w .nodes) found []) ≡ c .kind = kind-here (held-node (s .left .held)) in
               let changed : Changed (w .nodes) patch (endOf (w .nodes) patch) ys (slotSet ys (parentSlot (found - patchRow)) 0) =
-              changed-put ys found 0 low (inside .0) (omega (arith, inside, end-here (held-node (o .held .held)))) (omega arith) (omega arith) long (λ n z. absurd (omega arith)) in
-              let met-now = marks-met k {c = c} {below = below} {after = after} found is here (omega (arith, o .behind)) (omega arith) long (o .distinct) marks in (
+              changed-put ys found 0 low (inside .0) (omega (arith, inside, end-here (held-node (o .held .held))))
+              (omega arith) (omega arith) long (λ n z. absurd (omega arith)) in
+              let met-now =
+              marks-met k {c = c} {below = below} {after = after} found is here (omega (arith, o .behind)) (omega arith) long (o .distinct) marks in (
                 changed-then (searched-changed patch (endOf (w .nodes) patch)) (subst (Changed (w .nodes) patch (endOf (w .nodes) patch) ys) (sym put) changed),
                 subst (Keeps w patch row kids text met zs) (ap (λ n. stepFor n found) (sym kind) ∙ sym step)
                     (keeps-other k c below after found is here name
                     (subst (λ t. Marks (w .texts) zs (λ n. if sameText t n then true else met n) (patch + 1) kids) name
-                    (subst (λ vs. Marks (w .texts) vs (λ n. if sameText (nameText (w .texts) (c .name)) n then true else met n) (patch + 1) kids) (sym put) met-now))),
+                    (subst (λ vs. Marks (w .texts) vs (λ n. if sameText (nameText (w .texts) (c .name)) n then true else met n) (patch + 1) kids)
+                    (sym put) met-now))),
               )

@@ -37,14 +37,21 @@ distinct-held : (T : Texts) (c : Cell) (kids : Forest Cell) {v : Value.Value} �
     → NoRepeats (isObject (entryOf T c .label)) (members T kids)
 distinct-held T c kids means proper = proper-repeats (subst Proper (sym means) proper .items)
 
-module _ {w : Table} (xs : List ℕ) {ys zs us : List ℕ} {nodes' : List Row} {next : ℕ} (long : slots ≤ length xs) (rows-long : length (w .nodes) ≡ rows) (empty : ys ≡ emptied xs)
+module _ {w : Table} (xs : List ℕ) {ys zs us : List ℕ} {nodes' : List Row} {next : ℕ}
+    (long : slots ≤ length xs) (rows-long : length (w .nodes) ≡ rows) (empty : ys ≡ emptied xs)
     (entered : EnteredIs w patchRow maxDepth ys zs) (merges : MergeObjectIs w 0 patchRow scratchRow maxDepth zs nodes' us next) where
   -- no parent is noted yet
   hints : Parents patchRow (w .nodes) zs
   hints =
       record {
         child = λ r o few is.
-            absurd (omega (arith, slot-dropped ys zs parents r (entered .behind), ap (λ vs. slotAt vs (parentSlot r)) empty, empty-slot xs (parentSlot r) long (omega arith), is));
+            absurd (omega (
+              arith,
+              slot-dropped ys zs parents r (entered .behind),
+              ap (λ vs. slotAt vs (parentSlot r)) empty,
+              empty-slot xs (parentSlot r) long (omega arith),
+              is,
+            ));
       }
 
   module _ {v p : Value.Value} (both : Both w v p) (kind : both .patch .c .kind ≡ objectKind) where
@@ -55,7 +62,8 @@ module _ {w : Table} (xs : List ℕ) {ys zs us : List ℕ} {nodes' : List Row} {
           arith,
           both .shallow,
           ap depth (both .patch .means),
-          object-levels (entryOf (w .texts) (both .patch .c) .label) (depths (members (w .texts) (both .patch .kids))) (is-object (w .texts) (both .patch .c) kind),
+          object-levels (entryOf (w .texts) (both .patch .c) .label)
+              (depths (members (w .texts) (both .patch .kids))) (is-object (w .texts) (both .patch .c) kind),
         )
 
     object : PatchObject w patchRow (both .patch .c) (both .patch .kids) zs
@@ -65,7 +73,9 @@ module _ {w : Table} (xs : List ℕ) {ys zs us : List ℕ} {nodes' : List Row} {
           object = kind;
           behind = omega arith;
           inside = both .patch .inside;
-          distinct = subst (λ b. NoRepeats b (members (w .texts) (both .patch .kids))) (is-object (w .texts) (both .patch .c) kind) (distinct-held (w .texts) (both .patch .c) (both .patch .kids) (both .patch .means) (both .patch .proper));
+          distinct =
+              subst (λ b. NoRepeats b (members (w .texts) (both .patch .kids))) (is-object (w .texts) (both .patch .c) kind)
+              (distinct-held (w .texts) (both .patch .c) (both .patch .kids) (both .patch .means) (both .patch .proper));
           ways = entered .held (both .patch .c) (both .patch .kids) (both .patch .held) kind (both .patch .inside) shallow;
           hints = hints;
         }
@@ -73,12 +83,17 @@ module _ {w : Table} (xs : List ℕ) {ys zs us : List ℕ} {nodes' : List Row} {
     target : AsTarget w 0 v
     target =
         subst (AsTarget w 0) (both .document .means)
-        (as-target (both .document .held) (omega (arith, both .document .ends, both .document .few)) (distinct-held (w .texts) (both .document .c) (both .document .kids) (both .document .means) (both .document-proper)))
+        (as-target (both .document .held) (omega (arith, both .document .ends, both .document .few))
+        (distinct-held (w .texts) (both .document .c) (both .document .kids) (both .document .means) (both .document-proper)))
 
-    merged : Merges w patchRow scratchRow (both .patch .c) (both .patch .kids) (mergedMembers (members (w .texts) (target .cells)) (members (w .texts) (both .patch .kids))) zs nodes' us next
+    merged : Merges w patchRow scratchRow (both .patch .c) (both .patch .kids)
+        (mergedMembers (members (w .texts) (target .cells)) (members (w .texts) (both .patch .kids))) zs nodes' us next
     merged = merges .held (both .patch .c) (both .patch .kids) object (target .cells) (target .target) shallow
 
-    value-is : mergePatch v p ≡ record { label = entryOf (w .texts) (both .patch .c) .label; kids = (mergedMembers (members (w .texts) (target .cells)) (members (w .texts) (both .patch .kids))) }
+    value-is : mergePatch v p ≡ record {
+      label = entryOf (w .texts) (both .patch .c) .label;
+      kids = (mergedMembers (members (w .texts) (target .cells)) (members (w .texts) (both .patch .kids)));
+    }
     value-is = ap (mergePatch v) (sym (both .patch .means)) ∙ merged-value target (both .patch .c) (both .patch .kids) kind (object .distinct)
 
     count-is : next ≡ min (scratchRow + nodes (mergePatch v p)) full

@@ -32,7 +32,8 @@ pub data Target (w : Table) (target : ℕ) : Forest Cell → Type 0 where
   target-other : (kindOf (getD (w .nodes) target []) ≡ objectKind → ⊥) → Target w target none
 
 -- what becomes of the table and the index, where both objects are held
-pub record Merges (w : Table) (patch to : ℕ) (c : Cell) (kids : Forest Cell) (all : Members) (xs : List ℕ) (nodes' : List Row) (ys : List ℕ) (r : ℕ) : Type 0 where
+pub record Merges (w : Table) (patch to : ℕ) (c : Cell) (kids : Forest Cell)
+    (all : Members) (xs : List ℕ) (nodes' : List Row) (ys : List ℕ) (r : ℕ) : Type 0 where
   pub changed : Changed (w .nodes) patch (endOf (w .nodes) patch) xs ys
   pub counted : r ≡ min (to + 1 + size all) full
   pub built : r ≤ rows → BuiltNode (w .texts) nodes' to r c all

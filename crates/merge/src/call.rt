@@ -19,7 +19,8 @@ pub fn merge<'a>(
     nodes: &mut [Node],
     index: &mut [u16],
 ) -> Answer
-    ensures { λ r. ⌜ MergeIs (given document patch) (memoryBefore output nodes index) (memoryAfter output nodes index) r ⌝ }
+    ensures { λ r. ⌜ MergeIs (given document patch) (memoryBefore output nodes index)
+        (memoryAfter output nodes index) r ⌝ }
 {
     if nodes.len() < layout::ROWS {
         return refused(refusal::WORK_TOO_SHORT, 0, 0, 0);

@@ -15,7 +15,8 @@ pub extern "C" fn json_patch_merge<'a>(
     index: &mut [u16],
     answer: &mut [u64; 6],
 ) -> u32
-    ensures { λ r. ⌜ ExportIs (given document patch) (memoryBefore output nodes index) (memoryAfter output nodes index) (now (answer .exit)) r ⌝ }
+    ensures { λ r. ⌜ ExportIs (given document patch) (memoryBefore output nodes index) (memoryAfter output nodes index)
+        (now (answer .exit)) r ⌝ }
 {
     let r = merge(document, patch, output, nodes, index);
     *answer = [

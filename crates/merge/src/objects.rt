@@ -45,7 +45,8 @@ pub fn merge_object<'a>(
 ) -> usize
     requires { ⌜ (patchRow ≤ patch) × (patch < scratchRow) × (target ≤ rows) × (slots ≤ length (now index)) ⌝ }
     requires { ⌜ (scratchRow ≤ to) × (to ≤ full) × (length (now nodes) ≡ rows) ⌝ }
-    ensures { λ r. ⌜ MergeObjectIs (before texts nodes) target patch to levels (now (index .entry)) (now (nodes .exit)) (now (index .exit)) r ⌝ }
+    ensures { λ r. ⌜ MergeObjectIs (before texts nodes) target patch to levels (now (index .entry)) (now (nodes .exit))
+        (now (index .exit)) r ⌝ }
 {
     if levels == 0 {
         return to;

@@ -149,7 +149,9 @@ appended-others n f g same (tree d ds more) h =
     let q = flipped (d .name) n (not-first n d ds more h) in
     let there : has (d .name) f ≡ has (d .name) g = has-get (d .name) f ∙ ap isSome (same (d .name) q) ∙ sym (has-get (d .name) g) in
     ap₂ _⧺_
-    (ap (λ b. (if b then Forest.none else if isNull (d .label) then Forest.none else single (named (d .name) (mergePatch (leaf Label.null-literal) (valueIn d ds))))) there)
+    (ap (λ b.
+    (if b then Forest.none else if isNull (d .label)
+    then Forest.none else single (named (d .name) (mergePatch (leaf Label.null-literal) (valueIn d ds))))) there)
     (appended-others n f g same more (not-later n d ds more h))
 
 module _ (e : Entry) (kids rest target : Members) where

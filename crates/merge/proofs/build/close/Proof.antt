@@ -28,4 +28,9 @@ close-spec =
     -- same-length
     (λ c. search needs)
     -- returns-2
-    (λ c. rw (ne-eqb _ _ (c .before .before .before .before .before .before .if1 .left), c .before .store .ensures, c .before .before .before .narrow .ensures, c .before .before .before .before .load .ensures)))
+    (λ c.
+    let at-store = c .before in
+    let at-narrow = at-store .before .before in
+    let at-load = at-narrow .before in
+    let at-if1 = at-load .before .before in
+    rw (ne-eqb _ _ (at-if1 .if1 .left), at-store .store .ensures, at-narrow .narrow .ensures, at-load .load .ensures)))

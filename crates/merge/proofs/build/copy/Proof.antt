@@ -20,4 +20,7 @@ copy-spec =
     -- same-length
     (λ c. search needs)
     -- returns
-    (λ c. record { nodes-are = rw (c .before .before .slide .ensures, c .before .before .before .before .end-of .ensures); next-is = rw (c .advance .ensures, c .before .before .before .before .end-of .ensures) }))
+    (λ c.
+    let at-slide = c .before .before in
+    let at-end-of = at-slide .before .before in
+    record { nodes-are = rw (at-slide .slide .ensures, at-end-of .end-of .ensures); next-is = rw (c .advance .ensures, at-end-of .end-of .ensures) }))

@@ -24,15 +24,20 @@ merge-spec =
     -- slice-relend-prefix-checked-merge
     (λ c. search needs)
     -- slice-aggregate-checked-merge
-    (λ c. sym (length-take-le workNodes (c .before .before .before .before .before .before .before .before .args .nodes .now) (omega arith)))
+    (λ c.
+    let at-args = c .before .before .before .before .before .before .before .before in
+    sym (length-take-le workNodes (at-args .args .nodes .now) (omega arith)))
     -- slice-relend-prefix-checked-merge-2
     (λ c. search needs)
     -- slice-aggregate-checked-merge-2
-    (λ c. sym (length-take-le workEntries (c .before .before .before .before .before .before .before .before .before .args .index .now) (omega arith)))
+    (λ c.
+    let at-args = c .before .before .before .before .before .before .before .before .before in
+    sym (length-take-le workEntries (at-args .args .index .now) (omega arith)))
     -- checked-merge-requires
-    (λ c κs. (
-      omega (arith, length-take-le workEntries (c .before .before .before .before .before .before .before .before .before .args .index .now) (omega arith)),
-      length-take-le workNodes (c .before .before .before .before .before .before .before .before .before .args .nodes .now) (omega arith),
+    (λ c κs.
+    let at-args = c .before .before .before .before .before .before .before .before .before in (
+      omega (arith, length-take-le workEntries (at-args .args .index .now) (omega arith)),
+      length-take-le workNodes (at-args .args .nodes .now) (omega arith),
     ))
     -- wipe-requires
     (λ c κs. search needs)
@@ -46,5 +51,10 @@ merge-spec =
     (λ c. search needs)
     -- returns-3
     (λ c.
-    work-done (omega arith) (omega arith) (c .before .before .before .before .before .before .before .before .before .before .before .before .checked-merge .ensures) (c .before .before .before .before .before .before .before .before .before .before .before .before .checked-merge .last .1 .1 .0) (c .before .before .before .before .before .before .before .before .before .before .before .before .checked-merge .kept .1 .1 .0)
-    (c .before .before .before .before .before .wipe .ensures) (c .before .before .before .before .before .before .before .before .before .before .before .before .checked-merge .last .1 .1 .1 .0) (c .before .before .before .before .before .before .before .before .before .before .before .before .checked-merge .kept .1 .1 .1 .0) (c .before .before .empty .ensures)))
+    let at-empty = c .before .before in
+    let at-wipe = at-empty .before .before .before in
+    let at-checked-merge = at-wipe .before .before .before .before .before .before .before in
+    work-done (omega arith) (omega arith) (at-checked-merge .checked-merge .ensures)
+    (at-checked-merge .checked-merge .last .1 .1 .0) (at-checked-merge .checked-merge .kept .1 .1 .0)
+    (at-wipe .wipe .ensures) (at-checked-merge .checked-merge .last .1 .1 .1 .0)
+    (at-checked-merge .checked-merge .kept .1 .1 .1 .0) (at-empty .empty .ensures)))

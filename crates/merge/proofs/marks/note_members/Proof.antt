@@ -29,7 +29,12 @@ note-members-spec =
     -- same-length
     (λ c. search needs)
     -- returns
-    (λ c. noting-over (c .before .before .before .end-of .ensures) (c .before .before .loop .inv .1) (omega (arith, c .before .before .before .before .before .pre)) (omega (arith, c .before .before .loop .inv .0, c .before .before .before .before .before .pre)) (omega arith) (omega arith))
+    (λ c.
+    let at-loop = c .before .before in
+    let at-end-of = at-loop .before in
+    let at-pre = at-end-of .before .before in
+    noting-over (at-end-of .end-of .ensures) (at-loop .loop .inv .1) (omega (arith, at-pre .pre))
+    (omega (arith, at-loop .loop .inv .0, at-pre .pre)) (omega arith) (omega arith))
     -- sub-put-note
     (λ c. search needs)
     -- add-put-note
@@ -41,8 +46,17 @@ note-members-spec =
     -- loop-less
     (λ c. search needs)
     -- loop-again
-    (λ c. (omega arith, noting-next (c .before .before .before .before .before .before .before .before .end-of .ensures) (c .before .before .before .before .before .before .before .loop .inv .1) (omega (arith, c .before .before .before .before .before .before .before .before .before .before .pre)) (omega arith) (omega arith) (omega arith) _ (c .before .before .before .put-note .ensures) _ (c .end-of2 .ensures)))
+    (λ c.
+    let at-put-note = c .before .before .before in
+    let at-loop = at-put-note .before .before .before .before in
+    let at-end-of = at-loop .before in
+    let at-pre = at-end-of .before .before in (
+      omega arith,
+      noting-next (at-end-of .end-of .ensures) (at-loop .loop .inv .1) (omega (arith, at-pre .pre))
+          (omega arith) (omega arith) (omega arith) _ (at-put-note .put-note .ensures) _ (c .end-of2 .ensures),
+    ))
     -- same-length-2
     (λ c. search needs)
     -- returns-2
-    (λ c. noting-done (c .before .before .end-of .ensures) (c .before .loop .inv .1) (omega (arith, c .before .before .before .before .pre)) (omega arith) (omega arith)))
+    (λ c. noting-done (c .before .before .end-of .ensures) (c .before .loop .inv .1)
+    (omega (arith, c .before .before .before .before .pre)) (omega arith) (omega arith)))

@@ -29,7 +29,12 @@ partner-spec =
     -- same-length-2
     (λ c. search needs)
     -- returns-2
-    (λ c. partner-absent (entered-after (c .before .before .before .before .before .before .before .before .enter-by-hash .ensures) (c .before .before .before .before .before .if1 .left) (c .before .before .before .enter .ensures)) (not-true _ (c .if2 .taken)) (omega arith))
+    (λ c.
+    let at-enter = c .before .before .before in
+    let at-if1 = at-enter .before .before in
+    let at-enter-by-hash = at-if1 .before .before .before in
+    partner-absent (entered-after (at-enter-by-hash .enter-by-hash .ensures) (at-if1 .if1 .left) (at-enter .enter .ensures))
+    (not-true _ (c .if2 .taken)) (omega arith))
     -- add-find
     (λ c. search needs)
     -- end-of-requires
@@ -39,7 +44,13 @@ partner-spec =
     -- same-length-3
     (λ c. search needs)
     -- returns-3
-    (λ c. partner-searched (entered-after (c .before .before .before .before .before .before .before .before .before .before .enter-by-hash .ensures) (c .before .before .before .before .before .before .before .if1 .left) (c .before .before .before .before .before .enter .ensures)) (omega arith) (c .before .end-of .ensures) (c .find .ensures))
+    (λ c.
+    let at-end-of = c .before in
+    let at-enter = at-end-of .before .before .before .before in
+    let at-if1 = at-enter .before .before in
+    let at-enter-by-hash = at-if1 .before .before .before in
+    partner-searched (entered-after (at-enter-by-hash .enter-by-hash .ensures) (at-if1 .if1 .left) (at-enter .enter .ensures))
+    (omega arith) (at-end-of .end-of .ensures) (c .find .ensures))
     -- same-length-4
     (λ c. search needs)
     -- returns-4

@@ -71,7 +71,8 @@ pub +enter-members-spec : {M : Type 1} → statement M
     -- same-length
     (λ c. search needs)
     -- returns-3
-    (λ c. entering-over (c .before .before .loop .inv .1) (omega arith) (c .if3 .taken) (c .before .before .before .end-of .ensures) (c .before .before .loop .inv .0))
+    (λ c. entering-over (c .before .before .loop .inv .1) (omega arith) (c .if3 .taken)
+    (c .before .before .before .end-of .ensures) (c .before .before .loop .inv .0))
     -- load-requires
     (λ c κs. search needs)
     -- name-of-requires
@@ -90,8 +91,23 @@ pub +enter-members-spec : {M : Type 1} → statement M
     (λ c.
     let stored = c .before .before .before .before .before .before .before .before .before .before .before .before .before .loop .inv in (
       omega arith,
-      entering-next (stored .1) (omega (arith, c .before .before .before .before .before .before .before .before .before .before .before .before .before .before .before .before .before .before .before .pre)) (omega arith) (omega arith) (omega (arith, stored .0, c .before .before .before .before .before .before .before .before .before .before .before .before .before .before .before .before .before .before .before .pre))
-          (c .before .before .before .before .before .before .before .before .before .name-of .ensures ∙ ap nameOf (c .before .before .before .before .before .before .before .before .before .before .load .ensures)) (c .before .before .before .before .before .before .before .enter .ensures) (c .before .before .before .enter-members .ensures) _ (c .end-of2 .ensures) (c .before .before .before .before .before .before .before .before .before .before .before .before .before .before .end-of .ensures),
+      entering-next (stored .1)
+          (omega (
+            arith,
+            c .before .before .before .before .before .before .before .before .before .before .before .before .before .before
+                .before .before .before .before .before .pre,
+          ))
+          (omega arith) (omega arith) (omega (
+            arith,
+            stored .0,
+            c .before .before .before .before .before .before .before .before .before
+                .before .before .before .before .before .before .before .before .before .before .pre,
+          ))
+          (c .before .before .before .before .before .before .before .before .before .name-of .ensures
+          ∙ ap nameOf (c .before .before .before .before .before .before .before .before .before .before .load .ensures))
+          (c .before .before .before .before .before .before .before .enter .ensures) (c .before .before .before .enter-members .ensures) _
+          (c .end-of2 .ensures) (c .before .before .before .before .before .before .before .before .before .before .before .before .before
+          .before .end-of .ensures),
     ))
     -- same-length-2
     (λ c. search needs)

@@ -36,8 +36,13 @@ checked-merge-spec =
     (λ c. search needs)
     -- returns-3
     (λ c h i.
-    answered-as (merge-read _ _ _ (work-suffices _ h i) (omega (arith, c .before .before .before .before .before .before .before .before .before .before .if1 .left)) (omega (arith, c .before .before .before .before .before .before .before .before .before .if2 .left)))
-    (document-unread h i (omega (arith, c .before .before .before .before .before .before .before .before .before .before .if1 .left)) (omega (arith, c .before .before .before .before .before .before .before .before .before .if2 .left)) (c .before .before .before .before .before .before .read-document .ensures) (c .before .enum-told2 .given .1) (c .unread .ensures)))
+    let at-enum-told2 = c .before in
+    let at-read-document = at-enum-told2 .before .before .before .before .before in
+    let at-if2 = at-read-document .before .before .before in
+    let at-if1 = at-if2 .before in
+    answered-as (merge-read _ _ _ (work-suffices _ h i) (omega (arith, at-if1 .if1 .left)) (omega (arith, at-if2 .if2 .left)))
+    (document-unread h i (omega (arith, at-if1 .if1 .left)) (omega (arith, at-if2 .if2 .left))
+    (at-read-document .read-document .ensures) (at-enum-told2 .enum-told2 .given .1) (c .unread .ensures)))
     -- read-patch-requires
     (λ c κs. search needs)
     -- enum-told-3
@@ -52,9 +57,16 @@ checked-merge-spec =
     (λ c. search needs)
     -- returns-4
     (λ c h i.
-    answered-as (merge-read _ _ _ (work-suffices _ h i) (omega (arith, c .before .before .before .before .before .before .before .before .before .before .before .before .before .before .before .before .before .before .if1 .left)) (omega (arith, c .before .before .before .before .before .before .before .before .before .before .before .before .before .before .before .before .before .if2 .left)))
-    (patch-unread h i (omega (arith, c .before .before .before .before .before .before .before .before .before .before .before .before .before .before .before .before .before .before .if1 .left)) (omega (arith, c .before .before .before .before .before .before .before .before .before .before .before .before .before .before .before .before .before .if2 .left)) (c .before .before .before .before .before .before .before .before .before .before .before .before .before .before .read-document .ensures) (c .before .before .before .before .before .before .before .before .before .enum-told .given .1) (c .before .before .before .before .before .before .before .before .before .before .before .before .before .before .read-document .kept .1 .0) (c .before .before .before .before .before .before .before .before .before .before .before .before .before .before .read-document .kept .1 .1 .0)
-    (c .before .before .before .before .before .before .read-patch .ensures) (c .before .enum-told4 .given .1) (c .unread2 .ensures)))
+    let at-enum-told4 = c .before in
+    let at-read-patch = at-enum-told4 .before .before .before .before .before in
+    let at-enum-told = at-read-patch .before .before .before in
+    let at-read-document = at-enum-told .before .before .before .before .before in
+    let at-if2 = at-read-document .before .before .before in
+    let at-if1 = at-if2 .before in
+    answered-as (merge-read _ _ _ (work-suffices _ h i) (omega (arith, at-if1 .if1 .left)) (omega (arith, at-if2 .if2 .left)))
+    (patch-unread h i (omega (arith, at-if1 .if1 .left)) (omega (arith, at-if2 .if2 .left)) (at-read-document .read-document .ensures)
+    (at-enum-told .enum-told .given .1) (at-read-document .read-document .kept .1 .0) (at-read-document .read-document .kept .1 .1 .0)
+    (at-read-patch .read-patch .ensures) (at-enum-told4 .enum-told4 .given .1) (c .unread2 .ensures)))
     -- run-merge-requires
     (λ c κs. search needs)
     -- same-length-5
@@ -65,6 +77,14 @@ checked-merge-spec =
     (λ c. search needs)
     -- returns-5
     (λ c h i.
-    answered-as (merge-read _ _ _ (work-suffices _ h i) (omega (arith, c .before .before .before .before .before .before .before .before .before .before .before .before .before .before .before .before .before .before .before .before .before .before .before .before .before .before .if1 .left)) (omega (arith, c .before .before .before .before .before .before .before .before .before .before .before .before .before .before .before .before .before .before .before .before .before .before .before .before .before .if2 .left)))
-    (patch-read h i (omega (arith, c .before .before .before .before .before .before .before .before .before .before .before .before .before .before .before .before .before .before .before .before .before .before .before .before .before .before .if1 .left)) (omega (arith, c .before .before .before .before .before .before .before .before .before .before .before .before .before .before .before .before .before .before .before .before .before .before .before .before .before .if2 .left)) (c .before .before .before .before .before .before .before .before .before .before .before .before .before .before .before .before .before .before .before .before .before .before .read-document .ensures) (c .before .before .before .before .before .before .before .before .before .before .before .before .before .before .before .before .before .enum-told .given .1) (c .before .before .before .before .before .before .before .before .before .before .before .before .before .before .before .before .before .before .before .before .before .before .read-document .kept .1 .0) (c .before .before .before .before .before .before .before .before .before .before .before .before .before .before .before .before .before .before .before .before .before .before .read-document .kept .1 .1 .0)
-    (c .before .before .before .before .before .before .before .before .before .before .before .before .before .before .read-patch .ensures) (c .before .before .before .before .before .before .before .before .before .enum-told3 .given .1) (c .before .before .before .before .before .before .before .before .before .before .before .before .before .before .read-patch .kept .1 .0) (c .before .before .before .before .before .run-merge .ensures))))
+    let at-run-merge = c .before .before .before .before .before in
+    let at-enum-told3 = at-run-merge .before .before .before .before in
+    let at-read-patch = at-enum-told3 .before .before .before .before .before in
+    let at-enum-told = at-read-patch .before .before .before in
+    let at-read-document = at-enum-told .before .before .before .before .before in
+    let at-if2 = at-read-document .before .before .before in
+    let at-if1 = at-if2 .before in
+    answered-as (merge-read _ _ _ (work-suffices _ h i) (omega (arith, at-if1 .if1 .left)) (omega (arith, at-if2 .if2 .left)))
+    (patch-read h i (omega (arith, at-if1 .if1 .left)) (omega (arith, at-if2 .if2 .left)) (at-read-document .read-document .ensures)
+    (at-enum-told .enum-told .given .1) (at-read-document .read-document .kept .1 .0) (at-read-document .read-document .kept .1 .1 .0)
+    (at-read-patch .read-patch .ensures) (at-enum-told3 .enum-told3 .given .1) (at-read-patch .read-patch .kept .1 .0) (at-run-merge .run-merge .ensures))))

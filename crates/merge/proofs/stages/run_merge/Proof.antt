@@ -18,7 +18,11 @@ run-merge-spec =
     -- same-length-2
     (λ c. search needs)
     -- returns
-    (λ c. run-whole (c .before .before .before .before .before .before .kind .ensures) (c .before .before .before .before .before .if1 .taken) (c .before .before .write-at .ensures))
+    (λ c.
+    let at-write-at = c .before .before in
+    let at-if1 = at-write-at .before .before .before in
+    let at-kind = at-if1 .before in
+    run-whole (at-kind .kind .ensures) (at-if1 .if1 .taken) (at-write-at .write-at .ensures))
     -- merge-trees-requires
     (λ c κs. search needs)
     -- refused-requires
@@ -28,7 +32,12 @@ run-merge-spec =
     -- same-length-4
     (λ c. search needs)
     -- returns-2
-    (λ c. run-many (c .before .before .before .before .before .before .before .before .before .kind .ensures) (c .before .before .before .before .before .before .before .before .if1 .left) (c .before .before .before .before .before .merge-trees .ensures) (c .before .if2 .taken) (c .refused .ensures))
+    (λ c.
+    let at-if2 = c .before in
+    let at-merge-trees = at-if2 .before .before .before .before in
+    let at-if1 = at-merge-trees .before .before .before in
+    let at-kind = at-if1 .before in
+    run-many (at-kind .kind .ensures) (at-if1 .if1 .left) (at-merge-trees .merge-trees .ensures) (at-if2 .if2 .taken) (c .refused .ensures))
     -- write-at-requires-2
     (λ c κs. search needs)
     -- same-length-5
@@ -38,4 +47,10 @@ run-merge-spec =
     -- same-length-7
     (λ c. search needs)
     -- returns-3
-    (λ c. run-done (c .before .before .before .before .before .before .before .before .before .before .before .before .before .kind .ensures) (c .before .before .before .before .before .before .before .before .before .before .before .before .if1 .left) (c .before .before .before .before .before .before .before .before .before .merge-trees .ensures) (c .before .before .before .before .before .if2 .left) (c .before .before .write-at2 .ensures)))
+    (λ c.
+    let at-write-at2 = c .before .before in
+    let at-if2 = at-write-at2 .before .before .before in
+    let at-merge-trees = at-if2 .before .before .before .before in
+    let at-if1 = at-merge-trees .before .before .before in
+    let at-kind = at-if1 .before in
+    run-done (at-kind .kind .ensures) (at-if1 .if1 .left) (at-merge-trees .merge-trees .ensures) (at-if2 .if2 .left) (at-write-at2 .write-at2 .ensures)))

@@ -23,4 +23,8 @@ write-at-spec =
     -- same-length
     (λ c. search needs)
     -- returns-2
-    (λ c v d low. text-written d low _ (c .before .before .before .before .before .before .fits2 .ensures) (not-false _ (c .before .before .before .before .before .if1 .left)) (c .before .before .before .write .ensures) (c .success .ensures)))
+    (λ c v d low.
+    let at-write = c .before .before .before in
+    let at-if1 = at-write .before .before in
+    let at-fits2 = at-if1 .before in
+    text-written d low _ (at-fits2 .fits2 .ensures) (not-false _ (at-if1 .if1 .left)) (at-write .write .ensures) (c .success .ensures)))

@@ -24,15 +24,33 @@ keep-spec =
     -- same-length
     (λ c. search needs)
     -- returns
-    (λ c. keep-missing (c .before .before .before .before .partner .ensures) (c .before .before .before .before .before .before .name-of .ensures ∙ ap nameOf (c .before .before .before .before .before .before .before .load .ensures)) (c .enum-told .given .1))
+    (λ c.
+    let at-partner = c .before .before .before .before in
+    let at-name-of = at-partner .before .before in
+    let at-load = at-name-of .before in
+    keep-missing (at-partner .partner .ensures) (at-name-of .name-of .ensures ∙ ap nameOf (at-load .load .ensures)) (c .enum-told .given .1))
     -- same-length-2
     (λ c. search needs)
     -- returns-2
-    (λ c. keep-outside (c .before .before .before .before .before .before .partner .ensures) (c .before .before .before .before .before .before .before .before .name-of .ensures ∙ ap nameOf (c .before .before .before .before .before .before .before .before .before .load .ensures)) _ (c .before .before .found .given .1) (λ l n. omega (arith, c .if1 .taken)) (omega (arith, c .before .before .before .before .before .before .before .before .before .before .before .pre)))
+    (λ c.
+    let at-found = c .before .before in
+    let at-partner = at-found .before .before .before .before in
+    let at-name-of = at-partner .before .before in
+    let at-load = at-name-of .before in
+    let at-pre = at-load .before .before in
+    keep-outside (at-partner .partner .ensures) (at-name-of .name-of .ensures ∙ ap nameOf (at-load .load .ensures)) _
+    (at-found .found .given .1) (λ l n. omega (arith, c .if1 .taken)) (omega (arith, at-pre .pre)))
     -- same-length-3
     (λ c. search needs)
     -- returns-3
-    (λ c. keep-outside (c .before .before .before .before .before .before .before .partner .ensures) (c .before .before .before .before .before .before .before .before .before .name-of .ensures ∙ ap nameOf (c .before .before .before .before .before .before .before .before .before .before .load .ensures)) _ (c .before .before .before .found .given .1) (λ l n. omega (arith, c .if2 .taken)) (omega (arith, c .before .before .before .before .before .before .before .before .before .before .before .before .pre)))
+    (λ c.
+    let at-found = c .before .before .before in
+    let at-partner = at-found .before .before .before .before in
+    let at-name-of = at-partner .before .before in
+    let at-load = at-name-of .before in
+    let at-pre = at-load .before .before in
+    keep-outside (at-partner .partner .ensures) (at-name-of .name-of .ensures ∙ ap nameOf (at-load .load .ensures)) _
+    (at-found .found .given .1) (λ l n. omega (arith, c .if2 .taken)) (omega (arith, at-pre .pre)))
     -- put-note-requires
     (λ c κs. search needs)
     -- step-of-requires
@@ -40,4 +58,15 @@ keep-spec =
     -- same-length-4
     (λ c. search needs)
     -- returns-4
-    (λ c. keep-found (c .before .before .before .before .before .before .before .before .before .before .before .before .partner .ensures) (c .before .before .before .before .before .before .before .before .before .before .before .before .before .before .name-of .ensures ∙ ap nameOf (c .before .before .before .before .before .before .before .before .before .before .before .before .before .before .before .load .ensures)) _ (c .before .before .before .before .before .before .before .before .found .given .1) (omega (arith, c .before .before .before .before .before .before .if1 .left)) (omega (arith, c .before .before .before .before .before .if2 .left)) (c .before .before .before .put-note .ensures) (omega (arith, c .before .before .before .before .before .before .before .before .before .before .before .before .partner .ensures .same-length, c .before .before .before .before .before .before .before .before .before .before .before .before .before .before .before .before .before .pre)) (omega arith) (c .step-of .ensures)))
+    (λ c.
+    let at-put-note = c .before .before .before in
+    let at-if2 = at-put-note .before .before in
+    let at-if1 = at-if2 .before in
+    let at-found = at-if1 .before .before in
+    let at-partner = at-found .before .before .before .before in
+    let at-name-of = at-partner .before .before in
+    let at-load = at-name-of .before in
+    let at-pre = at-load .before .before in
+    keep-found (at-partner .partner .ensures) (at-name-of .name-of .ensures ∙ ap nameOf (at-load .load .ensures)) _ (at-found .found .given .1)
+    (omega (arith, at-if1 .if1 .left)) (omega (arith, at-if2 .if2 .left)) (at-put-note .put-note .ensures)
+    (omega (arith, at-partner .partner .ensures .same-length, at-pre .pre)) (omega arith) (c .step-of .ensures)))

@@ -16,6 +16,12 @@ step-of-spec =
     -- returns
     (λ c. rw (eq-eqb _ _ (sym (c .before .kind .ensures) ∙ c .if1 .taken)))
     -- returns-2
-    (λ c. rw (ne-eqb _ _ (λ e. c .before .if1 .left (c .before .before .kind .ensures ∙ e)), eq-eqb _ _ (sym (c .before .before .kind .ensures) ∙ c .if2 .taken)))
+    (λ c. rw (
+      ne-eqb _ _ (λ e. c .before .if1 .left (c .before .before .kind .ensures ∙ e)),
+      eq-eqb _ _ (sym (c .before .before .kind .ensures) ∙ c .if2 .taken),
+    ))
     -- returns-3
-    (λ c. rw (ne-eqb _ _ (λ e. c .before .if1 .left (c .before .before .kind .ensures ∙ e)), ne-eqb _ _ (λ e. c .if2 .left (c .before .before .kind .ensures ∙ e)))))
+    (λ c. rw (
+      ne-eqb _ _ (λ e. c .before .if1 .left (c .before .before .kind .ensures ∙ e)),
+      ne-eqb _ _ (λ e. c .if2 .left (c .before .before .kind .ensures ∙ e)),
+    )))

@@ -20,4 +20,10 @@ merge-trees-spec =
     -- same-length-2
     (λ c. search needs)
     -- returns
-    (λ c. trees-merged _ (omega (arith, c .before .before .before .before .before .before .before .before .before .before .before .before .before .before .before .before .pre)) (omega (arith, c .before .before .before .before .before .before .before .before .before .before .before .before .before .before .before .before .pre)) (c .before .before .before .before .before .before .before .before .before .before .before .before .before .empty .ensures) (c .before .before .before .before .before .before .before .before .enter-members .ensures) (c .before .before .before .merge-object .ensures)))
+    (λ c.
+    let at-merge-object = c .before .before .before in
+    let at-enter-members = at-merge-object .before .before .before .before .before in
+    let at-empty = at-enter-members .before .before .before .before .before in
+    let at-pre = at-empty .before .before .before in
+    trees-merged _ (omega (arith, at-pre .pre)) (omega (arith, at-pre .pre)) (at-empty .empty .ensures)
+    (at-enter-members .enter-members .ensures) (at-merge-object .merge-object .ensures)))
