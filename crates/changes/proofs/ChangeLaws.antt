@@ -141,7 +141,8 @@ module _ {nodes : List Row} {row : ℕ} where
 -- ---- an element added
 module _ {T : Texts} {token : Name} (i : Index) (index-of : IsToken T token → indexOf (nameText T token) ≡ i) (c x : Cell) (kids below : Forest Cell)
     (fit : Fit c kids) (t : IsToken T token) where
-  element-position : (if isDash (nameText T token) then ok (count (borneMembers T kids)) else elementBelow (suc (count (borneMembers T kids))) (nameText T token))
+  element-position :
+      (if isDash (nameText T token) then ok (count (borneMembers T kids)) else elementBelow (suc (count (borneMembers T kids))) (nameText T token))
       ≡ insertionAt (count kids) i
   element-position =
       rw (count-map (bearing T) kids) (insertion (count kids) (nameText T token) (few-children fit) ∙ ap (insertionAt (count kids)) (index-of t))

@@ -6,13 +6,11 @@ use mathlib.Core.List.{List}
 use lib.Dec.{leb}
 use Rattle.spec.specs.Outcome.{Outcome, ok, refused, _>>=_}
 use Rattle.spec.specs.Limits.{maxDepth, maxNodes}
-use Rattle.spec.specs.Forest.{Forest}
 use Rattle.spec.specs.Value as Plain
 use Rattle.spec.specs.Pointer.{Tokens}
 use Rattle.spec.specs.Operation as PlainOperation
 use Rattle.tape.specs.Fields.{Row}
 use Rattle.tape.specs.declared.fields.Spelling.{Spelling}
-use Rattle.tape.specs.declared.fields.Cell.{Cell}
 use Rattle.tape.specs.Lent.{Texts, Table}
 use Rattle.origin.specs.Value as Value
 use Rattle.origin.specs.Value.{forget}

@@ -96,7 +96,8 @@ leb-same a b m n f g = go (leb a b) (leb m n) refl refl
     go false true p q = absurd (omega (arith, g (leb-true m n q), leb-false a b p))
 
 module _ (t : Text) (v : Plain.Value) (k : ℕ) (there : PlainPointer.childAt t v ≡ ok k) where
-  pub nodes-put : (w : Plain.Value) → Plain.nodes (PlainOperation.put k w v) + Plain.nodes (Plain.valueOf (PlainPointer.child k v)) ≡ Plain.nodes v + Plain.nodes w
+  pub nodes-put : (w : Plain.Value)
+      → Plain.nodes (PlainOperation.put k w v) + Plain.nodes (Plain.valueOf (PlainPointer.child k v)) ≡ Plain.nodes v + Plain.nodes w
   unfolding Plain.nodes PlainOperation.put PlainPointer.child
   nodes-put w =
       let s = size-replaceAt (Plain.named [] (Plain.leaf Label.null-literal)) k (v .kids) (child-there t v k there)

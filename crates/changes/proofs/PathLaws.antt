@@ -126,7 +126,8 @@ module _ {nodes nodes' : List Row} {used : ℕ} {r : Altered} (change : Change) 
   unfolding addAt
   document-added source e is = record { frame = is .frame; bearing = λ T v d f makes. go T v d f makes e }
     where
-      go : {c : Change} (T : Texts) (v : Value.Value) → Bearing (table T nodes) used v → (f : AtLocationBearing) → MakesBearing (table T nodes) c f → c ≡ Add source
+      go : {c : Change} (T : Texts) (v : Value.Value) → Bearing (table T nodes) used v
+          → (f : AtLocationBearing) → MakesBearing (table T nodes) c f → c ≡ Add source
           → ResultsBearing T nodes' (judgedBearing (f [] v)) r
       go T v d f (adds-bearing source' x kids offered) g = let same : source' ≡ source = cc in is .bearing T v d x kids (rw same at offered)
       go T v d f removes-bearing g = absurd (let w : _≡_ {A = ℕ} 0 1 = cc in omega arith)
@@ -136,14 +137,16 @@ module _ {nodes nodes' : List Row} {used : ℕ} {r : Altered} (change : Change) 
   unfolding replaceAtPath
   document-replaced source e is = record { frame = is .frame; bearing = λ T v d f makes. go T v d f makes e }
     where
-      go : {c : Change} (T : Texts) (v : Value.Value) → Bearing (table T nodes) used v → (f : AtLocationBearing) → MakesBearing (table T nodes) c f → c ≡ Replace source
+      go : {c : Change} (T : Texts) (v : Value.Value) → Bearing (table T nodes) used v
+          → (f : AtLocationBearing) → MakesBearing (table T nodes) c f → c ≡ Replace source
           → ResultsBearing T nodes' (judgedBearing (f [] v)) r
       go T v d f (adds-bearing source' x kids offered) g = absurd (let w : _≡_ {A = ℕ} 0 1 = cc in omega arith)
       go T v d f removes-bearing g = absurd (let w : _≡_ {A = ℕ} 0 1 = cc in omega arith)
       go T v d f (replaces-bearing source' x kids offered) g = let same : source' ≡ source = cc in is .bearing T v d x kids (rw same at offered)
 
 -- the root is not removed
-root-kept : {T : Texts} {nodes nodes' : List Row} {change : Change} (v : Value.Value) (f : AtLocationBearing) → MakesBearing (table T nodes) change f → change ≡ Remove
+root-kept : {T : Texts} {nodes nodes' : List Row} {change : Change} (v : Value.Value) (f : AtLocationBearing)
+    → MakesBearing (table T nodes) change f → change ≡ Remove
     → ResultsBearing T nodes' (judgedBearing (f [] v)) (Refused remove-of-root 0)
 unfolding removeAtPath _>>=_
 root-kept v f (adds-bearing source' x kids offered) e = absurd (let w : _≡_ {A = ℕ} 0 1 = cc in omega arith)
@@ -159,7 +162,8 @@ pub below-root : {C : Type 0} {w : Table} {change : Change} {f : AtLocationBeari
 unfolding addAt removeAtPath replaceAtPath
 below-root {w = w} (adds-bearing source x kids offered) t ts v then-it = then-it (insertChild (borne (w .texts) x kids)) (adds source x kids offered) refl
 below-root removes-bearing t ts v then-it = then-it removeChild removes refl
-below-root {w = w} (replaces-bearing source x kids offered) t ts v then-it = then-it (replaceChild (borne (w .texts) x kids)) (replaces source x kids offered) refl
+below-root {w = w} (replaces-bearing source x kids offered) t ts v then-it =
+    then-it (replaceChild (borne (w .texts) x kids)) (replaces source x kids offered) refl
 
 -- ---- a change at a location
 -- a table with more rows in use than a document may have holds none

@@ -1,11 +1,11 @@
 -- Laws of an operation of the patch on values that bear origins: forgetting them gives the plain operation, and values that bear the operation's
 -- number give that of crate origin.
-use Prim.Native.Nat.{ℕ, _+_, _<_}
-use mathlib.Core.Path.{_≡_, refl, ap, sym, _∙_}
+use Prim.Native.Nat.{ℕ, _+_}
+use mathlib.Core.Path.{_≡_, refl, ap, _∙_}
 use mathlib.Core.Bool.{Bool, true, false}
-use mathlib.Core.List.{List, [], _∷_}
+use mathlib.Core.List.{List}
 use lib.Dec.{ltb}
-use Rattle.spec.specs.Outcome.{Outcome, ok, refused, _>>=_, if_then_else_}
+use Rattle.spec.specs.Outcome.{ok, refused, if_then_else_}
 use Rattle.spec.specs.Refusal.{wrong-shape}
 use Rattle.spec.specs.Bytes.{Text, ascii}
 use Rattle.spec.specs.Forest.{Forest, count, nth}
@@ -15,9 +15,8 @@ use Rattle.spec.specs.Operation as Operation
 use Rattle.spec.specs.Operation.{Kind, add, remove, replace, move, copy, test, limited}
 use Rattle.spec.specs.Patch.{Run, onFinish, atOp, whichPointer, member, usesValue}
 use Rattle.spec.proofs.OutcomeLaws.{refused≢ok}
-use Rattle.tape.specs.Fields.{Row}
 use Rattle.tape.specs.declared.fields.Cell.{Cell}
-use Rattle.tape.specs.Lent.{Texts, Table}
+use Rattle.tape.specs.Lent.{Texts}
 use Rattle.tape.proofs.Cells.{blank}
 use Rattle.table.specs.Meaning.{members, meant}
 use Rattle.origin.specs.Value as Value
@@ -33,7 +32,7 @@ use Rattle.walk.proofs.Children.{forget-borne, child-borne}
 use Rattle.changes.specs.Document.{judged, judgedBearing}
 use Rattle.changes.proofs.BorneLaws.{members-borne}
 use Rattle.changes.proofs.ForgetLaws.{forget-judged}
-use Rattle.operations.specs.Bearing.{performWith, limitedWith, valueIn, Valued, paintedFrom, runWith}
+use Rattle.operations.specs.Bearing.{performWith, limitedWith, valueIn, Valued, Numbered, numbered-none, numbered-next, runWith}
 
 -- ---- each kind is its own function, judged
 module _ (k : ℕ) (o : Operation.Operation) (x v : Value.Value) where
@@ -109,18 +108,30 @@ module _ (T : Texts) (c : Cell) (kids : Forest Cell) where
       ∙ ap (λ n. valueOf (child n (borne T c kids))) e ∙ ap valueOf (child-borne T k c kids)
 
 -- ---- values that bear the number of their operation
-pub painted-limited : (k : ℕ) (o : Operation.Operation) (v : Value.Value) → limitedWith k o (painted k (o .value)) v ≡ Origins.limited k o v
-unfolding limitedWith performWith Origins.limited Origins.perform
-painted-limited k o v = refl
-
-pub painted-run : (op : ℕ) (os : List Operation.Operation) (v : Value.Value)
-    → runWith op (paintedFrom op os) v ≡ OriginPatch.run Origins.limited op os v
-unfolding runWith paintedFrom OriginPatch.run onFinish
-painted-run op [] v = refl
-painted-run op (o ∷ os) v =
-    rw (painted-limited op o v) (go (λ w. painted-run (op + 1) os w) (atOp op (whichPointer o (forget v)) (Origins.limited op o v)))
+pub numbered-limited : (k : ℕ) (o : Operation.Operation) (x v : Value.Value) → (usesValue (o .kind) ≡ true → x ≡ painted k (o .value))
+    → limitedWith k o x v ≡ Origins.limited k o v
+unfolding limitedWith performWith Origins.limited Origins.perform usesValue
+numbered-limited k o x v bears = go (o .kind) bears
   where
-    go : ((w : Value.Value) → runWith (op + 1) (paintedFrom (op + 1) os) w ≡ OriginPatch.run Origins.limited (op + 1) os w) → (r : Run Value.Value)
-        → onFinish r (λ w. runWith (op + 1) (paintedFrom (op + 1) os) w) ≡ onFinish r (λ w. OriginPatch.run Origins.limited (op + 1) os w)
-    go later (Run.finished w) = later w
-    go later (Run.stopped s) = refl
+    by : Kind → Operation.Operation
+    by kind = record { kind = kind; path = o .path; from = o .from; value = o .value }
+
+    go : (kind : Kind) → (usesValue kind ≡ true → x ≡ painted k (o .value)) → limitedWith k (by kind) x v ≡ Origins.limited k (by kind) v
+    go add b = ap (λ y. judgedBearing (addAt (o .path) y v)) (b refl)
+    go remove b = refl
+    go replace b = ap (λ y. judgedBearing (replaceAtPath (o .path) y v)) (b refl)
+    go move b = refl
+    go copy b = refl
+    go test b = refl
+
+pub numbered-run : {op : ℕ} {xs : List Valued} {os : List Operation.Operation} → Numbered op xs os → (v : Value.Value)
+    → runWith op xs v ≡ OriginPatch.run Origins.limited op os v
+unfolding runWith OriginPatch.run onFinish
+numbered-run numbered-none v = refl
+numbered-run {op} (numbered-next {o = o} {x} {xs} {os} bears later) v =
+    rw (numbered-limited op o x v bears) (go (λ w. numbered-run later w) (atOp op (whichPointer o (forget v)) (Origins.limited op o v)))
+  where
+    go : ((w : Value.Value) → runWith (op + 1) xs w ≡ OriginPatch.run Origins.limited (op + 1) os w) → (r : Run Value.Value)
+        → onFinish r (λ w. runWith (op + 1) xs w) ≡ onFinish r (λ w. OriginPatch.run Origins.limited (op + 1) os w)
+    go rest (Run.finished w) = rest w
+    go rest (Run.stopped s) = refl

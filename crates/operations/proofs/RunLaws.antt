@@ -137,28 +137,30 @@ module _ {w : Table} {used row end op : ℕ} {whole : Run Value.Value} (g : Goin
         (λ c kids rest e r.
         let b = first-operation (w .texts) (op + 1) c kids rest (g .os) (subst (λ f. operations (op + 1) (members (w .texts) f) ≡ finished (g .os)) e
         (g .are)) in
-        let proper = proper-first (subst (λ f. ProperItems (g .object) (members (w .texts) f)) e (g .proper)) in
-        (record {
-          c = c;
-          kids = kids;
-          rest = rest;
-          rows = r;
-          o = b .o;
-          listed = record {
+        let proper = proper-first (subst (λ f. ProperItems (g .object) (members (w .texts) f)) e (g .proper)) in (
+          record {
             c = c;
             kids = kids;
-            held = first-node r;
-            proper = proper .0;
-            behind = g .behind;
-            before = omega
-                (arith, r .ends, g .before);
-            is = b .is;
-          };
-          proper = proper .1;
-          later = b .later;
-          are = b .are;
-          whole = b .whole;
-        }, e))
+            rest = rest;
+            rows = r;
+            o = b .o;
+            listed = record {
+              c = c;
+              kids = kids;
+              held = first-node r;
+              proper = proper .0;
+              behind = g .behind;
+              before = omega
+                  (arith, r .ends, g .before);
+              is = b .is;
+            };
+            proper = proper .1;
+            later = b .later;
+            are = b .are;
+            whole = b .whole;
+          },
+          e,
+        ))
 
     pub going-first : First w row end op (g .object) (g .os)
     going-first = first-left .0
@@ -243,7 +245,8 @@ module _ {w : Table} {used row end op : ℕ} {whole : Run Origin.Value} (b : Goi
       ∙ with-none (w .texts) (op + 1) (g .os) (b .value))
       (b .document)
 
-  module _ (more : row < end) (first : First w row end op (g .object) (g .os)) (left-is : g .left ≡ tree (first .listed .c) (first .listed .kids) (first .rest)) where
+  module _ (more : row < end) (first : First w row end op (g .object) (g .os))
+      (left-is : g .left ≡ tree (first .listed .c) (first .listed .kids) (first .rest)) where
     abbrev x : Origin.Value
     x = valueIn (borne (w .texts) (first .listed .c) (first .listed .kids))
 
@@ -255,7 +258,8 @@ module _ {w : Table} {used row end op : ℕ} {whole : Run Origin.Value} (b : Goi
     begins-with =
         sym
         (ap (λ f. runWith (op + 1) (valued (borneMembers (w .texts) f) (g .os)) (b .value)) left-is
-        ∙ ap (λ os. runWith (op + 1) (valued (borneMembers (w .texts) (tree (first .listed .c) (first .listed .kids) (first .rest))) os) (b .value)) (first .whole)
+        ∙ ap (λ os. runWith (op + 1) (valued (borneMembers (w .texts) (tree (first .listed .c) (first .listed .kids) (first .rest))) os) (b .value))
+        (first .whole)
         ∙ ap (λ os. runWith (op + 1) os (b .value)) (valued-first (w .texts) (first .listed .c) (first .listed .kids) (first .rest) (first .o) (first .later)))
         ∙ b .gives
 

@@ -2,10 +2,10 @@
 use Prim.Native.Nat.{ℕ, zero, suc, _+_, _-_, _≤_, _<_}
 use native.Mathlib.Omega.{arith}
 use mathlib.Core.Path.{_≡_, refl, ap, ap₂, sym, _∙_}
-use mathlib.Core.List.{List, [], _∷_, _++_, append-assoc}
+use mathlib.Core.List.{List, [], _∷_, _++_}
 use lib.ListN.{length, take, drop, getD, set, length-append, length-take, length-drop, take-append-drop}
-use lib.Seq.{take-nil, drop-nil, drop-at, length-take-le}
-use Rattle.spec.specs.Forest.{Forest, none, tree, size}
+use lib.Seq.{drop-at, length-take-le}
+use Rattle.spec.specs.Forest.{Forest, none, tree}
 use Rattle.tape.specs.Fields.{Row}
 use Rattle.tape.specs.Tape.{tape}
 use Rattle.tape.specs.declared.fields.Cell.{Cell}

@@ -187,6 +187,7 @@ module _ {w : Table} {used : ℕ} {from path : Spelling} (pointer : Bytes) (poin
         record {
           patch = moves .patch;
           bearing = λ v d short gs from-is ts path-is.
-              some-token (partOf (w .texts) from) at gs (first-at (partOf (w .texts) from) f (first-of pointer pointer-is is) at gs e (from-is .is)) λ h hs some.
+              let there = first-at (partOf (w .texts) from) f (first-of pointer pointer-is is) at gs e (from-is .is) in
+              some-token (partOf (w .texts) from) at gs there λ h hs some.
               rw some (moves .bearing v d short h hs (rw some at from-is) ts path-is);
         }

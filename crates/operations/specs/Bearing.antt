@@ -1,12 +1,14 @@
 -- An operation of the patch and the run of them on values that bear origins. The value of an operation bears what its rows in the patch do. Where
 -- these bear the operation's number, this is crate origin's `perform` and `run`.
 use Prim.Native.Nat.{ℕ, _+_}
+use mathlib.Core.Path.{_≡_}
+use mathlib.Core.Bool.{true}
 use mathlib.Core.List.{List, [], _∷_}
 use Rattle.spec.specs.Outcome.{Outcome, _>>=_}
-use Rattle.spec.specs.Bytes.{Text, ascii}
+use Rattle.spec.specs.Bytes.{ascii}
 use Rattle.spec.specs.Forest.{none, tree}
 use Rattle.spec.specs.Operation.{add, remove, replace, move, copy, test, Operation}
-use Rattle.spec.specs.Patch.{Run, finished, atOp, onFinish, whichPointer}
+use Rattle.spec.specs.Patch.{Run, finished, atOp, onFinish, usesValue, whichPointer}
 use Rattle.origin.specs.Value as Value
 use Rattle.origin.specs.Value.{Members, find, valueOf, forget, painted}
 use Rattle.origin.specs.Pointer.{child}
@@ -43,10 +45,12 @@ valued (tree e kids rest) [] = []
 valued (tree e kids rest) (o ∷ os) =
     record { operation = o; value = valueIn (record { label = e .label; origin = e .origin; kids = kids }) } ∷ valued rest os
 
--- with the values painted: operation k's bears k
-unfoldable pub paintedFrom : ℕ → List Operation → List Valued
-paintedFrom k [] = []
-paintedFrom k (o ∷ os) = record { operation = o; value = painted k (o .value) } ∷ paintedFrom (k + 1) os
+-- every value that is used bears the number of its operation, the first of which is k
+pub data Numbered : ℕ → List Valued → List Operation → Type 0 where
+  numbered-none : {k : ℕ} → Numbered k [] []
+  numbered-next : {k : ℕ} {o : Operation} {x : Value.Value} {xs : List Valued} {os : List Operation}
+      → (usesValue (o .kind) ≡ true → x ≡ painted k (o .value)) → Numbered (k + 1) xs os
+      → Numbered k (record { operation = o; value = x } ∷ xs) (o ∷ os)
 
 -- the run, whose first operation is op
 unfoldable pub runWith : ℕ → List Valued → Value.Value → Run Value.Value

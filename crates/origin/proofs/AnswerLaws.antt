@@ -24,7 +24,7 @@ use Rattle.claims.proofs.ReadProper.{read-proper}
 use Rattle.merging.specs.MergePatch as PlainMerge
 use Rattle.reversal.specs.UndoValue.{undoValue}
 use Rattle.reversal.specs.UndoAnswer as PlainUndo
-use Rattle.reversal.specs.UndoAnswer.{UndoLent, undoRefusal, undoOperations}
+use Rattle.reversal.specs.UndoAnswer.{UndoAnswer, UndoLent, undoRefusal, undoOperations}
 use Rattle.origin.specs.Value as Value
 use Rattle.origin.specs.Value.{forget, painted, origins, nodes}
 use Rattle.origin.specs.Operation.{limited}
@@ -158,6 +158,41 @@ lists-same {list} {a} {r} l long = ap (λ x. x .answer) (l .is) ∙ go (eqb (a .
         (if b then (if leb (length (l .origins)) list then listed a (l .origins) else unlisted (refusal output-too-short 0 0 0)) else unlisted a) .answer ≡ a
     go true h = let few = l .few (eqb-true _ _ h) in rw (le-leb (length (l .origins)) list (omega arith))
     go false h = refl
+
+-- ---- on a refusal
+pub lists-nothing : {list : ℕ} {a : Answer} {r : Listed Answer} → Lists list a r → (r .answer .number ≡ done → ⊥) → r .origins ≡ []
+unfolding listing
+lists-nothing {list} {a} {r} l fails =
+    ap (λ x. x .origins) (l .is) ∙ go (eqb (a .number) done) (leb (length (l .origins)) list) refl (λ e. fails (ap (λ x. x .answer .number) (l .is) ∙ e))
+  where
+    result : Bool → Bool → Listed Answer
+    result b c = (if b then (if c then listed a (l .origins) else unlisted (refusal output-too-short 0 0 0)) else unlisted a)
+
+    go : (b c : Bool) → eqb (a .number) done ≡ b → (result b c .answer .number ≡ done → ⊥) → result b c .origins ≡ []
+    go true true h fails = absurd (fails (eqb-true _ _ h))
+    go true false h fails = refl
+    go false c h fails = refl
+
+pub undo-nothing : (document patch : Bytes) (lent : Lending UndoLent) → (undoAnswer document patch lent .answer .answer .number ≡ done → ⊥) →
+    undoAnswer document patch lent .origins ≡ []
+unfolding undoAnswer afterPatch beside
+undo-nothing document patch lent fails = go (leb maxBytes (lent .call .work)) fails
+  where
+    plain : Lending Lent
+    plain = record { call = lent .call .patch; list = lent .list }
+
+    result : Listed UndoAnswer
+    result = afterPatch (lent .call .undo) (answer document patch plain) (undoValue (undoOperations document patch))
+
+    either : (c : Bool) → eqb (result .answer .answer .number) done ≡ c → (result .answer .answer .number ≡ done → ⊥) →
+        (if c then answer document patch plain .origins else []) ≡ []
+    either true h fails = absurd (fails (eqb-true _ _ h))
+    either false h fails = refl
+
+    go : (b : Bool) → ((if b then result else unlisted (undoRefusal (refusal 1 0 0 0))) .answer .answer .number ≡ done → ⊥) →
+        (if b then result else unlisted (undoRefusal (refusal 1 0 0 0))) .origins ≡ []
+    go true fails = either (eqb (result .answer .answer .number) done) refl fails
+    go false fails = refl
 
 pub undo-same : (document patch : Bytes) (lent : Lending UndoLent) → maxNodes ≤ lent .list →
     undoAnswer document patch lent .answer ≡ PlainUndo.undoAnswer document patch (lent .call)

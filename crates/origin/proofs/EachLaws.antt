@@ -5,11 +5,10 @@ use mathlib.Core.List.{List, [], _∷_, _++_}
 use Prim.Native.Nat.{ℕ, zero, suc, _≤_, _<_, _+_}
 use native.Mathlib.Omega.{arith}
 use lib.ListN.{length, replicate}
-use lib.Dec.{ltb}
 use borrow.Author.Tests.{ltb-true}
-use Rattle.spec.specs.Outcome.{Outcome, ok, refused, if_then_else_}
+use Rattle.spec.specs.Outcome.{ok, if_then_else_}
 use Rattle.spec.specs.Bytes.{Text}
-use Rattle.spec.specs.Forest.{Forest, none, tree, count, insertAt, removeAt}
+use Rattle.spec.specs.Forest.{none, tree, count, insertAt, removeAt}
 use Rattle.spec.specs.Value as Plain
 use Rattle.spec.specs.Value.{Label, isObject}
 use Rattle.spec.specs.Pointer.{Tokens}
@@ -26,7 +25,7 @@ use Rattle.origin.specs.Operation.{withKids, put, insertMember, perform,
 use Rattle.origin.specs.Patch.{run}
 use Rattle.origin.specs.MergePatch.{mergeOrigin, asObject, without, memberOf, mergeMembers, mergePatch}
 use Rattle.origin.specs.Claims as Claims
-use Rattle.origin.specs.Claims.{Each, another, Exchanged, Stands, PutIn, PutFor, OneOperation}
+use Rattle.origin.specs.Claims.{Each, another, Exchanged, Stands, OneOperation}
 use Rattle.origin.proofs.ExchangeLaws.{exchanged-whole, exchanged-insert, exchanged-remove, exchanged-put, origins-painted}
 use Rattle.origin.proofs.OperationLaws.{one-operation}
 use Rattle.origin.proofs.RunLaws.{run-first, limited-made}

@@ -1,7 +1,6 @@
 -- The examples of origins, by computation.
 use mathlib.Core.Path.{refl}
 use Rattle.claims.specs.Pointers.{escapeCharacter, escapeToken, pointerOf}
-use Rattle.spec.specs.Patch.{usesValue}
 use Rattle.spec.proofs.Computing.{compute}
 use Rattle.merging.specs.MergePatch.{isNull}
 use Rattle.reversal.specs.Undo.{resultOr, valueAt, remaining, digitsBefore, indexToken, elementToken, parentTokens, lastToken, mendedIn, mended, isReplace}

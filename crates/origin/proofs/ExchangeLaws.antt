@@ -1,11 +1,11 @@
 -- The origins of a value after a change of its children: one stretch is exchanged.
-use mathlib.Core.Path.{_≡_, refl, ap, ap₂, sym, subst, _∙_}
+use mathlib.Core.Path.{_≡_, refl, ap, ap₂, sym, _∙_}
 use mathlib.Core.List.{List, [], _∷_, _++_, append-assoc, append-nil}
 use Prim.Native.Nat.{ℕ, zero, suc, _+_, _<_}
 use native.Mathlib.Nat.{zero-add, suc-add}
-use lib.ListN.{length, replicate}
+use lib.ListN.{replicate}
 use Rattle.spec.specs.Bytes.{Text}
-use Rattle.spec.specs.Forest.{Forest, none, tree, Tree, single, size, count, before, from, nth, insertAt, removeAt, replaceAt, _⧺_}
+use Rattle.spec.specs.Forest.{none, tree, single, size, count, before, from, insertAt, removeAt, replaceAt, _⧺_}
 use Rattle.spec.specs.Value as Plain
 use Rattle.spec.specs.Value.{Label}
 use Rattle.spec.proofs.SplitLaws.{split-at, split}

@@ -3,17 +3,15 @@ use mathlib.Core.Path.{_≡_, refl, ap, _∙_}
 use mathlib.Core.Bool.{Bool, true, false}
 use Rattle.spec.specs.Outcome.{if_then_else_}
 use Rattle.spec.specs.Bytes.{Text}
-use Rattle.spec.specs.Forest.{none, tree, count, removeAt}
+use Rattle.spec.specs.Forest.{none, tree, removeAt}
 use Rattle.spec.specs.Value as Plain
 use Rattle.spec.specs.Value.{Label, isObject}
-use Rattle.spec.specs.Pointer as PlainPointer
 use Rattle.spec.specs.Operation as PlainOperation
 use Rattle.merging.specs.MergePatch as PlainMerge
 use Rattle.merging.specs.MergePatch.{isNull}
 use Rattle.tape.specs.Map.{mapForest}
-use Rattle.tape.proofs.Map.{count-map}
 use Rattle.origin.specs.Value as Value
-use Rattle.origin.specs.Value.{leaf, valueOf, forgetEntry, forgetMembers, forget, painted, find, has}
+use Rattle.origin.specs.Value.{leaf, valueOf, forget, painted, find, has}
 use Rattle.origin.specs.Pointer.{child}
 use Rattle.origin.specs.Operation.{withKids, insertMember}
 use Rattle.origin.specs.MergePatch.{mergeOrigin, asObject, without, memberOf, mergeMembers, mergePatch}

@@ -1,38 +1,33 @@
 -- What an operation puts in is found where it put it, with its origins.
 use mathlib.Core.Path.{_≡_, refl, ap, ap₂, sym, subst, _∙_}
 use mathlib.Core.Bool.{Bool, true, false}
-use mathlib.Core.List.{List, [], _∷_}
+use mathlib.Core.List.{[], _∷_}
 use Prim.Native.Nat.{ℕ, suc, _<_, _≤_}
 use Prim.Native.Char.{code}
 use native.Mathlib.Omega.{arith}
-use lib.Dec.{ltb}
-use borrow.Author.Tests.{lt-ltb, ltb-true}
-use Rattle.spec.specs.Outcome.{Outcome, ok, refused, _>>=_, if_then_else_}
+use Rattle.spec.specs.Outcome.{ok, _>>=_, if_then_else_}
 use Rattle.spec.specs.Bytes.{Text, ascii}
-use Rattle.spec.specs.Worth.{decimal}
-use Rattle.spec.specs.Forest.{Forest, none, tree, Tree, single, count, before, from, nth, insertAt, replaceAt, _⧺_}
+use Rattle.spec.specs.Forest.{none, single, count, before, from, nth, insertAt, _⧺_}
 use Rattle.spec.specs.Value as Plain
 use Rattle.spec.specs.Value.{Label, isArray, isObject, tag, sameText}
 use Rattle.spec.specs.Pointer as PlainPointer
-use Rattle.spec.specs.Pointer.{Tokens, farther, isDash, isIndex, elementBelow}
-use Rattle.spec.specs.Operation as PlainOperation
+use Rattle.spec.specs.Pointer.{Tokens, farther, isDash, elementBelow}
 use Rattle.spec.specs.Operation.{Kind, Operation}
 use Rattle.spec.specs.Effects as Effects
 use Rattle.spec.specs.Effects.{ArrayIndex, Child, FoundAt}
-use Rattle.spec.proofs.OutcomeLaws.{refused≢ok, both-ok}
+use Rattle.spec.proofs.OutcomeLaws.{both-ok}
 use Rattle.spec.proofs.ForestLaws.{nth-replaceAt}
 use Rattle.spec.proofs.ChildLaws.{element-names, child-there, childAt-put}
 use Rattle.spec.proofs.SplitLaws.{count-before, nth-split, insert-last}
 use Rattle.spec.proofs.EffectsLaws.{is-index, without-has, child-at, child-is}
-use Rattle.tape.specs.Map.{mapForest}
-use Rattle.tape.proofs.Map.{count-map, map-insertAt, map-before, map-from}
+use Rattle.tape.proofs.Map.{count-map, map-insertAt}
 use Rattle.origin.specs.Value as Value
-use Rattle.origin.specs.Value.{Members, leaf, named, valueOf, forgetEntry, forgetMembers, forget, painted, find, has}
+use Rattle.origin.specs.Value.{leaf, named, valueOf, forgetEntry, forgetMembers, forget, painted, find, has}
 use Rattle.origin.specs.Pointer.{childAt, child, walk}
-use Rattle.origin.specs.Operation.{withKids, put, atParent, insertElement, insertMember, insertChild, replaceChild}
+use Rattle.origin.specs.Operation.{withKids, put, insertElement, insertMember, insertChild, replaceChild}
 use Rattle.origin.specs.Operation.{addAt, removeAtPath, replaceAtPath, moveTo, copyTo, perform}
 use Rattle.origin.specs.Claims.{FoundAgain}
-use Rattle.origin.proofs.ForgetLaws.{forget-put, forget-valueOf, forget-insert}
+use Rattle.origin.proofs.ForgetLaws.{forget-put, forget-valueOf}
 use Rattle.origin.proofs.OperationLaws.{walk-on, there, parent-done}
 
 -- ---- a child that was replaced

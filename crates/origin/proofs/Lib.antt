@@ -1,4 +1,3 @@
-pub mod ExamplesTheorem
 pub mod ForgetLaws
 pub mod ForgetMerge
 pub mod ListedLaws
@@ -9,5 +8,8 @@ pub mod ExchangeLaws
 pub mod OperationLaws
 pub mod EachLaws
 pub mod FoundLaws
+pub mod MemberLaws
+pub mod MergeLaws
 pub mod OriginTheorem
 pub mod OrderTheorem
+pub mod ExamplesTheorem

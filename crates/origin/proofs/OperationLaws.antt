@@ -1,17 +1,14 @@
 -- What each operation does to the list of origins: one stretch is exchanged, that of the value at its place.
-use mathlib.Core.Path.{_≡_, refl, ap, sym, subst, _∙_}
+use mathlib.Core.Path.{_≡_, refl, sym, subst, _∙_}
 use mathlib.Core.Bool.{Bool, true, false}
 use mathlib.Core.List.{List, [], _∷_}
 use Prim.Native.Nat.{ℕ, suc, _<_}
-use native.Mathlib.Omega.{arith}
 use lib.ListN.{replicate}
-use lib.Dec.{ltb}
-use borrow.Author.Tests.{ltb-true}
-use Rattle.spec.specs.Outcome.{Outcome, ok, refused, _>>=_, if_then_else_}
+use Rattle.spec.specs.Outcome.{Outcome, ok, _>>=_, if_then_else_}
 use Rattle.spec.specs.Bytes.{Text}
 use Rattle.spec.specs.Forest.{count, insertAt, removeAt}
 use Rattle.spec.specs.Value as Plain
-use Rattle.spec.specs.Value.{Label, isArray, isObject, tag}
+use Rattle.spec.specs.Value.{isArray, isObject}
 use Rattle.spec.specs.Equality.{equal}
 use Rattle.spec.specs.Pointer as PlainPointer
 use Rattle.spec.specs.Pointer.{Tokens, farther, isDash, elementBelow}
@@ -22,12 +19,12 @@ use Rattle.spec.proofs.ChildLaws.{child-there}
 use Rattle.claims.proofs.CharacterScalar.{if-ok}
 use Rattle.tape.proofs.Map.{count-map}
 use Rattle.origin.specs.Value as Value
-use Rattle.origin.specs.Value.{forgetEntry, forgetMembers, forget, painted, named, valueOf, origins, nodes, find, has}
+use Rattle.origin.specs.Value.{forgetEntry, forget, painted, named, valueOf, origins, nodes, find, has}
 use Rattle.origin.specs.Pointer.{childAt, child, walk}
 use Rattle.origin.specs.Operation.{withKids, put, atParent, insertElement, insertMember, insertChild, removeChild, replaceChild}
 use Rattle.origin.specs.Operation.{addAt, removeAtPath, replaceAtPath, moveTo, copyTo, testAt, perform}
 use Rattle.origin.specs.Claims as Claims
-use Rattle.origin.specs.Claims.{Exchanged, Stands, Replaced, PutIn, PutFor, OneOperation}
+use Rattle.origin.specs.Claims.{Stands, Replaced, PutIn, PutFor, OneOperation}
 use Rattle.origin.proofs.ExchangeLaws.{exchanged-whole, exchanged-insert, exchanged-remove, exchanged-put, origins-painted}
 
 -- ---- steps

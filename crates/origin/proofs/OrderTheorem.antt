@@ -2,9 +2,9 @@
 use mathlib.Core.Path.{_≡_, refl, ap, sym, subst, _∙_}
 use mathlib.Core.Bool.{Bool, true, false, not}
 use mathlib.Core.List.{List, [], _∷_, _++_, map, append-assoc, append-nil}
-use Prim.Native.Nat.{ℕ, suc, _+_, _≤_, _<_}
+use Prim.Native.Nat.{ℕ, _+_, _≤_, _<_}
 use native.Mathlib.Omega.{arith}
-use lib.ListN.{length, drop, length-append}
+use lib.ListN.{length, length-append}
 use lib.Dec.{leb, ltb, eqb}
 use borrow.Author.Tests.{le-ltb}
 use Rattle.spec.specs.Outcome.{if_then_else_}
@@ -22,7 +22,6 @@ use Rattle.spec.specs.Patch as PlainPatch
 use Rattle.spec.specs.Patch.{Run, finished, stopped, onFinish}
 use Rattle.spec.specs.Answer.{Answer, Lent, success, refusal, workSuffices}
 use Rattle.spec.specs.Region.{Accepted, WellFormed}
-use Rattle.claims.specs.Proper as Proper
 use Rattle.claims.specs.Proper.{Allows, ProperItems, Proper, Readable}
 use Rattle.claims.proofs.Rest.{Rest, rest-more}
 use Rattle.claims.proofs.ProperPatch.{proper-first, stopped≢finished}
@@ -34,7 +33,7 @@ use Rattle.origin.specs.Operation.{limited}
 use Rattle.origin.specs.Patch.{run}
 use Rattle.origin.specs.Answer.{listed, unlisted, Lending, fitting, answerOf, applied, onPatch, onDocument, answer}
 use Rattle.origin.specs.Forgetting.{forgottenRun, listing}
-use Rattle.origin.specs.Order.{valuesOf, values, StandsAt, InOrder, no-more, next, Traced, OrderStatement}
+use Rattle.origin.specs.Order.{valuesOf, values, InOrder, no-more, next, Traced, OrderStatement}
 use Rattle.origin.proofs.ForgetLaws.{forget-painted}
 use Rattle.origin.proofs.RunLaws.{forget-run}
 use Rattle.origin.proofs.AnswerLaws.{answer-lists}

@@ -2,7 +2,7 @@
 use mathlib.Core.Path.{_≡_, refl, ap, sym, subst, _∙_}
 use mathlib.Core.Bool.{Bool, true, false, not}
 use mathlib.Core.List.{List, [], _∷_}
-use Prim.Native.Nat.{ℕ, suc, _≤_, _+_}
+use Prim.Native.Nat.{ℕ, _≤_, _+_}
 use native.Mathlib.Omega.{arith}
 use lib.ListN.{length}
 use lib.Dec.{leb, ltb, eqb}
@@ -16,7 +16,7 @@ use Rattle.spec.specs.Value as Plain
 use Rattle.spec.specs.Value.{Label, Members, tag, isArray, isObject}
 use Rattle.spec.specs.Read.{read}
 use Rattle.spec.specs.Write.{write}
-use Rattle.spec.specs.Operation.{Kind, Operation}
+use Rattle.spec.specs.Operation.{Operation}
 use Rattle.spec.specs.Patch.{stop, Run, finished, stopped, operation, atOp, noPointer, shape, operations, onFinish}
 use Rattle.spec.specs.Answer.{Answer, Lent, success, refusal, workSuffices}
 use Rattle.claims.proofs.ProperPatch.{stopped≢finished}
@@ -27,20 +27,21 @@ use Rattle.reversal.specs.UndoAnswer as PlainUndo
 use Rattle.reversal.specs.UndoAnswer.{UndoLent, undoRefusal, undoOperations}
 use Rattle.origin.specs.Value as Value
 use Rattle.origin.specs.Value.{leaf, named, forget, painted, nodes, origins, originsOf, has, find}
-use Rattle.origin.specs.Operation.{withKids, perform, limited, insertMember, put}
+use Rattle.origin.specs.Operation.{withKids, limited, insertMember, put}
 use Rattle.origin.specs.Patch.{run}
 use Rattle.origin.specs.MergePatch.{mergeOrigin, asObject, without, memberOf, mergeMembers, mergePatch}
 use Rattle.origin.specs.Answer.{Listed, listed, unlisted, Lending, fitting, answerOf, applied, onPatch, onDocument, answer}
 use Rattle.origin.specs.Answer.{mergedIn, onMergePatch, onMergeDocument, mergeAnswer, afterPatch, beside, undoAnswer}
 use Rattle.origin.specs.Claims as Claims
 use Rattle.origin.specs.Claims.{Each, AllTests, no-more, test, OriginStatement}
-use Rattle.origin.proofs.ForgetLaws.{forget-painted}
 use Rattle.origin.proofs.ForgetMerge.{forget-mergePatch}
 use Rattle.origin.proofs.RunLaws.{run-first, limited-made}
+use Rattle.origin.proofs.AnswerLaws.{answer-lists, merge-lists, lists-nothing, undo-nothing}
 use Rattle.origin.proofs.ListedLaws.{length-origins}
 use Rattle.origin.proofs.ExchangeLaws.{origins-painted}
 use Rattle.origin.proofs.OperationLaws.{one-operation}
 use Rattle.origin.proofs.FoundLaws.{found-again}
+use Rattle.origin.proofs.MergeLaws.{merge-unnamed, merge-named}
 use Rattle.origin.proofs.EachLaws.{each-replicate, each-weaken, run-each, merge-bears, each-painted}
 
 -- ---- runs
@@ -244,7 +245,12 @@ origin =
       merge-kept = merge-kept;
       merge-whole = merge-whole;
       merge-made = merge-made;
+      merge-unnamed = merge-unnamed;
+      merge-named = merge-named;
       merge-bounded = merge-bounded;
+      nothing-listed = λ document patch lent fails. lists-nothing (answer-lists document patch lent) fails;
+      merge-nothing-listed = λ document patch lent fails. lists-nothing (merge-lists document patch lent) fails;
+      undo-nothing-listed = undo-nothing;
       fits = λ document patch lent. answer-right document patch lent .fits;
       small = λ document patch lent. answer-right document patch lent .each;
       merge-fits = λ document patch lent. merge-right document patch lent .fits;

@@ -1,17 +1,16 @@
 -- Runs: of one operation more, and origins forgotten.
-use mathlib.Core.Path.{_≡_, refl, ap, sym, _∙_}
-use mathlib.Core.Bool.{Bool, true, false}
+use mathlib.Core.Path.{_≡_, refl, ap, _∙_}
 use mathlib.Core.List.{List, [], _∷_}
 use Prim.Native.Nat.{ℕ, _+_, _≤_}
 use lib.Dec.{leb}
 use borrow.Author.Tests.{leb-true}
-use Rattle.spec.specs.Outcome.{Outcome, ok, refused, _>>=_, if_then_else_}
+use Rattle.spec.specs.Outcome.{Outcome, ok, refused, _>>=_}
 use Rattle.spec.specs.Limits.{maxDepth, maxNodes}
 use Rattle.spec.specs.Value as Plain
 use Rattle.spec.specs.Operation as PlainOperation
 use Rattle.spec.specs.Operation.{Operation}
 use Rattle.spec.specs.Patch as PlainPatch
-use Rattle.spec.specs.Patch.{Run, finished, stopped, atOp, onFinish, whichPointer}
+use Rattle.spec.specs.Patch.{Run, finished, atOp, onFinish, whichPointer}
 use Rattle.spec.proofs.OutcomeLaws.{refused≢ok, both-ok}
 use Rattle.claims.proofs.CharacterScalar.{if-ok}
 use Rattle.claims.proofs.ProperPatch.{stopped≢finished}

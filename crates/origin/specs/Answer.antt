@@ -2,7 +2,7 @@
 -- too, one for each value in the order of their first written bytes, in a lent list; its rest stays, and all of it on a refusal."
 use Prim.Native.Nat.{ℕ}
 use mathlib.Core.List.{List, []}
-use mathlib.Core.Bool.{Bool, not}
+use mathlib.Core.Bool.{not}
 use lib.ListN.{length}
 use lib.Dec.{leb, ltb, eqb}
 use Rattle.spec.specs.Outcome.{Outcome, ok, refused, if_then_else_}
@@ -14,7 +14,6 @@ use Rattle.spec.specs.Read.{read}
 use Rattle.spec.specs.Write.{write}
 use Rattle.spec.specs.Operation.{Operation}
 use Rattle.spec.specs.Patch.{Run, finished, stopped, shape, onFinish}
-use Rattle.spec.specs.Answer as PlainAnswer
 use Rattle.spec.specs.Answer.{Answer, Lent, success, refusal, failure, workSuffices}
 use Rattle.reversal.specs.UndoValue.{undoValue}
 use Rattle.reversal.specs.UndoAnswer as PlainUndo

@@ -5,23 +5,27 @@ use mathlib.Core.Bool.{true, false}
 use mathlib.Core.List.{List, [], _∷_, _++_}
 use lib.ListN.{length, replicate}
 use Rattle.spec.specs.Outcome.{ok}
+use Rattle.spec.specs.Refusal.{done}
 use Rattle.spec.specs.Limits.{maxOperations}
 use Rattle.spec.specs.Bytes.{Bytes, Text}
 use Rattle.spec.specs.Value as Plain
-use Rattle.spec.specs.Value.{isObject}
+use Rattle.spec.specs.Value.{Label, isObject}
+use Rattle.spec.specs.Pointer as PlainPointer
 use Rattle.spec.specs.Pointer.{Tokens}
 use Rattle.spec.specs.Operation.{Kind, Operation}
 use Rattle.spec.specs.Patch.{finished}
 use Rattle.spec.specs.Effects.{FoundAt}
 use Rattle.spec.specs.Answer.{Lent}
+use Rattle.claims.specs.Proper.{Proper}
 use Rattle.merging.specs.MergePatch as PlainMerge
+use Rattle.merging.specs.MergePatch.{isNull}
 use Rattle.reversal.specs.UndoAnswer.{UndoLent}
 use Rattle.origin.specs.Value as Value
 use Rattle.origin.specs.Value.{forget, painted, nodes, origins}
 use Rattle.origin.specs.Pointer.{walk}
 use Rattle.origin.specs.Operation.{removeAtPath, perform, limited}
 use Rattle.origin.specs.Patch.{run}
-use Rattle.origin.specs.MergePatch.{mergeOrigin, mergePatch}
+use Rattle.origin.specs.MergePatch.{mergeOrigin, asObject, memberOf, mergePatch}
 use Rattle.origin.specs.Answer.{Lending, answer, mergeAnswer, undoAnswer}
 
 pub data Each (P : ℕ → Type 0) : List ℕ → Type 0 where
@@ -44,11 +48,13 @@ pub data Replaced (path : Tokens) (v : Value.Value) : List ℕ → Type 0 where
   nothing : Replaced path v []
   value : {y : Value.Value} → walk path v ≡ ok y → Replaced path v (origins y)
 
+-- origins put in at a place
 pub record PutIn (path : Tokens) (v w : Value.Value) (new : List ℕ) : Type 0 where
   pub old : List ℕ
   pub replaced : Replaced path v old
   pub exchanged : Exchanged old new (origins v) (origins w)
 
+-- and put in for what stands there
 pub record PutFor (path : Tokens) (v w : Value.Value) (new : List ℕ) : Type 0 where
   pub old : List ℕ
   pub stood : Stands path v old
@@ -91,13 +97,25 @@ pub record OriginStatement : Type 0 where
   pub bounded : (os : List Operation) (d : Plain.Value) (w : Value.Value) → run limited 1 os (painted 0 d) ≡ finished w →
       Each (λ k. k ≤ length os) (origins w)
   pub tests : (op : ℕ) (os : List Operation) (v w : Value.Value) → AllTests os → run limited op os v ≡ finished w → w ≡ v
-  -- the merge: an object that is merged into keeps its origin, "also for the empty objects it makes"
+  -- the merge: an object that is merged into keeps its origin; in the place of any other value all nodes bear 1, "also [..] the empty objects"
   pub merge-kept : (t : Value.Value) (p : Plain.Value) → isObject (t .label) ≡ true → isObject (p .label) ≡ true → mergePatch t p .origin ≡ t .origin
   pub merge-whole : (t : Value.Value) (p : Plain.Value) → isObject (p .label) ≡ false → mergePatch t p ≡ painted mergeOrigin p
   pub merge-made : (t : Value.Value) (p : Plain.Value) → isObject (t .label) ≡ false →
       mergePatch t p ≡ painted mergeOrigin (PlainMerge.mergePatch (forget t) p)
+  -- a member that the patch does not name is as it was; one that it names, and not with null, is merged in turn
+  pub merge-unnamed : (t : Value.Value) (p : Plain.Value) (n : Text) → p .label ≡ Label.object → Plain.has n (p .kids) ≡ false →
+      memberOf n (mergePatch t p) ≡ memberOf n (asObject t)
+  pub merge-named : (t : Value.Value) (p x : Plain.Value) (n : Text) → Proper p → p .label ≡ Label.object → PlainPointer.walk (n ∷ []) p ≡ ok x →
+      isNull (x .label) ≡ false → memberOf n (mergePatch t p) ≡ mergePatch (memberOf n (asObject t)) x
   pub merge-bounded : (d p : Plain.Value) → Each (λ k. k ≤ mergeOrigin) (origins (mergePatch (painted 0 d) p))
-  -- the calls: the list suffices, and 16 bits hold each entry
+  -- the calls: nothing is listed on a refusal
+  pub nothing-listed : (document patch : Bytes) (lent : Lending Lent) → (answer document patch lent .answer .number ≡ done → ⊥) →
+      answer document patch lent .origins ≡ []
+  pub merge-nothing-listed : (document patch : Bytes) (lent : Lending Lent) → (mergeAnswer document patch lent .answer .number ≡ done → ⊥) →
+      mergeAnswer document patch lent .origins ≡ []
+  pub undo-nothing-listed : (document patch : Bytes) (lent : Lending UndoLent) → (undoAnswer document patch lent .answer .answer .number ≡ done → ⊥) →
+      undoAnswer document patch lent .origins ≡ []
+  -- the list suffices, and 16 bits hold each entry
   pub fits : (document patch : Bytes) (lent : Lending Lent) → length (answer document patch lent .origins) ≤ lent .list
   pub small : (document patch : Bytes) (lent : Lending Lent) → Each (λ k. k ≤ maxOperations) (answer document patch lent .origins)
   pub merge-fits : (document patch : Bytes) (lent : Lending Lent) → length (mergeAnswer document patch lent .origins) ≤ lent .list

@@ -2,7 +2,7 @@
 -- is: document 02, T-11, "Demand 3 speaks of texts and not of origins."
 use mathlib.Core.Path.{_≡_}
 use Prim.Native.Nat.{ℕ, _≤_}
-use mathlib.Core.List.{List, []}
+use mathlib.Core.List.{List}
 use lib.ListN.{length}
 use lib.Dec.{leb, eqb}
 use Rattle.spec.specs.Outcome.{Outcome, ok, refused, if_then_else_}

@@ -12,7 +12,7 @@ use Rattle.spec.specs.Value as Plain
 use Rattle.spec.specs.Value.{isArray, isObject}
 use Rattle.spec.specs.Equality.{equal}
 use Rattle.spec.specs.Pointer.{Tokens, farther, elementBelow, isDash}
-use Rattle.spec.specs.Operation.{Kind, add, remove, replace, move, copy, test, Operation}
+use Rattle.spec.specs.Operation.{add, remove, replace, move, copy, test, Operation}
 use Rattle.origin.specs.Value as Value
 use Rattle.origin.specs.Value.{Members, find, has, named, valueOf, forget, painted, depth, nodes}
 use Rattle.origin.specs.Pointer.{childAt, child, walk}

@@ -22,7 +22,7 @@ use Rattle.region.specs.Answer.{regionTokens}
 use Rattle.region.proofs.ClaimTheorems.{shaped-within}
 use Rattle.origin.specs.Answer.{unlisted, Lending}
 use Rattle.origin.specs.Forgetting.{Lists}
-use Rattle.origin.proofs.AnswerLaws.{refusal-lists, if-lists, applied-lists, lists-same}
+use Rattle.origin.proofs.AnswerLaws.{refusal-lists, if-lists, applied-lists, lists-same, lists-nothing}
 use Rattle.origin.proofs.OriginTheorem.{Right, no-list, if-right, shape-few, applied-right}
 use Rattle.origin_within.specs.Answer.{patchedWithin, onPatchWithin, onDocumentWithin, answerWithin}
 use Rattle.origin_within.specs.Claims.{WithinStatement}
@@ -95,6 +95,7 @@ within =
     record {
       answers = answer-lists;
       same-answer = λ document patch region lent long. lists-same (answer-lists document patch region lent) long;
+      nothing-listed = λ document patch region lent fails. lists-nothing (answer-lists document patch region lent) fails;
       fits = λ document patch region lent. answer-right document patch region lent .fits;
       small = λ document patch region lent. answer-right document patch region lent .each;
     }

@@ -332,7 +332,7 @@ module _ {w : Table} {used row : ℕ} {path : Spelling} {s : Spelled} (is : Stri
               moved .held v d short o l kind g gs some (subst (PathIs (w .texts) from) some p) path-is os noted;
         }
 
-    pub step-malformed : f ≡ First.Malformed → {work : Bytes} → {op : ℕ} → PlainIs w nodes' used row op log r → MoveStepIs w nodes' work work used row path log r
+    pub step-malformed : f ≡ First.Malformed → {work : Bytes} {op : ℕ} → PlainIs w nodes' used row op log r → MoveStepIs w nodes' work work used row path log r
     step-malformed bad plain =
         record {
           patch = plain .performs .patch;

@@ -189,7 +189,8 @@ module _ {w : Table} {used row : ℕ} {s : Spelled} (is : StringIs w row (ascii 
             moved .held v d short o l k (path-told is path e l) os noted;
       }
 
-  pub step-other : uses .moves ≡ false → {before-log : Log} → NoteBeforeIs w work work' kind path log before-log → {op : ℕ} → PlainIs w nodes' used row op before-log r
+  pub step-other : uses .moves ≡ false → {before-log : Log} → NoteBeforeIs w work work' kind path log before-log
+      → {op : ℕ} → PlainIs w nodes' used row op before-log r
       → StepIs w nodes' work work' used row log r
   step-other m note plain =
       record {

@@ -150,7 +150,19 @@ fn move_below<'a>(
     let Reached::At(at) = walk(texts, nodes, layout::DOCUMENT, from) else {
         return plain(texts, nodes, index, used, row, op, log);
     };
-    move_from(texts, nodes, index, used, row, op, from, path, at, log, work)
+    move_from(
+        texts,
+        nodes,
+        index,
+        used,
+        row,
+        op,
+        from,
+        path,
+        at,
+        log,
+        work,
+    )
 }
 
 // The move in a row of the patch. "Nor does a move of root to root" give an operation.
@@ -172,7 +184,18 @@ pub fn move_step<'a>(
     };
     match first(part(texts, from)) {
         First::Root => return plain(texts, nodes, index, used, row, op, log),
-        First::At(_) => return move_below(texts, nodes, index, used, row, op, from, path, log, work),
+        First::At(_) => return move_below(
+            texts,
+            nodes,
+            index,
+            used,
+            row,
+            op,
+            from,
+            path,
+            log,
+            work,
+        ),
         First::Malformed => return plain(texts, nodes, index, used, row, op, log),
     }
 }

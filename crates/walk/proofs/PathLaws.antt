@@ -19,7 +19,7 @@ use Rattle.tape.proofs.Cells.{blank}
 use Rattle.tape.specs.Rows.{childRow}
 use Rattle.table.specs.Meaning.{partOf, nameText, meant}
 use Rattle.origin.specs.Value as Value
-use Rattle.origin.specs.Value.{valueOf, forget}
+use Rattle.origin.specs.Value.{valueOf}
 use Rattle.origin.specs.Pointer.{childAt, child, walk}
 use Rattle.origin.specs.Forgetting.{forgotten}
 use Rattle.origin.proofs.ForgetLaws.{forget-walk}

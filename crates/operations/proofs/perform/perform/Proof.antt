@@ -50,8 +50,11 @@ perform-spec =
     (λ c. search needs)
     -- returns-3
     (λ c.
-    of-kind (c .before .before .before .before .before .before .before .before .before .before .before .string-member .ensures) (c .before .before .before .before .before .before .kind-of .ensures) Operation.remove _ (c .before .before .before .before .before .before .before .before .before .path .given .1) (ap kindOutcome (c .before .before .before .before .enum-told3 .given .1))
-    tt (remove-done (c .before .before .change-at .ensures) (c .at-path .ensures)))
+    of-kind (c .before .before .before .before .before .before .before .before .before .before .before .string-member .ensures)
+    (c .before .before .before .before .before .before .kind-of .ensures) Operation.remove _
+    (c .before .before .before .before .before .before .before .before .before .path .given .1)
+    (ap kindOutcome (c .before .before .before .before .enum-told3 .given .1)) tt
+    (remove-done (c .before .before .change-at .ensures) (c .at-path .ensures)))
     -- enum-told-4
     (λ c. search needs)
     -- replace-requires

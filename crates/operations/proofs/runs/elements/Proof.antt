@@ -49,10 +49,10 @@ elements-spec =
       search needs,
       search needs,
       (let at-perform = c .before .before .before .before .before .before .before .before in
-      let at-narrow = at-perform .before in
-      let inv = at-narrow .before .before .before .before .before .loop .inv in
-      run-next (inv .3) (omega arith) (at-perform .perform .ensures) (at-narrow .narrow .ensures) (inv .0) (c .before .before .before .n .given .1) _
-      (c .end-of .ensures)),
+          let at-narrow = at-perform .before in
+          let inv = at-narrow .before .before .before .before .before .loop .inv in
+          run-next (inv .3) (omega arith) (at-perform .perform .ensures) (at-narrow .narrow .ensures) (inv .0) (c .before .before .before .n .given .1) _
+          (c .end-of .ensures)),
     ))
     -- enum-known-number
     (λ c. search needs)

@@ -45,8 +45,9 @@ stamp-spec =
     (λ c. (
       search needs,
       (let l = c .before .before .loop in
-      stamp-next (l .nodes) (l .row) (l .left) (c .before .before .before .args .origin) (omega (arith, c .if1 .left)) (omega (arith, c .before .loop-test .taken))
-      ∙ l .inv .1),
+          stamp-next (l .nodes) (l .row) (l .left) (c .before .before .before .args .origin)
+          (omega (arith, c .if1 .left)) (omega (arith, c .before .loop-test .taken))
+          ∙ l .inv .1),
     ))
     -- same-length-2
     (λ c. search needs)

@@ -54,7 +54,8 @@ elements-spec =
       search needs,
       logged-next
           (c .before .before .before .before .before .before .before .before .before .before .before .before .before .before .before .before
-          .before .before .loop .inv .4) (omega arith) (c .before .before .before .before .before .before .before .before .before .before .before .step .ensures)
+          .before .before .loop .inv .4) (omega arith)
+          (c .before .before .before .before .before .before .before .before .before .before .before .step .ensures)
           (c .before .before .before .outcome .given .1) _ (c .end-of .ensures),
     ))
     -- enum-known-outcome-2
