@@ -1,21 +1,19 @@
--- Laws of trees that bear the numbers of their operations: they mean the same, and the run with them is that of the definitions.
+-- Laws of trees that bear the numbers of their operations: they mean the same, and so do the values in them.
 use Prim.Native.Nat.{ℕ, zero, suc, _+_, _<_}
 use native.Mathlib.Omega.{arith}
-use mathlib.Core.Path.{_≡_, refl, ap, ap₂, sym, _∙_, subst}
+use mathlib.Core.Path.{_≡_, refl, ap, ap₂, _∙_, subst}
 use mathlib.Core.Bool.{Bool, true, false}
 use mathlib.Core.List.{List, [], _∷_}
 use lib.Dec.{ltb}
 use borrow.Author.Tests.{ltb-true}
 use Rattle.spec.specs.Outcome.{Outcome, ok, refused, if_then_else_}
 use Rattle.spec.specs.Refusal.{wrong-shape}
-use Rattle.spec.specs.Bytes.{Text, ascii}
+use Rattle.spec.specs.Bytes.{ascii}
 use Rattle.spec.specs.Forest.{Forest, none, tree, Tree, count, size, nth}
 use Rattle.spec.specs.Value as Plain
-use Rattle.spec.specs.Value.{Label}
 use Rattle.spec.specs.Pointer as PlainPointer
 use Rattle.spec.specs.Operation as Operation
-use Rattle.spec.specs.Operation.{Kind, add, remove, replace, move, copy, test}
-use Rattle.spec.specs.Patch.{Run, finished, stopped, stop, atOp, noPointer, onFinish, whichPointer, member, usesValue, operation, operations}
+use Rattle.spec.specs.Patch.{Run, finished, stopped, atOp, noPointer, onFinish, member, usesValue, operation, operations}
 use Rattle.spec.proofs.OutcomeLaws.{refused≢ok}
 use Rattle.tape.specs.Map.{mapForest, mapTree}
 use Rattle.tape.specs.declared.fields.Cell.{Cell}
@@ -28,17 +26,14 @@ use Rattle.table.specs.Meaning.{members, meant, entryOf}
 use Rattle.table.specs.Sound.{Sound}
 use Rattle.table.proofs.AllLaws.{all-first, all-kids}
 use Rattle.origin.specs.Value as Value
-use Rattle.origin.specs.Value.{forget, painted, paintedEntry, leaf, named, valueOf}
+use Rattle.origin.specs.Value.{painted, paintedEntry, valueOf}
 use Rattle.origin.specs.Pointer.{child}
-use Rattle.origin.specs.Operation.{perform, limited, notTooDeep, notTooLarge}
-use Rattle.origin.specs.Patch.{run}
 use Rattle.origin.proofs.ForgetLaws.{map-map, forget-members}
 use Rattle.walk.specs.Bearing.{borne, borneMembers}
 use Rattle.walk.proofs.Children.{forget-borne}
-use Rattle.operations.specs.Bearing.{performWith, limitedWith, valueIn, valued, runWith}
+use Rattle.operations.specs.Bearing.{valueIn, valued, Numbered, numbered-none, numbered-next}
 use Rattle.operations.proofs.StampLaws.{formed-stamped, sound-stamped, borne-stamped}
 use Rattle.operations.proofs.ToldLaws.{told}
-use Rattle.changes.specs.Document.{judgedBearing}
 use Rattle.listing.specs.Stamps.{numberedCell, numbered}
 
 -- ---- what the trees are
@@ -86,59 +81,31 @@ value-painted k u x e = go (ltb (Plain.find (ascii "value") (u .kids)) (count (u
         ∙ ap valueOf (nth-painted k (Plain.find (ascii "value") (u .kids)) _ _ (u .kids) (ltb-true _ _ q)) ∙ ap (painted k) same
     go false q f = absurd (refused≢ok f)
 
--- ---- an operation whose value bears its number
-limited-painted : (k : ℕ) (o : Operation.Operation) (x v : Value.Value) → (usesValue (o .kind) ≡ true → x ≡ painted k (o .value))
-    → limitedWith k o x v ≡ limited k o v
-unfolding limitedWith performWith limited perform usesValue
-limited-painted k o x v same = go (o .kind) same
-  where
-    by : Kind → Operation.Operation
-    by kind = record { kind = kind; path = o .path; from = o .from; value = o .value }
-
-    go : (kind : Kind) → (usesValue kind ≡ true → x ≡ painted k (o .value)) → limitedWith k (by kind) x v ≡ limited k (by kind) v
-    go add s = ap (λ y. limitedWith k (by add) y v) (s refl)
-    go remove s = refl
-    go replace s = ap (λ y. limitedWith k (by replace) y v) (s refl)
-    go move s = refl
-    go copy s = refl
-    go test s = refl
-
--- ---- the run
-runs-first : (k : ℕ) (o : Operation.Operation) (x v : Value.Value) (os : List Operation.Operation) (r : Value.Value → Run Value.Value)
-    → limitedWith k o x v ≡ limited k o v → ((u : Value.Value) → r u ≡ run limited (k + 1) os u)
-    → onFinish (atOp k (whichPointer o (forget v)) (limitedWith k o x v)) r ≡ run limited k (o ∷ os) v
-unfolding run onFinish
-runs-first k o x v os r same later = rw same (go (atOp k (whichPointer o (forget v)) (limited k o v)))
-  where
-    go : (q : Run Value.Value) → onFinish q r ≡ onFinish q (λ u. run limited (k + 1) os u)
-    go (finished u) = later u
-    go (stopped s) = refl
-
 -- the value of the element that operation k is
 module _ (T : Texts) (k : ℕ) (c : Cell) (kids : Forest Cell) where
   abbrev value-of : Value.Value
   value-of = valueIn (borne T (numberedCell k c) (mapForest (numberedCell k) kids))
 
-  limited-numbered : (o : Operation.Operation) → operation (meant T c kids) ≡ ok o → (v : Value.Value) → limitedWith k o value-of v ≡ limited k o v
-  limited-numbered o is v =
-      limited-painted k o value-of v λ uses.
+  value-bears : (o : Operation.Operation) → operation (meant T c kids) ≡ ok o → usesValue (o .kind) ≡ true → value-of ≡ painted k (o .value)
+  value-bears o is uses =
       ap valueIn (borne-stamped T k c kids ∙ ap (painted k) (forget-borne T c kids)) ∙ value-painted k (meant T c kids) (o .value) (told _ o is .value uses)
 
-pub runs-numbered : (T : Texts) (k : ℕ) (f : Forest Cell) (os : List Operation.Operation) → operations k (members T f) ≡ finished os → (v : Value.Value)
-    → runWith k (valued (borneMembers T (numbered k f)) os) v ≡ run limited k os v
-unfolding operations numbered mapForest valued runWith run atOp onFinish
-runs-numbered T k none os e v = let same : _≡_ {A = List Operation.Operation} [] os = cc in subst (λ l. finished v ≡ run limited k l v) same refl
-runs-numbered T k (tree c kids rest) os e v =
-    go (operation (meant T c kids)) refl (operations (k + 1) (members T rest)) refl e (runs-numbered T (k + 1) rest)
+-- ---- the operations of the trees
+pub values-numbered : (T : Texts) (k : ℕ) (f : Forest Cell) (os : List Operation.Operation) → operations k (members T f) ≡ finished os
+    → Numbered k (valued (borneMembers T (numbered k f)) os) os
+unfolding operations numbered mapForest valued atOp onFinish
+values-numbered T k none os e = let same : _≡_ {A = List Operation.Operation} [] os = cc in subst (λ l. Numbered k [] l) same numbered-none
+values-numbered T k (tree c kids rest) os e =
+    go (operation (meant T c kids)) refl (operations (k + 1) (members T rest)) refl e (values-numbered T (k + 1) rest)
   where
     go : (o : Outcome Operation.Operation) → operation (meant T c kids) ≡ o → (q : Run (List Operation.Operation)) → operations (k + 1) (members T rest) ≡ q
         → onFinish (atOp k noPointer o) (λ o'. onFinish q (λ os'. finished (o' ∷ os'))) ≡ finished os
-        → ((us : List Operation.Operation) → operations (k + 1) (members T rest) ≡ finished us → (u : Value.Value)
-        → runWith (k + 1) (valued (borneMembers T (numbered (k + 1) rest)) us) u ≡ run limited (k + 1) us u)
-        → runWith k (valued (borneMembers T (numbered k (tree c kids rest))) os) v ≡ run limited k os v
+        → ((us : List Operation.Operation) → operations (k + 1) (members T rest) ≡ finished us
+        → Numbered (k + 1) (valued (borneMembers T (numbered (k + 1) rest)) us) us)
+        → Numbered k (valued (borneMembers T (numbered k (tree c kids rest))) os) os
     go (refused number place) is q are h later = absurd (let z : _≡_ {A = ℕ} 0 1 = cc in omega arith)
     go (ok o) is (stopped s) are h later = absurd (let z : _≡_ {A = ℕ} 0 1 = cc in omega arith)
     go (ok o) is (finished us) are h later =
         let same : _≡_ {A = List Operation.Operation} (o ∷ us) os = cc in
-        subst (λ l. runWith k (valued (borneMembers T (numbered k (tree c kids rest))) l) v ≡ run limited k l v) same
-        (runs-first k o (value-of T k c kids) v us _ (limited-numbered T k c kids o is v) (later us are))
+        subst (λ l. Numbered k (valued (borneMembers T (numbered k (tree c kids rest))) l) l) same
+        (numbered-next (value-bears T k c kids o is) (later us are))

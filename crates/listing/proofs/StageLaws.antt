@@ -36,6 +36,7 @@ use Rattle.origin.specs.Answer.{Listed, unlisted, Lending, fitting, answerOf, a
 use Rattle.changes.specs.Site.{table}
 use Rattle.changes.specs.Document.{Document, Bearing}
 use Rattle.operations.specs.Run.{RanBearing, ran, halted, RunIs}
+use Rattle.operations.proofs.BearingLaws.{numbered-run}
 use Rattle.operations.specs.declared.runs.Ran.{Ran}
 use Rattle.operations.specs.declared.runs.Ran.the-variants as Ran
 use Rattle.json_patch.specs.Stages.{MisshapenIs, StoppedIs, PatchHeld}
@@ -106,7 +107,7 @@ module _ {w : Table} {ns nodes' : List Row} {used : ℕ} {told : Ran} (stamps : 
   ran-listed {v} {p} document held short os shaped =
       let s = stamps (w .texts) v p document held in
       let h = s .patch .patch in
-      subst (λ q. RanBearing (w .texts) nodes' q told) (s .patch .runs os shaped (painted 0 v))
+      subst (λ q. RanBearing (w .texts) nodes' q told) (numbered-run (s .patch .numbers os shaped) (painted 0 v))
       (runs .bearing (painted 0 v) (s .document) short (h .c) (h .kids) (h .held) (h .inside) (subst Proper (sym (h .means)) (h .proper)) os
       (ap shape (h .means) ∙ shaped))
 

@@ -40,7 +40,7 @@ use Rattle.operations.proofs.StampLaws.{stamped-from, length-stamped, tape-stam
 use Rattle.operations.proofs.RunLaws.{shape-operations}
 use Rattle.json_patch.specs.Stages.{PatchHeld}
 use Rattle.listing.specs.Stamps.{numberedCell, numbered, StampElementsIs, PatchNumbered, TextsStamped}
-use Rattle.listing.proofs.NumberLaws.{size-numbered, members-numbered, formed-numbered, sound-numbered, runs-numbered}
+use Rattle.listing.proofs.NumberLaws.{size-numbered, members-numbered, formed-numbered, sound-numbered, values-numbered}
 
 -- ---- a tree's rows, and those behind it
 tape-first : (c : Cell) (kids rest : Forest Cell) (after : List Row)
@@ -259,7 +259,8 @@ module _ {T : Texts} {xs : List Row} {p : Plain.Value} (h : PatchHeld (table T x
   elements-stamped end e is =
       let node = held-node (h .held .held) in
       let ends = e ∙ end-here node in
-      is (h .kids) behind (holds-kids (h .held .held .rows)) (formed-kids (h .held .held .formed)) (sym ends) (let i = inside-here node in omega arith) (omega (arith, ends, h .inside))
+      is (h .kids) behind (holds-kids (h .held .held .rows)) (formed-kids (h .held .held .formed)) (sym ends)
+      (let i = inside-here node in omega arith) (omega (arith, ends, h .inside))
 
   elements-before : {ys : List Row} → Elements ys → take patchRow ys ≡ take patchRow xs
   elements-before is =
@@ -304,7 +305,7 @@ module _ {T : Texts} {xs : List Row} {p : Plain.Value} (h : PatchHeld (table T x
               inside = omega (arith, h .inside, size-numbered 1 (h .kids));
               proper = h .proper;
             };
-        runs = λ os shaped v. runs-numbered T 1 (h .kids) os (shape-operations (meant T (h .c) (h .kids)) os (ap shape (h .means) ∙ shaped)) v;
+        numbers = λ os shaped. values-numbered T 1 (h .kids) os (shape-operations (meant T (h .c) (h .kids)) os (ap shape (h .means) ∙ shaped));
       }
 
 -- both

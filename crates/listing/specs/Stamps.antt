@@ -15,14 +15,11 @@ use Rattle.tape.specs.Map.{mapForest}
 use Rattle.tape.specs.declared.fields.Cell.{Cell}
 use Rattle.tape.specs.Cell.{rowOf, Formed}
 use Rattle.tape.specs.Lent.{Texts, Table}
-use Rattle.origin.specs.Value as Value
 use Rattle.origin.specs.Value.{painted}
-use Rattle.origin.specs.Operation.{limited}
-use Rattle.origin.specs.Patch.{run}
 use Rattle.walk.specs.Bearing.{borneMembers}
 use Rattle.changes.specs.Site.{table}
 use Rattle.changes.specs.Document.{Document, Bearing}
-use Rattle.operations.specs.Bearing.{valued, runWith}
+use Rattle.operations.specs.Bearing.{valued, Numbered}
 use Rattle.json_patch.specs.Stages.{PatchHeld}
 
 -- a cell with another origin
@@ -40,11 +37,10 @@ StampElementsIs nodes nodes' start end =
     (f : Forest Cell) (after : List Row) → Holds rowOf nodes start f after → Formed f → start + size f ≡ end → start ≤ length nodes → end ≤ scratchRow
     → nodes' ≡ take start nodes ++ (tape rowOf (numbered 1 f) ++ after)
 
--- a patch whose operations run with these origins as they run by the definitions: operation k puts in what bears k
+-- a patch in which every value that an operation uses bears its number
 pub record PatchNumbered (w : Table) (p : Plain.Value) : Type 0 where
   pub patch : PatchHeld w p
-  pub runs : (os : List Operation) → shape p ≡ finished os → (v : Value.Value)
-      → runWith 1 (valued (borneMembers (w .texts) (patch .kids)) os) v ≡ run limited 1 os v
+  pub numbers : (os : List Operation) → shape p ≡ finished os → Numbered 1 (valued (borneMembers (w .texts) (patch .kids)) os) os
 
 -- Of whatever document and patch the table holds: they are held still, with these origins.
 pub record TextsStamped (w : Table) (used : ℕ) (v p : Plain.Value) : Type 0 where

@@ -55,9 +55,9 @@ list-origins-spec =
     (λ c. (
       search needs,
       (let l = c .before .before .before .before .loop in
-      let a = c .before .before .before .before .before .args in
-      list-next (a .nodes .now) (a .used) (l .list) (l .row) (omega (arith, c .before .before .before .loop-test .taken)) (omega (arith, c .before .before .if1 .left))
-      (omega (arith, c .before .if2 .left)) ∙ l .inv .1),
+          let a = c .before .before .before .before .before .args in
+          list-next (a .nodes .now) (a .used) (l .list) (l .row) (omega (arith, c .before .before .before .loop-test .taken)) (omega (arith, c .before .before .if1 .left))
+          (omega (arith, c .before .if2 .left)) ∙ l .inv .1),
     ))
     -- same-length-3
     (λ c. search needs)

@@ -50,12 +50,11 @@ stamp-elements-spec =
     let l = c .before .before .before .before .before .before .before .before .loop in
     let next = c .before .before .before .before .end-of .ensures in
     let more = c .before .before .before .before .before .before .before .loop-test .taken in
-    let there = c .before .before .before .before .before .before .if1 .left in
-    (
+    let there = c .before .before .before .before .before .before .if1 .left in (
       search needs,
       omega (arith, next, there, l .inv .1),
       λ f after holds formed ends long few.
-      numbering-next (l .inv .2 f after holds formed ends long few) more (l .inv .1) few _ next (c .before .before .narrow .ensures) (c .before .stamp .ensures),
+          numbering-next (l .inv .2 f after holds formed ends long few) more (l .inv .1) few _ next (c .before .before .narrow .ensures) (c .before .stamp .ensures),
     ))
     -- same-length-2
     (λ c. search needs)
