@@ -5,7 +5,7 @@ use mathlib.Core.Path.{_≡_, refl, ap, ap₂, sym, _∙_}
 use mathlib.Core.List.{List, [], _∷_, _++_, map}
 use lib.ListN.{length, take, drop, getD, set, length-take}
 use lib.Seq.{getD-take}
-use Rattle.spec.specs.Forest.{Forest, none, tree, size}
+use Rattle.spec.specs.Forest.{Forest, none, tree}
 use Rattle.tape.specs.Fields.{Row, originOf}
 use Rattle.tape.specs.Tape.{tape}
 use Rattle.tape.specs.Map.{mapForest}

@@ -8,12 +8,12 @@ use lib.Dec.{leb}
 use lib.ListN.{length, take, drop}
 use borrow.Author.Tests.{leb-true, le-leb, lt-leb, le-ltb, lt-ltb}
 use Rattle.spec.specs.Refusal.{work-too-short, output-too-short, input-too-long}
-use Rattle.spec.specs.Limits.{maxDepth, maxBytes, workNodes, workEntries}
+use Rattle.spec.specs.Limits.{maxDepth, maxBytes}
 use Rattle.spec.specs.Outcome.{ok, refused}
 use Rattle.spec.specs.Bytes.{Bytes}
 use Rattle.spec.specs.Value as Plain
 use Rattle.spec.specs.Operation as Operation
-use Rattle.spec.specs.Patch.{Run, finished, stopped, onFinish, shape}
+use Rattle.spec.specs.Patch.{Run, finished, onFinish, shape}
 use Rattle.spec.specs.Write.{write}
 use Rattle.spec.specs.Read.{read}
 use Rattle.spec.specs.Answer as Spec
@@ -21,7 +21,7 @@ use Rattle.spec.specs.Answer.{Lent, workSuffices}
 use Rattle.claims.specs.Proper.{Proper}
 use Rattle.tape.specs.Layout.{documentRow, patchRow}
 use Rattle.tape.specs.Fields.{Row}
-use Rattle.tape.specs.Lent.{Texts, Table}
+use Rattle.tape.specs.Lent.{Table}
 use Rattle.walk.specs.Names.{Short}
 use Rattle.shape.specs.Patch.{ShapeIs, right, wrong, PatchIs}
 use Rattle.shape.specs.declared.patch.Shape.{Shape}
@@ -40,13 +40,13 @@ use Rattle.operations.proofs.BearingLaws.{numbered-run}
 use Rattle.operations.specs.declared.runs.Ran.{Ran}
 use Rattle.operations.specs.declared.runs.Ran.the-variants as Ran
 use Rattle.json_patch.specs.Stages.{MisshapenIs, StoppedIs, PatchHeld}
-use Rattle.json_patch.specs.Call.{SuccessIs, RefusalIs, FailureIs}
+use Rattle.json_patch.specs.Call.{SuccessIs, RefusalIs}
 use Rattle.json_patch.specs.declared.answer.Answer.{Answer}
 use Rattle.json_patch.proofs.StageLaws.{shape-right}
 use Rattle.json_patch.proofs.AnswerLaws.{answered-refusal, answered-failure, answered-success}
 use Rattle.listing.specs.Lists.{entries}
 use Rattle.listing.specs.Stamps.{StampTextsIs}
-use Rattle.listing.specs.Call.{Outputs, ListMemory, lendingOf, ListedIs}
+use Rattle.listing.specs.Call.{Outputs, ListedIs}
 use Rattle.listing.specs.Stages.{WriteListedIs, RunListedIs, RunPatchIs}
 use Rattle.listing.proofs.ListLaws.{rows-listed, listed-all}
 

@@ -1,7 +1,7 @@
 -- Laws of the stamps before the run: the loop over the patch's elements, and the two texts that the table holds then.
 use Prim.Native.Nat.{ℕ, zero, suc, _+_, _-_, _%_, _≤_, _<_}
 use native.Mathlib.Omega.{arith}
-use mathlib.Core.Path.{_≡_, refl, ap, ap₂, sym, _∙_, subst}
+use mathlib.Core.Path.{_≡_, refl, ap, sym, _∙_, subst}
 use mathlib.Core.List.{List, [], _∷_, _++_, append-assoc}
 use lib.ListN.{length, take, drop, getD, length-append, take-append-drop}
 use lib.Seq.{length-take-le, take-at, drop-at, take-append-le, take-take}
@@ -9,15 +9,14 @@ use Rattle.spec.specs.Limits.{maxDepth}
 use Rattle.spec.specs.Forest.{Forest, none, tree, size}
 use Rattle.spec.specs.Value as Plain
 use Rattle.spec.specs.Value.{depth}
-use Rattle.spec.specs.Operation as Operation
-use Rattle.spec.specs.Patch.{finished, shape}
+use Rattle.spec.specs.Patch.{shape}
 use Rattle.tape.specs.Layout.{documentRow, patchRow, scratchRow, rows, values}
 use Rattle.tape.specs.Fields.{Row}
 use Rattle.tape.specs.Tape.{tape, Holds}
 use Rattle.tape.specs.Map.{mapForest}
 use Rattle.tape.specs.declared.fields.Cell.{Cell}
 use Rattle.tape.specs.Cell.{rowOf, Fit, Formed, formed-tree, Held}
-use Rattle.tape.specs.Lent.{Texts, Table}
+use Rattle.tape.specs.Lent.{Texts}
 use Rattle.tape.specs.Rows.{endOf}
 use Rattle.tape.proofs.Cells.{formed-fit, formed-kids, formed-rest}
 use Rattle.tape.proofs.Forests.{size-none, first-tree}
@@ -25,8 +24,7 @@ use Rattle.tape.proofs.Map.{size-map}
 use Rattle.tape.proofs.Rows.{inside-here, row-here, end-here}
 use Rattle.tape.proofs.Held.{held-node}
 use Rattle.tape.proofs.Tape.{length-tape, tape-tree, tape-single, holds-words, holds-kids}
-use Rattle.table.specs.Meaning.{meant, members, labelOf}
-use Rattle.table.specs.Sound.{NodeHeld}
+use Rattle.table.specs.Meaning.{meant, labelOf}
 use Rattle.origin.specs.Value as Value
 use Rattle.origin.specs.Value.{forget, painted}
 use Rattle.origin.proofs.ForgetLaws.{forget-painted}

@@ -1,5 +1,4 @@
 -- `run_listed` meets its contract, by the run.
-use native.Mathlib.Omega.{arith}
 use borrow.Author.Needs.{needs}
 use Rattle.listing.proofs.StageLaws.{listed-stopped, listed-done}
 use Rattle.listing.proofs.stages.run_listed.Statement.{statement}

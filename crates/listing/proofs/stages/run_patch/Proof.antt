@@ -1,5 +1,4 @@
 -- `run_patch` meets its contract, by the patch's shape.
-use native.Mathlib.Omega.{arith}
 use borrow.Author.Needs.{needs}
 use Rattle.listing.proofs.StageLaws.{listed-misshapen, listed-right}
 use Rattle.listing.proofs.stages.run_patch.Statement.{statement}

@@ -1,5 +1,4 @@
 -- `run_within` meets its contract, by the region and by the patch's shape in it.
-use native.Mathlib.Omega.{arith}
 use borrow.Author.Needs.{needs}
 use mathlib.Core.Path.{sym, _∙_}
 use borrow.Author.Tests.{not-true, not-false}
