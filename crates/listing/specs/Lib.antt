@@ -1,0 +1,4 @@
+pub mod Stamps
+pub mod Lists
+pub mod Call
+pub mod Stages
