@@ -127,8 +127,8 @@ static void calls(void) {
 /* A dump of {"mAh":3000,"cut":[4.2,3.0]}: docs/WORK-AREA.md, row by row. */
 static const uint16_t dump[5][8] = {
     {0, 0, 0, 0, 4, 0, 6, 0},
-    {2, 3, 7, 4, 0, 25775, 163, 0},
-    {13, 3, 0, 0, 2, 16666, 133, 0},
+    {2, 3, 7, 4, 0, 65256, 163, 0},
+    {13, 3, 0, 0, 2, 43510, 133, 0},
     {0, 0, 19, 3, 0, 0, 35, 0},
     {0, 0, 23, 3, 0, 0, 35, 0},
 };
@@ -183,7 +183,7 @@ static void dumped(void) {
     expect(json_patch_node_source(node) == JSON_PATCH_SOURCE_DOCUMENT &&
                json_patch_node_name_source(node) == JSON_PATCH_SOURCE_DOCUMENT,
            "row 1: both in the document");
-    expect(node.hash == 25775 && node.origin == 0, "row 1: hash and origin");
+    expect(node.hash == 65256 && node.origin == 0, "row 1: hash and origin");
 
     node = json_patch_node_read(work.nodes, JSON_PATCH_WORK_NODES, 2);
     expect(json_patch_node_kind(node) == JSON_PATCH_KIND_ARRAY && node.span == 2, "row 2: an array, two nodes below");

@@ -109,11 +109,11 @@ fn hash_ascii(name: &[u8]) -> u32
     h
 }
 
-// The 16 bits of a hash that a node has room for.
+// The 16 bits of a hash that a node has room for: the lowest, for the last character changes them.
 pub fn short(hash: u32) -> u16
     ensures { λ r. ⌜ r ≡ shortHash hash ⌝ }
 {
-    (hash / 4096 % 65536) as u16
+    (hash % 65536) as u16
 }
 
 // Whether a name is the text that is given by its bytes and has the hash `h`.
