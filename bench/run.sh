@@ -6,6 +6,7 @@
 #   bench/run.sh profile NAME.. where this library's instructions go on a workload (callgrind)
 #   bench/run.sh growth         time against size: docs/growth.svg
 #   bench/run.sh stack          the stack that a call takes
+#   bench/run.sh versus A B     two builds of this library, in the folders A and B: time and instructions
 # RUNS=11 runs of TARGET=0.05 seconds each for every cell of the table.
 # The library is target/staticlib/libjson_patch.a, or in the folder JSON_PATCH_LIB.
 # Debian packages (what is missing is named and left out): nlohmann-json3-dev
@@ -16,11 +17,25 @@ root=$(dirname "$here")
 library=${JSON_PATCH_LIB:-$root/target/staticlib}/libjson_patch.a
 out=$root/target/bench
 bin=$out/bin
+mkdir -p "$bin" "$out/work"
+
+# Two builds, each with the header beside its archive if there is one.
+if [ "${1:-}" = versus ]; then
+    [ $# = 3 ] || { echo "usage: bench/run.sh versus FOLDER_A FOLDER_B" >&2; exit 2; }
+    mkdir -p "$out/versus"
+    for side in a b; do
+        shift
+        [ -f "$1/libjson_patch.a" ] || { echo "no $1/libjson_patch.a" >&2; exit 2; }
+        ${CC:-gcc} -O2 -std=c99 -Wall -Wextra -I"$1/include" -I"$root/include" -o "$out/versus/$side" \
+            "$here/drivers/json_patch.c" "$1/libjson_patch.a" || exit 1
+    done
+    python3 "$here/workloads.py" "$out/work" >"$out/workloads.txt" || exit 1
+    exec python3 "$here/versus.py" "$out/versus/a" "$out/versus/b" "$out/work"
+fi
 if [ ! -f "$library" ]; then
     echo "no $library: run 'rt staticlib json_patch' first" >&2
     exit 2
 fi
-mkdir -p "$bin" "$out/work"
 
 # NAME SOURCE COMMAND..: built anew where the source or a shared part is newer
 build() {
@@ -121,7 +136,7 @@ stack)
     fi
     ;;
 *)
-    sed -n '2,9p' "$0"
+    sed -n '2,10p' "$0"
     exit 2
     ;;
 esac
