@@ -22,15 +22,17 @@ mkdir -p "$bin" "$out/work"
 # Two builds, each with the header beside its archive if there is one.
 if [ "${1:-}" = versus ]; then
     [ $# = 3 ] || { echo "usage: bench/run.sh versus FOLDER_A FOLDER_B" >&2; exit 2; }
-    mkdir -p "$out/versus"
+    pair=$(mktemp -d "$out/versus.XXXXXX")
+    trap 'rm -r "$pair"' EXIT
     for side in a b; do
         shift
         [ -f "$1/libjson_patch.a" ] || { echo "no $1/libjson_patch.a" >&2; exit 2; }
-        ${CC:-gcc} -O2 -std=c99 -Wall -Wextra -I"$1/include" -I"$root/include" -o "$out/versus/$side" \
+        ${CC:-gcc} -O2 -std=c99 -Wall -Wextra -I"$1/include" -I"$root/include" -o "$pair/$side" \
             "$here/drivers/json_patch.c" "$1/libjson_patch.a" || exit 1
     done
-    python3 "$here/workloads.py" "$out/work" >"$out/workloads.txt" || exit 1
-    exec python3 "$here/versus.py" "$out/versus/a" "$out/versus/b" "$out/work"
+    python3 "$here/workloads.py" "$pair" >/dev/null || exit 1
+    python3 "$here/versus.py" "$pair/a" "$pair/b" "$pair"
+    exit
 fi
 if [ ! -f "$library" ]; then
     echo "no $library: run 'rt staticlib json_patch' first" >&2
