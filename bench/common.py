@@ -20,12 +20,12 @@ def columns(work):
     def pair(name):
         return [os.path.join(work, "%s.%s.json" % (name, kind)) for kind in ("doc", "patch")]
 
-    end = ".doc.json"
-    real = sorted(name[:-len(end)] for name in os.listdir(work) if name.startswith("real-") and name.endswith(end))
+    def pairs(begin, end=".doc.json"):
+        return [pair(name[:-len(end)]) for name in sorted(os.listdir(work)) if name.startswith(begin) and name.endswith(end)]
+
     found = {name: [pair(name)] for name in SEVEN}
-    if real:
-        found[REAL] = [pair(name) for name in real]
-        found[IN_TURN] = [sum(map(pair, real), [])]
+    found[REAL] = pairs("real-")
+    found[IN_TURN] = [sum(pairs("turn-"), [])]
     only = os.environ.get("ONLY", "").replace("in-turn", IN_TURN)
     return {name: tasks for name, tasks in found.items() if not only or name in listed(only)}
 

@@ -32,7 +32,7 @@ static inline char *driver_read(const char *name, size_t *length) {
     }
     *length = fread(bytes, 1, 1 << 16, file);
     fclose(file);
-    return bytes;
+    return (char *)realloc(bytes, *length + 1);
 }
 
 /* How many pairs of files are named. */
