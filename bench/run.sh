@@ -4,13 +4,14 @@
 #   bench/run.sh build          only build
 #   bench/run.sh counts [NAME..]   instructions a call (callgrind), this library or others
 #   bench/run.sh profile NAME.. where this library's instructions go on a workload (callgrind)
+#   bench/run.sh parts          instructions and time by part of a call (callgrind and perf)
 #   bench/run.sh growth         time against size: docs/growth.svg
 #   bench/run.sh stack          the stack that a call takes
 #   bench/run.sh versus A B     two builds of this library, in the folders A and B: time and instructions
 # RUNS=11 runs of TARGET=0.05 seconds each for every cell of the table.
 # The library is target/staticlib/libjson_patch.a, or in the folder JSON_PATCH_LIB.
 # Debian packages (what is missing is named and left out): nlohmann-json3-dev
-# tao-json-dev rapidjson-dev librust-serde-json-dev python3-jsonpatch; valgrind.
+# tao-json-dev rapidjson-dev librust-serde-json-dev python3-jsonpatch; valgrind; linux-perf.
 set -u
 here=$(cd "$(dirname "$0")" && pwd)
 root=$(dirname "$here")
@@ -108,6 +109,11 @@ profile)
         callgrind_annotate "$file" | grep '^ *[0-9,]* (' | sed 's/ \[.*//; s/\?\?\?://' | head -${LINES_SHOWN:-20}
     done
     ;;
+parts)
+    mkdir -p "$out/parts"
+    ${CC:-gcc} -O2 -std=c99 -static -no-pie -I"$root/include" -o "$out/parts/json_patch" "$here/drivers/json_patch.c" "$library" || exit 1
+    python3 "$here/parts.py" "$out/parts/json_patch" "$out/work"
+    ;;
 growth) python3 "$here/growth.py" "$bin/json_patch" "$root/docs/growth.svg" ;;
 stack)
     cc stack "$here/stack.c" -D_GNU_SOURCE -Wl,-z,now
@@ -138,7 +144,7 @@ stack)
     fi
     ;;
 *)
-    sed -n '2,10p' "$0"
+    sed -n '2,11p' "$0"
     exit 2
     ;;
 esac
