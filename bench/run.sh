@@ -5,7 +5,7 @@
 #   bench/run.sh counts [NAME..]   instructions a call (callgrind), this library or others
 #   bench/run.sh profile NAME.. where this library's instructions go on a workload (callgrind)
 #   bench/run.sh parts          instructions and time by part of a call (callgrind and perf)
-#   bench/run.sh growth         time against size: docs/growth.svg
+#   bench/run.sh growth [FILE]  time against size: docs/growth.svg, or another file
 #   bench/run.sh stack          the stack that a call takes
 #   bench/run.sh versus A B     two builds of this library, in the folders A and B: time and instructions
 # RUNS=11 runs of TARGET=0.05 seconds each for every cell of the table.
@@ -114,7 +114,7 @@ parts)
     ${CC:-gcc} -O2 -std=c99 -static -no-pie -I"$root/include" -o "$out/parts/json_patch" "$here/drivers/json_patch.c" "$library" || exit 1
     python3 "$here/parts.py" "$out/parts/json_patch" "$out/work"
     ;;
-growth) python3 "$here/growth.py" "$bin/json_patch" "$root/docs/growth.svg" ;;
+growth) python3 "$here/growth.py" "$bin/json_patch" "${2:-$root/docs/growth.svg}" ;;
 stack)
     cc stack "$here/stack.c" -D_GNU_SOURCE -Wl,-z,now
     (cd "$root/second" && cargo build --release --offline --quiet) || exit 1
