@@ -189,7 +189,7 @@ def mean(rows):
 def main():
     driver, work = sys.argv[1:]
     found = columns(work)
-    names = [name for name in SHOWN if name in found]
+    names = [name for name in SHOWN if name in found and (name != IN_TURN or REAL in found)]
     moves = moving(driver)
     counts, times, places, perf = {}, {}, {}, True
     with tempfile.TemporaryDirectory() as folder:

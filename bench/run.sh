@@ -103,7 +103,8 @@ profile)
     shift
     for name in "$@"; do
         file=$out/callgrind.$name
-        valgrind --tool=callgrind --callgrind-out-file="$file" --toggle-collect=json_patch_apply \
+        # else callgrind counts rep stosb once for each byte
+        GLIBC_TUNABLES=glibc.cpu.x86_rep_stosb_threshold=1000000000 valgrind --tool=callgrind --callgrind-out-file="$file" --toggle-collect=json_patch_apply \
             "$bin/json_patch" "$out/work/$name.doc.json" "$out/work/$name.patch.json" 0 >/dev/null 2>"$file.log" || exit 1
         echo "== $name"
         callgrind_annotate "$file" | grep '^ *[0-9,]* (' | sed 's/ \[.*//; s/\?\?\?://' | head -${LINES_SHOWN:-20}
