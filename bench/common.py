@@ -21,7 +21,8 @@ def columns(work):
         return [os.path.join(work, "%s.%s.json" % (name, kind)) for kind in ("doc", "patch")]
 
     def pairs(begin, end=".doc.json"):
-        return [pair(name[:-len(end)]) for name in sorted(os.listdir(work)) if name.startswith(begin) and name.endswith(end)]
+        names = sorted(name for name in os.listdir(work) if name.startswith(begin) and name.endswith(end))
+        return [pair(name[:-len(end)]) for name in names]
 
     found = {name: [pair(name)] for name in SEVEN}
     found[REAL] = pairs("real-")

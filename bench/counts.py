@@ -17,8 +17,8 @@ OURS = "json_patch"
 
 def count(driver, task, rounds):
     with tempfile.NamedTemporaryFile() as out:
-        result = subprocess.run(["valgrind", "--tool=callgrind", "--callgrind-out-file=" + out.name, driver, *task, str(rounds)],
-                                capture_output=True, text=True, check=True, env=COUNTED)
+        result = subprocess.run(["valgrind", "--tool=callgrind", "--callgrind-out-file=" + out.name, driver, *task,
+                                 str(rounds)], capture_output=True, text=True, check=True, env=COUNTED)
     return int(result.stderr.split("Collected : ")[1].split()[0])
 
 
@@ -26,7 +26,8 @@ def main():
     folder, work = sys.argv[1:3]
     drivers = sys.argv[3:] or [OURS]
     table = {column: tasks for column, tasks in columns(work).items() if column != IN_TURN}
-    print("Instructions a call, in thousands%s.\n" % ("; in brackets the ratio to %s" % OURS if len(drivers) > 1 else ""))
+    ratios = "; in brackets the ratio to %s" % OURS if len(drivers) > 1 else ""
+    print("Instructions a call, in thousands%s.\n" % ratios)
     print("| library | %s |" % " | ".join(table))
     print("|---" * (len(table) + 1) + "|")
     ours = {}

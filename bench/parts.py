@@ -32,12 +32,13 @@ RUNS = int(os.environ.get("RUNS", "11"))
 SAMPLED = float(os.environ.get("SAMPLED", "1.5"))
 SHOWN = ["tiny", REAL, IN_TURN, "typical", "many", "large"]
 CALL = ("json_patch_apply", "trial_apply")
-PARTS = ["reading the document", "reading the patch", "shape", "finding members again", "walking", "changing", "comparing",
-         "writing", "clearing"]
+PARTS = ["reading the document", "reading the patch", "shape", "finding members again", "walking", "changing",
+         "comparing", "writing", "clearing"]
 DOCUMENT, PATCH, SHAPE, AGAIN, WALKING, CHANGING, COMPARING, WRITING, CLEARING = PARTS
-OUTERMOST = [("reader::", PATCH), ("index::", PATCH), ("writer::", WRITING), ("equality::", COMPARING), ("walk::", WALKING),
-             ("changes::", WALKING), ("memset", CLEARING)]
+OUTERMOST = [("reader::", PATCH), ("index::", PATCH), ("writer::", WRITING), ("equality::", COMPARING),
+             ("walk::", WALKING), ("changes::", WALKING), ("memset", CLEARING)]
 CHANGES = ("changes::trees::", "tape::nodes::within", "tape::moves::")
+STORES = ("movups", "movaps", "movdqu", "movdqa")
 MOVERS = ("changes::", "operations::", "tape::") + CALL
 
 
@@ -50,8 +51,9 @@ def plain(name):
 def moving(driver):
     """The addresses within short loops that store 16 bytes at once."""
     lines = []
-    listing = subprocess.run(["objdump", "-d", "--no-show-raw-insn", driver], capture_output=True, text=True, check=True).stdout
-    for line in listing.split("\n"):
+    command = ["objdump", "-d", "--no-show-raw-insn", driver]
+    listing = subprocess.run(command, capture_output=True, text=True, check=True)
+    for line in listing.stdout.split("\n"):
         found = re.match(r" *([0-9a-f]+):\t(\S+) *(.*)", line)
         if found:
             lines.append((int(found.group(1), 16), found.group(2), found.group(3)))
@@ -62,7 +64,7 @@ def moving(driver):
             first = last
             while first > 0 and lines[first][0] > int(target.group(1), 16):
                 first -= 1
-            if any(re.match(r"mov(ups|aps|dqu|dqa)", w) and re.match(r"%xmm\d+,.*\(", o) for _, w, o in lines[first:last]):
+            if any(w in STORES and re.match(r"%xmm\d+,.*\(", o) for _, w, o in lines[first:last]):
                 found.update(a for a, _, _ in lines[first:last + 1])
     return found
 
@@ -70,9 +72,9 @@ def moving(driver):
 def profile(driver, document, patch, moves):
     """Executions by place and part. A place is an instruction of ours, or another's function."""
     with tempfile.NamedTemporaryFile() as out:
-        subprocess.run(["valgrind", "--tool=callgrind", "--separate-callers=60", "--dump-instr=yes", "--compress-strings=no",
-                        "--compress-pos=no", "--callgrind-out-file=" + out.name, "--toggle-collect=" + CALL[0],
-                        driver, document, patch, "0"], capture_output=True, env=COUNTED)
+        subprocess.run(["valgrind", "--tool=callgrind", "--separate-callers=60", "--dump-instr=yes",
+                        "--compress-strings=no", "--compress-pos=no", "--callgrind-out-file=" + out.name,
+                        "--toggle-collect=" + CALL[0], driver, document, patch, "0"], capture_output=True, env=COUNTED)
         with open(out.name, encoding="utf-8") as file:
             lines = file.read().split("\n")
     counts, below, skip = collections.Counter(), [], False
@@ -145,9 +147,10 @@ def samples(driver, task, seconds):
     with tempfile.TemporaryDirectory() as folder:
         data = os.path.join(folder, "data")
         try:
-            subprocess.run(["perf", "record", "-q", "-e", "cpu-clock:u", "-F", "4999", "-o", data, driver, *task, str(rounds)],
-                           capture_output=True, check=True)
-            text = subprocess.run(["perf", "script", "-i", data, "-F", "ip,sym"], capture_output=True, text=True, check=True).stdout
+            subprocess.run(["perf", "record", "-q", "-e", "cpu-clock:u", "-F", "4999", "-o", data, driver, *task,
+                            str(rounds)], capture_output=True, check=True)
+            text = subprocess.run(["perf", "script", "-i", data, "-F", "ip,sym"], capture_output=True, text=True,
+                                  check=True).stdout
         except (OSError, subprocess.CalledProcessError):
             return None
     found = collections.Counter()
@@ -173,7 +176,8 @@ def shares(places, sampled):
     return {part: total[part] / sum(total.values()) for part in PARTS}
 
 
-def table(head, names, rows, total):
+def table(head, names, rows):
+    total = {name: sum(rows[name].values()) for name in names}
     print("\n%s\n\n| part | %s |" % (head, " | ".join(names)))
     print("|---" * (len(names) + 1) + "|")
     for part in PARTS:
@@ -209,14 +213,15 @@ def main():
             least = min(timed(driver, task, rounds)[1] for _ in range(RUNS)) / 1000
             sampled = samples(driver, task, SAMPLED / len(kinds))
             perf = perf and bool(sampled)
-            share = shares(kind, sampled) if sampled else {p: summed(kind)[p] / sum(summed(kind).values()) for p in PARTS}
+            total = summed(kind)
+            share = shares(kind, sampled) if sampled else {p: total[p] / sum(total.values()) for p in PARTS}
             rows.append({part: least * share[part] for part in PARTS})
         times[name] = mean(rows)
     counted = [name for name in names if name != IN_TURN]
-    table("Thousands of instructions a call (callgrind).", counted, counts, {n: sum(counts[n].values()) for n in counted})
+    table("Thousands of instructions a call (callgrind).", counted, counts)
     table("Microseconds of processor time a call, least of %d runs, shared out %s." %
           (RUNS, "by samples (perf)" if perf else "as the instructions are, since perf does not work here"),
-          names, times, {n: sum(times[n].values()) for n in names})
+          names, times)
     if os.environ.get("FUNCTIONS"):
         functions(places)
 

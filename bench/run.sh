@@ -112,7 +112,8 @@ profile)
     ;;
 parts)
     mkdir -p "$out/parts"
-    ${CC:-gcc} -O2 -std=c99 -static -no-pie -I"$root/include" -o "$out/parts/json_patch" "$here/drivers/json_patch.c" "$library" || exit 1
+    ${CC:-gcc} -O2 -std=c99 -static -no-pie -I"$root/include" -o "$out/parts/json_patch" "$here/drivers/json_patch.c" \
+        "$library" || exit 1
     python3 "$here/parts.py" "$out/parts/json_patch" "$out/work"
     ;;
 growth) python3 "$here/growth.py" "$bin/json_patch" "${2:-$root/docs/growth.svg}" ;;

@@ -91,12 +91,15 @@ def main():
     print("| library | %s | geometric mean |" % " | ".join(table))
     print("|---" * (len(table) + 2) + "|")
     for driver in sorted(drivers, key=mean):
-        cells = ["%s (%.2f)" % (shown(least[driver, c]), ratio(driver, c)) if (driver, c) in least else note[driver, c] for c in table]
-        print("| %s | %s | %s |" % (driver, " | ".join(cells), "%.2f" % mean(driver) if mean(driver) < float("inf") else "-"))
+        cells = ["%s (%.2f)" % (shown(least[driver, c]), ratio(driver, c)) if (driver, c) in least else note[driver, c]
+                 for c in table]
+        of_all = "%.2f" % mean(driver) if mean(driver) < float("inf") else "-"
+        print("| %s | %s | %s |" % (driver, " | ".join(cells), of_all))
     spreads = [(statistics.median(runs) - min(runs)) / min(runs) for runs in times.values()]
     print("\nNoise: the median of a cell's runs lies above its least by %.0f %% typically, by %.0f %% at worst."
           % (100 * statistics.median(spreads), 100 * max(spreads)))
-    print("Load of the machine %.1f on %d processors; %.0f s of measuring." % (os.getloadavg()[0], os.cpu_count(), time.time() - start))
+    print("Load of the machine %.1f on %d processors; %.0f s of measuring."
+          % (os.getloadavg()[0], os.cpu_count(), time.time() - start))
 
 
 main()

@@ -38,6 +38,10 @@ def times(drivers, tasks):
     return found
 
 
+def head(title):
+    print("\n%s\n\n| workload | A | B | B / A |\n|---|---|---|---|" % title)
+
+
 def row(name, a, b, unit):
     return "| %s | %s | %s | %.3f |" % (name, shown(a / unit), shown(b / unit), b / a)
 
@@ -54,7 +58,7 @@ def main():
     if os.environ.get("TIME") != "0":
         found = times(drivers, tasks)
         least = {cell: min(runs) for cell, runs in found.items()}
-        print("\nMicroseconds of processor time a call, least of %d runs.\n\n| workload | A | B | B / A |\n|---|---|---|---|" % RUNS)
+        head("Microseconds of processor time a call, least of %d runs." % RUNS)
         ratios = []
         for name, column in table.items():
             a, b = (statistics.mean(least[driver, id(task)] for task in column) for driver in drivers)
@@ -65,11 +69,11 @@ def main():
         print("\nNoise: the median of a cell's runs lies above its least by %.0f %% typically, by %.0f %% at worst."
               % (100 * statistics.median(spreads), 100 * max(spreads)))
     if os.environ.get("COUNT") != "0":
-        print("\nThousands of instructions a call.\n\n| workload | A | B | B / A |\n|---|---|---|---|")
+        head("Thousands of instructions a call.")
         for name, column in table.items():
             if name != IN_TURN:
-                print(row(name, *(statistics.mean(instructions(driver, task) for task in column) for driver in drivers), 1000),
-                      flush=True)
+                a, b = (statistics.mean(instructions(driver, task) for task in column) for driver in drivers)
+                print(row(name, a, b, 1000), flush=True)
 
 
 main()

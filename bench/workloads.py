@@ -434,7 +434,8 @@ def main(out):
             with open(os.path.join(out, "%s.%s.json" % (name, ext)), "w", encoding="utf-8", newline="") as f:
                 f.write(t)
         if not in_turn:
-            print("%-15s %9d %6d %6d %10d %6d %9d" % (name, len(d.encode()), nodes(doc), depth(doc), len(p.encode()), len(patch), len(x.encode())))
+            print("%-15s %9d %6d %6d %10d %6d %9d" % (name, len(d.encode()), nodes(doc), depth(doc), len(p.encode()),
+                                                      len(patch), len(x.encode())))
 
 
 if __name__ == "__main__":
