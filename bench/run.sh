@@ -48,9 +48,11 @@ build() {
     rm -f "$bin/$name"
     if "$@" >"$out/$name.log" 2>&1; then echo "built $name"; else echo "left out: $name (see target/bench/$name.log)"; fi
 }
+# with this library, always: JSON_PATCH_LIB may name an older archive than the last time
 cc() {
     n=$1 s=$2
     shift 2
+    rm -f "$bin/$n"
     build "$n" "$s" ${CC:-gcc} -O2 -std=c99 -Wall -Wextra -I"$root/include" "$@" -o "$bin/$n" "$s" "$library"
 }
 cxx() {
