@@ -2,8 +2,9 @@
 Usage: growth.py DRIVER PICTURE.svg   (see run.sh)
        growth.py --cases              the largest case of each shape, as a file of cases
 
-Each shape is measured at eight sizes up to what the limits allow; the processor
-time a call is the least of several runs.  Where cost is linear the points lie on
+Each shape is measured at eight sizes up to what the limits allow, those of the mixed
+operations also with one operation; the processor time a call is the least of several
+runs.  Where cost is linear the points lie on
 the dashed line from the first to the last.  The printed table has the time at
 full size and the growth from half of it: 2 is linear, 4 quadratic, and less than
 2 means that a fixed part counts.
@@ -14,6 +15,8 @@ import os
 import subprocess
 import sys
 import tempfile
+
+import workloads
 
 RUNS = int(os.environ.get("RUNS", "5"))
 TARGET = float(os.environ.get("TARGET", "0.01"))
@@ -111,6 +114,51 @@ def front_elements(n):
     return text([0] * n), text([operation("add", "/0", value=1)] * 256)
 
 
+def repeated(cycle, n):
+    """n operations: the cycle again and again. Every operation of it applies, also in the
+    next turn, and the document stays about as large."""
+    return text([cycle[i % len(cycle)] for i in range(n)])
+
+
+def tiny_operations(n):
+    """A document of 28 bytes, two operations in turn: what an operation costs by itself."""
+    return '{"mAh":3000,"cut":[4.2,3.0]}', repeated(
+        [operation("test", "/mAh", value=3000), operation("replace", "/cut/1", value=2.9)], n)
+
+
+def typical_operations(n):
+    """The document of workload `typical`, all six operations in turn."""
+    soak = {"name": "soak", "mode": "CV", "limit": {"mA": 300, "mV": 4150}, "until": {"mA": 60, "minutes": 45}}
+    return workloads.dump(workloads.typical()[0]), repeated([
+        operation("test", "/schema", value="charge-profile/3"),
+        operation("replace", "/cut/0", value=4.15),
+        operation("add", "/stages/3", value=soak),
+        operation("test", "/stages/3/until", value={"minutes": 45, "mA": 60}),
+        operation("copy", "/stages/2/limit", **{"from": "/stages/1/limit"}),
+        operation("move", "/pack/lot", **{"from": "/labels/lot"}),
+        operation("remove", "/history/0"),
+        operation("add", "/history/-", value={"at": "2024-11-18T08:30:00Z", "ev": "full", "mV": 4150}),
+        operation("replace", "/safety/ovp", value=4230),
+        operation("move", "/labels/lot", **{"from": "/pack/lot"}),
+        operation("remove", "/stages/3"),
+        operation("test", "/labels/line~1station", value="7/B")], n)
+
+
+def deployment_operations(n):
+    """The Kubernetes object of workload `real`, with its blanks, all six operations in turn."""
+    spec = "/spec/template/spec/containers/0"
+    return workloads.read(os.path.join(workloads.REAL, "deployment.doc.json")), repeated([
+        operation("test", spec + "/name", value="server"),
+        operation("add", "/metadata/annotations/example.org~1injected", value="true"),
+        operation("replace", "/spec/replicas", value=5),
+        operation("replace", spec + "/image", value="registry.example.org/charge/profile-server:1.9.0"),
+        operation("add", spec + "/env/-", value={"name": "STORE_TIMEOUT", "value": "5s"}),
+        operation("copy", spec + "/readinessProbe", **{"from": spec + "/livenessProbe"}),
+        operation("replace", spec + "/readinessProbe/httpGet/path", value="/ready"),
+        operation("remove", spec + "/env/3"),
+        operation("move", "/spec/paused", **{"from": "/metadata/annotations/example.org~1injected"})], n)
+
+
 def moves(n):
     """From the front of a large array to its end and back."""
     there, back = operation("move", "/1999", **{"from": "/0"}), operation("move", "/0", **{"from": "/1999"})
@@ -192,7 +240,7 @@ def equal_one_hash(n):
 
 
 SHAPES = [
-    # (function, most, what one unit of size is)
+    # (function, most, what one unit of size is, and a least size besides the eight)
     (flat_object, 2000, "members"),
     (flat_array, 2000, "elements"),
     (nesting, 64, "towers of 31 arrays"),
@@ -210,6 +258,9 @@ SHAPES = [
     (deep_inserts, 256, "operations"),
     (front_operations, 256, "operations"),
     (front_elements, 1700, "elements"),
+    (tiny_operations, 256, "operations", 1),
+    (typical_operations, 256, "operations", 1),
+    (deployment_operations, 256, "operations", 1),
     (moves, 128, "pairs of moves"),
     (large_moves, 2000, "elements"),
     (copies, 1000, "elements"),
@@ -235,20 +286,20 @@ def time(driver, files, calls):
 def measure(driver, folder):
     """For each shape its sizes with their times.  All points are measured in turn,
     and that several times, so that a burst of noise spoils no point for good."""
-    points = []
-    for shape, most, _ in SHAPES:
-        for step in range(1, STEPS + 1):
-            size = most * step // STEPS
-            files = [os.path.join(folder, "%s.%d.%s" % (shape.__name__, step, part)) for part in ("document", "patch")]
+    found = []
+    for shape, most, _, *least in SHAPES:
+        found.append([])
+        for size in least + [most * step // STEPS for step in range(1, STEPS + 1)]:
+            files = [os.path.join(folder, "%s.%d.%s" % (shape.__name__, size, part)) for part in ("document", "patch")]
             for name, content in zip(files, shape(size)):
                 with open(name, "w", encoding="utf-8") as file:
                     file.write(content)
-            points.append([size, time(driver, files, 5), files])
+            found[-1].append([size, time(driver, files, 5), files])
     for _ in range(RUNS):
-        for point in points:
+        for point in itertools.chain(*found):
             calls = max(3, int(TARGET * 1e6 / point[1]))
             point[1] = min(point[1], time(driver, point[2], calls))
-    return [[(size, least) for size, least, _ in points[i:i + STEPS]] for i in range(0, len(points), STEPS)]
+    return [[(size, least) for size, least, _ in points] for points in found]
 
 
 def picture(results):
@@ -278,7 +329,7 @@ def picture(results):
 
 def main():
     if sys.argv[1:] == ["--cases"]:
-        for shape, most, _ in SHAPES:
+        for shape, most, *_ in SHAPES:
             document, patch = (part.encode() for part in shape(most))
             sys.stdout.buffer.write(b"case %s 1000000 %d %d\n%s\n%s\n"
                                     % (shape.__name__.encode(), len(document), len(patch), document, patch))
@@ -286,10 +337,10 @@ def main():
     driver, svg = sys.argv[1:]
     with tempfile.TemporaryDirectory() as folder:
         measured = measure(driver, folder)
-    results = [(shape.__name__, unit, points) for (shape, _, unit), points in zip(SHAPES, measured)]
+    results = [(shape.__name__, unit, points) for (shape, _, unit, *_), points in zip(SHAPES, measured)]
     print("| shape | full size | µs | growth from half |\n|---|---|---|---|")
     for name, unit, points in results:
-        (size, full), half = points[-1], points[STEPS // 2 - 1][1]
+        (size, full), half = points[-1], points[-1 - STEPS // 2][1]
         print("| %s | %d %s | %.1f | %.2f |" % (name.replace("_", " "), size, unit, full, full / half))
     with open(svg, "w", encoding="utf-8") as file:
         file.write(picture(results))

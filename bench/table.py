@@ -4,19 +4,21 @@ Usage: table.py DRIVERS WORKLOADS   (see run.sh)
 First each result is compared, as a JSON value, with the expected one; a driver
 that fails or answers wrongly gets no time.  Then the drivers take turns, so that
 a slow moment of the machine hits no one alone; of all runs of a cell the least
-is taken, of processor time.  The ratio is to this library: 2.0 takes twice as
-long.
+is taken, of processor time.  The figure for `real` is the mean over its documents,
+each of them repeated in a process of its own; for `real, in turn` it is the mean
+too, and one process goes through all of them again and again.  The ratio is to
+this library: 2.0 takes twice as long.
 """
 import json
 import os
 import statistics
-import subprocess
 import sys
 import time
 
+from common import columns, rounds_for, run, shown, timed
+
 RUNS = int(os.environ.get("RUNS", "11"))
 TARGET = float(os.environ.get("TARGET", "0.05"))
-WORKLOADS = ["tiny", "typical", "large", "flat", "many", "strings", "numbers"]
 OURS = "json_patch"
 
 
@@ -31,71 +33,73 @@ def same(a, b):
     return a == b
 
 
-def shown(microseconds):
-    return "%.2f" % microseconds if microseconds < 10 else "%.1f" % microseconds if microseconds < 100 else "%.0f" % microseconds
+def fault(driver, task):
+    """What is wrong with the results: nothing, or a word and the driver's message."""
+    wants = []
+    for name in task[::2]:
+        with open(name.replace(".doc.json", ".want.json"), encoding="utf-8") as file:
+            wants.append(json.load(file))
+    result = run(driver, task, 0)
+    if result.returncode != 0:
+        return "fails", result.stderr.decode(errors="replace").split("\n")[0][:120]
+    try:
+        if same([json.loads(line) for line in result.stdout.split(b"\n")], wants):
+            return None
+    except ValueError:
+        pass
+    return "wrong", ""
 
 
 def main():
     folder, work = sys.argv[1:]
-    drivers = [name for name in sorted(os.listdir(folder)) if name != "stack"]
-
-    def files(workload):
-        return [os.path.join(work, "%s.%s.json" % (workload, kind)) for kind in ("doc", "patch")]
-
-    def run(driver, workload, calls):
-        return subprocess.run([os.path.join(folder, driver), *files(workload), str(calls)], capture_output=True)
-
-    def fields(driver, workload, calls):
-        return [float(run(driver, workload, calls).stdout.split()[i]) for i in (0, 3)]
-
-    note, calls, times = {}, {}, {}
-    for workload in WORKLOADS:
-        with open(os.path.join(work, workload + ".want.json"), encoding="utf-8") as file:
-            want = json.load(file)
+    drivers = [name for name in sorted(os.listdir(folder)) if not name.startswith("stack")]
+    table = columns(work)
+    note, rounds, times = {}, {}, {}
+    for column, tasks in table.items():
         for driver in drivers:
-            cell = driver, workload
-            result = run(driver, workload, 0)
-            try:
-                if result.returncode != 0:
-                    note[cell] = "fails"
-                elif not same(json.loads(result.stdout), want):
-                    note[cell] = "wrong"
-            except ValueError:
-                note[cell] = "wrong"
-            if cell in note:
-                print("%s %s on %s %s" % (driver, note[cell], workload, result.stderr.decode(errors="replace").split("\n")[0][:120]))
-                continue
-            least = min(fields(driver, workload, 3)[0], fields(driver, workload, 30)[0])
-            calls[cell] = max(3, int(TARGET * 1e9 / least))
-            times[cell] = []
+            path = os.path.join(folder, driver)
+            faults = [(task, found) for task in tasks for found in [fault(path, task)] if found]
+            for task, (word, message) in faults:
+                print("%s %s on %s %s" % (driver, word, os.path.basename(task[0]), message))
+                note[driver, column] = word
+            if not faults:
+                for index, task in enumerate(tasks):
+                    rounds[driver, column, index] = rounds_for(path, task, TARGET / len(tasks))
+                    times[driver, column, index] = []
     start = time.time()
     for _ in range(RUNS):
-        for workload in WORKLOADS:
-            for driver in drivers:
-                if (driver, workload) in calls:
-                    times[driver, workload].append(fields(driver, workload, calls[driver, workload])[1])
+        for column, tasks in table.items():
+            for index, task in enumerate(tasks):
+                for driver in drivers:
+                    cell = driver, column, index
+                    if cell in rounds:
+                        times[cell].append(timed(os.path.join(folder, driver), task, rounds[cell])[1])
 
-    least = {cell: min(runs) / 1000 for cell, runs in times.items()}
+    least = {(driver, column): statistics.mean(min(times[driver, column, i]) for i in range(len(table[column]))) / 1000
+             for driver, column, index in times if index == 0}
 
-    def ratio(driver, workload):
-        return least[driver, workload] / least[OURS, workload]
+    def ratio(driver, column):
+        return least[driver, column] / least[OURS, column]
 
     def mean(driver):
-        if any((driver, w) not in least for w in WORKLOADS):
+        if any((driver, column) not in least for column in table):
             return float("inf")
-        return statistics.geometric_mean(ratio(driver, w) for w in WORKLOADS)
+        return statistics.geometric_mean(ratio(driver, column) for column in table)
 
     print("\nMicroseconds of processor time a call (document and patch read, patch applied, result written),")
     print("least of %d runs; in brackets the ratio to %s.\n" % (RUNS, OURS))
-    print("| library | %s | geometric mean |" % " | ".join(WORKLOADS))
-    print("|---" * (len(WORKLOADS) + 2) + "|")
+    print("| library | %s | geometric mean |" % " | ".join(table))
+    print("|---" * (len(table) + 2) + "|")
     for driver in sorted(drivers, key=mean):
-        cells = ["%s (%.2f)" % (shown(least[driver, w]), ratio(driver, w)) if (driver, w) in least else note[driver, w] for w in WORKLOADS]
-        print("| %s | %s | %s |" % (driver, " | ".join(cells), "%.2f" % mean(driver) if mean(driver) < float("inf") else "-"))
+        cells = ["%s (%.2f)" % (shown(least[driver, c]), ratio(driver, c)) if (driver, c) in least else note[driver, c]
+                 for c in table]
+        of_all = "%.2f" % mean(driver) if mean(driver) < float("inf") else "-"
+        print("| %s | %s | %s |" % (driver, " | ".join(cells), of_all))
     spreads = [(statistics.median(runs) - min(runs)) / min(runs) for runs in times.values()]
     print("\nNoise: the median of a cell's runs lies above its least by %.0f %% typically, by %.0f %% at worst."
           % (100 * statistics.median(spreads), 100 * max(spreads)))
-    print("Load of the machine %.1f on %d processors; %.0f s of measuring." % (os.getloadavg()[0], os.cpu_count(), time.time() - start))
+    print("Load of the machine %.1f on %d processors; %.0f s of measuring."
+          % (os.getloadavg()[0], os.cpu_count(), time.time() - start))
 
 
 main()

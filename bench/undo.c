@@ -41,7 +41,6 @@ static double least(uint32_t call(json_patch_undo_answer *), json_patch_undo_ans
 int main(int argc, char **argv) {
     json_patch_undo_answer answer;
     double of_plain, of_undo;
-    (void)driver_tell;
     if (argc != 4) {
         fprintf(stderr, "usage: %s NAME DOCUMENT PATCH\n", argv[0]);
         return 2;

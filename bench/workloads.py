@@ -1,12 +1,14 @@
 #!/usr/bin/env python3
 """Writes the seven workloads: charge profiles of battery packs, and the patches
-that their makers send.  Usage: workloads.py FOLDER
+that their makers send; and the documents of `real`, which stand in the folder
+real beside this file.  Usage: workloads.py FOLDER
 
 For each workload NAME three files are written: NAME.doc.json, NAME.patch.json
 and NAME.want.json, the expected result, worked out here by a small plain
-interpreter and by none of the measured programs.  The files are the same every
-time.  The limits hold for document, patch, every document in between and the
-result: 32,768 bytes, 2,048 values, depth 32, 256 operations.
+interpreter and by none of the measured programs.  For the pair NAME of `real` they
+are real-NAME.doc.json and so on, the two texts with their blanks as they are.  The
+files are the same every time.  The limits hold for document, patch, every document
+in between and the result: 32,768 bytes, 2,048 values, depth 32, 256 operations.
 """
 import copy
 import json
@@ -33,6 +35,17 @@ class Num(float):
 
 def n(text):
     return Num(text)
+
+
+def pretty(v, indent, level=0):
+    """JSON with line ends and indentation, as programs write files for people."""
+    if not isinstance(v, (list, dict)) or not v:
+        return dump(v)
+    line = "\n" + indent * (level + 1)
+    items = [json.dumps(k, ensure_ascii=False) + ": " + pretty(x, indent, level + 1) for k, x in v.items()] \
+        if isinstance(v, dict) else [pretty(x, indent, level + 1) for x in v]
+    left, right = "{}" if isinstance(v, dict) else "[]"
+    return left + line + ("," + line).join(items) + "\n" + indent * level + right
 
 
 def dump(v, raw=True):
@@ -126,7 +139,7 @@ def do_remove(doc, p):
     return doc
 
 
-def apply(doc, patch):
+def apply(doc, patch, checked=True):
     doc = copy.deepcopy(doc)
     for o in patch:
         k, p = o["op"], o["path"]
@@ -151,7 +164,8 @@ def apply(doc, patch):
             assert find(doc, p) == o["value"], o
         else:
             raise AssertionError(k)
-        check("intermediate", doc)
+        if checked:
+            check("intermediate", doc)
     return doc
 
 
@@ -327,25 +341,101 @@ def numbers():
     return doc, patch
 
 
+# ---- real: documents of the kinds that people patch, and variants of them ------
+
+REAL = os.path.join(os.path.dirname(os.path.abspath(__file__)), "real")
+VARIANTS = 11
+
+
+def read(name):
+    with open(name, encoding="utf-8", newline="") as file:
+        return file.read()
+
+
+def real():
+    """Each pair's name, its document and its patch, as texts."""
+    for file in sorted(os.listdir(REAL)):
+        name, kind, _ = file.split(".")
+        if kind == "doc":
+            yield name, *(read(os.path.join(REAL, "%s.%s.json" % (name, kind))) for kind in ("doc", "patch"))
+
+
+def scalars(v):
+    if isinstance(v, (list, dict)):
+        for x in v.values() if isinstance(v, dict) else v:
+            yield from scalars(x)
+    else:
+        yield v
+
+
+def varied(r, v, kept):
+    """The same shape: members in another order, strings and numbers of other lengths.
+    A scalar that the patch tests stays as it is."""
+    if isinstance(v, dict):
+        members = list(v.items())
+        r.shuffle(members)
+        return {k: varied(r, x, kept) for k, x in members}
+    if isinstance(v, list):
+        return [varied(r, x, kept) for x in v]
+    if v is None or v == "" or v in kept:
+        return v
+    if isinstance(v, bool):
+        return r.random() < .5
+    if isinstance(v, str):
+        start = r.randrange(len(v))
+        return (v + " " + v + " " + v)[start:start + r.randrange(len(v) // 2, len(v) * 3 // 2 + 1)]
+    if isinstance(v, int):
+        return r.randrange(10 ** (len(str(v)) - 1), 10 ** r.randrange(len(str(v)), len(str(v)) + 2))
+    return n("%.*f" % (r.randrange(1, 7), float(v) * r.uniform(.5, 1.5)))
+
+
+def variants(name, document, patch):
+    """The document, and others of its shape with the same indentation."""
+    yield document
+    r = random.Random(name)
+    doc = json.loads(document, parse_float=n)
+    kept = [x for o in json.loads(patch) if o["op"] == "test" for x in scalars(o["value"])]
+    indent = document[2:len(document) - len(document[2:].lstrip())] if "\n" in document else None
+    for _ in range(VARIANTS):
+        v = varied(r, doc, kept)
+        yield dump(v) if indent is None else pretty(v, indent) + "\n"
+
+
 WORK = [tiny, typical, large, flat, many, strings, numbers]
+
+
+def texts():
+    """Each workload's name, its document and its patch, as texts and as values. Of
+    `real` first the pairs, then each pair with all variants of its document."""
+    def valued(name, *texts):
+        return name, *texts, *(json.loads(text, parse_float=n) for text in texts)
+
+    for w in WORK:
+        doc, patch = w()
+        yield w.__name__, dump(doc), dump(patch), doc, patch
+    for name, document, patch in real():
+        yield valued("real-" + name, document, patch)
+        for k, variant in enumerate(variants(name, document, patch)):
+            yield valued("turn-%02d-%s" % (k, name), variant, patch)
 
 
 def main(out):
     os.makedirs(out, exist_ok=True)
-    print("%-8s %9s %6s %6s %10s %6s %9s" % ("name", "doc bytes", "values", "depth", "patch bytes", "ops", "result"))
-    for w in WORK:
-        name = w.__name__
-        doc, patch = w()
+    print("%-15s %9s %6s %6s %10s %6s %9s" % ("name", "doc bytes", "values", "depth", "patch bytes", "ops", "result"))
+    for name, d, p, doc, patch in texts():
+        in_turn = name.startswith("turn-")
         check("doc", doc)
         check("patch", patch)
-        assert len(patch) <= OPS
-        want = apply(doc, patch)
-        d, p, x = dump(doc), dump(patch), dump(want)
+        assert len(patch) <= OPS and len(d.encode()) <= BYTES and len(p.encode()) <= BYTES
+        want = apply(doc, patch, not in_turn)
+        x = dump(want)
         assert json.loads(d) == doc and json.loads(p) == patch and json.loads(x) == want
         for ext, t in (("doc", d), ("patch", p), ("want", x)):
-            with open(os.path.join(out, "%s.%s.json" % (name, ext)), "w", encoding="utf-8") as f:
+            with open(os.path.join(out, "%s.%s.json" % (name, ext)), "w", encoding="utf-8", newline="") as f:
                 f.write(t)
-        print("%-8s %9d %6d %6d %10d %6d %9d" % (name, len(d.encode()), nodes(doc), depth(doc), len(p.encode()), len(patch), len(x.encode())))
+        if not in_turn:
+            print("%-15s %9d %6d %6d %10d %6d %9d" % (name, len(d.encode()), nodes(doc), depth(doc), len(p.encode()),
+                                                      len(patch), len(x.encode())))
 
 
 if __name__ == "__main__":

@@ -4,28 +4,33 @@
 
 #include <stdexcept>
 #include <string>
+#include <vector>
 
 template <class Once> int driver_main(int argc, char **argv, Once once) {
-    if (argc != 4) {
-        std::fprintf(stderr, "usage: %s DOCUMENT PATCH N\n", argv[0]);
-        return 2;
+    const long count = driver_pairs(argc, argv), rounds = std::atol(argv[argc - 1]);
+    std::vector<std::string> documents, patches;
+    for (int i = 1; i + 1 < argc; i++) {
+        size_t length;
+        const char *bytes = driver_read(argv[i], &length);
+        (i % 2 ? documents : patches).emplace_back(bytes, length);
     }
-    size_t document_length, patch_length;
-    const char *document_bytes = driver_read(argv[1], &document_length);
-    const char *patch_bytes = driver_read(argv[2], &patch_length);
-    const std::string document(document_bytes, document_length), patch(patch_bytes, patch_length);
-    const long calls = std::atol(argv[3]);
     try {
-        std::string text = once(document, patch);
-        if (calls == 0) {
-            std::fwrite(text.data(), 1, text.size(), stdout);
-            return 0;
+        std::string text;
+        const auto round = [&] {
+            for (long k = 0; k < count; k++) text = once(documents[k], patches[k]);
+        };
+        driver_sum sum = driver_none();
+        for (long k = 0; k < count; k++) {
+            text = once(documents[k], patches[k]);
+            sum = driver_more(sum, text.data(), text.size());
+            if (rounds == 0) driver_print(k, text.data(), text.size());
         }
-        for (long i = 0; i < calls / 10; i++) text = once(document, patch);
+        if (rounds == 0) return 0;
+        for (long i = 0; i < rounds / 10; i++) round();
         const double elapsed = driver_clock(CLOCK_MONOTONIC), processor = driver_clock(CLOCK_PROCESS_CPUTIME_ID);
-        for (long i = 0; i < calls; i++) text = once(document, patch);
+        for (long i = 0; i < rounds; i++) round();
         const double processor_end = driver_clock(CLOCK_PROCESS_CPUTIME_ID), elapsed_end = driver_clock(CLOCK_MONOTONIC);
-        driver_tell(elapsed_end - elapsed, processor_end - processor, calls, text.data(), text.size());
+        driver_tell(elapsed_end - elapsed, processor_end - processor, rounds * count, sum);
         return 0;
     } catch (const std::exception &error) {
         std::fprintf(stderr, "error: %s\n", error.what());

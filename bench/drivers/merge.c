@@ -32,6 +32,7 @@ int main(int argc, char **argv) {
     elapsed = driver_clock(CLOCK_MONOTONIC), processor = driver_clock(CLOCK_PROCESS_CPUTIME_ID);
     for (i = 0; i < calls; i++) CALL();
     processor_end = driver_clock(CLOCK_PROCESS_CPUTIME_ID), elapsed_end = driver_clock(CLOCK_MONOTONIC);
-    driver_tell(elapsed_end - elapsed, processor_end - processor, calls, (const char *)output, answer.length);
+    driver_tell(elapsed_end - elapsed, processor_end - processor, calls,
+                driver_more(driver_none(), (const char *)output, answer.length));
     return 0;
 }

@@ -12,29 +12,35 @@ def once(document, patch):
 
 
 def main():
-    with open(sys.argv[1], encoding="utf-8") as file:
-        document = file.read()
-    with open(sys.argv[2], encoding="utf-8") as file:
-        patch = file.read()
-    calls = int(sys.argv[3])
+    *files, rounds = sys.argv[1:]
+    texts, rounds = [], int(rounds)
+    for name in files:
+        with open(name, encoding="utf-8") as file:
+            texts.append(file.read())
+    pairs = list(zip(texts[::2], texts[1::2]))
     try:
-        text = once(document, patch)
+        results = [once(document, patch) for document, patch in pairs]
     except Exception as error:
         sys.exit("error: %s" % error)
-    if calls == 0:
-        sys.stdout.write(text)
+    if rounds == 0:
+        sys.stdout.write("\n".join(results))
         return
-    for _ in range(calls // 10):
-        text = once(document, patch)
+
+    def go(rounds):
+        for _ in range(rounds):
+            for document, patch in pairs:
+                once(document, patch)
+
+    go(rounds // 10)
     elapsed, processor = time.perf_counter_ns(), time.process_time_ns()
-    for _ in range(calls):
-        text = once(document, patch)
+    go(rounds)
+    calls = rounds * len(pairs)
     processor = (time.process_time_ns() - processor) / calls
     elapsed = (time.perf_counter_ns() - elapsed) / calls
-    value = 14695981039346656037
-    for byte in text.encode():
+    value, written = 14695981039346656037, "".join(results).encode()
+    for byte in written:
         value = ((value ^ byte) * 1099511628211) & 0xFFFFFFFFFFFFFFFF
-    print("%.0f %d %016x %.0f" % (elapsed, len(text.encode()), value, processor))
+    print("%.0f %d %016x %.0f" % (elapsed, len(written), value, processor))
 
 
 main()

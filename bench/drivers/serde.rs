@@ -3,6 +3,7 @@
 
 use serde_json::Value;
 use std::borrow::Cow;
+use std::hint::black_box;
 use std::time::Instant;
 
 #[repr(C)]
@@ -127,31 +128,30 @@ fn once(document: &str, patch: &str) -> Outcome<String> {
 
 fn main() {
     let arguments: Vec<String> = std::env::args().collect();
-    let document = std::fs::read_to_string(&arguments[1]).unwrap();
-    let patch = std::fs::read_to_string(&arguments[2]).unwrap();
-    let calls: u32 = arguments[3].parse().unwrap();
-    let run = || {
-        once(&document, &patch).unwrap_or_else(|error| {
+    let (rounds, files) = arguments[1..].split_last().unwrap();
+    let rounds: u32 = rounds.parse().unwrap();
+    let texts: Vec<String> = files.iter().map(|name| std::fs::read_to_string(name).unwrap()).collect();
+    let run = |pair: &[String]| {
+        once(&pair[0], &pair[1]).unwrap_or_else(|error| {
             eprintln!("error: {error}");
             std::process::exit(1)
         })
     };
-    let mut text = run();
-    if calls == 0 {
-        print!("{text}");
+    let round = || texts.chunks(2).for_each(|pair| drop(black_box(run(pair))));
+    let results: Vec<String> = texts.chunks(2).map(run).collect();
+    if rounds == 0 {
+        print!("{}", results.join("\n"));
         return;
     }
-    for _ in 0..calls / 10 {
-        text = run();
-    }
+    (0..rounds / 10).for_each(|_| round());
     let (elapsed, cpu) = (Instant::now(), processor());
-    for _ in 0..calls {
-        text = run();
-    }
-    let cpu = (processor() - cpu) / f64::from(calls);
-    let elapsed = elapsed.elapsed().as_nanos() as f64 / f64::from(calls);
-    let hash = text
+    (0..rounds).for_each(|_| round());
+    let calls = f64::from(rounds) * results.len() as f64;
+    let cpu = (processor() - cpu) / calls;
+    let elapsed = elapsed.elapsed().as_nanos() as f64 / calls;
+    let all = results.concat();
+    let hash = all
         .bytes()
         .fold(14695981039346656037u64, |h, b| (h ^ u64::from(b)).wrapping_mul(1099511628211));
-    println!("{elapsed:.0} {} {hash:016x} {cpu:.0}", text.len());
+    println!("{elapsed:.0} {} {hash:016x} {cpu:.0}", all.len());
 }
