@@ -32,6 +32,11 @@ module _ (T : Texts) where
   unfolding stringBytes
   string-pieces spelling e h = rw (e, h)
 
+  -- without escapes it is written as it stands
+  pub plain-pieces : (spelling : Spelling) {s : Bytes} → spelling .form ≡ 1 → s ≡ partOf T spelling → stringBytes T spelling ≡ (0x22 ∷ []) ++ s ++ (0x22 ∷ [])
+  unfolding stringBytes written
+  plain-pieces spelling e h = rw (eq-eqb (spelling .form) 1 e, h)
+
   module _ (kind : ℕ) (value : Spelling) where
     pub scalar-string : kind ≡ stringKind → scalarBytes T kind value ≡ stringBytes T value
     unfolding scalarBytes

@@ -3,8 +3,9 @@
 use tape::fields::long;
 use text::write_text;
 ghost use mathlib.Core.Path.{_≡_};
-ghost use mathlib.Core.List.{[], _∷_};
-ghost use Prim.Native.Nat.{min};
+ghost use mathlib.Core.List.{[], _∷_, _++_};
+ghost use Prim.Native.Nat.{_+_, _≤_, min};
+ghost use lib.ListN.{length};
 ghost use Rattle.text.specs.Written.{written};
 ghost use Rattle.writer.specs.Writing.{Placed};
 
@@ -32,4 +33,19 @@ pub fn put_part(form: u16, s: &[u8], out: &mut [u8]) -> usize
 {
     let count = write_text(long(form), s, out);
     least(count, out.len())
+}
+
+// Bytes between quotation marks, where there is room for all of it: in one piece they take half the steps.
+pub fn put_quoted(s: &[u8], out: &mut [u8]) -> usize
+    requires { ⌜ length (now s) + 2 ≤ length (now out) ⌝ }
+    ensures { λ r. ⌜ Placed ((0x22 ∷ []) ++ now (s .entry) ++ (0x22 ∷ [])) 0 (now (out .entry)) (now (out .exit)) r ⌝ }
+{
+    out[0] = b'"';
+    let mut i = 0;
+    while i < s.len() {
+        out[1 + i] = s[i];
+        i += 1;
+    }
+    out[1 + i] = b'"';
+    i + 2
 }

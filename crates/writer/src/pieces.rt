@@ -1,6 +1,7 @@
 // The pieces of a value's text, each laid down at the front of `out`, which is the rest of the output.
 use crate::output::put_byte;
 use crate::output::put_part;
+use crate::output::put_quoted;
 use table::spellings::part;
 use tape::fields::Name;
 use tape::fields::Spelling;
@@ -13,8 +14,8 @@ ghost use Rattle.writer.specs.Pieces.{stringBytes, literalBytes, scalarB
 ghost use Rattle.writer.specs.Pieces.{nameBytes, prefixBytes};
 ghost use Rattle.writer.specs.Writing.{Placed};
 
-// A string between its quotation marks.
-pub fn write_string<'a>(texts: Texts<'a>, spelling: Spelling, out: &mut [u8]) -> usize
+// A string between its quotation marks, each of its three pieces for itself.
+fn write_pieces<'a>(texts: Texts<'a>, spelling: Spelling, out: &mut [u8]) -> usize
     ensures { λ r. ⌜ Placed (stringBytes (lent texts) spelling) 0 (now (out .entry)) (now (out .exit)) r ⌝ }
 {
     let s = part(texts, spelling);
@@ -23,6 +24,23 @@ pub fn write_string<'a>(texts: Texts<'a>, spelling: Spelling, out: &mut [u8]) ->
     put += n;
     let last = put_byte(b'"', &mut out[put..]);
     put + last
+}
+
+// A string between its quotation marks. Without escapes, and with room for all of it, it is laid down in one piece.
+pub fn write_string<'a>(texts: Texts<'a>, spelling: Spelling, out: &mut [u8]) -> usize
+    ensures { λ r. ⌜ Placed (stringBytes (lent texts) spelling) 0 (now (out .entry)) (now (out .exit)) r ⌝ }
+{
+    let s = part(texts, spelling);
+    if spelling.form != layout::PLAIN_STRING {
+        return write_pieces(texts, spelling, out);
+    }
+    if out.len() < 2 {
+        return write_pieces(texts, spelling, out);
+    }
+    if out.len() - 2 < s.len() {
+        return write_pieces(texts, spelling, out);
+    }
+    put_quoted(s, out)
 }
 
 fn write_literal(kind: u16, out: &mut [u8]) -> usize

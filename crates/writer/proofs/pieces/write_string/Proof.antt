@@ -1,8 +1,8 @@
--- `write_string` meets its contract: its three pieces are laid down one behind another.
-use mathlib.Core.Path.{refl}
+-- `write_string` meets its contract: the pieces do, and one piece that is the same bytes.
+use native.Mathlib.Omega.{arith}
 use borrow.Author.Needs.{needs}
-use Rattle.writer.proofs.PlacedLaws.{placed-as, placed-then}
-use Rattle.writer.proofs.PieceLaws.{string-pieces}
+use Rattle.writer.proofs.PlacedLaws.{placed-as}
+use Rattle.writer.proofs.PieceLaws.{plain-pieces}
 use Rattle.writer.proofs.pieces.write_string.Statement.{statement}
 use Rattle.writer.proofs.pieces.write_string.Tie as tie
 
@@ -12,35 +12,32 @@ write-string-spec =
     (tie.spec
     -- part-requires
     (λ c κs. search needs)
-    -- put-byte-requires
+    -- write-pieces-requires
     (λ c κs. search needs)
-    -- sub-put-part
-    (λ c. search needs)
-    -- part-put-part-start
-    (λ c. search needs)
-    -- part-put-part-end
-    (λ c. search needs)
-    -- put-part-requires
-    (λ c κs. search needs)
-    -- add-put
-    (λ c. search needs)
-    -- sub-put-byte
-    (λ c. search needs)
-    -- part-put-byte-start
-    (λ c. search needs)
-    -- part-put-byte-end
-    (λ c. search needs)
-    -- put-byte-requires-2
-    (λ c κs. search needs)
-    -- add-result
-    (λ c. search needs)
     -- same-length
     (λ c. search needs)
     -- returns
+    (λ c. search needs)
+    -- write-pieces-requires-2
+    (λ c κs. search needs)
+    -- same-length-2
+    (λ c. search needs)
+    -- returns-2
+    (λ c. search needs)
+    -- sub-if3
+    (λ c. search needs)
+    -- write-pieces-requires-3
+    (λ c κs. search needs)
+    -- same-length-3
+    (λ c. search needs)
+    -- returns-3
+    (λ c. search needs)
+    -- put-quoted-requires
+    (λ c κs. search needs)
+    -- same-length-4
+    (λ c. search needs)
+    -- returns-4
     (λ c.
-    let part = c .before .before .before .before .before .before .before .before .before .before .before .before .part in
-    let put-byte = c .before .before .before .before .before .before .before .before .before .before .put-byte in
-    let put-part = c .before .before .before .before .before .before .put-part in
-    let put-byte2 = c .before .before .put-byte2 in
-    placed-as (string-pieces _ _ refl (part .ensures))
-    (placed-then (placed-then (put-byte .ensures) (put-part .ensures)) (put-byte2 .ensures))))
+    let plain = c .before .before .before .before .before .before in
+    let part = plain .before .before .part in
+    placed-as (plain-pieces _ _ (plain .if1 .left) (part .ensures)) (c .before .before .put-quoted .ensures)))
