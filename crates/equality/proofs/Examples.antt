@@ -9,7 +9,7 @@ use mathlib.Core.List.{[], _∷_}
 use Rattle.spec.specs.Bytes.{ascii, byte, within}
 use Rattle.spec.specs.Strings.{character}
 use Rattle.spec.specs.Numbers.{isDigit, isE}
-use Rattle.spec.specs.Worth.{mantissa, fractionDigits, decimal, signedExponent, exponent, dropZeros, trimmed, isNegative, power, worth}
+use Rattle.spec.specs.Worth.{mantissa, fractionDigits, decimal, signedExponent, exponent, dropZeros, trimmed, isNegative, unlessZero, worth}
 use Rattle.spec.specs.Forest.{Forest, none, tree, count, size}
 use Rattle.spec.specs.Write.{utf8, writeCharacter, writeCharacters}
 use Rattle.spec.specs.Value.{tag, isNumber, isObject, isContainer, content, levels, depths, depth, sameText, find}
@@ -111,7 +111,7 @@ unfolding utf8 writeCharacter writeCharacters
 compute-written = tt
 
 unfoldable compute-numbers : Unit {0}
-unfolding isDigit isE mantissa fractionDigits decimal signedExponent exponent dropZeros trimmed isNegative power worth withinLimits
+unfolding isDigit isE mantissa fractionDigits decimal signedExponent exponent dropZeros trimmed isNegative unlessZero worth withinLimits
 compute-numbers = tt
 
 -- a container has no text of its own

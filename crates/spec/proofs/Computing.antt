@@ -5,7 +5,7 @@ use Rattle.spec.specs.Bytes.{Bytes, ascii, byte, within, byteIn}
 use Rattle.spec.specs.Strings.{hexValue, hexIn, lowSurrogate, afterHigh, secondLimit, unicodeEscape, shortEscape, escape, tail, multibyte, character}
 use Rattle.spec.specs.Strings.{characters, string}
 use Rattle.spec.specs.Numbers.{isDigit, isE, counted, digits, someDigits, int, frac, sign, exponentDigits, signedDigits, exp, minus, number}
-use Rattle.spec.specs.Worth.{mantissa, fractionDigits, decimal, signedExponent, exponent, dropZeros, trimmed, isNegative, power, worth}
+use Rattle.spec.specs.Worth.{mantissa, fractionDigits, decimal, signedExponent, exponent, dropZeros, trimmed, isNegative, unlessZero, worth}
 use Rattle.spec.specs.Forest.{_⧺_, count, size, before, from, insertAt, removeAt, replaceAt, nth}
 use Rattle.spec.specs.Value as Value
 use Rattle.spec.specs.Value.{leaf, Label, tag, isNumber, isString, isArray, isObject, isContainer, content, levels, depths, depth, nodes, sameText, find}
@@ -53,7 +53,7 @@ unfolding isDigit isE counted digits someDigits int frac sign exponentDigits sig
 compute-numbers = tt
 
 unfoldable compute-worth : Unit {0}
-unfolding mantissa fractionDigits decimal signedExponent exponent dropZeros trimmed isNegative power worth
+unfolding mantissa fractionDigits decimal signedExponent exponent dropZeros trimmed isNegative unlessZero worth
 compute-worth = tt
 
 unfoldable compute-forests : Unit {0}
