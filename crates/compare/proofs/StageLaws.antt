@@ -49,7 +49,7 @@ use Rattle.json_patch.specs.Stages.{PatchHeld}
 use Rattle.json_patch.proofs.AnswerLaws.{work-suffices}
 use Rattle.json_patch.proofs.CallLaws.{part-wiped}
 use Rattle.json_patch.proofs.TextLaws.{read-into, text-value, text-refusal, patch-held, document-held, document-kept}
-use Rattle.counting.specs.Places.{placeAt, Placed, NotedIs}
+use Rattle.counting.specs.Places.{placeAt, HavePlaces, NotedIs}
 use Rattle.counting.specs.Values.{Tells, CountedIs}
 use Rattle.counting.specs.declared.values.Comparison.{Comparison}
 use Rattle.counting.proofs.PlaceLaws.{value-still}

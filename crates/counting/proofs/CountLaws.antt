@@ -37,7 +37,7 @@ use Rattle.equality.proofs.SiblingLaws.{value-node, value-inside, value-fit, Ch
 use Rattle.equality.proofs.SiblingLaws.{Siblings, siblings-all, siblings-none, siblings-first, siblings-value, siblings-next}
 use Rattle.equality.proofs.PendingLaws.{depth-first, depth-rest}
 use Rattle.equality.proofs.EqualLaws.{labelled, labels, object-is}
-use Rattle.counting.specs.Places.{placeAt, Placed}
+use Rattle.counting.specs.Places.{placeAt, HavePlaces}
 use Rattle.counting.specs.Values.{namesFor, AlikeIs, Tells, CountedIs}
 use Rattle.counting.specs.declared.values.Comparison.{Comparison}
 use Rattle.counting.proofs.PlaceLaws.{siblings-place}
@@ -136,7 +136,7 @@ pub record Pending (w : Table) (o : Bool) (other row end next stop levels : ℕ)
   pub first : Siblings w row end rest
   pub second : Siblings w next stop beside
   pub distinct : NoRepeats o (members (w .texts) all)
-  pub placed : Placed (placeAt (w .nodes)) (other + 1) 1 all
+  pub placed : HavePlaces (placeAt (w .nodes)) (other + 1) 1 all
   pub passed : ℕ
   pub left : from passed all ≡ beside
   pub shallow : depths (members (w .texts) rest) ≤ levels
@@ -148,7 +148,7 @@ pub record Pending (w : Table) (o : Bool) (other row end next stop levels : ℕ)
 abbrev pub Counting : Table → ℕ → ℕ → ℕ → Bool → ℕ → ℕ → ℕ → ℕ → ℕ → Type 0
 Counting w at other levels o end stop row next names =
     (c : Cell) (kids : Forest Cell) (e : Cell) (below : Forest Cell) → NodeHeld w at c kids → NodeHeld w other e below
-    → depth (meant (w .texts) c kids) ≤ levels → Distinct (meant (w .texts) e below) → Placed (placeAt (w .nodes)) (other + 1) 1 below
+    → depth (meant (w .texts) c kids) ≤ levels → Distinct (meant (w .texts) e below) → HavePlaces (placeAt (w .nodes)) (other + 1) 1 below
     → Pending w o other row end next stop (levels - 1) below (compared (meant (w .texts) c kids) (meant (w .texts) e below)) names
 
 -- a verdict told

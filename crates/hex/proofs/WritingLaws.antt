@@ -11,7 +11,7 @@ use Rattle.spec.specs.Bytes.{Bytes, byte}
 use Rattle.text.specs.Written.{Stored}
 use Rattle.text.proofs.StoreLaws.{stores-on}
 use Rattle.spec.specs.Strings.{hexValue}
-use Rattle.hex.specs.Record.{total, body, check, upperHex, digits, spelled, lineOf, recordBytes, line-feed}
+use Rattle.hex.specs.Record.{total, body, check, upperHex, digits, digitsOf, lineOf, recordBytes, line-feed}
 use Rattle.hex.specs.Reading.{hexByte, bytesAt, allHex}
 use Rattle.hex.proofs.RecordLaws.{check-only, line-pieces}
 use Rattle.hex.proofs.LineLaws.{all-first, hex-both}
@@ -76,15 +76,15 @@ last-byte kind address d {x} {y} {z} e f g h = check-only (body kind address d) 
 
 pub line-stored : (kind address : ℕ) (d : Bytes) (at : ℕ) {x y z a b e : ℕ} {o p q r s u : Bytes} →
     x ≡ (0 + total (length d ∷ address / 256 ∷ address % 256 ∷ kind ∷ [])) % 256 → y ≡ (x + total d) % 256 → (z + y) % 256 ≡ 0 → z < 256 →
-    p ≡ set o at (code ":") → Stored (spelled (length d ∷ address / 256 ∷ address % 256 ∷ kind ∷ [])) (at + 1) p q a → Stored (spelled d) a q r b → Stored
+    p ≡ set o at (code ":") → Stored (digitsOf (length d ∷ address / 256 ∷ address % 256 ∷ kind ∷ [])) (at + 1) p q a → Stored (digitsOf d) a q r b → Stored
     (digits z) b r s e →
     u ≡ set s e line-feed → Stored (lineOf (recordBytes kind address d)) at o u (e + 1)
 unfolding head
 line-stored kind address d at {z = z} {e = e} {o = o} {r = r} {s} i j k l first second third fourth fifth =
     let same : z ≡ check (body kind address d) = last-byte kind address d i j k l in
     let one = laid-on (laid-starts at (lineOf (recordBytes kind address d)) o) (code ":" ∷ []) (line-pieces kind address d) (byte-stored (code ":") at first) in
-    let two = laid-on one (spelled (length d ∷ address / 256 ∷ address % 256 ∷ kind ∷ [])) refl second in
-    let three = laid-on two (spelled d) refl third in
+    let two = laid-on one (digitsOf (length d ∷ address / 256 ∷ address % 256 ∷ kind ∷ [])) refl second in
+    let three = laid-on two (digitsOf d) refl third in
     let four = laid-on three (digits (check (body kind address d))) refl (rw same at fourth) in
     let five = laid-on four (line-feed ∷ []) {left = []} refl (byte-stored line-feed e fifth) in
     laid-ends five refl

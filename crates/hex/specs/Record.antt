@@ -52,13 +52,13 @@ upperHex n = if ltb n 10 then code "0" + n else code "A" + (n - 10)
 unfoldable pub digits : ℕ → Bytes
 digits b = upperHex (b / 16) ∷ upperHex (b % 16) ∷ []
 
-unfoldable pub spelled : Bytes → Bytes
-spelled [] = []
-spelled (b ∷ s) = digits b ++ spelled s
+unfoldable pub digitsOf : Bytes → Bytes
+digitsOf [] = []
+digitsOf (b ∷ s) = digits b ++ digitsOf s
 
 -- "one record a line", "a line feed after every line, the last too"
 unfoldable pub lineOf : Bytes → Bytes
-lineOf r = code ":" ∷ spelled r ++ line-feed ∷ []
+lineOf r = code ":" ∷ digitsOf r ++ line-feed ∷ []
 
 -- ---- a text
 

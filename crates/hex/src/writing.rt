@@ -3,7 +3,7 @@ ghost use mathlib.Core.Path.{_≡_};
 ghost use Prim.Native.Nat.{_+_, _*_, _%_, _<_, _≤_};
 ghost use lib.ListN.{length, set};
 ghost use Rattle.text.specs.Written.{Stored, LaidDown};
-ghost use Rattle.hex.specs.Record.{total, digits, spelled, hexOf, maxText};
+ghost use Rattle.hex.specs.Record.{total, digits, digitsOf, hexOf, maxText};
 ghost use Rattle.hex.specs.Steps.{Fits, LineStored};
 use crate::digits::hex_digit;
 use std::num::wrapping_add_u8;
@@ -47,7 +47,7 @@ fn put_digits(out: &mut [u8], at: usize, b: u8) -> usize
 // The digits of bytes.
 fn put_spelled(bytes: &[u8], out: &mut [u8], at: usize) -> usize
     requires { ⌜ at + 2 * length (now bytes) ≤ length (now out) ⌝ }
-    ensures { λ r. ⌜ Stored (spelled (now (bytes .entry))) at (now (out .entry)) (now (out .exit)) r ⌝ }
+    ensures { λ r. ⌜ Stored (digitsOf (now (bytes .entry))) at (now (out .entry)) (now (out .exit)) r ⌝ }
 {
     let mut end = at;
     let mut i = 0;

@@ -10,7 +10,7 @@ use Rattle.spec.specs.Forest.{_⧺_, count, size, before, from, insertAt
 use Rattle.spec.specs.Value as Value
 use Rattle.spec.specs.Value.{leaf, Label, tag, isNumber, isString, isArray, isObject, isContainer, content, levels, depths, depth, nodes, sameText, find}
 use Rattle.spec.specs.Equality.{sameBool, sameInteger, sameWorth, sameLabel, partner, matches, equal}
-use Rattle.spec.specs.Read.{isBlank, blanksFrom, blanks, spelled, roomFor, literalValue, numberValue, stringValue, scalar}
+use Rattle.spec.specs.Read.{isBlank, blanksFrom, blanks, wordAt, roomFor, literalValue, numberValue, stringValue, scalar}
 use Rattle.spec.specs.Read.{fresh, nameFor, containerLabel, closingBracket, items, contents, container, value, read}
 use Rattle.spec.specs.Write.{utf8, hexDigit, writeCharacter, writeCharacters, writeString, opening, closing, writeName, comma, writeItems, write}
 use Rattle.spec.specs.Pointer.{prepend, segments, tilde, unescape, unescapeAll, tokens, allDigits, isIndex, isDash}
@@ -69,7 +69,7 @@ unfolding sameBool sameInteger sameWorth sameLabel partner matches equal
 compute-equality = tt
 
 unfoldable compute-scalars : Unit {0}
-unfolding isBlank blanksFrom blanks spelled roomFor literalValue numberValue stringValue scalar
+unfolding isBlank blanksFrom blanks wordAt roomFor literalValue numberValue stringValue scalar
 compute-scalars = tt
 
 unfoldable compute-containers : Unit {0}

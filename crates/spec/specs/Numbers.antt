@@ -71,6 +71,6 @@ minus s at = if eqb (byte s at) (code "-") then at + 1 else at
 -- number = [ minus ] int [ frac ] [ exp ]
 unfoldable pub number : Bytes → ℕ → Outcome ℕ
 number s start = do
-  fraction ← int s start (minus s start)
-  exponent ← frac s start fraction
-  exp s start exponent
+  point ← int s start (minus s start)
+  letter ← frac s start point
+  exp s start letter

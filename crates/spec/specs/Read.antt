@@ -30,9 +30,9 @@ unfoldable pub blanks : Bytes → ℕ → ℕ
 blanks s at = blanksFrom (length s) s at
 
 -- the place after a word
-unfoldable pub spelled : Bytes → Bytes → ℕ → Outcome ℕ
-spelled [] s at = ok at
-spelled (b ∷ word) s at = byteIn s at b b >>= λ _. spelled word s (at + 1)
+unfoldable pub wordAt : Bytes → Bytes → ℕ → Outcome ℕ
+wordAt [] s at = ok at
+wordAt (b ∷ word) s at = byteIn s at b b >>= λ _. wordAt word s (at + 1)
 
 -- "6: the first byte of value 2,049."
 unfoldable pub roomFor : ℕ → ℕ → Outcome ℕ
@@ -41,7 +41,7 @@ roomFor nodes at = if ltb nodes maxNodes then ok at else refused too-many-nodes 
 -- a literal after its first byte; a number; a string
 unfoldable pub literalValue : Label → Bytes → Bytes → ℕ → Outcome (Value.Value × ℕ)
 literalValue label word s at = do
-  next ← spelled word s (at + 1)
+  next ← wordAt word s (at + 1)
   ok (leaf label, next)
 
 unfoldable pub numberValue : Bytes → ℕ → Outcome (Value.Value × ℕ)
