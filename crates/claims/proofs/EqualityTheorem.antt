@@ -9,11 +9,13 @@ use Rattle.spec.specs.Value as Value
 use Rattle.spec.specs.Value.{isObject}
 use Rattle.spec.specs.Equality.{sameLabel, equal}
 use Rattle.spec.proofs.TextLaws.{both-true}
-use Rattle.claims.specs.Proper.{Proper}
-use Rattle.claims.specs.Equality.{Distinct, Equal, EqualityStatement}
+use Rattle.spec.specs.Proper.{Proper}
+use Rattle.spec.specs.Distinct.{Distinct}
+use Rattle.claims.specs.Equality.{Equal, EqualityStatement}
 use Rattle.claims.proofs.LabelLaws.{SameLabels, sameLabel-true, true-sameLabel, same-refl, same-sym, same-trans, isObject-same}
 use Rattle.claims.proofs.Alike.{Alike, alike-refl, alike-sym, alike-trans, permuted-alike}
-use Rattle.claims.proofs.EqualityRules.{proper-repeats, same-labels, equal-labels, matches-rules, rules-match}
+use Rattle.spec.proofs.NameLaws.{proper-repeats}
+use Rattle.claims.proofs.EqualityRules.{same-labels, equal-labels, matches-rules, rules-match}
 use Rattle.claims.proofs.Matching.{matches-true, true-matches, matches-alike, alike-count, alike-matches, alike-repeats}
 
 -- the same of two values

@@ -22,7 +22,7 @@ use Rattle.spec.specs.Read.{value, read}
 use Rattle.spec.proofs.OutcomeLaws.{refused≢ok, both-ok, either-ok, first-ok}
 use Rattle.spec.proofs.Tracking.{Ends, Cut, nothing-ends, past-end}
 use Rattle.spec.proofs.ReadersTrack.{number-tracks}
-use Rattle.claims.specs.Numbers.{NumberText}
+use Rattle.spec.specs.Proper.{NumberText}
 use Rattle.claims.proofs.Normal.{digit-bounds}
 use Rattle.claims.proofs.Rest.{Rest, byte-at}
 use Rattle.claims.proofs.NumberRead.{number-spans}

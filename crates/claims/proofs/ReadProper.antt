@@ -17,9 +17,9 @@ use Rattle.spec.specs.Value.{Label, Entry, Members, leaf, named, isObject, tag,
 use Rattle.spec.specs.Read.{blanks, wordAt, literalValue, numberValue, stringValue, scalar, fresh, nameFor, containerLabel, closingBracket, items, contents}
 use Rattle.spec.specs.Read.{container, value, read}
 use Rattle.spec.proofs.OutcomeLaws.{refused≢ok, both-ok, either-ok, first-ok}
-use Rattle.claims.specs.Proper as Proper
-use Rattle.claims.specs.Proper.{Proper, Allows, ScalarValues, ProperItems, element, member}
-use Rattle.claims.proofs.Found.{absent-parts, absent-cons}
+use Rattle.spec.specs.Proper as Proper
+use Rattle.spec.specs.Proper.{Proper, Allows, ScalarValues, ProperItems, element, member}
+use Rattle.spec.proofs.NameLaws.{absent-parts, absent-cons}
 use Rattle.claims.proofs.NumberText.{number-alone, number-text, room-there}
 use Rattle.claims.proofs.CharacterScalar.{string-scalar, if-ok}
 use Rattle.claims.proofs.ValueBack.{Item, size-append}

@@ -14,8 +14,8 @@ use Rattle.spec.specs.Numbers.{isDigit, number}
 use Rattle.spec.specs.Value.{Label, Members, leaf}
 use Rattle.spec.specs.Read.{isBlank, wordAt, literalValue, stringValue, scalar, value}
 use Rattle.spec.specs.Write.{writeString, opening}
-use Rattle.claims.specs.Proper as Proper
-use Rattle.claims.specs.Proper.{Allows, ScalarValues}
+use Rattle.spec.specs.Proper as Proper
+use Rattle.spec.specs.Proper.{Allows, ScalarValues}
 use Rattle.claims.proofs.Rest.{Rest, first-byte, rest-next, byteIn-ok}
 use Rattle.claims.proofs.StringBack.{string-back}
 use Rattle.claims.proofs.NumberText.{room, scalar-value, numeral-first, numeral-bounds, text-number}

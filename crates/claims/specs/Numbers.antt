@@ -9,16 +9,10 @@ use mathlib.Core.List.{[], _∷_, _++_}
 use mathlib.Core.Bool.{Bool, true, false}
 use lib.ListN.{length}
 use lib.IntN.{ℤ, pos, negsuc, negℤ, _-ℤ_, _*ℤ_}
-use Rattle.spec.specs.Outcome.{ok}
 use Rattle.spec.specs.Bytes.{Bytes}
-use Rattle.spec.specs.Value.{Label, leaf}
-use Rattle.spec.specs.Read.{read}
+use Rattle.spec.specs.Proper.{NumberText}
 use Rattle.spec.specs.Worth.{worth}
 use Rattle.spec.specs.Equality.{sameWorth}
-
--- a text that is one number from its first byte to its last
-abbrev pub NumberText : Bytes → Type 0
-NumberText t = read t ≡ ok (leaf (Label.number t))
 
 -- an integer times a power of ten
 pub record Exact : Type 0 where

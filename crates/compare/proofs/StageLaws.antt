@@ -15,8 +15,8 @@ use Rattle.spec.specs.Value as Value
 use Rattle.spec.specs.Value.{depth, nodes}
 use Rattle.spec.specs.Read.{read}
 use Rattle.spec.proofs.ReadLaws.{read-depth}
-use Rattle.claims.specs.Equality.{Distinct}
-use Rattle.claims.proofs.EqualityRules.{proper-repeats}
+use Rattle.spec.specs.Distinct.{Distinct}
+use Rattle.spec.proofs.NameLaws.{proper-repeats}
 use Rattle.claims.proofs.ReadProper.{read-proper}
 use Rattle.comparison.specs.Comparison as Spec
 use Rattle.comparison.specs.Comparison.{Compared}

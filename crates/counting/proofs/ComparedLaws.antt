@@ -12,8 +12,9 @@ use Rattle.spec.specs.Value as Value
 use Rattle.spec.specs.Value.{Entry, Members, find, sameText, isObject}
 use Rattle.spec.specs.Equality.{sameLabel, partner}
 use Rattle.spec.proofs.TextLaws.{sameText-refl}
-use Rattle.claims.specs.Equality.{NoRepeats, empty, member}
-use Rattle.claims.proofs.Found.{sameText-apart, found, found-absent}
+use Rattle.spec.specs.Distinct.{NoRepeats, empty, member}
+use Rattle.spec.proofs.TextLaws.{sameText-apart}
+use Rattle.spec.proofs.NameLaws.{found, found-absent}
 use Rattle.comparison.specs.Comparison.{Compared, after, _then_, lookups, searched, comparedItems, compared}
 use Rattle.equality.proofs.MatchLaws.{valueOf, partner-there}
 

@@ -13,7 +13,7 @@ use Rattle.spec.specs.Forest.{Forest, none, tree, count, from}
 use Rattle.spec.specs.Value as Value
 use Rattle.spec.specs.Value.{Label, isObject, depth, depths, tag}
 use Rattle.spec.specs.Equality.{sameLabel}
-use Rattle.claims.specs.Equality.{NoRepeats, Distinct}
+use Rattle.spec.specs.Distinct.{NoRepeats, Distinct}
 use Rattle.comparison.specs.Comparison.{Compared, after, _then_, searched, comparedItems, compared}
 use Rattle.tape.specs.Layout.{objectKind}
 use Rattle.tape.specs.Fields.{kindOf}

@@ -8,7 +8,7 @@ use Rattle.spec.specs.Bytes.{Text}
 use Rattle.spec.specs.Forest.{Forest, none, tree, Tree, count, from, nth, _⧺_}
 use Rattle.spec.specs.Value.{Members, find}
 use Rattle.spec.specs.Equality.{partner}
-use Rattle.claims.specs.Equality.{NoRepeats, Distinct}
+use Rattle.spec.specs.Distinct.{NoRepeats, Distinct}
 use Rattle.comparison.specs.Comparison.{lookups, searched}
 use Rattle.tape.specs.declared.fields.Cell.{Cell}
 use Rattle.tape.specs.Lent.{Table}

@@ -9,7 +9,7 @@ use Rattle.spec.specs.Outcome.{if_then_else_}
 use Rattle.spec.specs.Forest.{Forest, count}
 use Rattle.spec.specs.Value.{depth}
 use Rattle.spec.specs.Equality.{sameLabel}
-use Rattle.claims.specs.Equality.{Distinct}
+use Rattle.spec.specs.Distinct.{Distinct}
 use Rattle.comparison.specs.Comparison.{Compared, compared}
 use Rattle.tape.specs.Fields.{Row}
 use Rattle.tape.specs.declared.fields.Cell.{Cell}

@@ -14,7 +14,7 @@ use Rattle.spec.specs.Forest.{Forest, none, tree, count, size}
 use Rattle.spec.specs.Write.{utf8, writeCharacter, writeCharacters}
 use Rattle.spec.specs.Value.{tag, isNumber, isObject, isContainer, content, levels, depths, depth, sameText, find}
 use Rattle.spec.specs.Equality.{sameBool, sameInteger, sameWorth, sameLabel, partner, matches, equal}
-use Rattle.claims.specs.Equality.{Distinct, empty, member}
+use Rattle.spec.specs.Distinct.{Distinct, empty, member}
 use Rattle.lexer.specs.Hash.{mix, hashFrom, hash}
 use Rattle.text.specs.Decode.{characterIn, decodeLoop, decodeFrom, textFrom, textOf}
 use Rattle.text.specs.Decode as Decode

@@ -11,8 +11,9 @@ use Rattle.spec.specs.Value as Value
 use Rattle.spec.specs.Value.{Entry, Members, find, sameText, isObject}
 use Rattle.spec.specs.Equality.{sameLabel, partner, matches, equal}
 use Rattle.spec.proofs.TextLaws.{sameText-refl}
-use Rattle.claims.specs.Equality.{NoRepeats, empty, element, member}
-use Rattle.claims.proofs.Found.{sameText-apart, found, found-absent}
+use Rattle.spec.specs.Distinct.{NoRepeats, empty, element, member}
+use Rattle.spec.proofs.TextLaws.{sameText-apart}
+use Rattle.spec.proofs.NameLaws.{found, found-absent}
 
 -- the value that a tree is
 abbrev pub valueOf : Entry → Members → Value.Value

@@ -10,7 +10,7 @@ use Rattle.spec.specs.Forest.{Forest, tree, from}
 use Rattle.spec.specs.Value.{depth, find}
 use Rattle.spec.specs.Equality.{partner}
 use Rattle.spec.proofs.TextLaws.{sameText-true}
-use Rattle.claims.specs.Equality.{NoRepeats}
+use Rattle.spec.specs.Distinct.{NoRepeats}
 use Rattle.tape.specs.Fields.{Row, noNode, nameOf}
 use Rattle.tape.specs.declared.fields.Name.{Name}
 use Rattle.tape.specs.declared.fields.Cell.{Cell}

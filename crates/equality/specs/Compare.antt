@@ -7,7 +7,7 @@ use lib.ListN.{getD}
 use Rattle.spec.specs.Forest.{Forest}
 use Rattle.spec.specs.Value.{Label, depth}
 use Rattle.spec.specs.Equality.{sameLabel, equal}
-use Rattle.claims.specs.Equality.{Distinct}
+use Rattle.spec.specs.Distinct.{Distinct}
 use Rattle.tape.specs.Layout.{objectKind}
 use Rattle.tape.specs.Fields.{Row, kindOf, valueOf, nameOf}
 use Rattle.tape.specs.declared.fields.Name.{Name}

@@ -14,13 +14,13 @@ use Rattle.spec.specs.Operation.{Operation, perform, notTooDeep, notTooLarge, l
 use Rattle.spec.specs.Patch.{operation}
 use Rattle.spec.proofs.OutcomeLaws.{refused≢ok, both-ok}
 use Rattle.spec.proofs.TextLaws.{both-true}
-use Rattle.claims.specs.Proper.{Proper}
-use Rattle.claims.specs.Equality.{Distinct}
+use Rattle.spec.specs.Proper.{Proper}
+use Rattle.spec.specs.Distinct.{Distinct}
 use Rattle.claims.specs.Operations.{Same, both, neither}
 use Rattle.claims.proofs.CharacterScalar.{if-ok}
 use Rattle.claims.proofs.LabelLaws.{SameLabels, sameLabel-true, true-sameLabel, isObject-same}
 use Rattle.claims.proofs.Matching.{matches-true, true-matches, matches-alike, alike-count, alike-matches}
-use Rattle.claims.proofs.EqualityRules.{proper-repeats}
+use Rattle.spec.proofs.NameLaws.{proper-repeats}
 use Rattle.claims.proofs.EqualityTheorem.{equality}
 use Rattle.claims.proofs.ProperOperations.{ProperOperation, perform-proper}
 use Rattle.claims.proofs.ProperPatch.{operation-proper}

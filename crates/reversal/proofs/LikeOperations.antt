@@ -16,8 +16,8 @@ use Rattle.spec.specs.Operation.{Kind, Operation, withKids, atParent, insertEle
 use Rattle.spec.specs.Operation.{replaceAtPath, moveTo, copyTo, testAt, perform, notTooDeep, notTooLarge, limited}
 use Rattle.spec.proofs.OutcomeLaws.{both-ok}
 use Rattle.spec.proofs.FartherLaws.{farther-ok}
-use Rattle.claims.specs.Proper as Proper
-use Rattle.claims.specs.Proper.{Proper}
+use Rattle.spec.specs.Proper as Proper
+use Rattle.spec.specs.Proper.{Proper}
 use Rattle.claims.specs.Operations.{Same, both, neither, removing}
 use Rattle.claims.proofs.OperationsTheorem.{proper-child}
 use Rattle.claims.proofs.ProperOperations.{AllCharacters, no-tokens, ProperOperation, perform-proper}

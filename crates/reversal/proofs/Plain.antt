@@ -9,8 +9,8 @@ use Rattle.spec.specs.Value.{Label, Members, leaf}
 use Rattle.spec.specs.Pointer.{Tokens, walk, isDash}
 use Rattle.spec.specs.Operation.{Kind, Operation, removeAtPath, limited}
 use Rattle.spec.specs.Patch.{properPrefix}
-use Rattle.claims.specs.Proper as Proper
-use Rattle.claims.specs.Proper.{Proper, ScalarValues}
+use Rattle.spec.specs.Proper as Proper
+use Rattle.spec.specs.Proper.{Proper, ScalarValues}
 use Rattle.claims.specs.Operations.{adding, removing, replacing}
 use Rattle.claims.proofs.ProperOperations.{AllCharacters, no-tokens, token, ProperOperation, perform-proper}
 use Rattle.claims.proofs.ProperPatch.{AllProper, nothing, first}

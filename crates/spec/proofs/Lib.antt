@@ -24,3 +24,4 @@ pub mod Demand3Theorem
 pub mod RegionTheorem
 pub mod Computing
 pub mod ExamplesTheorem
+pub mod NameLaws
