@@ -8,7 +8,8 @@ use borrow.Author.Tests.{eqb-true, eq-eqb}
 use Rattle.spec.specs.Bytes.{Text}
 use Rattle.spec.specs.Forest.{none, tree, count}
 use Rattle.spec.specs.Value.{Label, Entry, Members, isObject, has}
-use Rattle.spec.specs.Equality.{sameLabel, partner, matches}
+use Rattle.spec.specs.Equality.{sameLabel}
+use Rattle.spec.proofs.MatchLaws.{partner, matches}
 use Rattle.spec.proofs.TextLaws.{both-true}
 use Rattle.spec.specs.Distinct as Repeats
 use Rattle.spec.specs.Distinct.{NoRepeats}

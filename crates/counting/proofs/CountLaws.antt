@@ -14,7 +14,8 @@ use Rattle.spec.specs.Value as Value
 use Rattle.spec.specs.Value.{Label, isObject, depth, depths, tag}
 use Rattle.spec.specs.Equality.{sameLabel}
 use Rattle.spec.specs.Distinct.{NoRepeats, Distinct}
-use Rattle.comparison.specs.Comparison.{Compared, after, _then_, searched, comparedItems, compared}
+use Rattle.comparison.specs.Comparison.{Compared, after, _then_, compared}
+use Rattle.comparison.proofs.ItemLaws.{searched, comparedItems, compared-is}
 use Rattle.tape.specs.Layout.{objectKind}
 use Rattle.tape.specs.Fields.{kindOf}
 use Rattle.tape.specs.declared.fields.Cell.{Cell}
@@ -82,8 +83,8 @@ module _ {w : Table} {at other : ℕ} where
 -- ---- two values by their labels and counts
 module _ (v w : Value.Value) where
   compared-unlike : (sameLabel (v .label) (w .label) && eqb (count (v .kids)) (count (w .kids))) ≡ false → compared v w ≡ after 0 false
-  unfolding compared _then_
-  compared-unlike = go (sameLabel (v .label) (w .label)) (eqb (count (v .kids)) (count (w .kids)))
+  unfolding _then_
+  compared-unlike h = compared-is v w ∙ go (sameLabel (v .label) (w .label)) (eqb (count (v .kids)) (count (w .kids))) h
     where
       items : Compared
       items = comparedItems (isObject (v .label)) (v .kids) (w .kids)
@@ -95,8 +96,8 @@ module _ (v w : Value.Value) where
 
   compared-alike : (sameLabel (v .label) (w .label) && eqb (count (v .kids)) (count (w .kids))) ≡ true
       → compared v w ≡ (after 0 true then comparedItems (isObject (v .label)) (v .kids) (w .kids))
-  unfolding compared _then_
-  compared-alike = go (sameLabel (v .label) (w .label)) (eqb (count (v .kids)) (count (w .kids)))
+  unfolding _then_
+  compared-alike h = compared-is v w ∙ go (sameLabel (v .label) (w .label)) (eqb (count (v .kids)) (count (w .kids))) h
     where
       items : Compared
       items = comparedItems (isObject (v .label)) (v .kids) (w .kids)

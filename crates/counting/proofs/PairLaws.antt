@@ -7,9 +7,10 @@ use Rattle.spec.specs.Outcome.{if_then_else_}
 use Rattle.spec.specs.Bytes.{Text}
 use Rattle.spec.specs.Forest.{Forest, none, tree, Tree, count, from, nth, _⧺_}
 use Rattle.spec.specs.Value.{Members, find}
-use Rattle.spec.specs.Equality.{partner}
+use Rattle.spec.proofs.MatchLaws.{partner}
 use Rattle.spec.specs.Distinct.{NoRepeats, Distinct}
-use Rattle.comparison.specs.Comparison.{lookups, searched}
+use Rattle.comparison.specs.Comparison.{lookups}
+use Rattle.comparison.proofs.ItemLaws.{searched}
 use Rattle.tape.specs.declared.fields.Cell.{Cell}
 use Rattle.tape.specs.Lent.{Table}
 use Rattle.tape.specs.Map.{mapForest}

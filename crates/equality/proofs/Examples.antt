@@ -13,7 +13,7 @@ use Rattle.spec.specs.Worth.{mantissa, fractionDigits, decimal, signedExponent,
 use Rattle.spec.specs.Forest.{Forest, none, tree, count, size}
 use Rattle.spec.specs.Write.{utf8, writeCharacter, writeCharacters}
 use Rattle.spec.specs.Value.{tag, isNumber, isObject, isContainer, content, levels, depths, depth, sameText, find}
-use Rattle.spec.specs.Equality.{sameBool, sameInteger, sameWorth, sameLabel, partner, matches, equal}
+use Rattle.spec.specs.Equality.{sameBool, sameInteger, sameWorth, sameLabel, fromName, sameElements, sameMembers, equal}
 use Rattle.spec.specs.Distinct.{Distinct, empty, member}
 use Rattle.lexer.specs.Hash.{mix, hashFrom, hash}
 use Rattle.text.specs.Decode.{characterIn, decodeLoop, decodeFrom, textFrom, textOf}
@@ -166,7 +166,7 @@ second-value = record { rest = none; held = held-next held; label = container-fi
 
 -- ---- what it leaves
 are-equal : equal (meant texts object first) (meant texts object second) ≡ true
-unfolding compute compute-numbers mapForest labelOf count tag isNumber isObject content sameText sameBool sameInteger sameWorth sameLabel partner matches equal
+unfolding compute compute-numbers mapForest labelOf count tag isNumber isObject content sameText sameBool sameInteger sameWorth sameLabel fromName sameElements sameMembers equal
 are-equal = refl
 
 two-deep : depth (meant texts object first) ≡ 2

@@ -9,7 +9,7 @@ use Rattle.spec.specs.Worth.{mantissa, fractionDigits, decimal, signedEx
 use Rattle.spec.specs.Forest.{_⧺_, count, size, before, from, insertAt, removeAt, replaceAt, nth}
 use Rattle.spec.specs.Value as Value
 use Rattle.spec.specs.Value.{leaf, Label, tag, isNumber, isString, isArray, isObject, isContainer, content, levels, depths, depth, nodes, sameText, find}
-use Rattle.spec.specs.Equality.{sameBool, sameInteger, sameWorth, sameLabel, partner, matches, equal}
+use Rattle.spec.specs.Equality.{sameBool, sameInteger, sameWorth, sameLabel, fromName, sameElements, sameMembers, equal}
 use Rattle.spec.specs.Read.{isBlank, blanksFrom, blanks, wordAt, roomFor, literalValue, numberValue, stringValue, scalar}
 use Rattle.spec.specs.Read.{fresh, nameFor, containerLabel, closingBracket, items, contents, container, value, read}
 use Rattle.spec.specs.Write.{utf8, hexDigit, writeCharacter, writeCharacters, writeString, opening, closing, writeName, comma, writeItems, write}
@@ -65,7 +65,7 @@ unfolding tag isNumber isString isArray isObject isContainer content levels dept
 compute-values = tt
 
 unfoldable compute-equality : Unit {0}
-unfolding sameBool sameInteger sameWorth sameLabel partner matches equal
+unfolding sameBool sameInteger sameWorth sameLabel fromName sameElements sameMembers equal
 compute-equality = tt
 
 unfoldable compute-scalars : Unit {0}

@@ -9,11 +9,11 @@ use Rattle.spec.specs.Outcome.{if_then_else_}
 use Rattle.spec.specs.Bytes.{Text}
 use Rattle.spec.specs.Forest.{none, tree, count}
 use Rattle.spec.specs.Value.{Entry, Members, has, find, sameText}
-use Rattle.spec.specs.Equality.{partner}
 use Rattle.spec.specs.Proper as Proper
 use Rattle.spec.specs.Proper.{ProperItems}
 use Rattle.spec.specs.Distinct as Repeats
 use Rattle.spec.specs.Distinct.{NoRepeats}
+use Rattle.spec.proofs.MatchLaws.{partner}
 use Rattle.spec.proofs.TextLaws.{sameText-true, sameText-refl, sameText-false, sameText-apart}
 
 pub has-cons : (n : Text) (e : Entry) (kids f : Members) → has n (tree e kids f) ≡ (if sameText (e .name) n then true else has n f)
