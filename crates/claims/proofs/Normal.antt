@@ -16,8 +16,9 @@ use Rattle.spec.specs.Numbers.{isDigit, isE}
 use Rattle.spec.specs.Worth.{decimal, dropZeros, trimmed, unlessZero}
 use Rattle.spec.specs.Pointer.{allDigits, isIndex}
 use Rattle.spec.proofs.TextLaws.{both-true, index-injective}
-use Rattle.claims.specs.Numbers as Statement
-use Rattle.claims.specs.Numbers.{Digit, AllDigits, E, positional, above}
+use Rattle.claims.proofs.Valued as Statement
+use Rattle.claims.specs.Numbers.{positional, above}
+use Rattle.claims.proofs.Valued.{Digit, AllDigits, E}
 use Rattle.claims.proofs.Scaling.{base-injective, over, unscaled, ten-positive, scale-twice, over-one-base}
 
 -- Digits, by the tests of the definitions and by the statement's ranges
