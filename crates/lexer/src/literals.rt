@@ -7,25 +7,25 @@ ghost use Rattle.spec.specs.Read.{wordAt};
 ghost use Rattle.lexer.specs.Answers.{scanOutcome};
 use crate::cursor::Bounded;
 use crate::cursor::Cursor;
-use crate::cursor::NOT_JSON;
 use crate::cursor::Scan;
 use crate::cursor::byte_in;
+use spec::refusal;
 
-// Three given bytes. None is 0, which the text seems to have past its end.
+// Three given bytes. None is 0, so none is found past the end of the text.
 fn three_bytes(s: &[u8], at: usize, a: u8, b: u8, c: u8) -> Scan
     requires { ⌜ (1 ≤ a) × (1 ≤ b) × (1 ≤ c) ⌝ }
     ensures { λ r. ⌜ scanOutcome r ≡ wordAt (a ∷ b ∷ c ∷ []) (now (s .entry)) at ⌝ }
 {
     let Bounded::Within(_) = byte_in(s, at, a, a) else {
-        return Scan::Refused(NOT_JSON, at);
+        return Scan::Refused(refusal::NOT_JSON, at);
     };
     let second = at + 1;
     let Bounded::Within(_) = byte_in(s, second, b, b) else {
-        return Scan::Refused(NOT_JSON, second);
+        return Scan::Refused(refusal::NOT_JSON, second);
     };
     let third = second + 1;
     let Bounded::Within(_) = byte_in(s, third, c, c) else {
-        return Scan::Refused(NOT_JSON, third);
+        return Scan::Refused(refusal::NOT_JSON, third);
     };
     Scan::To(Cursor { at: third + 1 })
 }
@@ -51,7 +51,7 @@ impl Cursor {
     {
         let at = self.at;
         let Bounded::Within(_) = byte_in(s, at, b'a', b'a') else {
-            return Scan::Refused(NOT_JSON, at);
+            return Scan::Refused(refusal::NOT_JSON, at);
         };
         three_bytes(s, at + 1, b'l', b's', b'e')
     }
