@@ -12,7 +12,8 @@ use lib.Seq.{drop-drop}
 use lib.Dec.{leb, eqb}
 use Rattle.spec.specs.Outcome.{Outcome, ok, refused, _>>=_, if_then_else_}
 use Rattle.spec.specs.Bytes.{Bytes, byte, ascii}
-use Rattle.hex.specs.Record.{maxText, line-feed, data-type, end-type, total, body, check, recordBytes, upperHex, digits, digitsOf, lineOf, recordsFrom}
+use Rattle.text.specs.UpperHex.{upperHex}
+use Rattle.hex.specs.Record.{maxText, line-feed, data-type, end-type, total, body, check, recordBytes, digits, digitsOf, lineOf, recordsFrom}
 use Rattle.hex.specs.Record.{endLine, hexOf}
 use Rattle.hex.specs.Reading.{hexByte, bytesAt, allHex, count, addressOf, typeOf, dataOf, recordEnd, ending, lineLength, isLine, isData, isEnd}
 use Rattle.hex.specs.Reading.{isRecord, hasSum, isNext, bytesOf, precede, byType, readLine, readFrom, readText, not-a-record, wrong-sum}

@@ -15,7 +15,8 @@ use Rattle.spec.specs.Bytes.{Bytes, byte}
 use Rattle.spec.specs.Strings.{hexValue}
 use Rattle.lexer.proofs.Tests.{between-within, above-within, and-both}
 use Rattle.lexer.proofs.ByteLaws.{here}
-use Rattle.hex.specs.Record.{line-feed, carriage-return, upperHex, digits, digitsOf}
+use Rattle.text.specs.UpperHex.{upperHex}
+use Rattle.hex.specs.Record.{line-feed, carriage-return, digits, digitsOf}
 use Rattle.hex.specs.Reading.{hexByte, isHexByte, bytesAt, allHex, ending}
 use Rattle.hex.specs.Claims.{Octets, Spells, Ending, lf, crlf, missing}
 use Rattle.hex.specs.Claims as Claims

@@ -1,10 +1,11 @@
 use mathlib.Core.Path.{ap}
 use native.Mathlib.Omega.{arith}
 use lib.ListN.{length, length-set}
+use Rattle.text.proofs.LaidLaws.{stored-length}
 use Rattle.lexer.proofs.Auto.{auto}
 use Rattle.hex.specs.Record.{digitsOf, digits}
 use Rattle.hex.proofs.RecordLaws.{digitsOf-length}
-use Rattle.hex.proofs.WritingLaws.{line-stored, stored-length}
+use Rattle.hex.proofs.WritingLaws.{line-stored}
 use Rattle.hex.proofs.writing.put_line.Statement.{statement}
 use Rattle.hex.proofs.writing.put_line.Tie as tie
 

@@ -4,9 +4,9 @@ use native.Mathlib.Omega.{arith}
 use lib.ListN.{length, drop}
 use Rattle.lexer.proofs.Auto.{auto}
 use Rattle.spec.specs.Bytes.{byte}
+use Rattle.text.proofs.LaidLaws.{Laid, laid-starts, laid-length, laid-on, laid-ends}
 use Rattle.hex.specs.Record.{digits, digitsOf}
 use Rattle.hex.proofs.RecordLaws.{digitsOf-here, digitsOf-end}
-use Rattle.hex.proofs.WritingLaws.{Laid, laid-starts, laid-length, laid-on, laid-ends}
 use Rattle.hex.proofs.writing.put_spelled.Statement.{statement}
 use Rattle.hex.proofs.writing.put_spelled.Tie as tie
 
