@@ -184,7 +184,7 @@ parent-keeps change keeps t (u ∷ ts) v w s (token s' a) p h =
 
 -- The six operations
 
-walk-proper : (ts : Tokens) (v w : Value.Value) → Proper v → walk ts v ≡ ok w → Proper w
+pub walk-proper : (ts : Tokens) (v w : Value.Value) → Proper v → walk ts v ≡ ok w → Proper w
 unfolding walk
 walk-proper [] v w p h = let same : v ≡ w = cc in subst Proper same p
 walk-proper (t ∷ ts) v w p h =
