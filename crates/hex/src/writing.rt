@@ -87,7 +87,7 @@ pub fn hex_length(text: &[u8]) -> usize
     (n + 15) / RECORD_BYTES * 12 + 2 * n + 12
 }
 
-// The end of the record that begins at a place of a text of so many bytes.
+// The end of the record that begins at a place of a text, given the length of the text.
 fn record_end(at: usize, n: usize) -> usize
     requires { ⌜ (at < n) × (n ≤ maxText) ⌝ }
     ensures { λ r. ⌜ (at ≤ r) × (r ≤ n) × (r ≤ at + 16) × (r < at + 16 → r ≡ n) ⌝ }

@@ -11,7 +11,7 @@ use borrow.Author.Tests.{lt-ltb, le-ltb}
 use Rattle.io.specs.Digits.{digits, Fewest}
 use Rattle.report.specs.Line.{digit, inDecimalFrom, inDecimal}
 
--- below 10 there is one digit, and else the tenth part's come before the last
+-- below 10 there is one digit, otherwise the digits of the tenth part come before the last
 module _ (fuel n : ℕ) where
   one-digit : n < 10 → inDecimalFrom (suc fuel) n ≡ digit n ∷ []
   unfolding inDecimalFrom

@@ -114,7 +114,7 @@ container value object s at nodes = do
   (kids, next) ← contents value object s (nodes + 1) (at + 1)
   ok (record { label = containerLabel object; kids = kids }, next)
 
--- A value, with so many levels left for containers. "5: the bracket that opens level 33."
+-- A value, where `left` levels are left for containers. "5: the bracket that opens level 33."
 unfoldable pub value : ℕ → Bytes → ℕ → ℕ → Outcome (Value.Value × ℕ)
 value zero s at nodes =
     if eqb (byte s at) (code "[") then refused too-deep at else

@@ -101,7 +101,7 @@ unfoldable pub endsAt : {A : Type 0} → ℕ → Run A → Option Stop
 endsAt op (finished a) = none
 endsAt op (stopped s) = if eqb op (s .op) then some s else none
 
--- the operation op, stopped as its own list is where that ends there, and else what comes later
+-- the operation op with the stop of its own list, where that ends there; otherwise what comes later
 unfoldable pub hereOr : ℕ → Option Stop → Option Stop → Option Stop
 hereOr op (some s) later = some (stop (s .number) op (s .place) (s .pointer))
 hereOr op none later = later
