@@ -11,12 +11,12 @@ use Rattle.spec.specs.Limits.{maxOperations}
 use Rattle.spec.specs.Bytes.{Bytes, ascii}
 use Rattle.writer.specs.Writing.{Placed}
 use Rattle.writer.proofs.PlacedLaws.{placed-as, placed-whole, placed-length, placed-inside}
-use Rattle.report.specs.Line.{decimal, newline}
+use Rattle.report.specs.Line.{inDecimal, newline}
 use Rattle.report.proofs.DecimalLaws.{decimal-short}
 use Rattle.inspect.specs.Counts.{countsIn}
 use Rattle.inspection.specs.Inspection.{total}
 use Rattle.inspection.specs.Tally.{File, results, fieldsOf, line, tally, maxNames}
-use Rattle.patch_count.specs.Line.{spelled, others, lineBytes, tooLong, printed}
+use Rattle.patch_count.specs.Line.{fieldBytes, others, lineBytes, tooLong, printed}
 use Rattle.patch_count.specs.Pieces.{firstPiece, secondPiece, lastPiece, wholeLine}
 use Rattle.patch_count.specs.Sums.{tallyIn, Sums, LineIs}
 use Rattle.patch_count.specs.declared.tally.Tally.{Tally}
@@ -26,20 +26,20 @@ module _ (t : Tally) where
   -- one word and one number behind another
   abbrev nested : Bytes
   nested =
-      ascii "patches " ++ (decimal (t .patches) ++
-      (ascii " refused " ++ (decimal (t .refused) ++
-      (ascii " add " ++ (decimal (t .counts .adds) ++
-      (ascii " remove " ++ (decimal (t .counts .removes) ++
-      (ascii " replace " ++ (decimal (t .counts .replaces) ++
-      (ascii " move " ++ (decimal (t .counts .moves) ++
-      (ascii " copy " ++ (decimal (t .counts .copies) ++
-      (ascii " test " ++ (decimal (t .counts .tests) ++
-      (ascii " ops " ++ (decimal (total (countsIn (t .counts))) ++
-      (ascii " over " ++ (decimal (t .patches - t .refused) ++
+      ascii "patches " ++ (inDecimal (t .patches) ++
+      (ascii " refused " ++ (inDecimal (t .refused) ++
+      (ascii " add " ++ (inDecimal (t .counts .adds) ++
+      (ascii " remove " ++ (inDecimal (t .counts .removes) ++
+      (ascii " replace " ++ (inDecimal (t .counts .replaces) ++
+      (ascii " move " ++ (inDecimal (t .counts .moves) ++
+      (ascii " copy " ++ (inDecimal (t .counts .copies) ++
+      (ascii " test " ++ (inDecimal (t .counts .tests) ++
+      (ascii " ops " ++ (inDecimal (total (countsIn (t .counts))) ++
+      (ascii " over " ++ (inDecimal (t .patches - t .refused) ++
       newline)))))))))))))))))))
 
   line-nested : lineBytes (fieldsOf (tallyIn t)) ≡ nested
-  unfolding lineBytes others spelled fieldsOf ascii
+  unfolding lineBytes others fieldBytes fieldsOf ascii
   line-nested = refl
 
   pieces-nested : wholeLine t (total (countsIn (t .counts))) (t .patches - t .refused) ≡ nested

@@ -3,12 +3,13 @@ use mathlib.Core.Path.{_≡_}
 use Prim.Native.Nat.{ℕ, _≤_}
 use mathlib.Core.List.{[], _∷_}
 use mathlib.Core.Bool.{Bool, true, false}
+use Rattle.spec.specs.Outcome.{ok}
 use Rattle.spec.specs.Limits.{maxDepth, maxNodes}
 use Rattle.spec.specs.Bytes.{Bytes, Text}
 use Rattle.spec.specs.Forest.{none, tree}
 use Rattle.spec.specs.Value as Value
-use Rattle.spec.specs.Value.{Label, Entry, Members, isObject, has, depth, nodes}
-use Rattle.claims.specs.Numbers.{NumberText}
+use Rattle.spec.specs.Value.{Label, Entry, Members, isObject, leaf, has, depth, nodes}
+use Rattle.spec.specs.Read.{read}
 
 -- a Unicode scalar value: any code point but the surrogates, D800 to DFFF
 pub data ScalarValue (c : ℕ) : Type 0 where
@@ -18,6 +19,10 @@ pub data ScalarValue (c : ℕ) : Type 0 where
 pub data ScalarValues : Text → Type 0 where
   nothing : ScalarValues []
   another : {c : ℕ} {cs : Text} → ScalarValue c → ScalarValues cs → ScalarValues (c ∷ cs)
+
+-- a text that is one number from its first byte to its last
+abbrev pub NumberText : Bytes → Type 0
+NumberText t = read t ≡ ok (leaf (Label.number t))
 
 -- what a label allows: a number's text is one number, a string is of characters, and only a container has values in it
 pub data Allows : Label → Members → Type 0 where
@@ -42,7 +47,7 @@ pub record Proper (v : Value.Value) : Type 0 where
   pub allows : Allows (v .label) (v .kids)
   pub items : ProperItems (isObject (v .label)) (v .kids)
 
--- proper, and within the limits: the values that texts are read as (`RoundTrip`)
+-- proper, and within the limits: the values that texts are read as (claims, `RoundTrip`)
 pub record Readable (v : Value.Value) : Type 0 where
   pub proper : Proper v
   pub shallow : depth v ≤ maxDepth
