@@ -10,27 +10,22 @@ use Rattle.spec.specs.Bytes.{Bytes}
 use Rattle.spec.specs.Value as Value
 use Rattle.spec.specs.Read.{isBlank, value}
 
-infixr 66 _⁀_
--- a text and what follows it
-abbrev pub _⁀_ : Bytes → Bytes → Bytes
-_⁀_ s t = s ++ t
-
 unfoldable pub allBlank : Bytes → Bool
 allBlank [] = true
 allBlank (b ∷ w) = isBlank b && allBlank w
 
 -- elements with commas between them, then the closing bracket, and blanks anywhere between and after
 pub data Listed : Bytes → List Bytes → Type 0 where
-  last : (e w w' : Bytes) → allBlank w ≡ true → allBlank w' ≡ true → Listed (e ⁀ w ⁀ code "]" ∷ w') (e ∷ [])
+  last : (e w w' : Bytes) → allBlank w ≡ true → allBlank w' ≡ true → Listed (e ++ (w ++ (code "]" ∷ w'))) (e ∷ [])
   more : (e w w' rest : Bytes) (others : List Bytes) → allBlank w ≡ true → allBlank w' ≡ true → Listed rest others →
-      Listed (e ⁀ w ⁀ code "," ∷ w' ⁀ rest) (e ∷ others)
+      Listed (e ++ (w ++ (code "," ∷ (w' ++ rest)))) (e ∷ others)
 
 -- an array's text by its elements' texts
 pub data Layout : Bytes → List Bytes → Type 0 where
   empty : (w w' w'' : Bytes) → allBlank w ≡ true → allBlank w' ≡ true → allBlank w'' ≡ true →
-      Layout (w ⁀ code "[" ∷ w' ⁀ code "]" ∷ w'') []
+      Layout (w ++ (code "[" ∷ (w' ++ (code "]" ∷ w'')))) []
   filled : (w w' rest : Bytes) (all : List Bytes) → allBlank w ≡ true → allBlank w' ≡ true → Listed rest all →
-      Layout (w ⁀ code "[" ∷ w' ⁀ rest) all
+      Layout (w ++ (code "[" ∷ (w' ++ rest))) all
 
 -- a text that is one value from its first byte to its last
 abbrev pub Alone : Bytes → Value.Value → Type 0
