@@ -48,7 +48,7 @@ use Rattle.walk.proofs.StepLaws.{child-scalar}
 use Rattle.changes.specs.Limited.{limitedTo}
 use Rattle.changes.specs.Site.{Surroundings, Standing, Site}
 use Rattle.changes.specs.Rows.{SameBehind, Frame, framed, unchanged, walkedTo, resized}
-use Rattle.changes.specs.Change.{ByToken, Answers, done, refusal, SiteOf, Makes, adds, removes, replaces, ChangeChildIs, Alters, AlterIs}
+use Rattle.changes.specs.Change.{ByToken, ChangeAnswers, done, refusal, SiteOf, Makes, adds, removes, replaces, ChangeChildIs, Alters, AlterIs}
 use Rattle.changes.specs.declared.trees.Parent.{Parent}
 use Rattle.changes.specs.declared.answers.Change.{Change}
 use Rattle.changes.specs.declared.answers.Altered.{Altered}
@@ -250,8 +250,8 @@ module _ {w : Table} {used row levels : ℕ} (z : Site w used row levels) (t : T
 
   -- each way in which the change of the child ends
   module _ {nodes' : List Row} {o : Outcome Value.Value} where
-    up-done : {now : ℕ} → now ≤ maxNodes → SameBehind (w .nodes) nodes' → Answers child-site nodes' o (Done now)
-        → Answers z (resized nodes' row used now) (put-back o) (Done now)
+    up-done : {now : ℕ} → now ≤ maxNodes → SameBehind (w .nodes) nodes' → ChangeAnswers child-site nodes' o (Done now)
+        → ChangeAnswers z (resized nodes' row used now) (put-back o) (Done now)
     unfolding child-site _>>=_
     up-done few same (done {kids = changed} e stands) =
         let then-value = borne (w .texts) (z .c) (replaceAt k (record { root = b .root; kids = changed }) (z .kids)) in
@@ -259,7 +259,7 @@ module _ {w : Table} {used row levels : ℕ} (z : Site w used row levels) (t : T
         limits o ∙ ap put-back e ∙ ap ok (put-borne (w .texts) k (z .c) (z .kids) (b .root) changed) in
         done passed (up-standing few same stands)
 
-    up-refused : {number place : ℕ} → Answers child-site nodes' o (Refused number place) → Answers z nodes' (put-back o) (Refused number place)
+    up-refused : {number place : ℕ} → ChangeAnswers child-site nodes' o (Refused number place) → ChangeAnswers z nodes' (put-back o) (Refused number place)
     unfolding child-site _>>=_
     up-refused (refusal e) = refusal (limits o ∙ ap put-back e)
 
@@ -279,8 +279,8 @@ module _ {w : Table} {p : Parent} {path : Spelling} {at : ℕ} {name : Name} {en
   -- what is done with the child's answer
   through : {nodes' ended : List Row} {r : Altered} (z : SiteOf w p)
       → ((y : Site w (p .used) inner below) → Alters (walkedTo p + 1) y nodes' path next change r)
-      → ((k : ℕ) (n : ChildOf w p name inner z k) (o : Outcome Value.Value) → Answers (down w p name inner below one-less z k n) nodes' o r
-      → Answers z ended (o >>= λ x. ok (put k x (borne (w .texts) (z .c) (z .kids)))) r)
+      → ((k : ℕ) (n : ChildOf w p name inner z k) (o : Outcome Value.Value) → ChangeAnswers (down w p name inner below one-less z k n) nodes' o r
+      → ChangeAnswers z ended (o >>= λ x. ok (put k x (borne (w .texts) (z .c) (z .kids)))) r)
       → Alters (walkedTo p) z ended path at change r
   unfolding child-site
   through {nodes'} {ended} {r} z alters up f u us makes short inside from =
@@ -290,15 +290,15 @@ module _ {w : Table} {p : Parent} {path : Spelling} {at : ℕ} {name : Name} {en
       let o = atParent f v vs (borne (w .texts) (nth blank k (z .kids) .root) (nth blank k (z .kids) .kids)) in
       let within = next-order (partOf (w .texts) path) at t (read .is) end next e .2 in
       let y = down w p name inner below one-less z k n in
-      let answer : Answers y nodes' (fartherBy (walkedTo p + 1) o) r = alters y f v vs makes short within later in
+      let answer : ChangeAnswers y nodes' (fartherBy (walkedTo p + 1) o) r = alters y f v vs makes short within later in
       let same : atParent f u us (borne (w .texts) (z .c) (z .kids)) ≡ farther o >>= λ x. ok (put k x (borne (w .texts) (z .c) (z .kids))) =
       rw (more, first) (child-outcome z (nameText (w .texts) name) k below (ap suc one-less) named kth inner place f v vs) in
       let behind = farther-back z (nameText (w .texts) name) k below (ap suc one-less) named kth inner place (walkedTo p) o in
       same-answers (ap (fartherBy (walkedTo p)) same ∙ behind) (up k n (fartherBy (walkedTo p + 1) o) answer)
 
   back-refused : {nodes' : List Row} {number told : ℕ} (z : SiteOf w p) (k : ℕ) (n : ChildOf w p name inner z k) (o : Outcome Value.Value)
-      → Answers (down w p name inner below one-less z k n) nodes' o (Refused number told)
-      → Answers z nodes' (o >>= λ x. ok (put k x (borne (w .texts) (z .c) (z .kids)))) (Refused number told)
+      → ChangeAnswers (down w p name inner below one-less z k n) nodes' o (Refused number told)
+      → ChangeAnswers z nodes' (o >>= λ x. ok (put k x (borne (w .texts) (z .c) (z .kids)))) (Refused number told)
   back-refused z k n o answer = up-refused z (nameText (w .texts) name) k below (ap suc one-less) (n .0) (n .1) inner (n .2) answer
 
   -- a child that nests no container has none of its own

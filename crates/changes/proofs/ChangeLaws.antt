@@ -50,7 +50,8 @@ use Rattle.changes.specs.Cut.{renamed}
 use Rattle.changes.specs.Site.{Site, Offered, table}
 use Rattle.changes.specs.Rows.{Frame, unchanged, walkedTo}
 use Rattle.changes.specs.Limited.{limitedTo}
-use Rattle.changes.specs.Change.{ByToken, Answers, refusal, SiteOf, PutIs, TakeOutIs, Placed, placed, unplaced, InsertionIs, Replaced, ReplaceTreeIs}
+use Rattle.changes.specs.Change.{ByToken, ChangeAnswers, refusal, SiteOf, PutIs, TakeOutIs, ChildPlaced, placed, unplaced, InsertionIs}
+use Rattle.changes.specs.Change.{Replaced, ReplaceTreeIs}
 use Rattle.changes.specs.Change.{AddElementIs, AddMemberIs, AddIs, RemoveIs, ReplaceIs, Changed, Makes, adds, removes, replaces, ChangeChildIs}
 use Rattle.changes.specs.declared.trees.Parent.{Parent}
 use Rattle.changes.specs.declared.answers.Change.{Change}
@@ -63,12 +64,12 @@ use Rattle.changes.proofs.SiteLaws.{site-held, site-fit, child-rows, ch
 use Rattle.changes.proofs.BorneLaws.{members-borne, no-name, no-name-fits, no-name-told, removed-borne, inserted-borne, put-borne, name-fits, token-fits}
 
 module _ {w : Table} {used row levels : ℕ} {z : Site w used row levels} {nodes' : List Row} where
-  pub same-answers : {o p : Outcome Value.Value} {r : Altered} → o ≡ p → Answers z nodes' p r → Answers z nodes' o r
-  same-answers {r = r} e a = subst (λ o. Answers z nodes' o r) (sym e) a
+  pub same-answers : {o p : Outcome Value.Value} {r : Altered} → o ≡ p → ChangeAnswers z nodes' p r → ChangeAnswers z nodes' o r
+  same-answers {r = r} e a = subst (λ o. ChangeAnswers z nodes' o r) (sym e) a
 
   -- what the definitions refuse is refused, with the tokens that were walked before
   pub answers-refused : {o : Outcome Value.Value} {number walked place : ℕ} → o ≡ refused number 0 → place ≡ walked
-      → Answers z nodes' (fartherBy walked o) (Refused number place)
+      → ChangeAnswers z nodes' (fartherBy walked o) (Refused number place)
   unfolding fartherBy
   answers-refused {o} {number} {walked} {place} e f =
       let here : walked + 0 ≡ place = omega arith in
@@ -114,7 +115,7 @@ module _ {nodes : List Row} {row : ℕ} where
   insertion-not i e c kids node = unplaced no-index (ap (insertionAt (count kids)) e)
 
   pub insertion-at : (i : Index) (k : ℕ) {r : Child} → i ≡ Index.At k → InsertionIs nodes row (Index.At k) r → InsertionIs nodes row i r
-  insertion-at i k {r} e is c kids node = subst (λ j. Placed row kids (insertionAt (count kids) j) r) (sym e) (is c kids node)
+  insertion-at i k {r} e is c kids node = subst (λ j. ChildPlaced row kids (insertionAt (count kids) j) r) (sym e) (is c kids node)
 
   module _ (k : ℕ) (l : Located) (is : ChildIs nodes row k l) where
     up-to : (n : ℕ) → k ≤ n → insertionAt n (Index.At k) ≡ ok k
@@ -171,8 +172,8 @@ module _ (w : Table) (p : Parent) (token : Name) (z : SiteOf w p) (x : Cell) (ki
 module _ {w : Table} {p : Parent} {token : Name} (i : Index) (index-of : IsToken (w .texts) token → indexOf (nameText (w .texts) token) ≡ i) (z : SiteOf w p)
     (x : Cell) (kids : Forest Cell) (t : IsToken (w .texts) token) where
   element-put : {nodes' : List Row} {source : ℕ} {r : Altered} (at : ℕ) → PutIs (w .nodes) nodes' p at 0 source noName r → z .c .kind ≡ arrayKind
-      → Offered w source x kids → {q : Child} → Placed (p .row) (z .kids) (insertionAt (count (z .kids)) i) q → q ≡ Child.At at
-      → Answers z nodes' (with-element w p token z x kids) r
+      → Offered w source x kids → {q : Child} → ChildPlaced (p .row) (z .kids) (insertionAt (count (z .kids)) i) q → q ≡ Child.At at
+      → ChangeAnswers z nodes' (with-element w p token z x kids) r
   unfolding insertAt fartherBy
   element-put at put-is kind offered (placed k at' f l place) g =
       let same : at' ≡ at = cc in
@@ -181,8 +182,8 @@ module _ {w : Table} {p : Parent} {token : Name} (i : Index) (index-of : IsToken
       (cut-before k (sym same ∙ place)))
   element-put at put-is kind offered (unplaced n f) g = absurd (let w : _≡_ {A = ℕ} 0 1 = cc in omega arith)
 
-  element-not : {nodes' : List Row} {number place : ℕ} {q : Child} → Placed (p .row) (z .kids) (insertionAt (count (z .kids)) i) q
-      → q ≡ Child.Refused number → place ≡ walkedTo p → Answers z nodes' (with-element w p token z x kids) (Refused number place)
+  element-not : {nodes' : List Row} {number place : ℕ} {q : Child} → ChildPlaced (p .row) (z .kids) (insertionAt (count (z .kids)) i) q
+      → q ≡ Child.Refused number → place ≡ walkedTo p → ChangeAnswers z nodes' (with-element w p token z x kids) (Refused number place)
   element-not (placed k at' f l at) g walked = absurd (let w : _≡_ {A = ℕ} 0 1 = cc in omega arith)
   element-not {number = number} (unplaced n f) g walked =
       let same : n ≡ number = cc in
@@ -224,7 +225,7 @@ module _ (T : Texts) (c x : Cell) (kids below : Forest Cell) (name : Text) where
 module _ {w : Table} {p : Parent} {token : Name} (z : SiteOf w p) (x : Cell) (kids : Forest Cell) (t : IsToken (w .texts) token) {nodes' : List Row}
     {source : ℕ} {r : Altered} (offered : Offered w source x kids) where
   replaced-there : (at : ℕ) → Replaced w nodes' p at source r → {n : Member} → Found (w .texts) (p .row + 1) (z .kids) (nameText (w .texts) token) n
-      → n ≡ Member.At at → Answers z nodes' (with-member w p token z x kids) r
+      → n ≡ Member.At at → ChangeAnswers z nodes' (with-member w p token z x kids) r
   unfolding childRow
   replaced-there at replaced (found k at' f l place) g =
       let same : at' ≡ at = cc in
@@ -233,7 +234,7 @@ module _ {w : Table} {p : Parent} {token : Name} (z : SiteOf w p) (x : Cell) (ki
   replaced-there at replaced (missing f) g = absurd (let w : _≡_ {A = ℕ} 0 1 = cc in omega arith)
 
   added-there : (end : ℕ) → end ≡ endOf (w .nodes) (p .row) → z .c .kind ≡ objectKind → PutIs (w .nodes) nodes' p end 0 source token r → {n : Member}
-      → Found (w .texts) (p .row + 1) (z .kids) (nameText (w .texts) token) n → n ≡ Member.Missing → Answers z nodes' (with-member w p token z x kids) r
+      → Found (w .texts) (p .row + 1) (z .kids) (nameText (w .texts) token) n → n ≡ Member.Missing → ChangeAnswers z nodes' (with-member w p token z x kids) r
   unfolding insertAt
   added-there end ends kind put-is (found k at' f l place) g = absurd (let w : _≡_ {A = ℕ} 0 1 = cc in omega arith)
   added-there end ends kind put-is (missing f) g =

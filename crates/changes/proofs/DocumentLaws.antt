@@ -34,7 +34,7 @@ use Rattle.walk.specs.declared.path.Reached.{Reached}
 use Rattle.walk.specs.declared.path.Reached.the-variants as Reached
 use Rattle.changes.specs.Site.{Surroundings, Standing, Site, table}
 use Rattle.changes.specs.Rows.{Frame}
-use Rattle.changes.specs.Change.{Answers, done, refusal}
+use Rattle.changes.specs.Change.{ChangeAnswers, done, refusal}
 use Rattle.changes.specs.Document as Document
 use Rattle.changes.specs.Document.{Document, judged, Bearing, judgedBearing, ResultsBearing, results}
 use Rattle.changes.specs.declared.answers.Altered.{Altered}
@@ -94,7 +94,7 @@ standing-document {T} {c = c} {kids} s few shallow long =
 
 -- what is answered of that node is what becomes of the document
 pub document-answers : {w : Table} {nodes' : List Row} {used : ℕ} {v : Value.Value} (d : Document w used v) {o : Outcome Origin.Value} {r : Altered}
-    → Frame (w .nodes) nodes' r → Answers (document-site d) nodes' o r → ResultsBearing (w .texts) nodes' (judgedBearing o) r
+    → Frame (w .nodes) nodes' r → ChangeAnswers (document-site d) nodes' o r → ResultsBearing (w .texts) nodes' (judgedBearing o) r
 unfolding document-site
 document-answers {w} d {o} frame (done {kids = kids} e stands) =
     let within = limited-same maxDepth maxNodes o (borne (w .texts) (d .c) kids) e in

@@ -37,7 +37,7 @@ use Rattle.changes.specs.Limited.{limitedTo}
 use Rattle.changes.specs.Site.{Standing, Site, Offered}
 use Rattle.changes.specs.Rows.{Frame, framed, renamedAt, resized, Low, put-rows, taken-rows}
 use Rattle.changes.specs.Cut.{Cut, renamed}
-use Rattle.changes.specs.Change.{Answers, done, refusal, PutIs, TakeOutIs}
+use Rattle.changes.specs.Change.{ChangeAnswers, done, refusal, PutIs, TakeOutIs}
 use Rattle.changes.specs.declared.trees.Parent.{Parent}
 use Rattle.changes.specs.declared.answers.Altered.the-variants.{Done, Refused}
 use Rattle.changes.proofs.LimitLaws.{limited-deep, limited-large, limited-fits}
@@ -181,7 +181,7 @@ module _ {w : Table} {source : ℕ} {x : Cell} {kids : Forest Cell} (offered : O
       abbrev outcome : Outcome Value.Value
       outcome = ok (borne (w .texts) (z .c) (left ⧺ new ⧺ right))
 
-      pub put-deep : {nodes' : List Row} {r : Bool} → WithinIs (w .nodes) source below r → r ≡ false → Answers z nodes' outcome (Refused too-deep 0)
+      pub put-deep : {nodes' : List Row} {r : Bool} → WithinIs (w .nodes) source below r → r ≡ false → ChangeAnswers z nodes' outcome (Refused too-deep 0)
       put-deep is e =
           let l = leb-false (level x (deep kids)) below (sym (is x kids (held-node (offered .held .held))) ∙ e) in
           refusal (changed-deep z container cut new new-formed (omega (arith, deep-new)))
@@ -196,7 +196,7 @@ module _ {w : Table} {source : ℕ} {x : Cell} {kids : Forest Cell} (offered : O
         count-size : count ≡ size new
         count-size = omega (arith, offered-size, size-new)
 
-        pub put-large : {nodes' : List Row} → maxNodes - kept < count → Answers z nodes' outcome (Refused too-many-nodes 0)
+        pub put-large : {nodes' : List Row} → maxNodes - kept < count → ChangeAnswers z nodes' outcome (Refused too-many-nodes 0)
         put-large h = refusal (changed-large z container cut new new-formed levels-fit (omega (arith, count-size)))
 
         module _ (now : ℕ) (now-is : now ≡ kept + count) (few : now ≤ maxNodes) where
@@ -221,7 +221,7 @@ module _ {w : Table} {source : ℕ} {x : Cell} {kids : Forest Cell} (offered : O
               (cut .place ∙ past-front (z .around .front) (rowOf (z .c) (z .kids)) row (size left) (z .standing .place)) exchanged
 
           pub put-done : {nodes' : List Row} → nodes' ≡ resized (renamedAt (spliced (w .nodes) used at removed source count) at name) row used now
-              → Answers z nodes' outcome (Done now)
+              → ChangeAnswers z nodes' outcome (Done now)
           put-done e =
               rw e
               (done (changed-fits z container cut new new-formed levels-fit (omega (arith, now-used, count-size)))
@@ -240,7 +240,7 @@ module _ {w : Table} {used row levels : ℕ} (z : Site w used row levels) (k : �
   no-rows = record { before = omega arith; after = omega arith; there = omega (arith, z .few, z .long) }
 
   pub taken-out : (now : ℕ) → now ≡ used - removed → {nodes' : List Row} → nodes' ≡ resized (spliced (w .nodes) used at removed used 0) row used now
-      → Answers z nodes' (ok (borne (w .texts) (z .c) (removeAt k (z .kids)))) (Done now)
+      → ChangeAnswers z nodes' (ok (borne (w .texts) (z .c) (removeAt k (z .kids)))) (Done now)
   unfolding removeAt _⧺_ tape deep size
   taken-out now now-is e =
       let left : usedAfter used removed 0 ≡ now = omega arith in

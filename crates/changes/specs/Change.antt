@@ -42,10 +42,10 @@ ByToken = Text → Value.Value → Outcome Value.Value
 
 -- The outcome of a change of the children of the node at a site, given what it is by the definitions before the limits are judged. Where it is done
 -- the node has other children in their place, and nothing around it has changed.
-pub data Answers {w : Table} {used row levels : ℕ} (z : Site w used row levels) (nodes' : List Row) (o : Outcome Value.Value) : Altered → Type 0 where
+pub data ChangeAnswers {w : Table} {used row levels : ℕ} (z : Site w used row levels) (nodes' : List Row) (o : Outcome Value.Value) : Altered → Type 0 where
   done : {now : ℕ} {kids : Forest Cell} → limitedTo levels (z .room) o ≡ ok (borne (w .texts) (z .c) kids)
-      → Standing (w .texts) nodes' now row (z .around) (z .c) kids → Answers z nodes' o (Done now)
-  refusal : {number place : ℕ} → limitedTo levels (z .room) o ≡ refused number place → Answers z nodes' o (Refused number place)
+      → Standing (w .texts) nodes' now row (z .around) (z .c) kids → ChangeAnswers z nodes' o (Done now)
+  refusal : {number place : ℕ} → limitedTo levels (z .room) o ≡ refused number place → ChangeAnswers z nodes' o (Refused number place)
 
 -- the parent of children that change
 abbrev pub SiteOf : Table → Parent → Type 0
@@ -59,30 +59,30 @@ pub record PutIs (nodes nodes' : List Row) (p : Parent) (at removed source : ℕ
   pub frame : Frame nodes nodes' r
   pub held : (T : Texts) (z : SiteOf (table T nodes) p) (x : Cell) (kids left right : Forest Cell) → arrayKind ≤ z .c .kind
       → Offered (table T nodes) source x kids → NameFits T name → Told (name .text) → Cut (p .row) (z .kids) at removed left right
-      → Answers z nodes' (ok (borne T (z .c) (left ⧺ single (renamed name x kids) ⧺ right))) r
+      → ChangeAnswers z nodes' (ok (borne T (z .c) (left ⧺ single (renamed name x kids) ⧺ right))) r
 
 -- a child taken out
 pub record TakeOutIs (nodes nodes' : List Row) (p : Parent) (at : ℕ) (r : Altered) : Type 0 where
   pub rows : TakenRows nodes nodes' p at r
   pub frame : Frame nodes nodes' r
   pub held : (T : Texts) (z : SiteOf (table T nodes) p) (k : ℕ) → k < count (z .kids) → at ≡ childRow (p .row) k (z .kids)
-      → Answers z nodes' (ok (borne T (z .c) (removeAt k (z .kids)))) r
+      → ChangeAnswers z nodes' (ok (borne T (z .c) (removeAt k (z .kids)))) r
 
 -- ---- a child changed by its token
 -- the row where a child is to stand among the children of the node in a row, at a position up to their number, or the refusal's number
-pub data Placed (row : ℕ) (kids : Forest Cell) (o : Outcome ℕ) : Child → Type 0 where
-  placed : (k at : ℕ) → o ≡ ok k → k ≤ count kids → at ≡ childRow row k kids → Placed row kids o (Child.At at)
-  unplaced : (number : ℕ) → o ≡ refused number 0 → Placed row kids o (Child.Refused number)
+pub data ChildPlaced (row : ℕ) (kids : Forest Cell) (o : Outcome ℕ) : Child → Type 0 where
+  placed : (k at : ℕ) → o ≡ ok k → k ≤ count kids → at ≡ childRow row k kids → ChildPlaced row kids o (Child.At at)
+  unplaced : (number : ℕ) → o ≡ refused number 0 → ChildPlaced row kids o (Child.Refused number)
 
 -- an element's, by what its token is to an array
 abbrev pub InsertionIs : List Row → ℕ → Index → Child → Type 0
-InsertionIs nodes row i r = ForNode nodes row (λ c kids. Placed row kids (insertionAt (count kids) i) r)
+InsertionIs nodes row i r = ForNode nodes row (λ c kids. ChildPlaced row kids (insertionAt (count kids) i) r)
 
 -- the child in a row replaced, its name kept
 abbrev pub Replaced : Table → List Row → Parent → ℕ → ℕ → Altered → Type 0
 Replaced w nodes' p at source r =
     (z : SiteOf w p) (x : Cell) (kids : Forest Cell) (k : ℕ) → Offered w source x kids → k < count (z .kids) → at ≡ childRow (p .row) k (z .kids)
-    → Answers z nodes' (ok (put k (borne (w .texts) x kids) (borne (w .texts) (z .c) (z .kids)))) r
+    → ChangeAnswers z nodes' (ok (put k (borne (w .texts) x kids) (borne (w .texts) (z .c) (z .kids)))) r
 
 pub record ReplaceTreeIs (nodes nodes' : List Row) (p : Parent) (at source : ℕ) (r : Altered) : Type 0 where
   pub frame : Frame nodes nodes' r
@@ -92,18 +92,19 @@ pub record ReplaceTreeIs (nodes nodes' : List Row) (p : Parent) (at source : ℕ
 abbrev pub Changed : Table → List Row → Parent → Name → ByToken → Altered → Type 0
 Changed w nodes' p token f r =
     (z : SiteOf w p) → IsToken (w .texts) token
-    → Answers z nodes' (fartherBy (walkedTo p) (f (nameText (w .texts) token) (borne (w .texts) (z .c) (z .kids)))) r
+    → ChangeAnswers z nodes' (fartherBy (walkedTo p) (f (nameText (w .texts) token) (borne (w .texts) (z .c) (z .kids)))) r
 
 module _ (w : Table) (nodes' : List Row) (p : Parent) (token : Name) (source : ℕ) (r : Altered) where
   pub record AddElementIs : Type 0 where
     pub frame : Frame (w .nodes) nodes' r
     pub held : (z : SiteOf w p) (x : Cell) (kids : Forest Cell) → z .c .kind ≡ arrayKind → Offered w source x kids → IsToken (w .texts) token
-        → Answers z nodes' (fartherBy (walkedTo p) (insertElement (borne (w .texts) x kids) (nameText (w .texts) token) (borne (w .texts) (z .c) (z .kids)))) r
+        → ChangeAnswers z nodes'
+        (fartherBy (walkedTo p) (insertElement (borne (w .texts) x kids) (nameText (w .texts) token) (borne (w .texts) (z .c) (z .kids)))) r
 
   pub record AddMemberIs : Type 0 where
     pub frame : Frame (w .nodes) nodes' r
     pub held : (z : SiteOf w p) (x : Cell) (kids : Forest Cell) → z .c .kind ≡ objectKind → Offered w source x kids → IsToken (w .texts) token
-        → Answers z nodes' (ok (insertMember (borne (w .texts) x kids) (nameText (w .texts) token) (borne (w .texts) (z .c) (z .kids)))) r
+        → ChangeAnswers z nodes' (ok (insertMember (borne (w .texts) x kids) (nameText (w .texts) token) (borne (w .texts) (z .c) (z .kids)))) r
 
   pub record AddIs : Type 0 where
     pub frame : Frame (w .nodes) nodes' r
@@ -131,7 +132,7 @@ pub record ChangeChildIs (w : Table) (nodes' : List Row) (p : Parent) (token : N
 abbrev pub Alters : {w : Table} {used row levels : ℕ} → ℕ → Site w used row levels → List Row → Spelling → ℕ → Change → Altered → Type 0
 Alters {w} walked z nodes' path at change r =
     (f : ByToken) (t : Text) (ts : Tokens) → Makes w change f → Short (w .texts) → at ≤ length (partOf (w .texts) path)
-    → TokensFrom (w .texts) path at (t ∷ ts) → Answers z nodes' (fartherBy walked (atParent f t ts (borne (w .texts) (z .c) (z .kids)))) r
+    → TokensFrom (w .texts) path at (t ∷ ts) → ChangeAnswers z nodes' (fartherBy walked (atParent f t ts (borne (w .texts) (z .c) (z .kids)))) r
 
 pub record AlterIs (w : Table) (nodes' : List Row) (p : Parent) (path : Spelling) (at : ℕ) (change : Change) (r : Altered) : Type 0 where
   pub frame : Frame (w .nodes) nodes' r

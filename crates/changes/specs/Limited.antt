@@ -1,4 +1,4 @@
--- The limits after an operation, on a part of the document: of a node's value so many containers may be nested, and it may have so many nodes. Of
+-- The limits after an operation, on a part of the document: how many containers a node's value may nest, and how many nodes it may have. Of
 -- the whole document these are the two limits of `limited`. The values bear their origins.
 use Prim.Native.Nat.{ℕ}
 use lib.Dec.{leb}

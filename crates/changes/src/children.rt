@@ -27,7 +27,7 @@ ghost use Rattle.changes.specs.Rows.{Low};
 ghost use Rattle.changes.specs.Change.{InsertionIs, ReplaceTreeIs, AddElementIs, AddMemberIs, AddIs};
 ghost use Rattle.changes.specs.Change.{RemoveIs, ReplaceIs, ChangeChildIs};
 
-// The row where an element is added at a position, which may be that behind the last.
+// The row where an element is added at a position. The position may be the one behind the last element.
 fn position(nodes: &[Node], row: usize, k: usize) -> Child
     ensures { λ r. ⌜ InsertionIs (now (nodes .entry)) row (Index.At k) r ⌝ }
 {

@@ -47,7 +47,7 @@ fn change_document(nodes: &mut [Node], used: usize, change: Change) -> Altered
     }
 }
 
-// The document, which is the first `used` rows, changed at the location that the pointer names which `path` spells.
+// The document, which is the first `used` rows, changed at the location that the pointer in `path` names.
 pub fn change_at<'a>(
     texts: Texts<'a>,
     nodes: &mut [Node],

@@ -12,7 +12,7 @@ use Rattle.spec.specs.Outcome.{ok, _>>=_, if_then_else_}
 use Rattle.spec.specs.Bytes.{Bytes, byte, within, ascii}
 use Rattle.spec.specs.Strings.{hexValue, hexIn, secondLimit, unicodeEscape, shortEscape, escape, tail, multibyte, character}
 use Rattle.spec.specs.Write.{utf8, hexDigit, writeCharacter}
-use Rattle.claims.specs.Proper.{ScalarValue, below-surrogates, above-surrogates}
+use Rattle.spec.specs.Proper.{ScalarValue, below-surrogates, above-surrogates}
 use Rattle.claims.proofs.Rest.{Rest, byte-at, first-byte, rest-next, within-true, within-low, within-high, byteIn-ok}
 
 module _ {s : Bytes} {at : ℕ} where

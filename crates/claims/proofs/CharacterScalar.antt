@@ -13,7 +13,7 @@ use Rattle.spec.specs.Strings.{hexValue, hexIn, lowSurrogate, afterHigh, second
 use Rattle.spec.specs.Strings.{characters, string}
 use Rattle.spec.proofs.OutcomeLaws.{refused≢ok, both-ok, first-ok}
 use Rattle.spec.proofs.TextLaws.{both-true}
-use Rattle.claims.specs.Proper.{ScalarValue, below-surrogates, above-surrogates, ScalarValues, nothing, another}
+use Rattle.spec.specs.Proper.{ScalarValue, below-surrogates, above-surrogates, ScalarValues, nothing, another}
 
 -- a result by a test, with what the test said
 pub if-ok : {A C : Type 0} (test : Bool) {x y : Outcome A} {a : A} → (if test then x else y) ≡ ok a

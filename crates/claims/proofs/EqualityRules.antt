@@ -10,21 +10,17 @@ use Rattle.spec.specs.Worth.{worth}
 use Rattle.spec.specs.Forest.{count}
 use Rattle.spec.specs.Value.{Label, Entry, Members, tag, isNumber, isObject, content, has}
 use Rattle.spec.specs.Equality.{sameWorth}
-use Rattle.claims.specs.Numbers.{NumberText}
-use Rattle.claims.specs.Proper as Proper
-use Rattle.claims.specs.Proper.{Allows, ProperItems}
-use Rattle.claims.specs.Equality as Statement
+use Rattle.spec.specs.Proper.{NumberText}
+use Rattle.spec.specs.Proper as Proper
+use Rattle.spec.specs.Proper.{Allows, ProperItems}
+use Rattle.spec.specs.Distinct as Repeats
 use Rattle.claims.specs.Equality.{EqualLabels, strings, numbers, falses, trues, nulls, arrays, objects, Has, here, there, EqualItems, no-elements}
-use Rattle.claims.specs.Equality.{elements, no-members, members, NoRepeats}
+use Rattle.spec.specs.Distinct.{NoRepeats}
+use Rattle.claims.specs.Equality.{elements, no-members, members}
 use Rattle.claims.proofs.LabelLaws.{SameLabels, isObject-same, same-refl, sameWorth-true, sameWorth-refl}
 use Rattle.claims.proofs.NumbersTheorem as Numbers
-use Rattle.claims.proofs.Found.{Found, first, later, found-name, found-absent}
+use Rattle.spec.proofs.NameLaws.{Found, first, later, found-name, found-absent}
 use Rattle.claims.proofs.Matching.{Matches, no-more, next, by-name, none-left}
-
-pub proper-repeats : {object : Bool} {f : Members} → ProperItems object f → NoRepeats object f
-proper-repeats Proper.empty = Statement.empty
-proper-repeats (Proper.element n a k p) = Statement.element (proper-repeats k) (proper-repeats p)
-proper-repeats (Proper.member n h a k p) = Statement.member h (proper-repeats k) (proper-repeats p)
 
 -- Labels
 
@@ -98,13 +94,13 @@ found-has (later a f) = there (found-has f)
 -- where no name is repeated, a member is the one that its name finds
 has-found : {p : Entry} {below g : Members} → Has p below g → NoRepeats true g → Found (p .name) p below g
 has-found here r = first refl
-has-found {p} (there {e} {kids} {rest} h) (Statement.member a k r) =
+has-found {p} (there {e} {kids} {rest} h) (Repeats.member a k r) =
     let found = has-found h r in
     later (λ q. found-absent found (subst (λ n. has n rest ≡ false) q a)) found
 
 has-repeats : {p : Entry} {below g : Members} → Has p below g → NoRepeats true g → NoRepeats (isObject (p .label)) below
-has-repeats here (Statement.member a k r) = k
-has-repeats (there h) (Statement.member a k r) = has-repeats h r
+has-repeats here (Repeats.member a k r) = k
+has-repeats (there h) (Repeats.member a k r) = has-repeats h r
 
 record Inside (p : Entry) (below : Members) : Type 0 where
   allows : Allows (p .label) below
@@ -129,7 +125,7 @@ matches-rules (Proper.member n h a k p) q (by-name f s c' i o) c =
 
 pub rules-match : {object : Bool} {f g : Members} → EqualItems object f g → NoRepeats object g → Matches object f g
 rules-match no-elements r = no-more
-rules-match (elements l c i o) (Statement.element k r) =
+rules-match (elements l c i o) (Repeats.element k r) =
     let s = same-labels l in
     next s c (rules-match i (rw (← isObject-same s) at k)) (rules-match o r)
 rules-match no-members r = no-more

@@ -1,5 +1,5 @@
 -- `equal` is the RFC's equality, and on values without repeated names an equivalence that does not see the order of members.
-use mathlib.Core.Path.{_≡_}
+use mathlib.Core.Path.{_≡_, sym, _∙_}
 use mathlib.Core.Logic.{_↔_}
 use mathlib.Core.Bool.{true}
 use lib.Dec.{eqb}
@@ -8,12 +8,15 @@ use Rattle.spec.specs.Forest.{count}
 use Rattle.spec.specs.Value as Value
 use Rattle.spec.specs.Value.{isObject}
 use Rattle.spec.specs.Equality.{sameLabel, equal}
+use Rattle.spec.proofs.MatchLaws.{equal-is}
 use Rattle.spec.proofs.TextLaws.{both-true}
-use Rattle.claims.specs.Proper.{Proper}
-use Rattle.claims.specs.Equality.{Distinct, Equal, EqualityStatement}
+use Rattle.spec.specs.Proper.{Proper}
+use Rattle.spec.specs.Distinct.{Distinct}
+use Rattle.claims.specs.Equality.{Equal, EqualityStatement}
 use Rattle.claims.proofs.LabelLaws.{SameLabels, sameLabel-true, true-sameLabel, same-refl, same-sym, same-trans, isObject-same}
 use Rattle.claims.proofs.Alike.{Alike, alike-refl, alike-sym, alike-trans, permuted-alike}
-use Rattle.claims.proofs.EqualityRules.{proper-repeats, same-labels, equal-labels, matches-rules, rules-match}
+use Rattle.spec.proofs.NameLaws.{proper-repeats}
+use Rattle.claims.proofs.EqualityRules.{same-labels, equal-labels, matches-rules, rules-match}
 use Rattle.claims.proofs.Matching.{matches-true, true-matches, matches-alike, alike-count, alike-matches, alike-repeats}
 
 -- the same of two values
@@ -22,23 +25,20 @@ record AlikeValues (v w : Value.Value) : Type 0 where
   kids : Alike (isObject (v .label)) (v .kids) (w .kids)
 
 equal-alike : (v w : Value.Value) → Distinct v → equal v w ≡ true → AlikeValues v w
-unfolding equal
 equal-alike v w d h =
-    let q = both-true (sameLabel (v .label) (w .label)) _ h in
+    let q = both-true (sameLabel (v .label) (w .label)) _ (sym (equal-is v w) ∙ h) in
     let r = both-true (eqb (count (v .kids)) (count (w .kids))) _ (q .1) in
     record { labels = sameLabel-true _ _ (q .0); kids = matches-alike d (matches-true _ _ _ (r .1)) (eqb-true _ _ (r .0)) }
 
 alike-equal : (v w : Value.Value) → Distinct w → AlikeValues v w → equal v w ≡ true
-unfolding equal
 alike-equal v w d a =
     let inside = true-matches (alike-matches (a .kids) (rw (← isObject-same (a .labels)) at d)) in
-    rw (true-sameLabel _ _ (a .labels), eq-eqb _ _ (alike-count (a .kids))) inside
+    equal-is v w ∙ rw (true-sameLabel _ _ (a .labels), eq-eqb _ _ (alike-count (a .kids))) inside
 
 by-the-rules : (v w : Value.Value) → Proper v → Proper w → (equal v w ≡ true) ↔ Equal v w
-unfolding equal
 by-the-rules v w p q = (
   λ h.
-      let l = both-true (sameLabel (v .label) (w .label)) _ h in
+      let l = both-true (sameLabel (v .label) (w .label)) _ (sym (equal-is v w) ∙ h) in
       let c = both-true (eqb (count (v .kids)) (count (w .kids))) _ (l .1) in
       let labels = sameLabel-true _ _ (l .0) in
       let counts = eqb-true _ _ (c .0) in
@@ -50,7 +50,7 @@ by-the-rules v w p q = (
   λ e.
       let labels = same-labels (e .labels) in
       let items = true-matches (rules-match (e .items) (rw (← isObject-same labels) at (proper-repeats (q .items)))) in
-      rw (true-sameLabel _ _ labels, eq-eqb _ _ (e .counts)) items,
+      equal-is v w ∙ rw (true-sameLabel _ _ labels, eq-eqb _ _ (e .counts)) items,
 )
 
 pub equality : EqualityStatement

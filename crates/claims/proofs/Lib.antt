@@ -3,6 +3,7 @@ pub mod Alike
 pub mod Found
 pub mod Matching
 pub mod Scaling
+pub mod Valued
 pub mod Normal
 pub mod NumberParts
 pub mod NumberRead

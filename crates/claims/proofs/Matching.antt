@@ -8,13 +8,15 @@ use borrow.Author.Tests.{eqb-true, eq-eqb}
 use Rattle.spec.specs.Bytes.{Text}
 use Rattle.spec.specs.Forest.{none, tree, count}
 use Rattle.spec.specs.Value.{Label, Entry, Members, isObject, has}
-use Rattle.spec.specs.Equality.{sameLabel, partner, matches}
+use Rattle.spec.specs.Equality.{sameLabel}
+use Rattle.spec.proofs.MatchLaws.{partner, matches}
 use Rattle.spec.proofs.TextLaws.{both-true}
-use Rattle.claims.specs.Equality as Statement
-use Rattle.claims.specs.Equality.{NoRepeats}
+use Rattle.spec.specs.Distinct as Repeats
+use Rattle.spec.specs.Distinct.{NoRepeats}
 use Rattle.claims.proofs.LabelLaws.{SameLabels, sameLabel-true, true-sameLabel, isObject-same}
 use Rattle.claims.proofs.Alike.{Inserted, Alike, nothing, element, member}
-use Rattle.claims.proofs.Found.{Found, absent-parts, partner-found, found, found-name, found-out, found-in, inserted-found, inserted-repeats}
+use Rattle.spec.proofs.NameLaws.{Found, absent-parts, partner-found, found, found-name}
+use Rattle.claims.proofs.Found.{found-out, found-in, inserted-found, inserted-repeats}
 use Rattle.claims.proofs.Found.{absent-inserted, repeats-inserted, take-out, count-inserted}
 
 -- `matches`, one step at a time
@@ -90,9 +92,9 @@ none-left (tree e kids rest) h = absurd (omega arith)
 
 pub matches-alike : {object : Bool} {f g : Members} → NoRepeats object f → Matches object f g → count f ≡ count g → Alike object f g
 unfolding count
-matches-alike Statement.empty (no-more {g = g}) c = rw (none-left g c) nothing
-matches-alike (Statement.element inside others) (next s k i o) c = element s (matches-alike inside i k) (matches-alike others o (omega arith))
-matches-alike (Statement.member absent inside others) (by-name {f = f} {g} n s k i o) c =
+matches-alike Repeats.empty (no-more {g = g}) c = rw (none-left g c) nothing
+matches-alike (Repeats.element inside others) (next s k i o) c = element s (matches-alike inside i k) (matches-alike others o (omega arith))
+matches-alike (Repeats.member absent inside others) (by-name {f = f} {g} n s k i o) c =
     let t = take-out n in
     let apart = rw (← found-name n) at absent in
     let one-less : count f ≡ count (t .rest) = omega (arith, t .one-less) in
@@ -106,7 +108,7 @@ alike-count (member n s k i a) = ap suc (alike-count a) ∙ sym (count-inserted 
 
 pub alike-matches : {object : Bool} {f g : Members} → Alike object f g → NoRepeats object g → Matches object f g
 alike-matches nothing r = no-more
-alike-matches (element s k a) (Statement.element inside others) =
+alike-matches (element s k a) (Repeats.element inside others) =
     next s (alike-count k) (alike-matches k (rw (← isObject-same s) at inside)) (alike-matches a others)
 alike-matches (member n s k i a) r =
     let q = inserted-repeats i r in
@@ -122,7 +124,7 @@ alike-absent n (member q s k i a) h =
 
 pub alike-repeats : {object : Bool} {f g : Members} → Alike object f g → NoRepeats object f → NoRepeats object g
 alike-repeats nothing r = r
-alike-repeats (element s k a) (Statement.element inside others) =
-    Statement.element (rw (isObject-same s) at (alike-repeats k inside)) (alike-repeats a others)
-alike-repeats (member n s k i a) (Statement.member absent inside others) =
+alike-repeats (element s k a) (Repeats.element inside others) =
+    Repeats.element (rw (isObject-same s) at (alike-repeats k inside)) (alike-repeats a others)
+alike-repeats (member n s k i a) (Repeats.member absent inside others) =
     repeats-inserted i (alike-absent _ a (rw n at absent)) (rw (isObject-same s) at (alike-repeats k inside)) (alike-repeats a others)

@@ -13,11 +13,12 @@ use borrow.Author.Tests.{eqb-true, eqb-false, leb-true, le-leb, lt-ltb}
 use Rattle.spec.specs.Outcome.{if_then_else_}
 use Rattle.spec.specs.Bytes.{Bytes, within}
 use Rattle.spec.specs.Numbers.{isDigit, isE}
-use Rattle.spec.specs.Worth.{decimal, dropZeros, trimmed, power}
+use Rattle.spec.specs.Worth.{decimal, dropZeros, trimmed, unlessZero}
 use Rattle.spec.specs.Pointer.{allDigits, isIndex}
 use Rattle.spec.proofs.TextLaws.{both-true, index-injective}
-use Rattle.claims.specs.Numbers as Statement
-use Rattle.claims.specs.Numbers.{Digit, AllDigits, E, positional, above}
+use Rattle.claims.proofs.Valued as Statement
+use Rattle.claims.specs.Numbers.{positional, above}
+use Rattle.claims.proofs.Valued.{Digit, AllDigits, E}
 use Rattle.claims.proofs.Scaling.{base-injective, over, unscaled, ten-positive, scale-twice, over-one-base}
 
 -- Digits, by the tests of the definitions and by the statement's ranges
@@ -209,8 +210,8 @@ value-of t s k h = ap (decimal 0) h ∙ decimal-append 0 s (zeros k) ∙ decimal
 
 -- the digits c ∷ t, whose first is not 0, without the zeros at their end
 normal-trimmed : (c : ℕ) (t s : Bytes) (x : ℤ) (f : ℕ) → (c ≡ 48 → ⊥) → Trimmed (c ∷ t) s →
-    Normal (decimal 0 (c ∷ t)) (x -ℤ pos f) s (power s x f (length (c ∷ t) - length s))
-unfolding power
+    Normal (decimal 0 (c ∷ t)) (x -ℤ pos f) s (unlessZero s ((x -ℤ pos f) +ℤ pos (length (c ∷ t) - length s)))
+unfolding unlessZero
 normal-trimmed c t [] x f n r = absurd (go (r .many) (r .split))
   where
     go : (k : ℕ) → c ∷ t ≡ zeros k → ⊥
@@ -229,11 +230,13 @@ normal-trimmed c t (d ∷ s) x f n r =
     })
 
 pub normal : (ds : Bytes) (x : ℤ) (f : ℕ) → allDigits ds ≡ true →
-    Normal (decimal 0 ds) (x -ℤ pos f) (trimmed (dropZeros ds)) (power (trimmed (dropZeros ds)) x f (length (dropZeros ds) - length (trimmed (dropZeros ds))))
-unfolding decimal trimmed dropZeros power
+    Normal (decimal 0 ds) (x -ℤ pos f) (trimmed (dropZeros ds))
+    (unlessZero (trimmed (dropZeros ds)) ((x -ℤ pos f) +ℤ pos (length (dropZeros ds) - length (trimmed (dropZeros ds)))))
+unfolding decimal trimmed dropZeros unlessZero
 normal ds x f h = rw (decimal-dropZeros ds) (go (dropZeros ds) (first ds) (digits-dropZeros ds h))
   where
-    go : (t : Bytes) → First t → allDigits t ≡ true → Normal (decimal 0 t) (x -ℤ pos f) (trimmed t) (power (trimmed t) x f (length t - length (trimmed t)))
+    go : (t : Bytes) → First t → allDigits t ≡ true →
+        Normal (decimal 0 t) (x -ℤ pos f) (trimmed t) (unlessZero (trimmed t) ((x -ℤ pos f) +ℤ pos (length t - length (trimmed t))))
     go _ none h = is-zero refl
     go _ (some c t n) h = normal-trimmed c t (trimmed (c ∷ t)) x f n (trim (c ∷ t) h)
 

@@ -15,8 +15,9 @@ use Rattle.spec.specs.Bytes.{Bytes, byte, byteIn, within}
 use Rattle.spec.specs.Numbers.{isDigit, isE, counted, digits, someDigits, int, frac, sign, exponentDigits, signedDigits, exp, minus, number}
 use Rattle.spec.proofs.OutcomeLaws.{refused≢ok, both-ok}
 use Rattle.spec.proofs.Tracking.{Ends, past-end}
-use Rattle.claims.specs.Numbers as Statement
-use Rattle.claims.specs.Numbers.{Exact, Writes, writes, nonzero}
+use Rattle.claims.proofs.Valued as Statement
+use Rattle.claims.specs.Numbers.{Exact}
+use Rattle.claims.proofs.Valued.{Valued, valued, nonzero}
 use Rattle.claims.proofs.Normal.{is-digit}
 use Rattle.claims.proofs.NumberRead.{counted-next, number-valued}
 use Rattle.claims.proofs.Rest.{Rest, byte-at}
@@ -222,13 +223,13 @@ module _ {s t : Bytes} {at : ℕ} (stands : Stands s t at) where
       rw sign-moved (andThen _ _ (int-moves (minus t 0) (m .1)) λ q l e. andThen _ _ (frac-moves q l) λ q' l' e'. exp-moves q' l')
 
 -- a number begins with a digit or a minus
-written-first : {t : Bytes} {x : Exact} → Writes t x → (isDigit (byte t 0) || eqb (byte t 0) 45) ≡ true
+written-first : {t : Bytes} {x : Exact} → Valued t x → (isDigit (byte t 0) || eqb (byte t 0) 45) ≡ true
 unfolding byte isDigit within
-written-first (writes m i f x negative fraction exponent Statement.minus j k e) = refl
-written-first (writes m i f x negative fraction exponent Statement.none Statement.zero k e) = refl
-written-first (writes m i f x negative fraction exponent Statement.none (nonzero d ds h n a) k e) = rw (is-digit h)
+written-first (valued m i f x negative fraction exponent Statement.minus j k e) = refl
+written-first (valued m i f x negative fraction exponent Statement.none Statement.zero k e) = refl
+written-first (valued m i f x negative fraction exponent Statement.none (nonzero d ds h n a) k e) = rw (is-digit h)
 
-pub written-some : {t : Bytes} {x : Exact} → Writes t x → 1 ≤ length t
+pub written-some : {t : Bytes} {x : Exact} → Valued t x → 1 ≤ length t
 unfolding byte isDigit within
 written-some {t} w = go t (written-first w)
   where

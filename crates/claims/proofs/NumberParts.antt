@@ -12,8 +12,9 @@ use Rattle.spec.specs.Bytes.{Bytes, within}
 use Rattle.spec.specs.Numbers.{isDigit, isE}
 use Rattle.spec.specs.Worth.{decimal, mantissa, fractionDigits, signedExponent, exponent, isNegative}
 use Rattle.spec.specs.Pointer.{allDigits}
-use Rattle.claims.specs.Numbers as Statement
-use Rattle.claims.specs.Numbers.{positional, Exact, Digits, Minus, withSign, Int, nonzero, Frac, point, Exp, plain, plus, Writes, writes}
+use Rattle.claims.proofs.Valued as Statement
+use Rattle.claims.specs.Numbers.{positional, Exact, withSign}
+use Rattle.claims.proofs.Valued.{Digits, Minus, Int, nonzero, Frac, point, Exp, plain, plus, Valued, valued}
 use Rattle.claims.proofs.Normal.{digit-bounds, is-digit, is-e, digits-cons, digits-parts, all-digits, digits-append, decimal-is-positional}
 
 -- One byte: which tests it passes
@@ -120,8 +121,8 @@ unfolding mantissa fractionDigits exponent isNegative isE isDigit within
 signed r Statement.none positive = record { sign = positive; digits = refl; after-point = refl; power = refl }
 signed r Statement.minus positive = record { sign = refl; digits = refl; after-point = refl; power = refl }
 
-pub worth-finds : {t : Bytes} {x : Exact} → Writes t x → Found t x
-worth-finds (writes m i f x negative fraction e sign int frac exp) =
+pub worth-finds : {t : Bytes} {x : Exact} → Valued t x → Found t x
+worth-finds (valued m i f x negative fraction e sign int frac exp) =
     let tail = frac-tail frac (exp-tail exp) in
     let s = signed (i ++ (f ++ x)) sign (int-positive (f ++ x) int) in
     let whole = int-digits int in

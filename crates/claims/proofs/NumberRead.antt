@@ -18,8 +18,9 @@ use Rattle.spec.specs.Limits.{maxExponent}
 use Rattle.spec.specs.Pointer.{allDigits}
 use Rattle.spec.proofs.OutcomeLaws.{refused≢ok, both-ok, either-ok}
 use Rattle.spec.proofs.Tracking.{past-end}
-use Rattle.claims.specs.Numbers as Statement
-use Rattle.claims.specs.Numbers.{Exact, Digits, Minus, Int, nonzero, Frac, point, Exp, plain, plus, Writes, writes}
+use Rattle.claims.proofs.Valued as Statement
+use Rattle.claims.specs.Numbers.{Exact}
+use Rattle.claims.proofs.Valued.{Digits, Minus, Int, nonzero, Frac, point, Exp, plain, plus, Valued, valued}
 use Rattle.claims.proofs.Normal.{digit-bounds, digits-cons, digits-all, e-is}
 
 -- a piece of a text from one place to another, of which something holds
@@ -235,7 +236,7 @@ minus-spans s at = go (eqb (byte s at) 45) refl
     go false q = nothing s at (false, Statement.none)
 
 abbrev IsNumber : Bytes → Type 0
-IsNumber t = (x : Exact) × Writes t x
+IsNumber t = (x : Exact) × Valued t x
 
 -- four pieces in a row
 joined : {s : Bytes} {p q r u v : ℕ} → Spans IsMinus s p q → Spans Int s q r → Spans IsFrac s r u → Spans IsExp s u v → Spans IsNumber s p v
@@ -248,7 +249,7 @@ joined {s} {p} {q} {r} {u} {v} a b c d =
       text = a .text ++ (b .text ++ (c .text ++ d .text));
       is = a .is ∙ ap (λ w. a .text ++ w) (b .is ∙ ap (λ w. b .text ++ w) (c .is ∙ ap (λ w. c .text ++ w) (d .is))) ∙ simp append-assoc;
       place = simp length-append (omega arith);
-      holds = (_, writes _ _ _ _ _ _ _ (a .holds .1) (b .holds) (c .holds .1) (d .holds .1));
+      holds = (_, valued _ _ _ _ _ _ _ (a .holds .1) (b .holds) (c .holds .1) (d .holds .1));
     }
 
 pub number-spans : (s : Bytes) (at next : ℕ) → number s at ≡ ok next → Spans IsNumber s at next
@@ -258,7 +259,7 @@ number-spans s at next h =
     let (exponent, f, g) = both-ok (frac s at fraction) _ next i in
     joined (minus-spans s at) (int-spans s at (minus s at) fraction e) (frac-spans s at fraction exponent f) (exp-spans s at exponent next g)
 
-pub number-valued : (t : Bytes) → number t 0 ≡ ok (length t) → (x : Exact) × Writes t x
+pub number-valued : (t : Bytes) → number t 0 ≡ ok (length t) → (x : Exact) × Valued t x
 number-valued t h =
     let p = number-spans t 0 (length t) h in
     let whole : t ≡ p .text = p .is ∙ ap (λ r. p .text ++ r) (drop-length t) ∙ append-nil (p .text) in

@@ -17,12 +17,12 @@ use Rattle.spec.specs.Strings.{string}
 use Rattle.spec.specs.Numbers.{isDigit, number}
 use Rattle.spec.specs.Value as Value
 use Rattle.spec.specs.Value.{Label, leaf}
-use Rattle.spec.specs.Read.{isBlank, blanksFrom, blanks, spelled, roomFor, literalValue, numberValue, stringValue, scalar, containerLabel, contents, container}
+use Rattle.spec.specs.Read.{isBlank, blanksFrom, blanks, wordAt, roomFor, literalValue, numberValue, stringValue, scalar, containerLabel, contents, container}
 use Rattle.spec.specs.Read.{value, read}
 use Rattle.spec.proofs.OutcomeLaws.{refused≢ok, both-ok, either-ok, first-ok}
 use Rattle.spec.proofs.Tracking.{Ends, Cut, nothing-ends, past-end}
 use Rattle.spec.proofs.ReadersTrack.{number-tracks}
-use Rattle.claims.specs.Numbers.{NumberText}
+use Rattle.spec.specs.Proper.{NumberText}
 use Rattle.claims.proofs.Normal.{digit-bounds}
 use Rattle.claims.proofs.Rest.{Rest, byte-at}
 use Rattle.claims.proofs.NumberRead.{number-spans}
@@ -155,7 +155,7 @@ module _ (s : Bytes) (at : ℕ) (v : Value.Value) (next : ℕ) where
   literal-numeral : (l : Label) (word : Bytes) → Numeral l → literalValue l word s at ≡ ok (v, next) → Numeral (v .label)
   unfolding literalValue
   literal-numeral l word n h =
-      let (_, _, i) = both-ok (spelled word s (at + 1)) _ _ h in
+      let (_, _, i) = both-ok (wordAt word s (at + 1)) _ _ h in
       subst (λ v. Numeral (v .label)) (first-ok i) n
 
   scalar-numeral : (nodes : ℕ) → scalar s at nodes ≡ ok (v, next) → Numeral (v .label)

@@ -12,6 +12,7 @@ use Rattle.claims.specs.Numbers.{Exact, withSign, Writes, above, SameNum
 use Rattle.claims.proofs.LabelLaws.{sameWorth-true, sameWorth-refl, worth-path}
 use Rattle.claims.proofs.Normal.{Normal, normal, equal-value, zero-digits}
 use Rattle.claims.proofs.Scaling.{sign-scaled, same-signed, zero-scaled}
+use Rattle.claims.proofs.Valued.{writes-valued, valued-writes}
 use Rattle.claims.proofs.NumberParts.{Found, worth-finds}
 use Rattle.claims.proofs.NumberRead.{number-valued}
 use Rattle.claims.proofs.NumberText.{text-number}
@@ -33,8 +34,8 @@ worth-negative t x k f = ap (λ z. isNegative t && z) (sym (zero-digits k (worth
 
 by-value : (s t : Bytes) (x y : Exact) → Writes s x → Writes t y → (sameWorth (worth s) (worth t) ≡ true) ↔ SameNumber x y
 by-value s t x y v w =
-    let f = worth-finds v in
-    let g = worth-finds w in
+    let f = worth-finds (writes-valued v) in
+    let g = worth-finds (writes-valued w) in
     let a = above (x .power) (y .power) in
     let b = above (y .power) (x .power) in
     let sizes = equal-value (worth-normal s x f) (worth-normal t y g) in
@@ -64,7 +65,7 @@ same-zero z w = record { value = rw (z, w, zero-*ℤ, zero-*ℤ) }
 pub numbers : NumbersStatement
 numbers =
     record {
-      valued = λ t h. number-valued t (text-number t h);
+      valued = λ t h. let (x, v) = number-valued t (text-number t h) in (x, valued-writes v);
       one-value = λ t x y v w. by-value t t x y v w .0 (sameWorth-refl (worth t));
       by-value = by-value;
       zeros = λ s t x y v w z. let e = by-value s t x y v w in (λ h. zero-same (e .0 h) z, λ h. e .1 (same-zero z h));

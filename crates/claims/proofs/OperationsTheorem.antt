@@ -24,7 +24,7 @@ use Rattle.spec.proofs.OutcomeLaws.{refused≢ok, both-ok}
 use Rattle.spec.proofs.ChildLaws.{child-there}
 use Rattle.spec.proofs.FartherLaws.{farther-ok}
 use Rattle.spec.proofs.PlaceLaws.{walk-on}
-use Rattle.claims.specs.Proper.{Proper, ProperItems, element, member}
+use Rattle.spec.specs.Proper.{Proper, ProperItems, element, member}
 use Rattle.claims.specs.Equality.{Reordered, Permuted, same}
 use Rattle.claims.specs.Operations.{Same, both, neither, adding, removing, replacing, testing, OperationsStatement}
 use Rattle.claims.proofs.RemoveAddLaws.{permuted-refl}

@@ -19,9 +19,9 @@ use Rattle.spec.proofs.OutcomeLaws.{refused≢ok, both-ok}
 use Rattle.spec.proofs.FartherLaws.{farther-ok}
 use Rattle.spec.proofs.ForestLaws.{count-replaceAt, find-replaceAt}
 use Rattle.spec.proofs.ChildLaws.{child-there}
-use Rattle.claims.specs.Proper as Proper
-use Rattle.claims.specs.Proper.{Proper, Allows, ScalarValues, ProperItems, element, member}
-use Rattle.claims.proofs.Found.{absent-parts, absent-cons}
+use Rattle.spec.specs.Proper as Proper
+use Rattle.spec.specs.Proper.{Proper, Allows, ScalarValues, ProperItems, element, member}
+use Rattle.spec.proofs.NameLaws.{absent-parts, absent-cons}
 use Rattle.claims.proofs.CharacterScalar.{if-ok}
 use Rattle.claims.proofs.ReadProper.{proper-snoc}
 use Rattle.claims.proofs.RemoveAddLaws.{insert-last}
@@ -184,7 +184,7 @@ parent-keeps change keeps t (u ∷ ts) v w s (token s' a) p h =
 
 -- The six operations
 
-walk-proper : (ts : Tokens) (v w : Value.Value) → Proper v → walk ts v ≡ ok w → Proper w
+pub walk-proper : (ts : Tokens) (v w : Value.Value) → Proper v → walk ts v ≡ ok w → Proper w
 unfolding walk
 walk-proper [] v w p h = let same : v ≡ w = cc in subst Proper same p
 walk-proper (t ∷ ts) v w p h =

@@ -19,8 +19,8 @@ use Rattle.spec.specs.Patch.{operationMembers, properPrefix, withPointers, oper
 use Rattle.spec.specs.Patch.{shape, whichPointer, run}
 use Rattle.spec.proofs.OutcomeLaws.{refused≢ok, both-ok}
 use Rattle.spec.proofs.RunTheorem.{stopped-same}
-use Rattle.claims.specs.Proper as Proper
-use Rattle.claims.specs.Proper.{Proper, Readable, Allows, ScalarValue, ScalarValues, ProperItems}
+use Rattle.spec.specs.Proper as Proper
+use Rattle.spec.specs.Proper.{Proper, Readable, Allows, ScalarValue, ScalarValues, ProperItems}
 use Rattle.claims.specs.Pointers.{escapeCharacter, escapeToken, pointerOf}
 use Rattle.claims.proofs.CharacterScalar.{if-ok}
 use Rattle.claims.proofs.OperationsTheorem.{proper-nth}

@@ -14,12 +14,12 @@ use Rattle.spec.specs.Numbers.{isDigit, number}
 use Rattle.spec.specs.Forest.{none, tree, single, size, _⧺_}
 use Rattle.spec.specs.Value as Value
 use Rattle.spec.specs.Value.{Label, Entry, Members, leaf, named, isObject, tag, has, nodes}
-use Rattle.spec.specs.Read.{blanks, spelled, literalValue, numberValue, stringValue, scalar, fresh, nameFor, containerLabel, closingBracket, items, contents}
+use Rattle.spec.specs.Read.{blanks, wordAt, literalValue, numberValue, stringValue, scalar, fresh, nameFor, containerLabel, closingBracket, items, contents}
 use Rattle.spec.specs.Read.{container, value, read}
 use Rattle.spec.proofs.OutcomeLaws.{refused≢ok, both-ok, either-ok, first-ok}
-use Rattle.claims.specs.Proper as Proper
-use Rattle.claims.specs.Proper.{Proper, Allows, ScalarValues, ProperItems, element, member}
-use Rattle.claims.proofs.Found.{absent-parts, absent-cons}
+use Rattle.spec.specs.Proper as Proper
+use Rattle.spec.specs.Proper.{Proper, Allows, ScalarValues, ProperItems, element, member}
+use Rattle.spec.proofs.NameLaws.{absent-parts, absent-cons}
 use Rattle.claims.proofs.NumberText.{number-alone, number-text, room-there}
 use Rattle.claims.proofs.CharacterScalar.{string-scalar, if-ok}
 use Rattle.claims.proofs.ValueBack.{Item, size-append}
@@ -38,7 +38,7 @@ literal-read : (count : ℕ) (l : Label) (word s : Bytes) (at : ℕ) (v : Value.
     literalValue l word s at ≡ ok (v, next) → Read count v
 unfolding literalValue
 literal-read count l word s at v next a room h =
-    let (_, _, i) = both-ok (spelled word s (at + 1)) _ _ h in
+    let (_, _, i) = both-ok (wordAt word s (at + 1)) _ _ h in
     subst (Read count) (first-ok i) (leaf-read count l a room)
 
 scalar-read : (s : Bytes) (at count : ℕ) (v : Value.Value) (next : ℕ) → scalar s at count ≡ ok (v, next) → Read count v

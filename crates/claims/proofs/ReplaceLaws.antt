@@ -16,10 +16,10 @@ use Rattle.spec.proofs.OutcomeLaws.{refused≢ok}
 use Rattle.spec.proofs.TextLaws.{sameText-true, sameText-false}
 use Rattle.spec.proofs.ForestLaws.{name-find}
 use Rattle.spec.proofs.ChildLaws.{child-there, childAt-put, child-put, put-put}
-use Rattle.claims.specs.Proper.{Proper, ProperItems, element, member}
+use Rattle.spec.specs.Proper.{Proper, ProperItems, element, member}
 use Rattle.claims.specs.Equality.{Reordered}
 use Rattle.claims.specs.Operations.{Same, both, neither}
-use Rattle.claims.proofs.Found.{absent-cons}
+use Rattle.spec.proofs.NameLaws.{absent-cons}
 use Rattle.claims.proofs.RemoveAddLaws.{count-removeAt, insert-removed, insert-last, permuted-refl, replaced-last}
 
 -- no other member has the name of one that was removed

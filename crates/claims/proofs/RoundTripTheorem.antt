@@ -22,8 +22,8 @@ use Rattle.spec.specs.Answer.{Answer, Lent, answer, success, refusal, workSuffi
 use Rattle.spec.specs.Region.{WellFormed}
 use Rattle.spec.proofs.Tracking.{nothing-ends, past-end}
 use Rattle.spec.proofs.ReadLaws.{read-depth}
-use Rattle.claims.specs.Proper as Proper
-use Rattle.claims.specs.Proper.{ScalarValues, Readable}
+use Rattle.spec.specs.Proper as Proper
+use Rattle.spec.specs.Proper.{ScalarValues, Readable}
 use Rattle.claims.specs.RoundTrip.{Patched, RoundTripStatement}
 use Rattle.claims.proofs.Rest.{Rest}
 use Rattle.claims.proofs.NumberText.{blanks-none}

@@ -12,20 +12,20 @@ use Rattle.spec.specs.Outcome.{ok, _>>=_}
 use Rattle.spec.specs.Bytes.{Bytes, Text, ascii, byte, within}
 use Rattle.spec.specs.Numbers.{isDigit, number}
 use Rattle.spec.specs.Value.{Label, Members, leaf}
-use Rattle.spec.specs.Read.{isBlank, spelled, literalValue, stringValue, scalar, value}
+use Rattle.spec.specs.Read.{isBlank, wordAt, literalValue, stringValue, scalar, value}
 use Rattle.spec.specs.Write.{writeString, opening}
-use Rattle.claims.specs.Proper as Proper
-use Rattle.claims.specs.Proper.{Allows, ScalarValues}
+use Rattle.spec.specs.Proper as Proper
+use Rattle.spec.specs.Proper.{Allows, ScalarValues}
 use Rattle.claims.proofs.Rest.{Rest, first-byte, rest-next, byteIn-ok}
 use Rattle.claims.proofs.StringBack.{string-back}
 use Rattle.claims.proofs.NumberText.{room, scalar-value, numeral-first, numeral-bounds, text-number}
 
-pub spelled-back : {s : Bytes} {at : ℕ} (word r : Bytes) → Rest s at (word ++ r) → spelled word s at ≡ ok (at + length word)
-unfolding spelled _>>=_
-spelled-back {at = at} [] r h = rw (add-zero at)
-spelled-back {s} {at} (b ∷ word) r h =
+pub wordAt-back : {s : Bytes} {at : ℕ} (word r : Bytes) → Rest s at (word ++ r) → wordAt word s at ≡ ok (at + length word)
+unfolding wordAt _>>=_
+wordAt-back {at = at} [] r h = rw (add-zero at)
+wordAt-back {s} {at} (b ∷ word) r h =
     let place : at + 1 + length word ≡ at + suc (length word) = omega arith in
-    rw (byteIn-ok s at b b b (first-byte h) (omega arith) (omega arith), spelled-back word r (rest-next h), place)
+    rw (byteIn-ok s at b b b (first-byte h) (omega arith) (omega arith), wordAt-back word r (rest-next h), place)
 
 -- the first byte of a value: it is no blank and closes nothing
 pub record Begins (b : ℕ) : Type 0 where
@@ -38,7 +38,7 @@ literal-back : {s : Bytes} {at : ℕ} (label : Label) (b : ℕ) (word r : Bytes)
 unfolding literalValue _>>=_
 literal-back {at = at} label b word r h =
     let place : at + 1 + length word ≡ at + suc (length word) = omega arith in
-    rw (spelled-back word r (rest-next h), place)
+    rw (wordAt-back word r (rest-next h), place)
 
 module _ {s : Bytes} {at : ℕ} (left nodes : ℕ) (fits : nodes < 2048) (r : Bytes) where
   pub null-back : Rest s at (ascii "null" ++ r) → value left s at nodes ≡ ok (leaf Label.null-literal, at + 4)

@@ -8,7 +8,7 @@ use Rattle.spec.specs.Outcome.{ok, _>>=_}
 use Rattle.spec.specs.Bytes.{Bytes, Text}
 use Rattle.spec.specs.Strings.{characters, string}
 use Rattle.spec.specs.Write.{writeCharacter, writeCharacters, writeString}
-use Rattle.claims.specs.Proper.{ScalarValues, nothing, another}
+use Rattle.spec.specs.Proper.{ScalarValues, nothing, another}
 use Rattle.claims.proofs.Rest.{Rest, first-byte, rest-next, rest-more, rest-length, byteIn-ok}
 use Rattle.claims.proofs.CharacterBack.{character-back, character-length}
 

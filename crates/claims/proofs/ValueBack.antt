@@ -18,9 +18,9 @@ use Rattle.spec.specs.Value.{Label, Entry, Members, leaf, named, isObject, isCo
 use Rattle.spec.specs.Read.{isBlank, blanks, fresh, nameFor, containerLabel, closingBracket, items, contents, container, value}
 use Rattle.spec.specs.Write.{writeString, opening, closing, writeName, comma, writeItems, write}
 use Rattle.spec.proofs.Tracking.{Ends}
-use Rattle.claims.specs.Proper as Proper
-use Rattle.claims.specs.Proper.{Allows, ScalarValues, ProperItems, element, member}
-use Rattle.claims.proofs.Found.{absent-parts, absent-cons}
+use Rattle.spec.specs.Proper as Proper
+use Rattle.spec.specs.Proper.{Allows, ScalarValues, ProperItems, element, member}
+use Rattle.spec.proofs.NameLaws.{absent-parts, absent-cons}
 use Rattle.claims.proofs.Rest.{Rest, byte-at, first-byte, rest-next, rest-more, rest-length, byteIn-ok}
 use Rattle.claims.proofs.StringBack.{string-back}
 use Rattle.claims.proofs.NumberBack.{number-some}

@@ -6,9 +6,10 @@ use mathlib.Core.Bool.{Bool, true, false}
 use Rattle.spec.specs.Bytes.{Bytes, Text}
 use Rattle.spec.specs.Forest.{none, tree, count}
 use Rattle.spec.specs.Value as Value
-use Rattle.spec.specs.Value.{Label, Entry, Members, isObject, has}
+use Rattle.spec.specs.Value.{Label, Entry, Members, isObject}
 use Rattle.spec.specs.Equality.{equal}
-use Rattle.claims.specs.Proper.{Proper}
+use Rattle.spec.specs.Proper.{Proper}
+use Rattle.spec.specs.Distinct.{Distinct}
 use Rattle.claims.specs.Numbers.{Exact, Writes, SameNumber}
 
 -- "Here, "equal" means that the value at the target location and the value conveyed by "value" are of the same JSON type, and that they are
@@ -47,17 +48,6 @@ pub record Equal (v w : Value.Value) : Type 0 where
   -- "if they contain the same number of values", or of members
   pub counts : count (v .kids) ≡ count (w .kids)
   pub items : EqualItems (isObject (v .label)) (v .kids) (w .kids)
-
--- No object has two members of one name, at any depth. The first argument says whether the values are an object's members, which have
--- names, or an array's elements, which have none.
-pub data NoRepeats : Bool → Members → Type 0 where
-  empty : {object : Bool} → NoRepeats object none
-  element : {e : Entry} {kids rest : Members} → NoRepeats (isObject (e .label)) kids → NoRepeats false rest → NoRepeats false (tree e kids rest)
-  member : {e : Entry} {kids rest : Members} → has (e .name) rest ≡ false → NoRepeats (isObject (e .label)) kids → NoRepeats true rest →
-      NoRepeats true (tree e kids rest)
-
-abbrev pub Distinct : Value.Value → Type 0
-Distinct v = NoRepeats (isObject (v .label)) (v .kids)
 
 -- "An object is an unordered collection" (RFC 8259, section 1): the second members are the first with neighbours exchanged, any number of
 -- times and at any depth. An array's elements stay in order.

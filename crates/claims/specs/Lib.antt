@@ -1,4 +1,3 @@
-pub mod Proper
 pub mod Numbers
 pub mod Equality
 pub mod Operations

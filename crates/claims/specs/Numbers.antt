@@ -3,22 +3,19 @@
 -- digit dropped and nothing rounded. No rule speaks of zero: an integer has one zero, so minus zero is zero (document 02, T-04).
 use mathlib.Core.Path.{_≡_}
 use mathlib.Core.Logic.{_↔_}
-use Prim.Native.Nat.{ℕ, _+_, _-_, _*_, _^_, _≤_}
+use Prim.Native.Nat.{ℕ, _+_, _-_, _*_, _^_}
 use Prim.Native.Char.{code}
 use mathlib.Core.List.{[], _∷_, _++_}
 use mathlib.Core.Bool.{Bool, true, false}
 use lib.ListN.{length}
+use lib.Dec.{eqb}
 use lib.IntN.{ℤ, pos, negsuc, negℤ, _-ℤ_, _*ℤ_}
-use Rattle.spec.specs.Outcome.{ok}
+use Rattle.spec.specs.Outcome.{if_then_else_}
 use Rattle.spec.specs.Bytes.{Bytes}
-use Rattle.spec.specs.Value.{Label, leaf}
-use Rattle.spec.specs.Read.{read}
+use Rattle.spec.specs.Proper.{NumberText}
 use Rattle.spec.specs.Worth.{worth}
 use Rattle.spec.specs.Equality.{sameWorth}
-
--- a text that is one number from its first byte to its last
-abbrev pub NumberText : Bytes → Type 0
-NumberText t = read t ≡ ok (leaf (Label.number t))
+use Rattle.grammar.specs.Grammar.{optional, minus, int, frac, exp}
 
 -- an integer times a power of ten
 pub record Exact : Type 0 where
@@ -30,58 +27,39 @@ unfoldable pub positional : Bytes → ℕ
 positional [] = 0
 positional (d ∷ ds) = (d - code "0") * 10 ^ length ds + positional ds
 
--- DIGIT = %x30-39
-abbrev pub Digit : ℕ → Type 0
-Digit d = (code "0" ≤ d) × (d ≤ code "9")
-
--- *DIGIT
-pub data AllDigits : Bytes → Type 0 where
-  none : AllDigits []
-  more : {d : ℕ} {ds : Bytes} → Digit d → AllDigits ds → AllDigits (d ∷ ds)
-
--- 1*DIGIT
-pub record Digits (ds : Bytes) : Type 0 where
-  pub some : 1 ≤ length ds
-  pub all : AllDigits ds
-
--- [ minus ], and whether it is there
-pub data Minus : Bytes → Bool → Type 0 where
-  none : Minus [] false
-  minus : Minus (code "-" ∷ []) true
-
 -- an integer with a minus before it, or with none
 unfoldable pub withSign : Bool → ℕ → ℤ
 withSign false n = pos n
 withSign true n = negℤ (pos n)
 
--- int = zero / ( digit1-9 *DIGIT )
-pub data Int : Bytes → Type 0 where
-  zero : Int (code "0" ∷ [])
-  nonzero : (d : ℕ) (ds : Bytes) → Digit d → (d ≡ code "0" → ⊥) → AllDigits ds → Int (d ∷ ds)
+-- whether [ minus ] is there
+unfoldable pub isPresent : Bytes → Bool
+isPresent [] = false
+isPresent (b ∷ w) = true
 
--- [ frac ], frac = decimal-point 1*DIGIT, and its digits
-pub data Frac : Bytes → Bytes → Type 0 where
-  none : Frac [] []
-  point : (ds : Bytes) → Digits ds → Frac (code "." ∷ ds) ds
+-- the digits of [ frac ], behind its point
+unfoldable pub fractionOf : Bytes → Bytes
+fractionOf [] = []
+fractionOf (point ∷ ds) = ds
 
--- e = %x65 / %x45
-pub data E : ℕ → Type 0 where
-  lower-case : E (code "e")
-  upper-case : E (code "E")
+-- the integer of [ minus / plus ] 1*DIGIT
+unfoldable pub signedInteger : Bytes → ℤ
+signedInteger [] = pos 0
+signedInteger (b ∷ ds) =
+    if eqb b (code "-") then negℤ (pos (positional ds)) else
+    if eqb b (code "+") then pos (positional ds) else pos (positional (b ∷ ds))
 
--- [ exp ], exp = e [ minus / plus ] 1*DIGIT, and the power of ten that it says
-pub data Exp : Bytes → ℤ → Type 0 where
-  none : Exp [] (pos 0)
-  plain : (e : ℕ) (ds : Bytes) → E e → Digits ds → Exp (e ∷ ds) (pos (positional ds))
-  plus : (e : ℕ) (ds : Bytes) → E e → Digits ds → Exp (e ∷ code "+" ∷ ds) (pos (positional ds))
-  minus : (e : ℕ) (ds : Bytes) → E e → Digits ds → Exp (e ∷ code "-" ∷ ds) (negℤ (pos (positional ds)))
+-- the power of ten that [ exp ] says, behind its letter
+unfoldable pub powerOf : Bytes → ℤ
+powerOf [] = pos 0
+powerOf (e ∷ ds) = signedInteger ds
 
 -- number = [ minus ] int [ frac ] [ exp ], and its exact value: the integer of all the digits on either side of the point, with its sign,
 -- times ten to the exponent less the number of digits after the point.
 pub data Writes : Bytes → Exact → Type 0 where
-  writes : (m i f x : Bytes) (negative : Bool) (fraction : Bytes) (exponent : ℤ) → Minus m negative → Int i → Frac f fraction → Exp x exponent →
+  writes : {m i f x : Bytes} → optional minus m → int i → optional frac f → optional exp x →
       Writes (m ++ (i ++ (f ++ x)))
-      (record { integer = withSign negative (positional (i ++ fraction)); power = exponent -ℤ pos (length fraction) })
+      (record { integer = withSign (isPresent m) (positional (i ++ fractionOf f)); power = powerOf x -ℤ pos (length (fractionOf f)) })
 
 -- an integer, and 0 where it is negative
 unfoldable pub natural : ℤ → ℕ

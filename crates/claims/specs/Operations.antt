@@ -15,7 +15,7 @@ use Rattle.spec.specs.Patch.{stop, finished, whichPointer, run}
 use Rattle.spec.specs.Answer as Answer
 use Rattle.spec.specs.Answer.{Lent, answer, workSuffices}
 use Rattle.spec.specs.Region.{Accepted, WellFormed}
-use Rattle.claims.specs.Proper.{Proper}
+use Rattle.spec.specs.Proper.{Proper}
 use Rattle.claims.specs.Equality.{Reordered}
 
 -- the operations by the members that each uses

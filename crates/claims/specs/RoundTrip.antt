@@ -11,7 +11,7 @@ use Rattle.spec.specs.Operation.{Operation, limited}
 use Rattle.spec.specs.Patch.{finished, run}
 use Rattle.spec.specs.Answer.{Lent, answer, success}
 use Rattle.spec.specs.Region.{Accepted, WellFormed}
-use Rattle.claims.specs.Proper.{ScalarValues, Readable}
+use Rattle.spec.specs.Proper.{ScalarValues, Readable}
 
 -- a text that is the document patched: the operations run from the one to the other, and the text is read as what they end with
 pub record Patched (document patch text : Bytes) : Type 0 where

@@ -15,8 +15,8 @@ use Rattle.spec.specs.Value as Value
 use Rattle.spec.specs.Value.{depth, nodes}
 use Rattle.spec.specs.Read.{read}
 use Rattle.spec.proofs.ReadLaws.{read-depth}
-use Rattle.claims.specs.Equality.{Distinct}
-use Rattle.claims.proofs.EqualityRules.{proper-repeats}
+use Rattle.spec.specs.Distinct.{Distinct}
+use Rattle.spec.proofs.NameLaws.{proper-repeats}
 use Rattle.claims.proofs.ReadProper.{read-proper}
 use Rattle.comparison.specs.Comparison as Spec
 use Rattle.comparison.specs.Comparison.{Compared}
@@ -49,7 +49,7 @@ use Rattle.json_patch.specs.Stages.{PatchHeld}
 use Rattle.json_patch.proofs.AnswerLaws.{work-suffices}
 use Rattle.json_patch.proofs.CallLaws.{part-wiped}
 use Rattle.json_patch.proofs.TextLaws.{read-into, text-value, text-refusal, patch-held, document-held, document-kept}
-use Rattle.counting.specs.Places.{placeAt, Placed, NotedIs}
+use Rattle.counting.specs.Places.{placeAt, HavePlaces, NotedIs}
 use Rattle.counting.specs.Values.{Tells, CountedIs}
 use Rattle.counting.specs.declared.values.Comparison.{Comparison}
 use Rattle.counting.proofs.PlaceLaws.{value-still}

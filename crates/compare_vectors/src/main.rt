@@ -1,120 +1,84 @@
 // Every committed case of two texts, compared by the library. For each a line: its name, and the verdict with the count
 // of names, or the refusal. The stored output is what the second program answers, so that each run holds the two to
 // each other.
-mod cases; // a case in the file of cases
-mod checks; // whether a buffer holds one and the same everywhere
-mod lines; // what is printed
-
+use cases::Case;
+use cases::Contents;
 use cases::Found;
-use cases::Part;
-use cases::Place;
+use cases::buffer;
+use cases::bytes_of;
 use cases::case_at;
-use checks::all_clear;
-use checks::all_zero;
+use cases::front;
+use cases::print_no_case;
+use cases::read_cases;
+use cases::say;
+use cases::say_number;
+use cases::work_clear;
+use compare::Answer;
 use compare::compare;
 use index;
-use lines::print_answer;
-use lines::print_no_case;
-use lines::say;
 use tape::fields::narrow;
 use tape::layout;
-use tape::layout::Node;
-ghost use mathlib.Core.Path.{_≡_};
-ghost use Prim.Native.Nat.{_≤_};
-ghost use lib.ListN.{length};
-ghost use Rattle.compare_vectors.specs.Places.{Behind, Lies, Within};
-
-// Room for the file of cases.
-const FILE: usize = 1_048_576;
 
 // A record less than the work area has.
 const SHORT_ROWS: usize = 6_143;
 
+// The refusal's line, as the patch tool prints it.
+fn print_refusal(answer: Answer) {
+    say(b"refused ");
+    say_number(answer.number as u64);
+    say(b" text ");
+    say_number(answer.text as u64);
+    say(b" op 0 place ");
+    say_number(answer.place as u64);
+    say(b" pointer 0\n");
+}
+
+// The answer's line.
+fn print_answer(answer: Answer) {
+    if answer.number != 0 {
+        print_refusal(answer);
+        return;
+    }
+    if answer.equal {
+        say(b"equal ");
+    } else {
+        say(b"different ");
+    }
+    say_number(answer.names);
+    say(b"\n");
+}
+
 // The case's line, with another text in it where the call has not left the memory as it must. Before the call the work
-// area holds rubbish.
-fn run_case<'a>(name: &'a [u8], target: &'a [u8], other: &'a [u8], rubbish: u16) {
-    say(name);
+// area holds rubbish, which the case's number tells.
+fn run_case(file: &[u8], c: Case) {
+    let texts = c.texts;
+    let target = bytes_of(file, texts.first);
+    let other = bytes_of(file, texts.second);
+    let rubbish = narrow(c.rooms.first);
+    say(bytes_of(file, c.name));
     say(b": ");
     let node = [rubbish; 8];
     let mut nodes = [node; layout::ROWS];
     let mut index = [rubbish; index::SLOTS];
     let answer = compare(target, other, &mut nodes, &mut index);
-    if !all_clear(&nodes) {
-        say(b"the work area is not all zero\n");
-        return;
-    }
-    if !all_zero(&index) {
+    if !work_clear(&nodes, &index) {
         say(b"the work area is not all zero\n");
         return;
     }
     print_answer(answer);
 }
 
-fn part<'a>(file: &'a [u8], p: Part) -> &'a [u8]
-    requires { ⌜ Lies (length (now file)) p ⌝ }
-{
-    let start = p.start;
-    let end = p.end;
-    &file[start..end]
-}
-
-// The case that begins at a place, and the place behind it.
-fn run_at(file: &[u8], at: usize) -> Place
-    ensures { λ r. ⌜ Behind (length (now (file .entry))) at r ⌝ }
-{
-    let Found::Here(c) = case_at(file, at) else {
-        return Place::Nowhere;
-    };
-    let name = part(file, c.name);
-    let target = part(file, c.target);
-    let other = part(file, c.other);
-    run_case(name, target, other, narrow(c.rubbish));
-    Place::At(c.next)
-}
-
 // One case after another, to the end of the file.
 fn run_all(file: &[u8]) {
     let mut at = 0;
     while at < file.len() {
-        let Place::At(next) = run_at(file, at) else {
+        let Found::Here(c) = case_at(file, at, 1, 2) else {
             print_no_case(at);
             return;
         };
-        at = next;
+        run_case(file, c);
+        at = c.next;
     }
-}
-
-pub enum Contents {
-    Bytes(usize),
-    Unreadable,
-}
-
-// All of the file's bytes, if the buffer has room for them.
-fn read_all(fd: i32, buf: &mut [u8]) -> Contents
-    ensures { λ r. ⌜ Within (length (now (buf .exit))) r ⌝ }
-{
-    let n = io::read_full(fd, buf);
-    // where the file has ended, and only there, another read answers 0
-    let mut more = [0u8; 1];
-    if libc::read(fd, &mut more) != 0 {
-        return Contents::Unreadable;
-    }
-    Contents::Bytes(n)
-}
-
-// The contents of the file that argument 1 names.
-fn read_file(buf: &mut [u8]) -> Contents
-    ensures { λ r. ⌜ Within (length (now (buf .exit))) r ⌝ }
-{
-    let mut path = io::buffer();
-    let n = os::arg(1, &mut path);
-    let fd = os::open_read(&path[..n]);
-    if fd < 0 {
-        return Contents::Unreadable;
-    }
-    let r = read_all(fd, buf);
-    libc::close(fd);
-    r
 }
 
 // The call with a node table that is a record too short, which no case can say: 1, before anything else.
@@ -127,19 +91,12 @@ fn run_short() {
     print_answer(answer);
 }
 
-// A buffer for the file. The `ensures` gives only the length, which lending it needs.
-fn empty() -> [u8; FILE]
-    ensures { λ r. ⌜ 1_048_576 ≡ length r ⌝ }
-{
-    [0; FILE]
-}
-
 fn main() {
-    let mut file = empty();
-    let Contents::Bytes(n) = read_file(&mut file) else {
+    let mut room = buffer();
+    let Contents::Bytes(n) = read_cases(&mut room) else {
         say(b"unreadable\n");
         return;
     };
-    run_all(&file[..n]);
+    run_all(front(&room, n));
     run_short();
 }

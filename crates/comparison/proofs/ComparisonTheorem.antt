@@ -10,8 +10,10 @@ use Rattle.spec.specs.Bytes.{Text}
 use Rattle.spec.specs.Forest.{none, tree, count, size}
 use Rattle.spec.specs.Value as Value
 use Rattle.spec.specs.Value.{Members, isObject, sameText, nodes}
-use Rattle.spec.specs.Equality.{sameLabel, partner, matches, equal}
-use Rattle.comparison.specs.Comparison.{Compared, after, _then_, lookups, searched, comparedItems, compared, ComparisonStatement}
+use Rattle.spec.specs.Equality.{sameLabel}
+use Rattle.spec.proofs.MatchLaws.{partner, matches, equal-is}
+use Rattle.comparison.specs.Comparison.{Compared, after, _then_, lookups, compared, ComparisonStatement}
+use Rattle.comparison.proofs.ItemLaws.{searched, comparedItems, compared-is}
 
 -- The verdict
 
@@ -134,8 +136,8 @@ items-bound object (tree e kids f) g =
         )
 
 values-bound : (v w : Value.Value) → compared v w .names ≤ size (v .kids) * size (w .kids)
-unfolding compared
 values-bound v w =
+    let is = ap (λ a. a .names) (compared-is v w) in
     let items = comparedItems (isObject (v .label)) (v .kids) (w .kids) in
     let counts = after 0 (eqb (count (v .kids)) (count (w .kids))) in
     omega (
@@ -146,14 +148,15 @@ values-bound v w =
     )
 
 pub comparison : ComparisonStatement
-unfolding compared equal nodes
+unfolding nodes
 comparison =
     record {
       verdict = λ v w.
-          then-same (after 0 (sameLabel (v .label) (w .label))) _ ∙
+          ap (λ a. a .same) (compared-is v w) ∙ then-same (after 0 (sameLabel (v .label) (w .label))) _ ∙
           ap (λ b. sameLabel (v .label) (w .label) && b)
           (then-same (after 0 (eqb (count (v .kids)) (count (w .kids)))) _ ∙
-          ap (λ b. eqb (count (v .kids)) (count (w .kids)) && b) (items-same (isObject (v .label)) (v .kids) (w .kids)));
+          ap (λ b. eqb (count (v .kids)) (count (w .kids)) && b) (items-same (isObject (v .label)) (v .kids) (w .kids))) ∙
+          sym (equal-is v w);
       bound = λ v w.
           let more : size (v .kids) * size (w .kids) ≤ nodes v * nodes w = mul-le-mul (omega arith) (omega arith) in
           omega (arith, values-bound v w);

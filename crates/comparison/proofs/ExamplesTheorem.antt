@@ -3,11 +3,11 @@ use mathlib.Core.Path.{refl}
 use Rattle.spec.specs.Bytes.{ascii}
 use Rattle.spec.specs.Read.{read}
 use Rattle.spec.proofs.Computing.{got, compute}
-use Rattle.comparison.specs.Comparison.{_then_, lookups, searched, comparedItems, compared}
+use Rattle.comparison.specs.Comparison.{_then_, lookups, comparedElements, comparedMembers, compared}
 use Rattle.comparison.specs.Examples.{All, examples}
 
 unfoldable compute-counts : Unit {0}
-unfolding compute _then_ lookups searched comparedItems compared
+unfolding compute _then_ lookups comparedElements comparedMembers compared
 compute-counts = tt
 
 pub counted : All examples

@@ -1,3 +1,4 @@
+pub mod ItemLaws
 pub mod ExamplesTheorem
 pub mod ComparisonTheorem
 pub mod CallTheorem

@@ -7,8 +7,8 @@ use Rattle.spec.specs.Outcome.{if_then_else_}
 use Rattle.spec.specs.Bytes.{Text}
 use Rattle.spec.specs.Forest.{none, tree, count}
 use Rattle.spec.specs.Value as Value
-use Rattle.spec.specs.Value.{Members, isObject, sameText, nodes}
-use Rattle.spec.specs.Equality.{sameLabel, partner, equal}
+use Rattle.spec.specs.Value.{Label, Members, isObject, sameText, nodes}
+use Rattle.spec.specs.Equality.{sameLabel, fromName, equal}
 
 -- a verdict, and the names that were compared for it
 pub record Compared : Type 0 where
@@ -29,28 +29,37 @@ unfoldable pub lookups : Text → Members → ℕ
 lookups n none = 0
 lookups n (tree e kids rest) = if sameText (e .name) n then 1 else 1 + lookups n rest
 
--- to find the partner of an element no name is compared
-unfoldable pub searched : Bool → Text → Members → ℕ
-searched object n g = if object then lookups n g else 0
+-- Two values, after so many names were compared: by their labels, by how many values are in them, and by what comes of comparing those. "Unequal
+-- member counts or array lengths differ without a comparison."
+abbrev pub comparedValue : ℕ → Label → Members → Label → Members → Compared → Compared
+comparedValue names l kids m below inside = after names (sameLabel l m) then (after 0 (eqb (count kids) (count below)) then inside)
 
--- "the target's members in order, each against the patch value's names from the first until one matches, their two values then at once; arrays
--- element by element"
-unfoldable pub comparedItems : Bool → Members → Members → Compared
-comparedItems object none g = after 0 true
-comparedItems object (tree e kids f) g =
-    elim (partner object (e .name) g) [
-      | none ↦ after (searched object (e .name) g) false
-      | tree p below rest ↦
-          after (searched object (e .name) g) (sameLabel (e .label) (p .label)) then
-          (after 0 (eqb (count kids) (count below)) then
-          (comparedItems (isObject (e .label)) kids below then comparedItems object f (if object then g else rest)))
-    ]
+unfoldable mutual
+  -- "arrays element by element"
+  pub comparedElements : Members → Members → Compared
+  comparedElements none g = after 0 true
+  comparedElements (tree e kids f) none = after 0 false
+  comparedElements (tree e kids f) (tree p below g) =
+      comparedValue 0 (e .label) kids (p .label) below (if isObject (e .label) then comparedMembers kids below else comparedElements kids below)
+      then comparedElements f g
 
--- of a target and a patch's value: "Unequal member counts or array lengths differ without a comparison."
+  -- "the target's members in order, each against the patch value's names from the first until one matches, their two values then at once"
+  pub comparedMembers : Members → Members → Compared
+  comparedMembers none g = after 0 true
+  comparedMembers (tree e kids f) g =
+      elim (fromName (e .name) g) [
+        | none ↦ after (lookups (e .name) g) false
+        | tree p below rest ↦
+            comparedValue (lookups (e .name) g) (e .label) kids (p .label) below
+            (if isObject (e .label) then comparedMembers kids below else comparedElements kids below)
+            then comparedMembers f g
+      ]
+
+-- of a target and a patch's value
 unfoldable pub compared : Value.Value → Value.Value → Compared
 compared v w =
-    after 0 (sameLabel (v .label) (w .label)) then
-    (after 0 (eqb (count (v .kids)) (count (w .kids))) then comparedItems (isObject (v .label)) (v .kids) (w .kids))
+    comparedValue 0 (v .label) (v .kids) (w .label) (w .kids)
+    (if isObject (v .label) then comparedMembers (v .kids) (w .kids) else comparedElements (v .kids) (w .kids))
 
 pub record ComparisonStatement : Type 0 where
   -- the verdict is that of document 01

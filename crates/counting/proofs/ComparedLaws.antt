@@ -10,11 +10,14 @@ use Rattle.spec.specs.Bytes.{Text}
 use Rattle.spec.specs.Forest.{none, tree, count, from}
 use Rattle.spec.specs.Value as Value
 use Rattle.spec.specs.Value.{Entry, Members, find, sameText, isObject}
-use Rattle.spec.specs.Equality.{sameLabel, partner}
+use Rattle.spec.specs.Equality.{sameLabel}
+use Rattle.spec.proofs.MatchLaws.{partner}
 use Rattle.spec.proofs.TextLaws.{sameText-refl}
-use Rattle.claims.specs.Equality.{NoRepeats, empty, member}
-use Rattle.claims.proofs.Found.{sameText-apart, found, found-absent}
-use Rattle.comparison.specs.Comparison.{Compared, after, _then_, lookups, searched, comparedItems, compared}
+use Rattle.spec.specs.Distinct.{NoRepeats, empty, member}
+use Rattle.spec.proofs.TextLaws.{sameText-apart}
+use Rattle.spec.proofs.NameLaws.{found, found-absent}
+use Rattle.comparison.specs.Comparison.{Compared, after, _then_, lookups, compared}
+use Rattle.comparison.proofs.ItemLaws.{searched, comparedItems, then-assoc, compared-is}
 use Rattle.equality.proofs.MatchLaws.{valueOf, partner-there}
 
 -- ---- verdicts one after another
@@ -26,15 +29,6 @@ module _ (n : ℕ) where
   then-off : (a : Compared) → (after n false then a) ≡ after n false
   unfolding _then_
   then-off a = refl
-
-pub then-assoc : (a b c : Compared) → ((a then b) then c) ≡ (a then (b then c))
-unfolding _then_
-then-assoc a b c = go (a .same) (b .same)
-  where
-    go : (s t : Bool) → ((after (a .names) s then after (b .names) t) then c) ≡ (after (a .names) s then (after (b .names) t then c))
-    go true true = ap (λ k. after k (c .same)) (add-assoc (a .names) (b .names) (c .names))
-    go true false = refl
-    go false t = refl
 
 -- a difference ends it; otherwise the counts add up
 pub then-differs : (a b : Compared) → a .same ≡ false → (a then b) ≡ a
@@ -57,13 +51,13 @@ module _ (e : Entry) (kids f : Members) where
   pub compared-pair : (o : Bool) (g : Members) (p : Entry) (below behind : Members) → partner o (e .name) g ≡ tree p below behind
       → comparedItems o (tree e kids f) g
       ≡ (after (searched o (e .name) g) true then (compared (valueOf e kids) (valueOf p below) then comparedItems o f (if o then g else behind)))
-  unfolding comparedItems compared
+  unfolding comparedItems
   compared-pair o g p below behind h =
       let label = sameLabel (e .label) (p .label) in
       let counts = after 0 (eqb (count kids) (count below)) in
       let inner = comparedItems (isObject (e .label)) kids below in
       let later = comparedItems o f (if o then g else behind) in
-      rw (h, comparedItems)
+      rw (h, comparedItems, compared-is)
       (then-label (searched o (e .name) g) label (counts then (inner then later))
       ∙ ap (λ a. after (searched o (e .name) g) true then a)
       (ap (λ a. after 0 label then a) (sym (then-assoc counts inner later)) ∙ sym (then-assoc (after 0 label) (counts then inner) later)))

@@ -13,8 +13,9 @@ use Rattle.spec.specs.Forest.{Forest, none, tree, count, from}
 use Rattle.spec.specs.Value as Value
 use Rattle.spec.specs.Value.{Label, isObject, depth, depths, tag}
 use Rattle.spec.specs.Equality.{sameLabel}
-use Rattle.claims.specs.Equality.{NoRepeats, Distinct}
-use Rattle.comparison.specs.Comparison.{Compared, after, _then_, searched, comparedItems, compared}
+use Rattle.spec.specs.Distinct.{NoRepeats, Distinct}
+use Rattle.comparison.specs.Comparison.{Compared, after, _then_, compared}
+use Rattle.comparison.proofs.ItemLaws.{searched, comparedItems, compared-is}
 use Rattle.tape.specs.Layout.{objectKind}
 use Rattle.tape.specs.Fields.{kindOf}
 use Rattle.tape.specs.declared.fields.Cell.{Cell}
@@ -37,7 +38,7 @@ use Rattle.equality.proofs.SiblingLaws.{value-node, value-inside, value-fit, Ch
 use Rattle.equality.proofs.SiblingLaws.{Siblings, siblings-all, siblings-none, siblings-first, siblings-value, siblings-next}
 use Rattle.equality.proofs.PendingLaws.{depth-first, depth-rest}
 use Rattle.equality.proofs.EqualLaws.{labelled, labels, object-is}
-use Rattle.counting.specs.Places.{placeAt, Placed}
+use Rattle.counting.specs.Places.{placeAt, HavePlaces}
 use Rattle.counting.specs.Values.{namesFor, AlikeIs, Tells, CountedIs}
 use Rattle.counting.specs.declared.values.Comparison.{Comparison}
 use Rattle.counting.proofs.PlaceLaws.{siblings-place}
@@ -82,8 +83,8 @@ module _ {w : Table} {at other : ℕ} where
 -- ---- two values by their labels and counts
 module _ (v w : Value.Value) where
   compared-unlike : (sameLabel (v .label) (w .label) && eqb (count (v .kids)) (count (w .kids))) ≡ false → compared v w ≡ after 0 false
-  unfolding compared _then_
-  compared-unlike = go (sameLabel (v .label) (w .label)) (eqb (count (v .kids)) (count (w .kids)))
+  unfolding _then_
+  compared-unlike h = compared-is v w ∙ go (sameLabel (v .label) (w .label)) (eqb (count (v .kids)) (count (w .kids))) h
     where
       items : Compared
       items = comparedItems (isObject (v .label)) (v .kids) (w .kids)
@@ -95,8 +96,8 @@ module _ (v w : Value.Value) where
 
   compared-alike : (sameLabel (v .label) (w .label) && eqb (count (v .kids)) (count (w .kids))) ≡ true
       → compared v w ≡ (after 0 true then comparedItems (isObject (v .label)) (v .kids) (w .kids))
-  unfolding compared _then_
-  compared-alike = go (sameLabel (v .label) (w .label)) (eqb (count (v .kids)) (count (w .kids)))
+  unfolding _then_
+  compared-alike h = compared-is v w ∙ go (sameLabel (v .label) (w .label)) (eqb (count (v .kids)) (count (w .kids))) h
     where
       items : Compared
       items = comparedItems (isObject (v .label)) (v .kids) (w .kids)
@@ -136,7 +137,7 @@ pub record Pending (w : Table) (o : Bool) (other row end next stop levels : ℕ)
   pub first : Siblings w row end rest
   pub second : Siblings w next stop beside
   pub distinct : NoRepeats o (members (w .texts) all)
-  pub placed : Placed (placeAt (w .nodes)) (other + 1) 1 all
+  pub placed : HavePlaces (placeAt (w .nodes)) (other + 1) 1 all
   pub passed : ℕ
   pub left : from passed all ≡ beside
   pub shallow : depths (members (w .texts) rest) ≤ levels
@@ -148,7 +149,7 @@ pub record Pending (w : Table) (o : Bool) (other row end next stop levels : ℕ)
 abbrev pub Counting : Table → ℕ → ℕ → ℕ → Bool → ℕ → ℕ → ℕ → ℕ → ℕ → Type 0
 Counting w at other levels o end stop row next names =
     (c : Cell) (kids : Forest Cell) (e : Cell) (below : Forest Cell) → NodeHeld w at c kids → NodeHeld w other e below
-    → depth (meant (w .texts) c kids) ≤ levels → Distinct (meant (w .texts) e below) → Placed (placeAt (w .nodes)) (other + 1) 1 below
+    → depth (meant (w .texts) c kids) ≤ levels → Distinct (meant (w .texts) e below) → HavePlaces (placeAt (w .nodes)) (other + 1) 1 below
     → Pending w o other row end next stop (levels - 1) below (compared (meant (w .texts) c kids) (meant (w .texts) e below)) names
 
 -- a verdict told

@@ -18,7 +18,7 @@ use Rattle.tape.proofs.Cells.{formed-fit}
 use Rattle.tape.proofs.Depth.{level-container}
 use Rattle.tape.proofs.Rows.{inside-here, end-here}
 use Rattle.tape.proofs.Held.{Remaining, remaining-all, remaining-next, remaining-none, remaining-first, held-node}
-use Rattle.counting.specs.Places.{apart, placeRow, placeAt, Placed, placed-none, placed-tree, NotedIs}
+use Rattle.counting.specs.Places.{apart, placeRow, placeAt, HavePlaces, placed-none, placed-tree, NotedIs}
 use Rattle.counting.proofs.PlaceLaws.{placed-same, scratched-none, scratched-then, scratched-set, end-same, node-still, noted-here, noted-other}
 
 -- ---- how deep containers are nested
@@ -47,7 +47,7 @@ module _ {xs : List Row} {at levels : ℕ} where
       record {
         scratched = scratched-none;
         before = λ r h. refl;
-        held = λ c kids n second low long shallow. subst (Placed (placeAt xs) (at + 1) 1) (sym (empty c kids n second low shallow)) placed-none;
+        held = λ c kids n second low long shallow. subst (HavePlaces (placeAt xs) (at + 1) 1) (sym (empty c kids n second low shallow)) placed-none;
       }
 
   pub noted-flat : levels ≡ 0 → NotedIs xs xs at levels
@@ -68,7 +68,8 @@ pub record Left (xs zs : List Row) (at end row place levels : ℕ) (kids : Fores
   pub rest : Forest Cell
   pub left : Remaining xs row end rest
   pub shallow : deep rest ≤ levels
-  pub so-far : (ys : List Row) → ((r : ℕ) → r < row → placeAt ys r ≡ placeAt zs r) → Placed (placeAt ys) row place rest → Placed (placeAt ys) (at + 1) 1 kids
+  pub so-far : (ys : List Row) → ((r : ℕ) → r < row → placeAt ys r ≡ placeAt zs r) → HavePlaces (placeAt ys) row place rest
+      → HavePlaces (placeAt ys) (at + 1) 1 kids
 
 pub record Noting (xs zs : List Row) (at end row place levels : ℕ) : Type 0 where
   pub few : place < row
@@ -100,7 +101,7 @@ module _ {xs : List Row} {at levels end : ℕ} (ends : end ≡ endOf xs at) wher
           before = g .before;
           held = λ c kids n second low long shallow.
               let l = g .held c kids n long shallow in
-              l .so-far zs (λ r k. refl) (subst (Placed (placeAt zs) row place) (sym (remaining-none (l .left) h)) placed-none);
+              l .so-far zs (λ r k. refl) (subst (HavePlaces (placeAt zs) row place) (sym (remaining-none (l .left) h)) placed-none);
         }
 
     -- a turn: a place is noted, then those below it
@@ -157,8 +158,8 @@ module _ {xs : List Row} {at levels end : ℕ} (ends : end ≡ endOf xs at) wher
                   shallow = omega arith;
                   so-far = λ ws same placed.
                       l .so-far ws (λ r h. same r (omega arith) ∙ lower r h)
-                      (subst (Placed (placeAt ws) row place) (sym is)
+                      (subst (HavePlaces (placeAt ws) row place) (sym is)
                       (placed-tree (same row (omega arith) ∙ own long) (placed-same placed-below (λ r h k. same r (omega arith)))
-                      (subst (λ r. Placed (placeAt ws) r (place + 1) rest) behind placed)));
+                      (subst (λ r. HavePlaces (placeAt ws) r (place + 1) rest) behind placed)));
                 };
           }

@@ -7,9 +7,10 @@ use Rattle.spec.specs.Outcome.{if_then_else_}
 use Rattle.spec.specs.Bytes.{Text}
 use Rattle.spec.specs.Forest.{Forest, none, tree, Tree, count, from, nth, _⧺_}
 use Rattle.spec.specs.Value.{Members, find}
-use Rattle.spec.specs.Equality.{partner}
-use Rattle.claims.specs.Equality.{NoRepeats, Distinct}
-use Rattle.comparison.specs.Comparison.{lookups, searched}
+use Rattle.spec.proofs.MatchLaws.{partner}
+use Rattle.spec.specs.Distinct.{NoRepeats, Distinct}
+use Rattle.comparison.specs.Comparison.{lookups}
+use Rattle.comparison.proofs.ItemLaws.{searched}
 use Rattle.tape.specs.declared.fields.Cell.{Cell}
 use Rattle.tape.specs.Lent.{Table}
 use Rattle.tape.specs.Map.{mapForest}
@@ -25,7 +26,7 @@ use Rattle.equality.specs.Compare.{PartnerIs, element, in-step, sought, hinted}
 use Rattle.equality.proofs.MatchLaws.{inside, partner-find, partner-there}
 use Rattle.equality.proofs.SiblingLaws.{Siblings, siblings-from, Children, children-child, member-missing}
 use Rattle.equality.proofs.PartnerLaws.{same-names, sought-name}
-use Rattle.counting.specs.Places.{placeAt, Placed}
+use Rattle.counting.specs.Places.{placeAt, HavePlaces}
 use Rattle.counting.specs.Values.{namesFor}
 use Rattle.counting.proofs.PlaceLaws.{siblings-place}
 use Rattle.counting.proofs.ComparedLaws.{lookups-find, lookups-missing, lookups-there}
@@ -57,7 +58,7 @@ module _ {w : Table} {other row end next stop : ℕ} {all : Forest Cell} (second
   unmatched true q (in-step same) e = absurd (let z : _≡_ {A = ℕ} 0 1 = cc in omega arith)
   unmatched false q element e = absurd (let z : _≡_ {A = ℕ} 0 1 = cc in omega arith)
 
-  module _ (placed : Placed (placeAt (w .nodes)) (other + 1) 1 all) (passed : ℕ) (here : from passed all ≡ tree d ds after) (pair : ℕ) where
+  module _ (placed : HavePlaces (placeAt (w .nodes)) (other + 1) 1 all) (passed : ℕ) (here : from passed all ≡ tree d ds after) (pair : ℕ) where
     -- what was found: its tree, that it is the partner, and that so many names were compared for it as its place says
     pub record Match (o : Bool) : Type 0 where
       pub k : ℕ
@@ -69,7 +70,7 @@ module _ {w : Table} {other row end next stop : ℕ} {all : Forest Cell} (second
       pub partner-is : partner o (nameText (w .texts) (c .name)) (among w o all (tree d ds after)) ≡ members (w .texts) (tree p ps behind)
       pub rest-is : (if o then among w o all (tree d ds after) else members (w .texts) behind) ≡ among w o all after
       pub apart : Distinct (meant (w .texts) p ps)
-      pub below : Placed (placeAt (w .nodes)) (pair + 1) 1 ps
+      pub below : HavePlaces (placeAt (w .nodes)) (pair + 1) 1 ps
       pub names-are : searched o (nameText (w .texts) (c .name)) (among w o all (tree d ds after)) ≡ namesFor o (w .nodes) pair
 
     still : (k : ℕ) {p : Cell} {ps behind : Forest Cell} → from k all ≡ tree p ps behind

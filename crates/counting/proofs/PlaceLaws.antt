@@ -19,11 +19,11 @@ use Rattle.table.specs.Sound.{NodeHeld}
 use Rattle.changes.specs.Site.{table}
 use Rattle.changes.proofs.KeptLaws.{SameRows, held-alone, held-same}
 use Rattle.equality.proofs.SiblingLaws.{Siblings}
-use Rattle.counting.specs.Places.{apart, placeRow, placeAt, Placed, placed-none, placed-tree}
+use Rattle.counting.specs.Places.{apart, placeRow, placeAt, HavePlaces, placed-none, placed-tree}
 
 -- ---- places by other notes, which are the same in these rows
-pub placed-same : {p q : ℕ → ℕ} {row k : ℕ} {f : Forest Cell} → Placed p row k f → ((r : ℕ) → row ≤ r → r < row + size f → q r ≡ p r)
-    → Placed q row k f
+pub placed-same : {p q : ℕ → ℕ} {row k : ℕ} {f : Forest Cell} → HavePlaces p row k f → ((r : ℕ) → row ≤ r → r < row + size f → q r ≡ p r)
+    → HavePlaces q row k f
 unfolding size
 placed-same placed-none same = placed-none
 placed-same {row = row} (placed-tree is below rest) same =
@@ -32,21 +32,21 @@ placed-same {row = row} (placed-tree is below rest) same =
 
 -- ---- the k-th tree has the k-th place, and those below it have theirs
 module _ {p : ℕ → ℕ} {c : Cell} {ks after : Forest Cell} where
-  placed-from : {row n : ℕ} {f : Forest Cell} → Placed p row n f → (k at : ℕ) → from k f ≡ tree c ks after → at ≡ row + size (before k f)
-      → (p at ≡ n + k) × Placed p (at + 1) 1 ks
+  placed-from : {row n : ℕ} {f : Forest Cell} → HavePlaces p row n f → (k at : ℕ) → from k f ≡ tree c ks after → at ≡ row + size (before k f)
+      → (p at ≡ n + k) × HavePlaces p (at + 1) 1 ks
   unfolding from before size
   placed-from placed-none zero at e place = absurd (let z : _≡_ {A = ℕ} 0 1 = cc in omega arith)
   placed-from placed-none (suc k) at e place = absurd (let z : _≡_ {A = ℕ} 0 1 = cc in omega arith)
   placed-from {row} {n} (placed-tree {kids = kids} is below rest) zero at e place =
       let same : kids ≡ ks = cc in
       let here : at ≡ row = omega arith in
-      (omega (arith, ap p here), subst (Placed p (at + 1) 1) same (subst (λ r. Placed p (r + 1) 1 kids) (sym here) below))
+      (omega (arith, ap p here), subst (HavePlaces p (at + 1) 1) same (subst (λ r. HavePlaces p (r + 1) 1 kids) (sym here) below))
   placed-from (placed-tree is below rest) (suc k) at e place =
       let (there, inside) = placed-from rest k at e (omega arith) in
       (omega arith, inside)
 
-  pub siblings-place : {w : Table} {start row end n : ℕ} {f : Forest Cell} (k : ℕ) → Placed p start n f → Siblings w start end f
-      → Siblings w row end (tree c ks after) → from k f ≡ tree c ks after → (p row ≡ n + k) × Placed p (row + 1) 1 ks
+  pub siblings-place : {w : Table} {start row end n : ℕ} {f : Forest Cell} (k : ℕ) → HavePlaces p start n f → Siblings w start end f
+      → Siblings w row end (tree c ks after) → from k f ≡ tree c ks after → (p row ≡ n + k) × HavePlaces p (row + 1) 1 ks
   siblings-place {row = row} {f = f} k placed s t e = placed-from placed k row e (omega (arith, size-cut k f, ap size e, s .left .ends, t .left .ends))
 
 -- ---- only scratch rows change

@@ -23,10 +23,10 @@ abbrev pub placeAt : List Row → ℕ → ℕ
 placeAt nodes row = spanOf (getD nodes (row + apart) [])
 
 -- the trees from a row on have the places from k on, and all below them have theirs, from 1 on
-pub data Placed (place : ℕ → ℕ) : ℕ → ℕ → Forest Cell → Type 0 where
-  placed-none : {row k : ℕ} → Placed place row k none
-  placed-tree : {row k : ℕ} {c : Cell} {kids rest : Forest Cell} → place row ≡ k → Placed place (row + 1) 1 kids
-      → Placed place (row + 1 + size kids) (k + 1) rest → Placed place row k (tree c kids rest)
+pub data HavePlaces (place : ℕ → ℕ) : ℕ → ℕ → Forest Cell → Type 0 where
+  placed-none : {row k : ℕ} → HavePlaces place row k none
+  placed-tree : {row k : ℕ} {c : Cell} {kids rest : Forest Cell} → place row ≡ k → HavePlaces place (row + 1) 1 kids
+      → HavePlaces place (row + 1 + size kids) (k + 1) rest → HavePlaces place row k (tree c kids rest)
 
 -- What noting the places below a row comes to. Only scratch rows change, and places up to the row stay. Where the table holds a tree of the second
 -- text there, that nests at most so many containers, all below it have their places. What else the scratch rows hold is left free.
@@ -34,4 +34,4 @@ pub record NotedIs (xs ys : List Row) (at levels : ℕ) : Type 0 where
   pub scratched : Scratched xs ys
   pub before : (r : ℕ) → r ≤ at → placeAt ys r ≡ placeAt xs r
   pub held : (c : Cell) (kids : Forest Cell) → Node xs at c kids → patchRow ≤ at → endOf xs at ≤ scratchRow → rows ≤ length xs
-      → level c (deep kids) ≤ levels → Placed (placeAt ys) (at + 1) 1 kids
+      → level c (deep kids) ≤ levels → HavePlaces (placeAt ys) (at + 1) 1 kids

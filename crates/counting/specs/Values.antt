@@ -9,14 +9,14 @@ use Rattle.spec.specs.Outcome.{if_then_else_}
 use Rattle.spec.specs.Forest.{Forest, count}
 use Rattle.spec.specs.Value.{depth}
 use Rattle.spec.specs.Equality.{sameLabel}
-use Rattle.claims.specs.Equality.{Distinct}
+use Rattle.spec.specs.Distinct.{Distinct}
 use Rattle.comparison.specs.Comparison.{Compared, compared}
 use Rattle.tape.specs.Fields.{Row}
 use Rattle.tape.specs.declared.fields.Cell.{Cell}
 use Rattle.tape.specs.Lent.{Table}
 use Rattle.table.specs.Meaning.{labelOf, meant}
 use Rattle.table.specs.Sound.{NodeHeld}
-use Rattle.counting.specs.Places.{placeAt, Placed}
+use Rattle.counting.specs.Places.{placeAt, HavePlaces}
 use Rattle.counting.specs.declared.values.Comparison.{Comparison}
 
 -- for a member that is found in a row, the names up to its own are compared; for an element, none
@@ -40,5 +40,5 @@ abbrev pub CountedIs : Table → ℕ → ℕ → ℕ → Comparison → Type 0
 CountedIs w at other levels r =
     (c : Cell) (kids : Forest Cell) (e : Cell) (below : Forest Cell)
     → NodeHeld w at c kids → NodeHeld w other e below
-    → depth (meant (w .texts) c kids) ≤ levels → Distinct (meant (w .texts) e below) → Placed (placeAt (w .nodes)) (other + 1) 1 below
+    → depth (meant (w .texts) c kids) ≤ levels → Distinct (meant (w .texts) e below) → HavePlaces (placeAt (w .nodes)) (other + 1) 1 below
     → Tells (compared (meant (w .texts) c kids) (meant (w .texts) e below)) r

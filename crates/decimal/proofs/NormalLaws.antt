@@ -16,7 +16,7 @@ use Rattle.spec.specs.Outcome.{if_then_else_}
 use Rattle.spec.specs.Limits.{maxNumber, maxExponent}
 use Rattle.spec.specs.Bytes.{Bytes, within}
 use Rattle.spec.specs.Numbers.{isDigit, isE}
-use Rattle.spec.specs.Worth.{mantissa, fractionDigits, exponent, signedExponent, dropZeros, trimmed, isNegative, power, worth}
+use Rattle.spec.specs.Worth.{mantissa, fractionDigits, exponent, signedExponent, dropZeros, trimmed, isNegative, unlessZero, worth}
 use Rattle.spec.specs.Value.{sameText}
 use Rattle.spec.specs.Equality.{sameBool, sameInteger, sameWorth}
 use Rattle.decimal.specs.declared.Normal.{Normal}
@@ -121,10 +121,10 @@ pub normal-enough : (t : Bytes) → normalForm t .count ≤ length (mantissa (dr
 unfolding normalForm worth
 normal-enough t = rw (first-digits t) (trimmed-shorter (dropZeros (mantissa t)))
 
-power-count : (s : Bytes) (e : ℤ) (f d : ℕ) → power s e f d ≡ (if eqb (length s) 0 then pos 0 else ((e -ℤ pos f) +ℤ pos d))
-unfolding power
-power-count [] e f d = refl
-power-count (b ∷ s) e f d = rw (eqb·suc-zero (length s))
+unless-zero-count : (s : Bytes) (e : ℤ) → unlessZero s e ≡ (if eqb (length s) 0 then pos 0 else e)
+unfolding unlessZero
+unless-zero-count [] e = refl
+unless-zero-count (b ∷ s) e = rw (eqb·suc-zero (length s))
 
 -- What the code counts, put together. A count is of the mantissa from the first significant digit on.
 module _ (t : Bytes) (n : Normal) (e : ℤ) (fraction all : ℕ) where
@@ -136,7 +136,7 @@ module _ (t : Bytes) (n : Normal) (e : ℤ) (fraction all : ℕ) where
       let digits : mantissa (drop (n .first) t) ≡ dropZeros (mantissa t) = rw is-first (first-digits t) in
       let kept : n .count ≡ length (trimmed (dropZeros (mantissa t))) = rw digits at is-count in
       let sign : n .negative ≡ worth t .negative = is-negative ∙ rw kept in
-      let shift : n .power ≡ worth t .power = is-power ∙ rw (power-count, kept, is-e, is-fraction, is-all, digits) in
+      let shift : n .power ≡ worth t .power = is-power ∙ rw (unless-zero-count, kept, is-e, is-fraction, is-all, digits) in
       λ i. record { negative = sign i; first = is-first i; count = kept i; power = shift i }
 
 -- ---- the limits

@@ -12,6 +12,7 @@ use mantissa::first_digit;
 use mantissa::fraction;
 use mantissa::is_digit;
 use mantissa::significant;
+use spec::limits;
 ghost use mathlib.Core.Path.{_≡_};
 ghost use Prim.Native.Nat.{_≤_};
 ghost use lib.ListN.{length, take, drop};
@@ -25,9 +26,7 @@ ghost use Rattle.spec.specs.Value.{sameText};
 ghost use Rattle.spec.specs.Equality.{sameBool, sameInteger, sameWorth};
 ghost use Rattle.decimal.specs.Normal.{normalForm, normalized, sameNumber};
 
-// Document 01, "Numbers that bound the work": the bytes of a number, and the size of its written exponent.
-const MAX_NUMBER: usize = 128;
-
+// The size of a number's written exponent: `limits::MAX_EXPONENT`, as a count of bytes is held.
 const MAX_EXPONENT: usize = 9_999;
 
 // A number's text in normal form: whether it is below zero; where its significant digits begin, and how many they
@@ -63,7 +62,7 @@ pub fn same_number(a: &[u8], b: &[u8]) -> bool
 pub fn normalize(t: &[u8]) -> Normalized
     ensures { λ r. ⌜ r ≡ normalized (now (t .entry)) ⌝ }
 {
-    if MAX_NUMBER < t.len() {
+    if limits::MAX_NUMBER < t.len() {
         return Normalized::OverLimit;
     }
     let letter = after_letter(t);
@@ -161,8 +160,8 @@ fn same_power(a: i32, b: i32) -> bool
     a == b
 }
 
-// Whether two texts have the same digits, so many of each, from a place of each on. Neither text ends before that, so
-// no index is tested.
+// Whether two texts have the same `count` digits, from a place of each on. Neither text ends before that, so no index
+// is tested.
 fn same_digits(a: &[u8], first: usize, b: &[u8], other: usize, count: usize) -> bool
     requires { ⌜ (count ≤ length (mantissaOf (drop first (now a))))
         × (count ≤ length (mantissaOf (drop other (now b)))) ⌝ }

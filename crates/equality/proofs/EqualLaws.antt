@@ -11,7 +11,7 @@ use Rattle.spec.specs.Forest.{Forest, none, from}
 use Rattle.spec.specs.Value as Value
 use Rattle.spec.specs.Value.{Label, isObject, isContainer, depth, depths}
 use Rattle.spec.specs.Equality.{sameLabel, equal}
-use Rattle.claims.specs.Equality.{NoRepeats, Distinct}
+use Rattle.spec.specs.Distinct.{NoRepeats, Distinct}
 use Rattle.tape.specs.Layout.{arrayKind, objectKind}
 use Rattle.tape.specs.Fields.{Row, kindOf}
 use Rattle.tape.specs.declared.fields.Cell.{Cell}

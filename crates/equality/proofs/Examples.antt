@@ -9,12 +9,12 @@ use mathlib.Core.List.{[], _∷_}
 use Rattle.spec.specs.Bytes.{ascii, byte, within}
 use Rattle.spec.specs.Strings.{character}
 use Rattle.spec.specs.Numbers.{isDigit, isE}
-use Rattle.spec.specs.Worth.{mantissa, fractionDigits, decimal, signedExponent, exponent, dropZeros, trimmed, isNegative, power, worth}
+use Rattle.spec.specs.Worth.{mantissa, fractionDigits, decimal, signedExponent, exponent, dropZeros, trimmed, isNegative, unlessZero, worth}
 use Rattle.spec.specs.Forest.{Forest, none, tree, count, size}
 use Rattle.spec.specs.Write.{utf8, writeCharacter, writeCharacters}
 use Rattle.spec.specs.Value.{tag, isNumber, isObject, isContainer, content, levels, depths, depth, sameText, find}
-use Rattle.spec.specs.Equality.{sameBool, sameInteger, sameWorth, sameLabel, partner, matches, equal}
-use Rattle.claims.specs.Equality.{Distinct, empty, member}
+use Rattle.spec.specs.Equality.{sameBool, sameInteger, sameWorth, sameLabel, fromName, sameElements, sameMembers, equal}
+use Rattle.spec.specs.Distinct.{Distinct, empty, member}
 use Rattle.lexer.specs.Hash.{mix, hashFrom, hash}
 use Rattle.text.specs.Decode.{characterIn, decodeLoop, decodeFrom, textFrom, textOf}
 use Rattle.text.specs.Decode as Decode
@@ -111,7 +111,7 @@ unfolding utf8 writeCharacter writeCharacters
 compute-written = tt
 
 unfoldable compute-numbers : Unit {0}
-unfolding isDigit isE mantissa fractionDigits decimal signedExponent exponent dropZeros trimmed isNegative power worth withinLimits
+unfolding isDigit isE mantissa fractionDigits decimal signedExponent exponent dropZeros trimmed isNegative unlessZero worth withinLimits
 compute-numbers = tt
 
 -- a container has no text of its own
@@ -166,7 +166,7 @@ second-value = record { rest = none; held = held-next held; label = container-fi
 
 -- ---- what it leaves
 are-equal : equal (meant texts object first) (meant texts object second) ≡ true
-unfolding compute compute-numbers mapForest labelOf count tag isNumber isObject content sameText sameBool sameInteger sameWorth sameLabel partner matches equal
+unfolding compute compute-numbers mapForest labelOf count tag isNumber isObject content sameText sameBool sameInteger sameWorth sameLabel fromName sameElements sameMembers equal
 are-equal = refl
 
 two-deep : depth (meant texts object first) ≡ 2

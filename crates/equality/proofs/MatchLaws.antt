@@ -1,7 +1,7 @@
 -- Laws of the definitions' comparison: two containers of one kind, tree by tree.
 use Prim.Native.Nat.{ℕ, zero, suc}
 use native.Mathlib.Omega.{arith}
-use mathlib.Core.Path.{_≡_, refl, sym, subst}
+use mathlib.Core.Path.{_≡_, refl, sym, subst, _∙_}
 use mathlib.Core.Bool.{Bool, true, false, _&&_, and-assoc, and-false}
 use lib.Dec.{eqb, eqb·zero-suc, eqb·suc-zero, eqb·suc-suc}
 use Rattle.spec.specs.Outcome.{if_then_else_}
@@ -9,10 +9,12 @@ use Rattle.spec.specs.Bytes.{Text}
 use Rattle.spec.specs.Forest.{none, tree, count, from}
 use Rattle.spec.specs.Value as Value
 use Rattle.spec.specs.Value.{Entry, Members, find, sameText, isObject}
-use Rattle.spec.specs.Equality.{sameLabel, partner, matches, equal}
+use Rattle.spec.specs.Equality.{sameLabel, equal}
+use Rattle.spec.proofs.MatchLaws.{partner, matches, equal-is}
 use Rattle.spec.proofs.TextLaws.{sameText-refl}
-use Rattle.claims.specs.Equality.{NoRepeats, empty, element, member}
-use Rattle.claims.proofs.Found.{sameText-apart, found, found-absent}
+use Rattle.spec.specs.Distinct.{NoRepeats, empty, element, member}
+use Rattle.spec.proofs.TextLaws.{sameText-apart}
+use Rattle.spec.proofs.NameLaws.{found, found-absent}
 
 -- the value that a tree is
 abbrev pub valueOf : Entry → Members → Value.Value
@@ -55,8 +57,8 @@ module _ {e : Entry} {kids rest : Members} where
 module _ (e : Entry) (kids f : Members) where
   matches-pair : (o : Bool) (g : Members) (p : Entry) (below after : Members) → partner o (e .name) g ≡ tree p below after
       → matches o (tree e kids f) g ≡ equal (valueOf e kids) (valueOf p below) && matches o f (if o then g else after)
-  unfolding matches equal
-  matches-pair o g p below after h = rw (h, matches) (simp and-assoc)
+  unfolding matches
+  matches-pair o g p below after h = rw (h, matches, equal-is) (simp and-assoc)
 
   matches-alone : (o : Bool) (g : Members) → partner o (e .name) g ≡ none → matches o (tree e kids f) g ≡ false
   unfolding matches
@@ -72,8 +74,8 @@ if-same true f = refl
 if-same false f = refl
 
 pub equal-agree : (v w : Value.Value) → sameLabel (v .label) (w .label) ≡ true → equal v w ≡ agree (isObject (v .label)) (w .kids) (v .kids) (w .kids)
-unfolding equal agree
-equal-agree v w h = rw (h, if-same (isObject (v .label)) (w .kids))
+unfolding agree
+equal-agree v w h = equal-is v w ∙ rw (h, if-same (isObject (v .label)) (w .kids))
 
 module _ (o : Bool) (all : Members) where
   -- one of the two has ended

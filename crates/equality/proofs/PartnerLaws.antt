@@ -8,9 +8,9 @@ use lib.ListN.{length, getD, List·getD-map}
 use borrow.Author.Tests.{not-true, not-false}
 use Rattle.spec.specs.Forest.{Forest, tree, from}
 use Rattle.spec.specs.Value.{depth, find}
-use Rattle.spec.specs.Equality.{partner}
+use Rattle.spec.proofs.MatchLaws.{partner}
 use Rattle.spec.proofs.TextLaws.{sameText-true}
-use Rattle.claims.specs.Equality.{NoRepeats}
+use Rattle.spec.specs.Distinct.{NoRepeats}
 use Rattle.tape.specs.Fields.{Row, noNode, nameOf}
 use Rattle.tape.specs.declared.fields.Name.{Name}
 use Rattle.tape.specs.declared.fields.Cell.{Cell}

@@ -8,7 +8,7 @@ use lib.Dec.{leb}
 use borrow.Author.Tests.{leb-true, leb-false}
 use Rattle.spec.specs.Forest.{Forest, none, tree, from}
 use Rattle.spec.specs.Value.{depth, depths}
-use Rattle.claims.specs.Equality.{NoRepeats}
+use Rattle.spec.specs.Distinct.{NoRepeats}
 use Rattle.tape.specs.declared.fields.Cell.{Cell}
 use Rattle.tape.specs.Rows.{endOf}
 use Rattle.tape.specs.Map.{mapForest}

@@ -7,7 +7,7 @@ use mathlib.Core.List.{[]}
 use lib.ListN.{length, getD}
 use Rattle.spec.specs.Bytes.{Text}
 use Rattle.spec.specs.Forest.{Forest, none, tree, Tree, size, before, from, nth, _⧺_}
-use Rattle.spec.specs.Equality.{partner}
+use Rattle.spec.proofs.MatchLaws.{partner}
 use Rattle.tape.specs.declared.fields.Cell.{Cell}
 use Rattle.tape.specs.Cell.{Fit, Node}
 use Rattle.tape.specs.Rows.{endOf}

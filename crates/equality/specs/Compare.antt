@@ -7,7 +7,7 @@ use lib.ListN.{getD}
 use Rattle.spec.specs.Forest.{Forest}
 use Rattle.spec.specs.Value.{Label, depth}
 use Rattle.spec.specs.Equality.{sameLabel, equal}
-use Rattle.claims.specs.Equality.{Distinct}
+use Rattle.spec.specs.Distinct.{Distinct}
 use Rattle.tape.specs.Layout.{objectKind}
 use Rattle.tape.specs.Fields.{Row, kindOf, valueOf, nameOf}
 use Rattle.tape.specs.declared.fields.Name.{Name}
@@ -43,7 +43,7 @@ pub data SoughtIs (w : Table) (other end : ℕ) (name : Name) : Member → Type 
   searched : {r : Member} → FindIs w (other + 1) end name r → SoughtIs w other end name r
   hinted : {pair : ℕ} → Child (w .nodes) other pair → sameName (w .texts) (nameOf (getD (w .nodes) pair [])) name ≡ true → SoughtIs w other end name (At pair)
 
--- in an array the one in the row `next`; in an object that one, where it has the same name, and else the one that is sought
+-- in an array the one in the row `next`; in an object that one, where it has the same name, otherwise the one that is sought
 pub data PartnerIs (w : Table) (other end row next : ℕ) : Bool → Member → Type 0 where
   element : PartnerIs w other end row next false (At next)
   in-step : sameName (w .texts) (nameOf (getD (w .nodes) row [])) (nameOf (getD (w .nodes) next [])) ≡ true → PartnerIs w other end row next true (At next)

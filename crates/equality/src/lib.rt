@@ -98,8 +98,8 @@ pub fn partner<'a>(
     sought(texts, nodes, index, pair.top, pair.other, pair.end, name)
 }
 
-// Whether the values in the rows `at` and `other` are equal, of which the first nests at most `levels` containers,
-// and no object of the second has two members of one name. The children of both are passed in step, those of an
+// Whether the values in the rows `at` and `other` are equal. The first nests at most `levels` containers, and no object
+// of the second has two members of one name. The children of both are passed in step, those of an
 // object too: two containers have as many children if both end together. `top` is the row of an indexed tree that the
 // second is part of, or 0.
 fn equal<'a>(

@@ -16,7 +16,8 @@ use Rattle.spec.specs.Numbers.{isDigit}
 use Rattle.spec.specs.Strings.{hexValue}
 use Rattle.lexer.proofs.Tests.{between-within, above-within}
 use Rattle.fragment.specs.Kept.{isKept, isPchar, isSubDelim, isUnreserved, isAlpha, oneOf}
-use Rattle.fragment.specs.Link.{bad-link, upperHex, encoded, encodeAll, link, Pending, nothing, percent, digit, isHex, precede, octets, octetsOf}
+use Rattle.text.specs.UpperHex.{upperHex}
+use Rattle.fragment.specs.Link.{bad-link, encoded, encodeAll, link, Pending, nothing, percent, digit, isHex, precede, octets, octetsOf}
 use Rattle.fragment.specs.Link.{isUtf8, isPointer}
 use Rattle.fragment.specs.Answer as Spec
 use Rattle.fragment.specs.Answer.{fitting, writeAnswer, octetsAnswer, readAnswer}

@@ -7,7 +7,8 @@ use Rattle.spec.specs.Strings.{hexValue, multibyte}
 use Rattle.spec.specs.Pointer.{prepend, segments, tilde, unescape, unescapeAll, tokens}
 use Rattle.pointer.specs.Tokens.{accepted}
 use Rattle.fragment.specs.Kept.{oneOf, isAlpha, isUnreserved, isSubDelim, isPchar, isKept}
-use Rattle.fragment.specs.Link.{upperHex, encoded, encodeAll, link, isHex, precede, octets, octetsOf, characterAt, charactersFrom, characters, isUtf8}
+use Rattle.text.specs.UpperHex.{upperHex}
+use Rattle.fragment.specs.Link.{encoded, encodeAll, link, isHex, precede, octets, octetsOf, characterAt, charactersFrom, characters, isUtf8}
 use Rattle.fragment.specs.Link.{isPointer}
 use Rattle.fragment.specs.Answer.{fitting, writeAnswer, octetsAnswer, readAnswer}
 use Rattle.fragment.specs.Examples.{section6, Every, none, more}

@@ -12,45 +12,14 @@ use Rattle.spec.specs.Outcome.{Outcome, ok, refused, _>>=_}
 use Rattle.spec.specs.Bytes.{Bytes, byte}
 use Rattle.text.specs.Written.{Stored, LaidDown}
 use Rattle.text.proofs.StoreLaws.{stores-on, stored, front}
+use Rattle.text.proofs.LaidLaws.{Laid, laid-starts, laid-on, laid-ends}
 use Rattle.fragment.specs.Kept.{isKept}
-use Rattle.fragment.specs.Link.{bad-link, upperHex, encoded, encodeAll, link, nothing, octets, precede}
+use Rattle.text.specs.UpperHex.{upperHex}
+use Rattle.fragment.specs.Link.{bad-link, encoded, encodeAll, link, nothing, octets, precede}
 use Rattle.fragment.specs.Scan.{octetsAfter, Onward, OctetAt, OctetsPut}
 use Rattle.fragment.specs.declared.octets.Octet.{Octet}
 use Rattle.fragment.specs.declared.octets.Octet.the-variants as Octet
 use Rattle.fragment.proofs.OctetLaws.{from-here, at-end}
-
--- ---- any text: what is laid down from a place on, and what is left
-
-pub record Laid (start : ℕ) (whole rest before out : Bytes) (end : ℕ) : Type 0 where
-  pub so-far : Bytes
-  pub whole-is : whole ≡ so-far ++ rest
-  pub end-is : end ≡ start + length so-far
-  pub out-is : out ≡ sets before start so-far
-
-pub laid-starts : (start : ℕ) (whole out : Bytes) → Laid start whole whole out out start
-laid-starts start whole out = record { so-far = []; whole-is = refl; end-is = omega arith; out-is = refl }
-
-module _ {start : ℕ} {whole rest before out : Bytes} {end : ℕ} (l : Laid start whole rest before out end) where
-  pub laid-length : length out ≡ length before
-  laid-length = ap length (l .out-is) ∙ length-sets before start (l .so-far)
-
-  pub laid-bound : end + length rest ≡ start + length whole
-  laid-bound = omega (arith, l .end-is, ap length (l .whole-is), length-append (l .so-far) rest)
-
-  pub laid-on : (bytes : Bytes) {left out' : Bytes} {next : ℕ} → rest ≡ bytes ++ left → Stored bytes end out out' next →
-      Laid start whole left before out' next
-  laid-on bytes {left} e r =
-      record {
-        so-far = l .so-far ++ bytes;
-        whole-is = l .whole-is ∙ ap (λ t. l .so-far ++ t) e ∙ sym (append-assoc (l .so-far) bytes left);
-        end-is = omega (arith, r .next-is, l .end-is, length-append (l .so-far) bytes);
-        out-is = stores-on before start (l .so-far) bytes (l .out-is) (r .after-is) (l .end-is);
-      }
-
-  pub laid-ends : rest ≡ [] → Stored whole start before out end
-  laid-ends e =
-      let all : whole ≡ l .so-far = l .whole-is ∙ ap (λ t. l .so-far ++ t) e ∙ append-nil (l .so-far) in
-      record { next-is = l .end-is ∙ ap (λ t. start + length t) (sym all); after-is = l .out-is ∙ ap (sets before start) (sym all) }
 
 -- ---- an octet in a link
 

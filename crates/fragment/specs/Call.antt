@@ -44,7 +44,7 @@ FittingIs t before after r = Answered (fitting (length before) t) before after r
 abbrev pub OctetsAnswered : Outcome Bytes → Bytes → Bytes → Answer → Type 0
 OctetsAnswered o before after r = Answered (octetsAnswer o (length before)) before after r
 
--- octets, of which there are so many, written where the output has room
+-- octets, given their number, written where the output has room
 pub record OctetsFit (o : Outcome Bytes) (n : ℕ) (before after : Bytes) (r : Answer) : Type 0 where
   pub fits : (t : Bytes) → o ≡ ok t → n ≡ length t → Answered (fitting (length before) t) before after r
 

@@ -11,6 +11,7 @@ use Rattle.spec.specs.Bytes.{Bytes, Text, byte}
 use Rattle.spec.specs.Strings.{hexValue, multibyte}
 use Rattle.spec.specs.Pointer.{tokens}
 use Rattle.pointer.specs.Tokens.{accepted}
+use Rattle.text.specs.UpperHex.{upperHex}
 use Rattle.fragment.specs.Kept.{isKept}
 
 -- "22 for no `#` in front, a bad byte, a bad percent or bytes that are not UTF-8"
@@ -18,10 +19,6 @@ abbrev pub bad-link : ℕ
 bad-link = 22
 
 -- ---- written
-
--- a hexadecimal digit in upper case: RFC 3986, section 2.1, "should use uppercase hexadecimal digits for all percent-encodings"
-unfoldable pub upperHex : ℕ → ℕ
-upperHex n = if ltb n 10 then code "0" + n else code "A" + (n - 10)
 
 -- an octet: a kept one as it is, and "each other byte as `%` with two upper-case hex digits"
 unfoldable pub encoded : ℕ → Bytes

@@ -1,8 +1,8 @@
 // What a call answers.
 ghost use Rattle.fragment.specs.Call.{SuccessIs, RefusalIs};
 
-// The number is 0 where the text was written, and else that of the refusal; `length` is that of the written text, and
-// 0 after a refusal.
+// The number is 0 where the text was written, and that of the refusal otherwise. `length` is the length of the written
+// text, and 0 after a refusal.
 pub struct Answer {
     pub number: u8,
     pub length: usize,

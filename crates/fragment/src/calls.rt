@@ -16,9 +16,7 @@ use crate::writing::fits;
 use crate::writing::put_link;
 use crate::writing::put_octets;
 use lexer::peek;
-
-// Bytes of a link that is read.
-const MAX_BYTES: usize = 32_768;
+use spec::limits;
 
 // The link of a pointer, or 16.
 fn fitting_link(pointer: &[u8], output: &mut [u8], kept: &[u8; 256]) -> Answer
@@ -75,7 +73,7 @@ fn read_short(link: &[u8], output: &mut [u8], kept: &[u8; 256]) -> Answer
 pub fn read_link(link: &[u8], output: &mut [u8]) -> Answer
     ensures { λ r. ⌜ ReadIs (now (link .entry)) (now (output .entry)) (now (output .exit)) r ⌝ }
 {
-    if MAX_BYTES < link.len() {
+    if limits::MAX_BYTES < link.len() {
         return refusal(2);
     }
     read_short(link, output, &KEPT)

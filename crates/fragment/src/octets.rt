@@ -63,15 +63,15 @@ pub fn octet_at(s: &[u8], at: usize, kept: &[u8; 256]) -> Octet
     Octet::Bad
 }
 
-// What a fragment is: one whose octets are a pointer, and so many; no fragment, or one of octets that are not UTF-8;
-// or one of a text that is no pointer.
+// What a text is as a fragment: octets that are a pointer, with their number; no fragment, or octets that are not
+// UTF-8; or a text that is no pointer.
 pub enum Fragment {
     Pointer(usize),
     Bad,
     Malformed,
 }
 
-// So many octets, with this verdict.
+// The number of octets, with this verdict.
 fn counted(n: usize, v: Verdict) -> Fragment
     ensures { λ r. ⌜ r ≡ counted n v ⌝ }
 {

@@ -3,8 +3,8 @@
 ghost use mathlib.Core.Path.{_≡_};
 ghost use Rattle.fragment.specs.Scan.{lowest, highest, firstByte, nextByte, nextSyntax, mayEnd, judge, verdict};
 
-// What is to come of a character in UTF-8: as many bytes, the next one between two bounds. After a byte that no
-// character has there, one byte is awaited that no byte is.
+// What is to come of a character in UTF-8: how many bytes, and the bounds of the next one. After a byte that no
+// character has there, the bounds are those of no byte.
 pub struct Awaited {
     pub more: u8,
     pub low: u8,

@@ -1,33 +1,40 @@
 // Every committed case of links, run through the library: a text, taken for a pointer and written as a link, and
 // taken for a link and read. For each a line: its name, and the text, or the number of the refusal. The stored output
 // is what the second program answers, so that each run holds the two to each other.
-mod cases; // a case in the file of cases
-mod checks; // whether a buffer holds one and the same everywhere
-mod lines; // what is printed
-
+use cases::Case;
+use cases::Contents;
 use cases::Found;
-use cases::Part;
-use cases::Place;
+use cases::all_bytes;
+use cases::buffer;
+use cases::bytes_of;
 use cases::case_at;
-use checks::all_bytes;
+use cases::front;
+use cases::print_no_case;
+use cases::read_cases;
+use cases::say;
+use cases::say_number;
 use fragment::Answer;
 use fragment::read_link;
 use fragment::write_link;
-use lines::print_answer;
-use lines::print_no_case;
-use lines::say;
-ghost use mathlib.Core.Path.{_≡_};
 ghost use Prim.Native.Nat.{_≤_};
 ghost use lib.ListN.{length};
-ghost use Rattle.fragment_vectors.specs.Places.{Behind, Lies, Within};
-
-// Room for the file of cases.
-const FILE: usize = 1_048_576;
 
 const OUTPUT: usize = 65_536;
 
 // What the output holds before a call: a byte that no text has.
 const UNWRITTEN: u8 = 255;
+
+// The text that was written, or the number of the refusal; and a newline.
+fn print_answer(answer: Answer, output: &[u8]) {
+    if answer.number == 0 {
+        say(front(output, answer.length));
+        say(b"\n");
+        return;
+    }
+    say(b"refused ");
+    say_number(answer.number as u64);
+    say(b"\n");
+}
 
 // The calls, with the first `room` bytes of the output lent.
 fn lend_write(text: &[u8], room: usize, output: &mut [u8]) -> Answer
@@ -75,85 +82,34 @@ fn run_read<'a>(name: &'a [u8], room: usize, text: &'a [u8]) {
     print_checked(answer, &output);
 }
 
-fn part<'a>(file: &'a [u8], p: Part) -> &'a [u8]
-    requires { ⌜ Lies (length (now file)) p ⌝ }
-{
-    let start = p.start;
-    let end = p.end;
-    &file[start..end]
-}
-
-// The case that begins at a place, both ways, and the place behind it.
-fn run_at(file: &[u8], at: usize) -> Place
-    ensures { λ r. ⌜ Behind (length (now (file .entry))) at r ⌝ }
-{
-    let Found::Here(c) = case_at(file, at) else {
-        return Place::Nowhere;
-    };
-    let name = part(file, c.name);
-    let text = part(file, c.text);
-    run_write(name, c.room, text);
-    run_read(name, c.room, text);
-    Place::At(c.next)
+// The case, both ways.
+fn run_case(file: &[u8], c: Case) {
+    let name = bytes_of(file, c.name);
+    let texts = c.texts;
+    let text = bytes_of(file, texts.first);
+    let room = c.rooms.first;
+    run_write(name, room, text);
+    run_read(name, room, text);
 }
 
 // One case after another, to the end of the file.
 fn run_all(file: &[u8]) {
     let mut at = 0;
     while at < file.len() {
-        let Place::At(next) = run_at(file, at) else {
+        let Found::Here(c) = case_at(file, at, 1, 1) else {
             print_no_case(at);
             return;
         };
-        at = next;
+        run_case(file, c);
+        at = c.next;
     }
-}
-
-pub enum Contents {
-    Bytes(usize),
-    Unreadable,
-}
-
-// All of the file's bytes, if the buffer has room for them.
-fn read_all(fd: i32, buf: &mut [u8]) -> Contents
-    ensures { λ r. ⌜ Within (length (now (buf .exit))) r ⌝ }
-{
-    let n = io::read_full(fd, buf);
-    // where the file has ended, and only there, another read answers 0
-    let mut more = [0u8; 1];
-    if libc::read(fd, &mut more) != 0 {
-        return Contents::Unreadable;
-    }
-    Contents::Bytes(n)
-}
-
-// The contents of the file that argument 1 names.
-fn read_file(buf: &mut [u8]) -> Contents
-    ensures { λ r. ⌜ Within (length (now (buf .exit))) r ⌝ }
-{
-    let mut path = io::buffer();
-    let n = os::arg(1, &mut path);
-    let fd = os::open_read(&path[..n]);
-    if fd < 0 {
-        return Contents::Unreadable;
-    }
-    let r = read_all(fd, buf);
-    libc::close(fd);
-    r
-}
-
-// A buffer for the file. The `ensures` gives only the length, which lending it needs.
-fn empty() -> [u8; FILE]
-    ensures { λ r. ⌜ 1_048_576 ≡ length r ⌝ }
-{
-    [0; FILE]
 }
 
 fn main() {
-    let mut file = empty();
-    let Contents::Bytes(n) = read_file(&mut file) else {
+    let mut room = buffer();
+    let Contents::Bytes(n) = read_cases(&mut room) else {
         say(b"unreadable\n");
         return;
     };
-    run_all(&file[..n]);
+    run_all(front(&room, n));
 }

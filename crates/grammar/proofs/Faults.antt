@@ -34,7 +34,7 @@ use Rattle.grammar.proofs.StringsSound.{end, Means, string-sound}
 use Rattle.grammar.proofs.NumbersSound.{digit}
 use Rattle.grammar.proofs.ReadSound.{NamePart, blanks-sound, nameFor-sound, value-sound}
 use Rattle.grammar.proofs.Within.{Yields, yielded, Bounded, value-within}
-use Rattle.grammar.proofs.Refusing.{Refusing, result, refusal, choose, weaken, andThen, expect-then, By3, string-by-3, spelled-by-3}
+use Rattle.grammar.proofs.Refusing.{Refusing, result, refusal, choose, weaken, andThen, expect-then, By3, string-by-3, wordAt-by-3}
 use Rattle.grammar.proofs.NumberFaults.{NumberFault, number-faults}
 use Rattle.grammar.proofs.Before.{BeforeItem, first-item, next-item, item-value, item-next}
 
@@ -113,7 +113,7 @@ module _ (s : Bytes) where
 
   literal-faults : (label : Label) (word : Bytes) (at : ℕ) → Faults (literalValue label word s at)
   unfolding literalValue
-  literal-faults label word at = andThen _ (only-3 (spelled-by-3 word s (at + 1))) λ _ _. result
+  literal-faults label word at = andThen _ (only-3 (wordAt-by-3 word s (at + 1))) λ _ _. result
 
   string-faults : (at : ℕ) → Faults (stringValue s at)
   unfolding stringValue

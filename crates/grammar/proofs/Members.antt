@@ -11,7 +11,7 @@ use Rattle.spec.specs.Bytes.{Text}
 use Rattle.spec.specs.Forest.{none, tree, size, count, _⧺_}
 use Rattle.spec.specs.Value.{Entry, Members, depths, sameText, find, has}
 use Rattle.grammar.proofs.Tests.{byCases}
-use Rattle.grammar.specs.Limits.{Named, here, later, Distinct, Everywhere}
+use Rattle.grammar.specs.Limits.{Named, here, later, DistinctNames, Everywhere}
 
 pub ⧺-assoc : (f g h : Members) → (f ⧺ g) ⧺ h ≡ f ⧺ (g ⧺ h)
 unfolding _⧺_
@@ -59,13 +59,13 @@ module _ (e : Entry) (kids rest : Members) where
   named-after none = here refl
   named-after (tree d below others) = later (named-after others)
 
-  named-twice : {f : Members} → Named (e .name) f → Distinct (f ⧺ tree e kids rest) → ⊥
+  named-twice : {f : Members} → Named (e .name) f → DistinctNames (f ⧺ tree e kids rest) → ⊥
   unfolding _⧺_
-  named-twice (here {rest = others} i) (Distinct.one-more new d) = new (rw i (named-after others))
-  named-twice (later m) (Distinct.one-more new d) = named-twice m d
+  named-twice (here {rest = others} i) (DistinctNames.one-more new d) = new (rw i (named-after others))
+  named-twice (later m) (DistinctNames.one-more new d) = named-twice m d
 
   -- where names differ, the members before one have not its name
-  pub fresh-name : (f : Members) → Distinct (f ⧺ tree e kids rest) → has (e .name) f ≡ false
+  pub fresh-name : (f : Members) → DistinctNames (f ⧺ tree e kids rest) → has (e .name) f ≡ false
   fresh-name f d = byCases (has (e .name) f) (λ h. absurd (named-twice (has-named (e .name) f h) d)) (λ h. h)
 
 -- a member whose name is new
@@ -102,11 +102,11 @@ named-last none e kids (here h) new = h
 named-last (tree d below rest) e kids (here h) new = absurd (new (here h))
 named-last (tree d below rest) e kids (later m) new = named-last rest e kids m (λ i. new (later i))
 
-pub distinct-add : (f : Members) (e : Entry) (kids : Members) → Distinct f → has (e .name) f ≡ false → Distinct (f ⧺ tree e kids none)
+pub distinct-add : (f : Members) (e : Entry) (kids : Members) → DistinctNames f → has (e .name) f ≡ false → DistinctNames (f ⧺ tree e kids none)
 unfolding _⧺_
 distinct-add f e kids d h = go f d (λ m. true≢false (sym (named-has m) ∙ h))
   where
-    go : (f : Members) → Distinct f → (Named (e .name) f → ⊥) → Distinct (f ⧺ tree e kids none)
-    go none d new = Distinct.one-more no-one Distinct.none-left
-    go (tree d below rest) (Distinct.one-more other r) new =
-        Distinct.one-more (λ m. new (here (sym (named-last rest e kids m other)))) (go rest r (λ m. new (later m)))
+    go : (f : Members) → DistinctNames f → (Named (e .name) f → ⊥) → DistinctNames (f ⧺ tree e kids none)
+    go none d new = DistinctNames.one-more no-one DistinctNames.none-left
+    go (tree d below rest) (DistinctNames.one-more other r) new =
+        DistinctNames.one-more (λ m. new (here (sym (named-last rest e kids m other)))) (go rest r (λ m. new (later m)))

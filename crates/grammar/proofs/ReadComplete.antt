@@ -19,11 +19,11 @@ use Rattle.spec.specs.Forest.{size, single, _⧺_}
 use Rattle.spec.specs.Value as Value
 use Rattle.spec.specs.Value.{Label, Members, leaf, named, has, depth, depths, levels, nodes}
 use Rattle.spec.specs.Read as Read
-use Rattle.spec.specs.Read.{isBlank, blanks, spelled, roomFor, literalValue, numberValue, stringValue, scalar, fresh, nameFor, containerLabel, closingBracket}
+use Rattle.spec.specs.Read.{isBlank, blanks, wordAt, roomFor, literalValue, numberValue, stringValue, scalar, fresh, nameFor, containerLabel, closingBracket}
 use Rattle.spec.specs.Read.{items, contents, container, read}
 use Rattle.grammar.specs.Grammar.{ws, structural, number, string, node, value, object, members, member, array, elements, JSON-text, name-separator}
 use Rattle.grammar.specs.Grammar.{value-separator}
-use Rattle.grammar.specs.Limits.{Distinct, Fits, Everywhere, WithinLimits}
+use Rattle.grammar.specs.Limits.{DistinctNames, Fits, Everywhere, WithinLimits}
 use Rattle.grammar.proofs.Containers.{openingBracket, containerOf, closing-positive, comma-no-closing}
 use Rattle.grammar.proofs.Places.{From, from-whole, in-text, first, split, bytes}
 use Rattle.grammar.proofs.Members.{⧺-assoc, size-⧺, fresh-name}
@@ -86,15 +86,15 @@ scalar-read {s} {at} {next} left before p r =
       no-bracket = rw stay (p .no-closing);
     }
 
-spelled-reads : (word : Bytes) {s : Bytes} {at next : ℕ} → From s at word next → spelled word s at ≡ ok next
-unfolding spelled _>>=_
-spelled-reads [] {at = at} f = let far = f .far in ap ok (omega arith)
-spelled-reads (b ∷ word) {s} {at} f = let (e, g, _) = first f in rw (byteIn-reads s at b b e (omega arith) (omega arith)) (spelled-reads word g)
+wordAt-reads : (word : Bytes) {s : Bytes} {at next : ℕ} → From s at word next → wordAt word s at ≡ ok next
+unfolding wordAt _>>=_
+wordAt-reads [] {at = at} f = let far = f .far in ap ok (omega arith)
+wordAt-reads (b ∷ word) {s} {at} f = let (e, g, _) = first f in rw (byteIn-reads s at b b e (omega arith) (omega arith)) (wordAt-reads word g)
 
 literal-reads : (label : Label) (word : Bytes) {s : Bytes} {b at next : ℕ} → From s at (b ∷ word) next →
     literalValue label word s at ≡ ok (leaf label, next)
 unfolding literalValue _>>=_
-literal-reads label word f = rw (spelled-reads word (first f .1))
+literal-reads label word f = rw (wordAt-reads word (first f .1))
 
 pub string-plain : {s w : Bytes} {cs : Text} {at next : ℕ} → string w cs → From s at w next → (byte s at ≡ 0x22) × Plain (byte s at)
 unfolding isBlank
@@ -161,7 +161,7 @@ module _ {s : Bytes} {at next : ℕ} (left before : ℕ) where
 
 -- what is asked of the values of a container from one on
 record AskedItems (isObject : Bool) (left before : ℕ) (so-far f : Members) : Type 0 where
-  distinct : isObject ≡ true → Distinct (so-far ⧺ f)
+  distinct : isObject ≡ true → DistinctNames (so-far ⧺ f)
   shallow : depths f ≤ left
   few : before + (size so-far + size f) ≤ maxNodes
   below : Everywhere f

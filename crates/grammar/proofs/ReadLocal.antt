@@ -21,7 +21,7 @@ use Rattle.spec.specs.Forest.{size, single, _⧺_}
 use Rattle.spec.specs.Value as Value
 use Rattle.spec.specs.Value.{Label, Members, leaf, named, has}
 use Rattle.spec.specs.Read as Read
-use Rattle.spec.specs.Read.{isBlank, blanksFrom, blanks, spelled, roomFor, literalValue, numberValue, stringValue, scalar, fresh, nameFor, containerLabel}
+use Rattle.spec.specs.Read.{isBlank, blanksFrom, blanks, wordAt, roomFor, literalValue, numberValue, stringValue, scalar, fresh, nameFor, containerLabel}
 use Rattle.spec.specs.Read.{closingBracket, items, contents, container, read}
 use Rattle.grammar.specs.Grammar.{char}
 use Rattle.grammar.proofs.Sound.{Sound, found}
@@ -302,15 +302,15 @@ module _ {s t : Bytes} {m : ℕ} (agree : Agree s t m) where
       go true = refuses p l
       go false = r
 
-  spelled-local : (word : Bytes) (at : ℕ) → Local m there at (spelled word s at) (spelled word t at)
-  unfolding spelled
-  spelled-local [] at = gives at (omega arith) (λ h. refl)
-  spelled-local (b ∷ word) at = byteIn-then agree at b b (at + 1) _ _ (omega arith) λ _. spelled-local word (at + 1)
+  wordAt-local : (word : Bytes) (at : ℕ) → Local m there at (wordAt word s at) (wordAt word t at)
+  unfolding wordAt
+  wordAt-local [] at = gives at (omega arith) (λ h. refl)
+  wordAt-local (b ∷ word) at = byteIn-then agree at b b (at + 1) _ _ (omega arith) λ _. wordAt-local word (at + 1)
 
   literalValue-local : (label : Label) (word : Bytes) (at : ℕ) → Local m end at (literalValue label word s at) (literalValue label word t at)
   unfolding literalValue
   literalValue-local label word at =
-      later (at + 1) (omega arith) (andThen _ _ (spelled-local word (at + 1)) λ x e l. gives (leaf label, x) (omega arith) (λ h. refl))
+      later (at + 1) (omega arith) (andThen _ _ (wordAt-local word (at + 1)) λ x e l. gives (leaf label, x) (omega arith) (λ h. refl))
 
   numberValue-local : (at : ℕ) → Local m end at (numberValue s at) (numberValue t at)
   unfolding numberValue

@@ -18,7 +18,7 @@ use Rattle.spec.specs.Forest.{size, single, _⧺_}
 use Rattle.spec.specs.Value as Value
 use Rattle.spec.specs.Value.{Label, Members, leaf, named, has}
 use Rattle.spec.specs.Read as Read
-use Rattle.spec.specs.Read.{isBlank, blanksFrom, blanks, spelled, roomFor, literalValue, numberValue, stringValue, scalar, fresh, nameFor, containerLabel}
+use Rattle.spec.specs.Read.{isBlank, blanksFrom, blanks, wordAt, roomFor, literalValue, numberValue, stringValue, scalar, fresh, nameFor, containerLabel}
 use Rattle.spec.specs.Read.{closingBracket, items, contents, container, read}
 use Rattle.grammar.specs.Grammar.{ws, structural, number, string, *char, node, value, object, members, member, array, elements, JSON-text, name-separator}
 use Rattle.grammar.specs.Grammar.{value-separator}
@@ -92,11 +92,11 @@ abbrev Positive : Bytes → Type 0
 Positive [] = Unit {0}
 Positive (b ∷ w) = (0 < b) × Positive w
 
-spelled-sound : (word : Bytes) → Positive word → (s : Bytes) (at : ℕ) → Sound s there at (Derives (λ w. w ≡ word)) (spelled word s at)
-unfolding spelled
-spelled-sound [] h s at = gives at refl refl
-spelled-sound (b ∷ word) h s at =
-    expect-then _ b (at + 1) (h .0) refl (some (b ∷ word) 0 refl) (weaken (λ w x e. ap (λ w. b ∷ w) e) (spelled-sound word (h .1) s (at + 1)))
+wordAt-sound : (word : Bytes) → Positive word → (s : Bytes) (at : ℕ) → Sound s there at (Derives (λ w. w ≡ word)) (wordAt word s at)
+unfolding wordAt
+wordAt-sound [] h s at = gives at refl refl
+wordAt-sound (b ∷ word) h s at =
+    expect-then _ b (at + 1) (h .0) refl (some (b ∷ word) 0 refl) (weaken (λ w x e. ap (λ w. b ∷ w) e) (wordAt-sound word (h .1) s (at + 1)))
 
 literal-sound : {b : ℕ} (label : Label) (word : Bytes) → 0 < b → Positive word → value (b ∷ word) (leaf label) → (s : Bytes) (at : ℕ) →
     byte s at ≡ b →
@@ -104,7 +104,7 @@ literal-sound : {b : ℕ} (label : Label) (word : Bytes) → 0 < b → Positive 
 unfolding literalValue
 literal-sound {b} label word l h d s at e =
     past (Means value) b (at + 1) l e refl
-    (finish (λ next. (leaf label, next)) (λ next. refl) (λ w next e. subst (λ w. value (b ∷ w) (leaf label)) (sym e) d) (spelled-sound word h s (at + 1)))
+    (finish (λ next. (leaf label, next)) (λ next. refl) (λ w next e. subst (λ w. value (b ∷ w) (leaf label)) (sym e) d) (wordAt-sound word h s (at + 1)))
 
 -- numbers and strings
 numberValue-sound : (s : Bytes) (at : ℕ) → Sound s end at (Means value) (numberValue s at)

@@ -11,7 +11,7 @@ use Rattle.spec.specs.Refusal.{not-json}
 use Rattle.spec.specs.Bytes.{Bytes, byte, within, byteIn}
 use Rattle.spec.specs.Strings as Strings
 use Rattle.spec.specs.Strings.{hexValue, hexIn, lowSurrogate, afterHigh, unicodeEscape, shortEscape, escape, tail, multibyte, character, characters}
-use Rattle.spec.specs.Read.{spelled}
+use Rattle.spec.specs.Read.{wordAt}
 use Rattle.grammar.proofs.Tests.{within-true}
 
 -- an outcome whose number and place, where it is a refusal, have the property
@@ -129,7 +129,7 @@ pub string-by-3 : (s : Bytes) (at : ℕ) → Refusing By3 (Strings.string s at)
 unfolding Strings.string
 string-by-3 s at = next _ (byteIn-by-3 s at _ _) λ _. characters-by-3 (length s) s (at + 1)
 
-pub spelled-by-3 : (word s : Bytes) (at : ℕ) → Refusing By3 (spelled word s at)
-unfolding spelled
-spelled-by-3 [] s at = result
-spelled-by-3 (b ∷ word) s at = next _ (byteIn-by-3 s at b b) λ _. spelled-by-3 word s (at + 1)
+pub wordAt-by-3 : (word s : Bytes) (at : ℕ) → Refusing By3 (wordAt word s at)
+unfolding wordAt
+wordAt-by-3 [] s at = result
+wordAt-by-3 (b ∷ word) s at = next _ (byteIn-by-3 s at b b) λ _. wordAt-by-3 word s (at + 1)

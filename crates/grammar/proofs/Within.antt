@@ -22,10 +22,10 @@ use Rattle.spec.specs.Forest.{size, single, _⧺_}
 use Rattle.spec.specs.Value as Value
 use Rattle.spec.specs.Value.{Label, Members, leaf, named, has, depth, depths, levels, nodes}
 use Rattle.spec.specs.Read as Read
-use Rattle.spec.specs.Read.{blanks, spelled, roomFor, literalValue, numberValue, stringValue, scalar, fresh, nameFor, containerLabel, closingBracket, items}
+use Rattle.spec.specs.Read.{blanks, wordAt, roomFor, literalValue, numberValue, stringValue, scalar, fresh, nameFor, containerLabel, closingBracket, items}
 use Rattle.spec.specs.Read.{contents, container, read}
 use Rattle.grammar.specs.Grammar.{optional, *DIGIT, minus, int, frac, e, sign}
-use Rattle.grammar.specs.Limits.{NumberFits, Distinct, Fits, Everywhere, WithinLimits}
+use Rattle.grammar.specs.Limits.{NumberFits, DistinctNames, Fits, Everywhere, WithinLimits}
 use Rattle.grammar.proofs.Containers.{containerOf}
 use Rattle.grammar.proofs.Places.{From, here, join, cons, bytes}
 use Rattle.grammar.proofs.Tests.{either}
@@ -232,7 +232,7 @@ Bounded left before x = Asked left before (x .0)
 literal-within : (left before : ℕ) (label : Label) (word s : Bytes) (at : ℕ) → Value.isContainer label ≡ false → Fits label Forest.none →
     before < maxNodes → Yields (Bounded left before) (literalValue label word s at)
 unfolding literalValue
-literal-within left before label word s at e h l = andThen _ (anything (spelled word s (at + 1))) λ x _ _. yields (easy label e h l)
+literal-within left before label word s at e h l = andThen _ (anything (wordAt word s (at + 1))) λ x _ _. yields (easy label e h l)
 
 scalar-within : (left before : ℕ) (s : Bytes) (at : ℕ) → Yields (Bounded left before) (scalar s at before)
 unfolding scalar stringValue numberValue Value.isContainer Value.tag
@@ -248,14 +248,14 @@ scalar-within left before s at =
 
 -- the values of a container so far
 record Kept (isObject : Bool) (left before : ℕ) (f : Members) : Type 0 where
-  distinct : isObject ≡ true → Distinct f
+  distinct : isObject ≡ true → DistinctNames f
   shallow : depths f ≤ left
   few : before + size f ≤ maxNodes
   below : Everywhere f
 
 kept-none : {isObject : Bool} {left before : ℕ} → before ≤ maxNodes → Kept isObject left before Forest.none
 unfolding depths size
-kept-none l = record { distinct = λ _. Distinct.none-left; shallow = omega arith; few = omega arith; below = Everywhere.none-left }
+kept-none l = record { distinct = λ _. DistinctNames.none-left; shallow = omega arith; few = omega arith; below = Everywhere.none-left }
 
 kept-more : {isObject : Bool} {left before : ℕ} {f : Members} (name : Text) (v : Value.Value) → Kept isObject left before f →
     (isObject ≡ true → has name f ≡ false) → Asked left (before + size f) v →

@@ -21,9 +21,9 @@ pub data Named (n : Text) : Members → Type 0 where
   later : {e : Value.Entry} {kids rest : Members} → Named n rest → Named n (tree e kids rest)
 
 -- no two of these members have one name
-pub data Distinct : Members → Type 0 where
-  none-left : Distinct none
-  one-more : {e : Value.Entry} {kids rest : Members} → ¬ Named (e .name) rest → Distinct rest → Distinct (tree e kids rest)
+pub data DistinctNames : Members → Type 0 where
+  none-left : DistinctNames none
+  one-more : {e : Value.Entry} {kids rest : Members} → ¬ Named (e .name) rest → DistinctNames rest → DistinctNames (tree e kids rest)
 
 -- a number fits, and an object's names differ
 abbrev pub Fits : Label → Members → Type 0
@@ -31,7 +31,7 @@ Fits Label.null-literal kids = Unit {0}
 Fits Label.true-literal kids = Unit {0}
 Fits Label.false-literal kids = Unit {0}
 Fits Label.array kids = Unit {0}
-Fits Label.object kids = Distinct kids
+Fits Label.object kids = DistinctNames kids
 Fits (Label.number t) kids = NumberFits t
 Fits (Label.string t) kids = Unit {0}
 

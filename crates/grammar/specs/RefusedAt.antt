@@ -34,7 +34,8 @@ pub record FirstCause (s : Bytes) (number p : ℕ) : Type 0 where
 abbrev pub LeftToRight : Type 0
 LeftToRight = (s : Bytes) (number p : ℕ) → read s ≡ refused number p → FirstCause s number p
 
--- A number is given at a place exactly where it is said to be and nothing is refused before.
+-- A number is given at a place exactly where it is said to be and nothing is refused before. `Unrefused` speaks of the text before that place
+-- alone. So with `Exactness` the five below leave no choice for `read`, as long as it refuses by no other number: text by text, by their length.
 abbrev pub GivenAt : ℕ → (Bytes → ℕ → Type 0) → Type 0
 GivenAt number said = (s : Bytes) (p : ℕ) → (read s ≡ refused number p) ↔ (Unrefused (take p s) × said s p)
 

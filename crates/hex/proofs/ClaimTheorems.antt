@@ -12,7 +12,8 @@ use lib.Seq.{drop-drop}
 use lib.Dec.{leb, eqb}
 use Rattle.spec.specs.Outcome.{Outcome, ok, refused, _>>=_, if_then_else_}
 use Rattle.spec.specs.Bytes.{Bytes, byte, ascii}
-use Rattle.hex.specs.Record.{maxText, line-feed, data-type, end-type, total, body, check, recordBytes, upperHex, digits, spelled, lineOf, recordsFrom}
+use Rattle.text.specs.UpperHex.{upperHex}
+use Rattle.hex.specs.Record.{maxText, line-feed, data-type, end-type, total, body, check, recordBytes, digits, digitsOf, lineOf, recordsFrom}
 use Rattle.hex.specs.Record.{endLine, hexOf}
 use Rattle.hex.specs.Reading.{hexByte, bytesAt, allHex, count, addressOf, typeOf, dataOf, recordEnd, ending, lineLength, isLine, isData, isEnd}
 use Rattle.hex.specs.Reading.{isRecord, hasSum, isNext, bytesOf, precede, byType, readLine, readFrom, readText, not-a-record, wrong-sum}
@@ -34,7 +35,7 @@ pub sum-is-zero : SumIsZero
 sum-is-zero kind address d = ap (λ n. n % 256) (record-total kind address d) ∙ check-zero (body kind address d)
 
 pub example : Example
-unfolding hexOf recordsFrom endLine lineOf recordBytes body check total spelled digits upperHex ascii
+unfolding hexOf recordsFrom endLine lineOf recordBytes body check total digitsOf digits upperHex ascii
 example = refl
 
 -- ---- what the reader finds in the line of a record
@@ -285,9 +286,9 @@ unfolding lineOf
 line-written kind address d behind k a n o =
     let r : Bytes = recordBytes kind address d in
     record {
-      digits = spelled r;
+      digits = digitsOf r;
       ended = line-feed ∷ behind;
-      begins = ap (λ u. code ":" ∷ u) (append-assoc (spelled r) (line-feed ∷ []) behind);
+      begins = ap (λ u. code ":" ∷ u) (append-assoc (digitsOf r) (line-feed ∷ []) behind);
       spells = spells-upper (octets-record kind address k a n o);
       ends = Claims.lf;
     }

@@ -12,6 +12,7 @@ use Rattle.spec.specs.Outcome.{Outcome, ok, refused, _>>=_, if_then_else_}
 use Rattle.spec.specs.Bytes.{Bytes}
 use Rattle.text.specs.Written.{Stored, LaidDown}
 use Rattle.text.proofs.StoreLaws.{front}
+use Rattle.text.proofs.LaidLaws.{Laid, laid-starts, laid-on, laid-ends}
 use Rattle.lexer.proofs.Tests.{and-both}
 use Rattle.hex.specs.Record.{maxText}
 use Rattle.hex.specs.Reading.{hexByte, bytesAt, allHex, count, addressOf, typeOf, dataOf, lineLength, isLine, isData, isEnd, isRecord, hasSum, isNext}
@@ -22,7 +23,6 @@ use Rattle.hex.specs.declared.lines.Step.the-variants as Step
 use Rattle.hex.specs.declared.reading.Measure.{Measure}
 use Rattle.hex.specs.declared.reading.Measure.the-variants as Measure
 use Rattle.hex.proofs.LineLaws.{all-first, line-room, line-within, parts}
-use Rattle.hex.proofs.WritingLaws.{Laid, laid-starts, laid-on, laid-ends}
 
 -- what is lent of a text from a place on
 pub rest-is : (s : Bytes) (at : ℕ) → take (length s - at) (drop at s) ≡ drop at s

@@ -10,7 +10,7 @@ use borrow.Author.Tests.{lt-ltb, le-ltb}
 use lib.ListN.{length, take, drop, length-append, length-take, length-drop, drop-of-length-le}
 use lib.Seq.{drop-cons}
 use Rattle.spec.specs.Bytes.{Bytes, byte}
-use Rattle.hex.specs.Record.{total, body, check, recordBytes, digits, spelled, lineOf, recordsFrom, endLine, hexOf, data-type, end-type, line-feed}
+use Rattle.hex.specs.Record.{total, body, check, recordBytes, digits, digitsOf, lineOf, recordsFrom, endLine, hexOf, data-type, end-type, line-feed}
 
 -- ---- the rest of a text, from a place on
 
@@ -50,34 +50,34 @@ record-total kind address d =
 
 -- ---- digits
 
-pub spelled-append : (s t : Bytes) → spelled (s ++ t) ≡ spelled s ++ spelled t
-unfolding spelled digits
-spelled-append [] t = refl
-spelled-append (b ∷ s) t = ap (λ u. digits b ++ u) (spelled-append s t)
+pub digitsOf-append : (s t : Bytes) → digitsOf (s ++ t) ≡ digitsOf s ++ digitsOf t
+unfolding digitsOf digits
+digitsOf-append [] t = refl
+digitsOf-append (b ∷ s) t = ap (λ u. digits b ++ u) (digitsOf-append s t)
 
-pub spelled-length : (s : Bytes) → length (spelled s) ≡ 2 * length s
-unfolding spelled digits
-spelled-length [] = refl
-spelled-length (b ∷ s) = omega (arith, spelled-length s)
+pub digitsOf-length : (s : Bytes) → length (digitsOf s) ≡ 2 * length s
+unfolding digitsOf digits
+digitsOf-length [] = refl
+digitsOf-length (b ∷ s) = omega (arith, digitsOf-length s)
 
 module _ (s : Bytes) (at : ℕ) where
-  pub spelled-here : at < length s → spelled (drop at s) ≡ digits (byte s at) ++ spelled (drop (at + 1) s)
-  unfolding spelled
-  spelled-here h = rw (from-here s at h)
+  pub digitsOf-here : at < length s → digitsOf (drop at s) ≡ digits (byte s at) ++ digitsOf (drop (at + 1) s)
+  unfolding digitsOf
+  digitsOf-here h = rw (from-here s at h)
 
-  pub spelled-end : length s ≤ at → spelled (drop at s) ≡ []
-  unfolding spelled
-  spelled-end h = rw (drop-of-length-le s h)
+  pub digitsOf-end : length s ≤ at → digitsOf (drop at s) ≡ []
+  unfolding digitsOf
+  digitsOf-end h = rw (drop-of-length-le s h)
 
 -- ---- a line, piece by piece
 
 pub line-pieces : (kind address : ℕ) (d : Bytes) → lineOf (recordBytes kind address d) ≡
-    (code ":" ∷ []) ++ (spelled (length d ∷ address / 256 ∷ address % 256 ∷ kind ∷ []) ++ (spelled d ++ (digits (check
+    (code ":" ∷ []) ++ (digitsOf (length d ∷ address / 256 ∷ address % 256 ∷ kind ∷ []) ++ (digitsOf d ++ (digits (check
     (body kind address d)) ++ line-feed ∷ [])))
-unfolding lineOf recordBytes body spelled digits
+unfolding lineOf recordBytes body digitsOf digits
 line-pieces kind address d = rw (
-  spelled-append d (check (body kind address d) ∷ []),
-  append-assoc (spelled d) (spelled (check (body kind address d) ∷ []))
+  digitsOf-append d (check (body kind address d) ∷ []),
+  append-assoc (digitsOf d) (digitsOf (check (body kind address d) ∷ []))
       (line-feed ∷ []),
 )
 
@@ -85,7 +85,7 @@ pub line-length : (kind address : ℕ) (d : Bytes) → length (lineOf (recordByt
 unfolding lineOf recordBytes body
 line-length kind address d =
     let r = recordBytes kind address d in
-    omega (arith, length-append (spelled r) (line-feed ∷ []), spelled-length r, length-append (body kind address d) (check (body kind address d) ∷ []))
+    omega (arith, length-append (digitsOf r) (line-feed ∷ []), digitsOf-length r, length-append (body kind address d) (check (body kind address d) ∷ []))
 
 -- ---- how long a text is as records
 

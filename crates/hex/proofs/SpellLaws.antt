@@ -15,7 +15,8 @@ use Rattle.spec.specs.Bytes.{Bytes, byte}
 use Rattle.spec.specs.Strings.{hexValue}
 use Rattle.lexer.proofs.Tests.{between-within, above-within, and-both}
 use Rattle.lexer.proofs.ByteLaws.{here}
-use Rattle.hex.specs.Record.{line-feed, carriage-return, upperHex, digits, spelled}
+use Rattle.text.specs.UpperHex.{upperHex}
+use Rattle.hex.specs.Record.{line-feed, carriage-return, digits, digitsOf}
 use Rattle.hex.specs.Reading.{hexByte, isHexByte, bytesAt, allHex, ending}
 use Rattle.hex.specs.Claims.{Octets, Spells, Ending, lf, crlf, missing}
 use Rattle.hex.specs.Claims as Claims
@@ -131,14 +132,14 @@ upper-value n h = go (decLt n 10)
         )
         (omega arith)
 
-pub spells-upper : {r : Bytes} → Octets r → Spells (spelled r) r
-unfolding spelled digits
+pub spells-upper : {r : Bytes} → Octets r → Spells (digitsOf r) r
+unfolding digitsOf digits
 spells-upper Claims.none = Claims.none
 spells-upper (Claims.more {b} {s} h o) =
     let high = upper-value (b / 16) (omega arith) in
     let low = upper-value (b % 16) (omega arith) in
     let whole : hexValue (upperHex (b / 16)) * 16 + hexValue (upperHex (b % 16)) ≡ b = omega arith in
-    subst (λ x. Spells (upperHex (b / 16) ∷ upperHex (b % 16) ∷ spelled s) (x ∷ s)) whole
+    subst (λ x. Spells (upperHex (b / 16) ∷ upperHex (b % 16) ∷ digitsOf s) (x ∷ s)) whole
     (Claims.more (omega arith) (omega arith) (spells-upper o))
 
 pub octets-append : {s t : Bytes} → Octets s → Octets t → Octets (s ++ t)

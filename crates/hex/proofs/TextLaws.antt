@@ -9,9 +9,9 @@ use lib.Seq.{take-all}
 use Rattle.spec.specs.Bytes.{Bytes}
 use Rattle.text.specs.Written.{Stored, LaidDown}
 use Rattle.text.proofs.StoreLaws.{front}
+use Rattle.text.proofs.LaidLaws.{Laid, laid-starts, laid-bound, laid-on, laid-ends}
 use Rattle.hex.specs.Record.{data-type, end-type, recordBytes, lineOf, recordsFrom, endLine, hexOf}
 use Rattle.hex.proofs.RecordLaws.{line-length, records-here, records-end}
-use Rattle.hex.proofs.WritingLaws.{Laid, laid-starts, laid-on, laid-ends, laid-bound}
 
 -- the bytes of the record at a place
 pub cut : (text : Bytes) (at stop : ℕ) → stop ≤ length text → stop ≤ at + 16 → (stop < at + 16 → stop ≡ length text) →

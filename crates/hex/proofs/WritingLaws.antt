@@ -11,45 +11,12 @@ use Rattle.spec.specs.Bytes.{Bytes, byte}
 use Rattle.text.specs.Written.{Stored}
 use Rattle.text.proofs.StoreLaws.{stores-on}
 use Rattle.spec.specs.Strings.{hexValue}
-use Rattle.hex.specs.Record.{total, body, check, upperHex, digits, spelled, lineOf, recordBytes, line-feed}
+use Rattle.text.proofs.LaidLaws.{Laid, laid-starts, laid-on, laid-ends}
+use Rattle.text.specs.UpperHex.{upperHex}
+use Rattle.hex.specs.Record.{total, body, check, digits, digitsOf, lineOf, recordBytes, line-feed}
 use Rattle.hex.specs.Reading.{hexByte, bytesAt, allHex}
 use Rattle.hex.proofs.RecordLaws.{check-only, line-pieces}
 use Rattle.hex.proofs.LineLaws.{all-first, hex-both}
-
--- ---- any text: what is laid down from a place on, and what is left
-
-pub record Laid (start : ℕ) (whole rest before out : Bytes) (end : ℕ) : Type 0 where
-  pub so-far : Bytes
-  pub whole-is : whole ≡ so-far ++ rest
-  pub end-is : end ≡ start + length so-far
-  pub out-is : out ≡ sets before start so-far
-
-pub laid-starts : (start : ℕ) (whole out : Bytes) → Laid start whole whole out out start
-laid-starts start whole out = record { so-far = []; whole-is = refl; end-is = omega arith; out-is = refl }
-
-module _ {start : ℕ} {whole rest before out : Bytes} {end : ℕ} (l : Laid start whole rest before out end) where
-  pub laid-length : length out ≡ length before
-  laid-length = ap length (l .out-is) ∙ length-sets before start (l .so-far)
-
-  pub laid-bound : end + length rest ≡ start + length whole
-  laid-bound = omega (arith, l .end-is, ap length (l .whole-is), length-append (l .so-far) rest)
-
-  pub laid-on : (bytes : Bytes) {left out' : Bytes} {next : ℕ} → rest ≡ bytes ++ left → Stored bytes end out out' next → Laid start whole left before out' next
-  laid-on bytes {left} e r =
-      record {
-        so-far = l .so-far ++ bytes;
-        whole-is = l .whole-is ∙ ap (λ t. l .so-far ++ t) e ∙ sym (append-assoc (l .so-far) bytes left);
-        end-is = omega (arith, r .next-is, l .end-is, length-append (l .so-far) bytes);
-        out-is = stores-on before start (l .so-far) bytes (l .out-is) (r .after-is) (l .end-is);
-      }
-
-  pub laid-ends : rest ≡ [] → Stored whole start before out end
-  laid-ends e =
-      let all : whole ≡ l .so-far = l .whole-is ∙ ap (λ t. l .so-far ++ t) e ∙ append-nil (l .so-far) in
-      record { next-is = l .end-is ∙ ap (λ t. start + length t) (sym all); after-is = l .out-is ∙ ap (sets before start) (sym all) }
-
-pub stored-length : {bytes : Bytes} {at : ℕ} {before after : Bytes} {next : ℕ} → Stored bytes at before after next → length after ≡ length before
-stored-length {bytes} {at} {before} r = ap length (r .after-is) ∙ length-sets before at bytes
 
 -- one byte
 pub byte-stored : (b at : ℕ) {o p : Bytes} → p ≡ set o at b → Stored (b ∷ []) at o p (at + 1)
@@ -76,15 +43,15 @@ last-byte kind address d {x} {y} {z} e f g h = check-only (body kind address d) 
 
 pub line-stored : (kind address : ℕ) (d : Bytes) (at : ℕ) {x y z a b e : ℕ} {o p q r s u : Bytes} →
     x ≡ (0 + total (length d ∷ address / 256 ∷ address % 256 ∷ kind ∷ [])) % 256 → y ≡ (x + total d) % 256 → (z + y) % 256 ≡ 0 → z < 256 →
-    p ≡ set o at (code ":") → Stored (spelled (length d ∷ address / 256 ∷ address % 256 ∷ kind ∷ [])) (at + 1) p q a → Stored (spelled d) a q r b → Stored
+    p ≡ set o at (code ":") → Stored (digitsOf (length d ∷ address / 256 ∷ address % 256 ∷ kind ∷ [])) (at + 1) p q a → Stored (digitsOf d) a q r b → Stored
     (digits z) b r s e →
     u ≡ set s e line-feed → Stored (lineOf (recordBytes kind address d)) at o u (e + 1)
 unfolding head
 line-stored kind address d at {z = z} {e = e} {o = o} {r = r} {s} i j k l first second third fourth fifth =
     let same : z ≡ check (body kind address d) = last-byte kind address d i j k l in
     let one = laid-on (laid-starts at (lineOf (recordBytes kind address d)) o) (code ":" ∷ []) (line-pieces kind address d) (byte-stored (code ":") at first) in
-    let two = laid-on one (spelled (length d ∷ address / 256 ∷ address % 256 ∷ kind ∷ [])) refl second in
-    let three = laid-on two (spelled d) refl third in
+    let two = laid-on one (digitsOf (length d ∷ address / 256 ∷ address % 256 ∷ kind ∷ [])) refl second in
+    let three = laid-on two (digitsOf d) refl third in
     let four = laid-on three (digits (check (body kind address d))) refl (rw same at fourth) in
     let five = laid-on four (line-feed ∷ []) {left = []} refl (byte-stored line-feed e fifth) in
     laid-ends five refl

@@ -64,7 +64,7 @@ bytesOf t = bytesAt (count t + 5) t 1
 unfoldable pub recordEnd : Bytes → ℕ
 recordEnd t = 2 * count t + 11
 
--- How many bytes end a line at a place: none at the end of the text, else a line feed, or a carriage return and a line feed; 3 where there is
+-- How many bytes end a line at a place: none at the end of the text, otherwise a line feed, or a carriage return and a line feed; 3 where there is
 -- no ending.
 unfoldable pub ending : Bytes → ℕ → ℕ
 ending t k =

@@ -6,6 +6,7 @@ use lib.ListN.{length, take, drop}
 use lib.Dec.{ltb}
 use Rattle.spec.specs.Outcome.{if_then_else_}
 use Rattle.spec.specs.Bytes.{Bytes}
+use Rattle.text.specs.UpperHex.{upperHex}
 
 -- "Write any text of at most 65,536 bytes"
 abbrev pub maxText : ℕ
@@ -45,20 +46,17 @@ recordBytes kind address d = body kind address d ++ check (body kind address d) 
 
 -- ---- its line
 
--- "upper-case hex": a digit, the two digits of a byte, and those of bytes
-unfoldable pub upperHex : ℕ → ℕ
-upperHex n = if ltb n 10 then code "0" + n else code "A" + (n - 10)
-
+-- "upper-case hex": the two digits of a byte, and those of bytes
 unfoldable pub digits : ℕ → Bytes
 digits b = upperHex (b / 16) ∷ upperHex (b % 16) ∷ []
 
-unfoldable pub spelled : Bytes → Bytes
-spelled [] = []
-spelled (b ∷ s) = digits b ++ spelled s
+unfoldable pub digitsOf : Bytes → Bytes
+digitsOf [] = []
+digitsOf (b ∷ s) = digits b ++ digitsOf s
 
 -- "one record a line", "a line feed after every line, the last too"
 unfoldable pub lineOf : Bytes → Bytes
-lineOf r = code ":" ∷ spelled r ++ line-feed ∷ []
+lineOf r = code ":" ∷ digitsOf r ++ line-feed ∷ []
 
 -- ---- a text
 

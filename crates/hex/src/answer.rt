@@ -1,8 +1,8 @@
 // What a call answers.
 ghost use Rattle.hex.specs.Call.{SuccessIs, RefusalIs};
 
-// The number is 0 where the text was written, and else that of the refusal; `place` is the line of a refusal that has
-// one, and else 0; `length` is that of the written text, and 0 after a refusal.
+// The number is 0 where the text was written, and that of the refusal otherwise. `place` is the line of the refusal,
+// and 0 where it has none. `length` is the length of the written text, and 0 after a refusal.
 pub struct Answer {
     pub number: u8,
     pub place: usize,

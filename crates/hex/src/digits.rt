@@ -3,7 +3,7 @@ ghost use mathlib.Core.Path.{_≡_};
 ghost use Prim.Native.Nat.{_+_, _<_};
 ghost use lib.ListN.{length};
 ghost use Rattle.spec.specs.Strings.{hexValue};
-ghost use Rattle.hex.specs.Record.{upperHex};
+ghost use Rattle.text.specs.UpperHex.{upperHex};
 ghost use Rattle.hex.specs.Reading.{hexByte};
 
 // A digit in upper case.

@@ -1,9 +1,9 @@
 // A text as Intel HEX, written and read: document 02, T-07.
 //
 // What is proved: on every input the answer is that of the definitions `writeAnswer` and `readAnswer` in
-// specs/Answer, and the output afterwards begins with the written text and is else as it was. specs/Claims says what
-// the definitions come to: reading what was written returns the text, every record that is written has sum zero, and
-// the reader accepts exactly the texts of records that follow on from address 0.
+// specs/Answer, and the output afterwards begins with the written text and is otherwise unchanged. specs/Claims says
+// what the definitions come to: reading what was written returns the text, every record that is written has sum zero,
+// and the reader accepts exactly the texts of records that follow on from address 0.
 
 mod answer; // what a call answers
 mod digits; // hexadecimal digits

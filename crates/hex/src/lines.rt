@@ -125,7 +125,7 @@ pub fn line_length(t: &[u8]) -> usize
     end + ending(t, end)
 }
 
-// What reading a line comes to: data, so many bytes, and the line's length; the end of all; a refusal; or the end
+// What reading a line comes to: data, with their number and the line's length; the end of all; a refusal; or the end
 // with a line behind it.
 pub enum Step {
     More(usize, usize),

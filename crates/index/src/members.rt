@@ -107,7 +107,7 @@ fn is_noted<'a>(
     same_name(texts, name_of(load(nodes, top + row)), name)
 }
 
-// A member of the object in a row that has the name, where the index has one. It may have none although there is one.
+// A member of the object in a row that has the name, where the index finds one. It may miss one that is there.
 pub fn lookup<'a>(
     texts: Texts<'a>,
     nodes: &[Node],

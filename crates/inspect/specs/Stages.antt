@@ -13,7 +13,7 @@ use Rattle.tape.specs.declared.fields.Cell.{Cell}
 use Rattle.tape.specs.Lent.{Texts, Table}
 use Rattle.table.specs.Meaning.{members}
 use Rattle.table.specs.Sound.{RowsHeld}
-use Rattle.shape.specs.Members.{ForNode}
+use Rattle.shape.specs.Members.{ForMeant}
 use Rattle.shape.specs.declared.patch.Shape.{Shape}
 use Rattle.shape.specs.declared.patch.Shape.the-variants as Shape
 use Rattle.reader.specs.Work.{Work}
@@ -40,7 +40,7 @@ CountedIs w start end r =
 
 -- the patch, where it is read
 abbrev pub ShapedIs : Table → Answer → Type 0
-ShapedIs w r = ForNode w patchRow λ v. told r ≡ ofShape (shape v)
+ShapedIs w r = ForMeant w patchRow λ v. told r ≡ ofShape (shape v)
 
 -- all of it
 abbrev pub CheckedIs : Texts → Work → Answer → Type 0

@@ -15,7 +15,7 @@ use Rattle.spec.proofs.ShapeTheorem.{shaped-so}
 use Rattle.spec.proofs.LimitTheorem.{largeAt, limited-run}
 use Rattle.spec.proofs.RegionTheorem.{called, work-enough, fits}
 use Rattle.spec.proofs.PlaceLaws.{plant}
-use Rattle.claims.specs.Proper.{Readable}
+use Rattle.spec.specs.Proper.{Readable}
 use Rattle.claims.proofs.RoundTripTheorem.{round-trip}
 use Rattle.region.specs.Answer.{answerWithin}
 use Rattle.region.specs.Claims.{Passes}

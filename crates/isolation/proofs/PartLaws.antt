@@ -13,7 +13,7 @@ use Rattle.spec.proofs.OutcomeLaws.{refused≢ok}
 use Rattle.spec.proofs.FartherLaws.{farther-ok}
 use Rattle.spec.proofs.ChildLaws.{child-there, depth-child}
 use Rattle.spec.proofs.PlaceLaws.{walk-on, walk-off}
-use Rattle.claims.specs.Proper.{Proper, Readable}
+use Rattle.spec.specs.Proper.{Proper, Readable}
 use Rattle.claims.proofs.OperationsTheorem.{proper-child}
 
 size-nth : (z : Tree Entry) (k : ℕ) (f : Members) → k < count f → nodes (valueOf (nth z k f)) ≤ size f

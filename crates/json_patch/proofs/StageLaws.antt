@@ -19,7 +19,7 @@ use Rattle.spec.specs.Write.{write}
 use Rattle.spec.specs.Read.{read}
 use Rattle.spec.specs.Answer.{fitting, answerOf, patched, onPatch, onDocument}
 use Rattle.spec.proofs.ReadLaws.{read-depth}
-use Rattle.claims.specs.Proper.{Proper}
+use Rattle.spec.specs.Proper.{Proper}
 use Rattle.claims.proofs.ReadProper.{read-proper}
 use Rattle.lexer.specs.declared.cursor.Cursor.{Cursor}
 use Rattle.tape.specs.Layout.{documentRow, patchRow}

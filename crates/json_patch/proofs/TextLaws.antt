@@ -12,7 +12,7 @@ use Rattle.spec.specs.Forest.{Forest, none, tree, size}
 use Rattle.spec.specs.Value as Value
 use Rattle.spec.specs.Value.{depth}
 use Rattle.spec.specs.Read.{read}
-use Rattle.claims.specs.Proper.{Proper}
+use Rattle.spec.specs.Proper.{Proper}
 use Rattle.lexer.specs.declared.cursor.Cursor.{Cursor}
 use Rattle.tape.specs.Layout.{documentRow, patchRow, rows}
 use Rattle.tape.specs.Fields.{Row}

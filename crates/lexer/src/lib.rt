@@ -19,8 +19,6 @@ pub use characters::Character;
 pub use cursor::Bounded;
 pub use cursor::ByteRead;
 pub use cursor::Cursor;
-pub use cursor::NOT_JSON;
-pub use cursor::NUMBER_OVER_LIMIT;
 pub use cursor::Scan;
 pub use cursor::byte_in;
 pub use cursor::peek;

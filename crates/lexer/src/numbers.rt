@@ -7,16 +7,11 @@ ghost use Rattle.spec.specs.Numbers.{signedDigits, exp, minus, number};
 ghost use Rattle.lexer.specs.Answers.{scanOutcome};
 use crate::cursor::Bounded;
 use crate::cursor::Cursor;
-use crate::cursor::NOT_JSON;
-use crate::cursor::NUMBER_OVER_LIMIT;
 use crate::cursor::Scan;
 use crate::cursor::byte_in;
 use crate::cursor::peek;
-
-// Bytes of a number, and the size of its written exponent, at most.
-const MAX_NUMBER: usize = 128;
-
-const MAX_EXPONENT: u32 = 9_999;
+use spec::limits;
+use spec::refusal;
 
 fn is_digit(b: u8) -> bool
     ensures { λ r. ⌜ r ≡ isDigit b ⌝ }
@@ -36,15 +31,16 @@ fn is_e(b: u8) -> bool
     b == b'E'
 }
 
-// The place after a byte of the number, or 7 where it is byte 129. No text is longer than its start may be here.
+// The place after a byte of the number, or 7 where it is byte 129. `start` is below 2^63, so `start + 128` cannot
+// overflow.
 fn counted(start: usize, at: usize) -> Scan
     requires { ⌜ start < 0x8000_0000_0000_0000 ⌝ }
     ensures { λ r. ⌜ scanOutcome r ≡ counted start at ⌝ }
 {
-    if at < start + MAX_NUMBER {
+    if at < start + limits::MAX_NUMBER {
         return Scan::To(Cursor { at: at + 1 });
     }
-    Scan::Refused(NUMBER_OVER_LIMIT, at)
+    Scan::Refused(refusal::NUMBER_OVER_LIMIT, at)
 }
 
 // *DIGIT
@@ -69,7 +65,7 @@ fn some_digits(s: &[u8], start: usize, at: usize) -> Scan
     ensures { λ r. ⌜ scanOutcome r ≡ someDigits (now (s .entry)) start at ⌝ }
 {
     let Bounded::Within(_) = byte_in(s, at, b'0', b'9') else {
-        return Scan::Refused(NOT_JSON, at);
+        return Scan::Refused(refusal::NOT_JSON, at);
     };
     digits(s, start, at)
 }
@@ -125,8 +121,8 @@ fn exponent_digits(s: &[u8], start: usize, first: usize) -> Scan
             return Scan::To(Cursor { at });
         }
         size = size * 10 + (b - b'0') as u32;
-        if MAX_EXPONENT < size {
-            return Scan::Refused(NUMBER_OVER_LIMIT, at);
+        if limits::MAX_EXPONENT < size {
+            return Scan::Refused(refusal::NUMBER_OVER_LIMIT, at);
         }
         let digit = counted(start, at);
         let Scan::To(next) = digit else {
@@ -147,7 +143,7 @@ fn signed_digits(s: &[u8], start: usize, at: usize) -> Scan
     };
     let first = next.at;
     let Bounded::Within(_) = byte_in(s, first, b'0', b'9') else {
-        return Scan::Refused(NOT_JSON, first);
+        return Scan::Refused(refusal::NOT_JSON, first);
     };
     exponent_digits(s, start, first)
 }
@@ -185,7 +181,7 @@ impl Cursor {
     {
         let start = self.at;
         if s.len() <= start {
-            return Scan::Refused(NOT_JSON, start);
+            return Scan::Refused(refusal::NOT_JSON, start);
         }
         let whole = int(s, start, minus(s, start));
         let Scan::To(point) = whole else {

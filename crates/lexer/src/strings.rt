@@ -34,7 +34,7 @@ pub enum Quoted {
     Refused(usize),
 }
 
-// Whether a byte is a whole character of its string, as most bytes of most strings are: asked first, it keeps a loop
+// Whether a byte is a whole character of its string, as most bytes of most strings are. Asking this first keeps a loop
 // over them quick. These are the bytes of the class of other ASCII (`ItselfByClass`, specs/ByClass), found by their
 // bounds: the table of classes would be laid out on the stack for each of them.
 pub fn stands_for_itself(b: u8) -> bool

@@ -1,5 +1,5 @@
-// Characters that stand in a text as they are written, passed by tables. The processor foresees badly of what kind
-// the next character is, so that here every byte, be it a character or a part of one, takes the same few steps.
+// Characters that stand in a text as they are written, passed by tables. Mixed text defeats branch prediction, so every
+// byte takes the same few steps, whether it is a character or a part of one.
 ghost use mathlib.Core.Path.{_≡_};
 ghost use Prim.Native.Nat.{_<_};
 ghost use lib.Dec.{eqb};

@@ -18,7 +18,7 @@ use Rattle.spec.specs.Write.{write}
 use Rattle.spec.specs.Read.{read}
 use Rattle.spec.specs.Answer as Spec
 use Rattle.spec.specs.Answer.{Lent, workSuffices}
-use Rattle.claims.specs.Proper.{Proper}
+use Rattle.spec.specs.Proper.{Proper}
 use Rattle.tape.specs.Layout.{documentRow, patchRow}
 use Rattle.tape.specs.Fields.{Row}
 use Rattle.tape.specs.Lent.{Table}

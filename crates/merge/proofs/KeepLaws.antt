@@ -14,9 +14,9 @@ use Rattle.spec.specs.Forest.{Forest, none, tree, single, size, count, before, 
 use Rattle.spec.specs.Value as Value
 use Rattle.spec.specs.Value.{Label, Entry, Members, named, tag, isObject, isContainer, sameText, find, has, depths, levels}
 use Rattle.spec.proofs.TextLaws.{sameText-refl, sameText-true, sameText-false, sameText-apart}
-use Rattle.claims.specs.Equality as Equality
-use Rattle.claims.specs.Equality.{NoRepeats}
-use Rattle.claims.proofs.Found.{has-cons}
+use Rattle.spec.specs.Distinct as Repeats
+use Rattle.spec.specs.Distinct.{NoRepeats}
+use Rattle.spec.proofs.NameLaws.{has-cons}
 use Rattle.merging.specs.MergePatch.{isNull, mergePatch}
 use Rattle.merging.specs.Parts.{get, gather, keptBy, kept, appended, mergedMembers}
 use Rattle.merging.proofs.PartLaws.{⧺-none, ⧺-assoc}
@@ -446,7 +446,7 @@ module _ {w : Table} {xs ys : List ℕ} {patch to levels : ℕ} {c : Cell} {kids
               sound = all-none;
             };
         low = λ h. absurd (omega arith);
-        distinct = Equality.empty;
+        distinct = Repeats.empty;
         all = none;
         so-far = so-far-none is;
         whole = refl;

@@ -14,8 +14,8 @@ use Rattle.spec.specs.Forest.{Forest, none, tree, single, size, _⧺_}
 use Rattle.spec.specs.Value as Value
 use Rattle.spec.specs.Value.{Label, Entry, Members, leaf, named, isObject, depths}
 use Rattle.spec.proofs.ListLaws.{drop-take}
-use Rattle.claims.specs.Equality as Equality
-use Rattle.claims.specs.Equality.{NoRepeats}
+use Rattle.spec.specs.Distinct as Repeats
+use Rattle.spec.specs.Distinct.{NoRepeats}
 use Rattle.merging.specs.MergePatch.{isNull, asObject, mergePatch}
 use Rattle.merging.specs.Parts.{mergedMembers}
 use Rattle.merging.proofs.ObjectLaws.{single-distinct, merge-object, as-object, as-empty}
@@ -177,7 +177,7 @@ as-target {w} {at} {d} {ds} h low distinct = go (eqb (d .kind) objectKind) refl
           cells = none;
           target = target-other (λ k. other (sym (kind-here (held-node (h .held))) ∙ k));
           are = as-empty (meant (w .texts) d ds) no-object;
-          distinct = Equality.empty;
+          distinct = Repeats.empty;
         }
 
 -- no row: nothing is the target
@@ -188,7 +188,7 @@ no-target {w} long =
       cells = none;
       target = target-other (λ k. absurd (omega (arith, ap kindOf (List·getD-eq-default (w .nodes) [] {n = rows} (omega arith)), k)));
       are = refl;
-      distinct = Equality.empty;
+      distinct = Repeats.empty;
     }
 
 pub merged-value : {w : Table} {at : ℕ} {v : Value.Value} (t : AsTarget w at v) (c : Cell) (below : Forest Cell) → c .kind ≡ objectKind

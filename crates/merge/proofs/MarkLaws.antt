@@ -14,9 +14,9 @@ use Rattle.spec.specs.Bytes.{Text}
 use Rattle.spec.specs.Forest.{Forest, none, tree, size, before, from}
 use Rattle.spec.specs.Value.{Entry, Members, isObject, sameText, has}
 use Rattle.spec.proofs.TextLaws.{sameText-refl, sameText-true, sameText-false, sameText-apart}
-use Rattle.claims.specs.Equality as Equality
-use Rattle.claims.specs.Equality.{NoRepeats}
-use Rattle.claims.proofs.Found.{has-cons, absent-parts}
+use Rattle.spec.specs.Distinct as Repeats
+use Rattle.spec.specs.Distinct.{NoRepeats}
+use Rattle.spec.proofs.NameLaws.{has-cons, absent-parts}
 use Rattle.merging.specs.Parts.{get}
 use Rattle.tape.specs.Layout.{patchRow, scratchRow, rows}
 use Rattle.tape.specs.Fields.{Row, spanOf}
@@ -138,13 +138,13 @@ module _ {nodes nodes' : List Row} (f : Framed scratchRow nodes nodes') where
 -- ---- names that are not repeated
 module _ {e : Entry} {kids rest : Members} where
   pub alone-first : NoRepeats true (tree e kids rest) → has (e .name) rest ≡ false
-  alone-first (Equality.member alone below behind) = alone
+  alone-first (Repeats.member alone below behind) = alone
 
   pub alone-kids : NoRepeats true (tree e kids rest) → NoRepeats (isObject (e .label)) kids
-  alone-kids (Equality.member alone below behind) = below
+  alone-kids (Repeats.member alone below behind) = below
 
   pub alone-rest : NoRepeats true (tree e kids rest) → NoRepeats true rest
-  alone-rest (Equality.member alone below behind) = behind
+  alone-rest (Repeats.member alone below behind) = behind
 
 -- ---- members that are met
 -- a member's name is among the names

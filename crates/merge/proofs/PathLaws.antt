@@ -14,7 +14,7 @@ use Rattle.spec.specs.Bytes.{Text}
 use Rattle.spec.specs.Forest.{Forest, none, tree, single, size, count, before, from, _⧺_}
 use Rattle.spec.specs.Value.{Label, Entry, Members, tag, isContainer, isObject, sameText, find, has, depths, levels}
 use Rattle.spec.proofs.TextLaws.{sameText-true}
-use Rattle.claims.proofs.Found.{has-cons}
+use Rattle.spec.proofs.NameLaws.{has-cons}
 use Rattle.lexer.specs.Hash.{hash}
 use Rattle.tape.specs.Layout.{patchRow, scratchRow, objectKind}
 use Rattle.tape.specs.Fields.{Row, noNode, kindOf, nameOf}

@@ -19,8 +19,8 @@ use Rattle.spec.specs.Write.{write}
 use Rattle.spec.specs.Answer as Spec
 use Rattle.spec.specs.Answer.{Lent, workSuffices, fitting}
 use Rattle.spec.proofs.ReadLaws.{read-depth}
-use Rattle.claims.specs.Proper.{Proper}
-use Rattle.claims.specs.Equality.{Distinct}
+use Rattle.spec.specs.Proper.{Proper}
+use Rattle.spec.specs.Distinct.{Distinct}
 use Rattle.claims.proofs.ReadProper.{read-proper}
 use Rattle.merging.specs.MergePatch.{asObject, mergePatch, mergedIn, onMergePatch, onMergeDocument, mergeAnswer}
 use Rattle.merging.specs.Parts.{mergedMembers}

@@ -9,9 +9,9 @@ use Rattle.spec.specs.Forest.{Forest, size}
 use Rattle.spec.specs.Value as Value
 use Rattle.spec.specs.Value.{Label, Members, isObject, depth, depths, nodes}
 use Rattle.spec.specs.Limits.{maxDepth}
-use Rattle.claims.specs.Equality.{NoRepeats}
-use Rattle.claims.specs.Proper.{Proper}
-use Rattle.claims.proofs.EqualityRules.{proper-repeats}
+use Rattle.spec.specs.Distinct.{NoRepeats}
+use Rattle.spec.specs.Proper.{Proper}
+use Rattle.spec.proofs.NameLaws.{proper-repeats}
 use Rattle.merging.specs.MergePatch.{mergePatch}
 use Rattle.merging.specs.Parts.{mergedMembers}
 use Rattle.tape.specs.Layout.{patchRow, scratchRow, objectKind, rows}

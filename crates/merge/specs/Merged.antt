@@ -8,7 +8,7 @@ use lib.ListN.{getD}
 use Rattle.spec.specs.Outcome.{if_then_else_}
 use Rattle.spec.specs.Forest.{Forest, none, size}
 use Rattle.spec.specs.Value.{Members, depths}
-use Rattle.claims.specs.Equality.{NoRepeats}
+use Rattle.spec.specs.Distinct.{NoRepeats}
 use Rattle.merging.specs.Parts.{mergedMembers}
 use Rattle.tape.specs.Layout.{scratchRow, objectKind, rows}
 use Rattle.tape.specs.Fields.{Row, kindOf}

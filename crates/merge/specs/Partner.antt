@@ -7,7 +7,7 @@ use mathlib.Core.Option as Option
 use lib.ListN.{length, drop}
 use Rattle.spec.specs.Bytes.{Text}
 use Rattle.spec.specs.Forest.{Forest, tree, size, before, from}
-use Rattle.claims.specs.Equality.{NoRepeats}
+use Rattle.spec.specs.Distinct.{NoRepeats}
 use Rattle.merging.specs.Parts.{get}
 use Rattle.tape.specs.Layout.{patchRow, scratchRow, objectKind}
 use Rattle.tape.specs.declared.fields.Name.{Name}

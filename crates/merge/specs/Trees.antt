@@ -7,7 +7,7 @@ use Rattle.spec.specs.Forest.{Forest}
 use Rattle.spec.specs.Value as Value
 use Rattle.spec.specs.Value.{nodes}
 use Rattle.spec.specs.Limits.{maxDepth}
-use Rattle.claims.specs.Proper.{Proper}
+use Rattle.spec.specs.Proper.{Proper}
 use Rattle.merging.specs.MergePatch.{mergePatch}
 use Rattle.tape.specs.Layout.{patchRow, scratchRow, objectKind, rows}
 use Rattle.tape.specs.Fields.{Row}

@@ -15,7 +15,7 @@ use Rattle.spec.specs.Value.{Label, Entry, Members, sameText, find, has, named,
 use Rattle.spec.specs.Pointer.{child}
 use Rattle.spec.specs.Operation.{withKids, put, insertMember}
 use Rattle.spec.proofs.TextLaws.{sameText-true, sameText-refl, sameText-false, sameText-apart}
-use Rattle.claims.proofs.Found.{has-cons}
+use Rattle.spec.proofs.NameLaws.{has-cons}
 use Rattle.merging.specs.MergePatch.{without, memberOf}
 use Rattle.merging.specs.Parts.{get}
 

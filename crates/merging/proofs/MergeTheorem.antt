@@ -15,9 +15,9 @@ use Rattle.spec.specs.Pointer.{childAt, memberNamed, child, farther, walk}
 use Rattle.spec.specs.Operation.{withKids}
 use Rattle.spec.proofs.OutcomeLaws.{refused≢ok}
 use Rattle.spec.proofs.TextLaws.{sameText-true, sameText-refl, sameText-false, sameText-apart}
-use Rattle.claims.specs.Proper as Proper
-use Rattle.claims.specs.Proper.{Proper, ProperItems}
-use Rattle.claims.proofs.Found.{absent-parts}
+use Rattle.spec.specs.Proper as Proper
+use Rattle.spec.specs.Proper.{Proper, ProperItems}
+use Rattle.spec.proofs.NameLaws.{absent-parts}
 use Rattle.merging.specs.MergePatch.{isNull, asObject, memberOf, mergeMembers, mergePatch}
 use Rattle.merging.specs.Claims as Claims
 use Rattle.merging.specs.Claims.{WithoutNulls, MergeStatement}

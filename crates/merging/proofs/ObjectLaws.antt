@@ -8,8 +8,8 @@ use Rattle.spec.specs.Forest.{none, tree}
 use Rattle.spec.specs.Value as Value
 use Rattle.spec.specs.Value.{Label, Entry, Members, leaf, isObject, sameText, has}
 use Rattle.spec.proofs.TextLaws.{sameText-refl}
-use Rattle.claims.specs.Equality as Equality
-use Rattle.claims.specs.Equality.{NoRepeats}
+use Rattle.spec.specs.Distinct as Repeats
+use Rattle.spec.specs.Distinct.{NoRepeats}
 use Rattle.merging.specs.MergePatch.{asObject, mergeMembers, mergePatch}
 use Rattle.merging.specs.Parts.{get, mergedMembers}
 use Rattle.merging.proofs.MemberLaws.{Single, no-member, one-member, absent}
@@ -17,8 +17,8 @@ use Rattle.merging.proofs.PartLaws.{parts}
 use Rattle.merging.proofs.MergeTheorem.{label-kept, depth-as-object}
 
 pub single-distinct : {f : Members} → NoRepeats true f → Single f
-single-distinct Equality.empty = no-member
-single-distinct (Equality.member {e} {kids} {rest} h k r) = one-member (absent (e .name) rest h) (single-distinct r)
+single-distinct Repeats.empty = no-member
+single-distinct (Repeats.member {e} {kids} {rest} h k r) = one-member (absent (e .name) rest h) (single-distinct r)
 
 module _ (t p : Value.Value) where
   pub merge-object : isObject (p .label) ≡ true → Single (p .kids) → Single (asObject t .kids)

@@ -9,7 +9,7 @@ use Rattle.spec.specs.Forest.{none, tree}
 use Rattle.spec.specs.Value as Value
 use Rattle.spec.specs.Value.{Label, Entry, Members, leaf, isObject, has, depth}
 use Rattle.spec.specs.Pointer.{walk}
-use Rattle.claims.specs.Proper.{Proper}
+use Rattle.spec.specs.Proper.{Proper}
 use Rattle.merging.specs.MergePatch.{isNull, asObject, memberOf, mergePatch}
 use Rattle.merging.specs.Parts.{mergedMembers}
 

@@ -23,8 +23,8 @@ use Rattle.origin.specs.Forgetting.{forgotten}
 use Rattle.origin.proofs.ForgetLaws.{forget-walk}
 use Rattle.spec.proofs.OutcomeLaws.{refused≢ok}
 use Rattle.spec.proofs.PlaceLaws.{plant-walk, depth-plant}
-use Rattle.claims.specs.Equality.{Distinct}
-use Rattle.claims.proofs.EqualityRules.{proper-repeats}
+use Rattle.spec.specs.Distinct.{Distinct}
+use Rattle.spec.proofs.NameLaws.{proper-repeats}
 use Rattle.claims.proofs.ProperPatch.{operation-proper}
 use Rattle.text.specs.Decode.{decode}
 use Rattle.tape.specs.Layout.{documentRow, patchRow, scratchRow}

@@ -15,7 +15,7 @@ use Rattle.spec.specs.Value.{isArray}
 use Rattle.spec.specs.Operation as Operation
 use Rattle.spec.specs.Operation.{limited}
 use Rattle.spec.specs.Patch.{Stop, stop, Run, finished, stopped, atOp, noPointer, onFinish, operation, operations, shape, whichPointer, run}
-use Rattle.claims.specs.Proper.{ProperItems}
+use Rattle.spec.specs.Proper.{ProperItems}
 use Rattle.claims.proofs.ProperPatch.{proper-first}
 use Rattle.origin.specs.Value as Origin
 use Rattle.origin.specs.Value.{forget}

@@ -13,8 +13,8 @@ use Rattle.spec.specs.Pointer.{Tokens}
 use Rattle.spec.specs.Operation as Operation
 use Rattle.spec.specs.Operation.{addAt, removeAtPath, limited}
 use Rattle.spec.specs.Patch.{operation, whichPointer}
-use Rattle.claims.specs.Proper.{Proper}
-use Rattle.claims.specs.Equality.{Distinct}
+use Rattle.spec.specs.Proper.{Proper}
+use Rattle.spec.specs.Distinct.{Distinct}
 use Rattle.tape.specs.Layout.{patchRow, scratchRow}
 use Rattle.tape.specs.Fields.{Row, spanOf}
 use Rattle.tape.specs.Columns.{moved}

@@ -11,7 +11,7 @@ use Rattle.spec.specs.Forest.{tree, Tree, count, before, from, insertAt, remove
 use Rattle.spec.specs.Value as Plain
 use Rattle.spec.specs.Value.{Label, sameText}
 use Rattle.spec.proofs.TextLaws.{sameText-true, sameText-refl}
-use Rattle.claims.proofs.Found.{has-cons}
+use Rattle.spec.proofs.NameLaws.{has-cons}
 use Rattle.tape.specs.Map.{mapForest}
 use Rattle.origin.specs.Value as Value
 use Rattle.origin.specs.Value.{Entry, Members, forgetEntry, forgetMembers, leaf, named, valueOf, find, has}

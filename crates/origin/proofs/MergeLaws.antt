@@ -14,9 +14,9 @@ use Rattle.spec.specs.Pointer as PlainPointer
 use Rattle.spec.specs.Pointer.{farther}
 use Rattle.spec.proofs.OutcomeLaws.{refused≢ok}
 use Rattle.spec.proofs.TextLaws.{sameText-true, sameText-apart}
-use Rattle.claims.specs.Proper as Proper
-use Rattle.claims.specs.Proper.{ProperItems, Proper}
-use Rattle.claims.proofs.Found.{has-cons, absent-parts}
+use Rattle.spec.specs.Proper as Proper
+use Rattle.spec.specs.Proper.{ProperItems, Proper}
+use Rattle.spec.proofs.NameLaws.{has-cons, absent-parts}
 use Rattle.merging.specs.MergePatch.{isNull}
 use Rattle.origin.specs.Value as Value
 use Rattle.origin.specs.Operation.{insertMember}

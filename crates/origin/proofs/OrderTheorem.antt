@@ -22,7 +22,7 @@ use Rattle.spec.specs.Patch as PlainPatch
 use Rattle.spec.specs.Patch.{Run, finished, stopped, onFinish}
 use Rattle.spec.specs.Answer.{Answer, Lent, success, refusal, workSuffices}
 use Rattle.spec.specs.Region.{Accepted, WellFormed}
-use Rattle.claims.specs.Proper.{Allows, ProperItems, Proper, Readable}
+use Rattle.spec.specs.Proper.{Allows, ProperItems, Proper, Readable}
 use Rattle.claims.proofs.Rest.{Rest, rest-more}
 use Rattle.claims.proofs.ProperPatch.{proper-first, stopped≢finished}
 use Rattle.claims.proofs.RoundTripTheorem.{round-trip}

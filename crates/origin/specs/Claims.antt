@@ -16,7 +16,7 @@ use Rattle.spec.specs.Operation.{Kind, Operation}
 use Rattle.spec.specs.Patch.{finished}
 use Rattle.spec.specs.Effects.{FoundAt}
 use Rattle.spec.specs.Answer.{Lent}
-use Rattle.claims.specs.Proper.{Proper}
+use Rattle.spec.specs.Proper.{Proper}
 use Rattle.merging.specs.MergePatch as PlainMerge
 use Rattle.merging.specs.MergePatch.{isNull}
 use Rattle.reversal.specs.UndoAnswer.{UndoLent}

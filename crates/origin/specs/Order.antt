@@ -7,7 +7,7 @@ use Rattle.spec.specs.Bytes.{Bytes}
 use Rattle.spec.specs.Forest.{none, tree}
 use Rattle.spec.specs.Write.{write}
 use Rattle.spec.specs.Answer.{Lent, success}
-use Rattle.claims.specs.Proper.{Proper}
+use Rattle.spec.specs.Proper.{Proper}
 use Rattle.origin.specs.Value as Value
 use Rattle.origin.specs.Value.{Members, forget, origins}
 use Rattle.origin.specs.Answer as Answer

@@ -5,21 +5,21 @@ use lib.Dec.{ltb}
 use lib.ListN.{length}
 use Rattle.spec.specs.Outcome.{if_then_else_}
 use Rattle.spec.specs.Bytes.{Bytes, ascii}
-use Rattle.report.specs.Line.{decimal, newline}
+use Rattle.report.specs.Line.{inDecimal, newline}
 use Rattle.inspection.specs.Tally.{File, results, Field, line, maxNames}
 
 -- a field: its word, a space, its number
-unfoldable pub spelled : Field → Bytes
-spelled f = f .word ++ ascii " " ++ decimal (f .number)
+unfoldable pub fieldBytes : Field → Bytes
+fieldBytes f = f .word ++ ascii " " ++ inDecimal (f .number)
 
 -- the fields behind the first, each after a space, and the newline
 unfoldable pub others : List Field → Bytes
 others [] = newline
-others (f ∷ fs) = ascii " " ++ spelled f ++ others fs
+others (f ∷ fs) = ascii " " ++ fieldBytes f ++ others fs
 
 unfoldable pub lineBytes : List Field → Bytes
 lineBytes [] = newline
-lineBytes (f ∷ fs) = spelled f ++ others fs
+lineBytes (f ∷ fs) = fieldBytes f ++ others fs
 
 -- "for more it prints only `too long`"
 unfoldable pub tooLong : Bytes

@@ -118,46 +118,46 @@ index-above c (e ∷ t) h = rw (no-dash c (e ∷ t) (λ e. omega arith), above-w
 
 -- ---- the element that is named
 
-element-at : (length n : ℕ) → length ≤ indexLimit → elementAt length (indexAt n) ≡ (if ltb n length then ok n else refused location-missing 0)
+element-at : (elements n : ℕ) → elements ≤ indexLimit → elementAt elements (indexAt n) ≡ (if ltb n elements then ok n else refused location-missing 0)
 unfolding elementAt indexAt
-element-at length n h = go (ltb n indexLimit) refl
+element-at elements n h = go (ltb n indexLimit) refl
   where
     go : (b : Bool) → ltb n indexLimit ≡ b
-        → elementAt length (if b then Index.At n else Index.Beyond) ≡ (if ltb n length then ok n else refused location-missing 0)
+        → elementAt elements (if b then Index.At n else Index.Beyond) ≡ (if ltb n elements then ok n else refused location-missing 0)
     go true e = refl
-    go false e = let l = ltb-false n indexLimit e in rw (le-ltb n length (omega arith))
+    go false e = let l = ltb-false n indexLimit e in rw (le-ltb n elements (omega arith))
 
-pub element-below : (length : ℕ) (t : Text) → length ≤ indexLimit → elementBelow length t ≡ elementAt length (indexOf t)
+pub element-below : (elements : ℕ) (t : Text) → elements ≤ indexLimit → elementBelow elements t ≡ elementAt elements (indexOf t)
 unfolding elementBelow indexOf elementAt
-element-below length t h = go (isDash t) (isIndex t)
+element-below elements t h = go (isDash t) (isIndex t)
   where
     go : (dash index : Bool) →
         (if dash then refused location-missing 0 else if index
-        then (if ltb (decimal 0 t) length then ok (decimal 0 t) else refused location-missing 0) else refused no-index 0)
-        ≡ elementAt length (if dash then Index.Dash else if index then indexAt (decimal 0 t) else Index.Not)
+        then (if ltb (decimal 0 t) elements then ok (decimal 0 t) else refused location-missing 0) else refused no-index 0)
+        ≡ elementAt elements (if dash then Index.Dash else if index then indexAt (decimal 0 t) else Index.Not)
     go true index = refl
-    go false true = sym (element-at length (decimal 0 t) h)
+    go false true = sym (element-at elements (decimal 0 t) h)
     go false false = refl
 
-insertion-at : (length n : ℕ) → elementAt (suc length) (indexAt n) ≡ insertionAt length (indexAt n)
+insertion-at : (elements n : ℕ) → elementAt (suc elements) (indexAt n) ≡ insertionAt elements (indexAt n)
 unfolding indexAt elementAt insertionAt
-insertion-at length n = go (ltb n indexLimit)
+insertion-at elements n = go (ltb n indexLimit)
   where
-    go : (b : Bool) → elementAt (suc length) (if b then Index.At n else Index.Beyond) ≡ insertionAt length (if b then Index.At n else Index.Beyond)
+    go : (b : Bool) → elementAt (suc elements) (if b then Index.At n else Index.Beyond) ≡ insertionAt elements (if b then Index.At n else Index.Beyond)
     go true = refl
     go false = refl
 
 -- where an element is added: `-` is behind the last
-pub insertion : (length : ℕ) (t : Text) → length < indexLimit →
-    (if isDash t then ok length else elementBelow (suc length) t) ≡ insertionAt length (indexOf t)
+pub insertion : (elements : ℕ) (t : Text) → elements < indexLimit →
+    (if isDash t then ok elements else elementBelow (suc elements) t) ≡ insertionAt elements (indexOf t)
 unfolding elementBelow indexOf insertionAt
-insertion length t h = go (isDash t) (isIndex t)
+insertion elements t h = go (isDash t) (isIndex t)
   where
     go : (dash index : Bool) →
-        (if dash then ok length else
+        (if dash then ok elements else
         if dash then refused location-missing 0 else if index
-        then (if ltb (decimal 0 t) (suc length) then ok (decimal 0 t) else refused location-missing 0) else refused no-index 0)
-        ≡ insertionAt length (if dash then Index.Dash else if index then indexAt (decimal 0 t) else Index.Not)
+        then (if ltb (decimal 0 t) (suc elements) then ok (decimal 0 t) else refused location-missing 0) else refused no-index 0)
+        ≡ insertionAt elements (if dash then Index.Dash else if index then indexAt (decimal 0 t) else Index.Not)
     go true index = refl
-    go false true = sym (element-at (suc length) (decimal 0 t) (omega arith)) ∙ insertion-at length (decimal 0 t)
+    go false true = sym (element-at (suc elements) (decimal 0 t) (omega arith)) ∙ insertion-at elements (decimal 0 t)
     go false false = refl

@@ -22,19 +22,19 @@ indexOf t =
     if isDash t then Index.Dash else
     if isIndex t then indexAt (decimal 0 t) else Index.Not
 
--- The element of an array that is named, given the array's length, which is at most the limit: `elementBelow` of Pointer.
+-- The element of an array that is named, given how many it has, which is at most the limit: `elementBelow` of Pointer.
 unfoldable pub elementAt : ℕ → Index → Outcome ℕ
-elementAt length Index.Dash = refused location-missing 0
-elementAt length (Index.At n) = if ltb n length then ok n else refused location-missing 0
-elementAt length Index.Beyond = refused location-missing 0
-elementAt length Index.Not = refused no-index 0
+elementAt elements Index.Dash = refused location-missing 0
+elementAt elements (Index.At n) = if ltb n elements then ok n else refused location-missing 0
+elementAt elements Index.Beyond = refused location-missing 0
+elementAt elements Index.Not = refused no-index 0
 
--- Where an element is added, given the array's length, which is below the limit.
+-- Where an element is added to an array, given how many it has, which is below the limit.
 unfoldable pub insertionAt : ℕ → Index → Outcome ℕ
-insertionAt length Index.Dash = ok length
-insertionAt length (Index.At n) = elementAt (suc length) (Index.At n)
-insertionAt length Index.Beyond = refused location-missing 0
-insertionAt length Index.Not = refused no-index 0
+insertionAt elements Index.Dash = ok elements
+insertionAt elements (Index.At n) = elementAt (suc elements) (Index.At n)
+insertionAt elements Index.Beyond = refused location-missing 0
+insertionAt elements Index.Not = refused no-index 0
 
 -- ---- what the code reads on the way
 

@@ -15,7 +15,7 @@ use Rattle.spec.specs.Numbers.{number}
 use Rattle.spec.specs.Forest.{count}
 use Rattle.spec.specs.Value as Value
 use Rattle.spec.specs.Value.{Label, Members}
-use Rattle.spec.specs.Read.{blanks, spelled, literalValue, numberValue, stringValue, fresh, nameFor, closingBracket}
+use Rattle.spec.specs.Read.{blanks, wordAt, literalValue, numberValue, stringValue, fresh, nameFor, closingBracket}
 use Rattle.lexer.proofs.Always.{Always, gives, result, either, next, weaken}
 use Rattle.lexer.proofs.AnswerLaws.{byte-taken}
 use Rattle.lexer.proofs.ByteLaws.{here}
@@ -31,10 +31,10 @@ abbrev Past : Bytes → ℕ → Value.Value × ℕ → Type 0
 Past s at v = (at < v .1) × (v .1 ≤ length s)
 
 literal-past : (s : Bytes) (at : ℕ) (label : Label) (word : Bytes) → at < length s
-    → ((p : ℕ) → p ≤ length s → Always (λ n. (p ≤ n) × (n ≤ length s)) (spelled word s p)) → Always (Past s at) (literalValue label word s at)
+    → ((p : ℕ) → p ≤ length s → Always (λ n. (p ≤ n) × (n ≤ length s)) (wordAt word s p)) → Always (Past s at) (literalValue label word s at)
 unfolding literalValue
 literal-past s at label word h w =
-    next (spelled word s (at + 1)) λ n e.
+    next (wordAt word s (at + 1)) λ n e.
     let k : (at + 1 ≤ n) × (n ≤ length s) = result (rw e at (w (at + 1) (omega arith))) in gives _ (omega arith)
 
 three-past : (s : Bytes) (a b c : ℕ) → 1 ≤ a → 1 ≤ b → 1 ≤ c → (p : ℕ) → p ≤ length s
@@ -44,7 +44,7 @@ three-past s a b c l m n p h =
     next _ λ x e. next _ λ y f. next _ λ z g. let k = byte-taken s (p + 1 + 1) c c z n g in gives _ (omega arith)
 
 scalar-past : (kind : ℕ) (s : Bytes) (at : ℕ) → at < length s → Always (Past s at) (scalarOf kind s at)
-unfolding scalarOf stringValue numberValue ascii spelled
+unfolding scalarOf stringValue numberValue ascii wordAt
 scalar-past kind s at h =
     either (eqb kind stringKind) (λ _. next (string s at) λ t e. let k = string-ok-closed s at t e in gives _ (omega arith)) (λ _.
     either (eqb kind numberKind) (λ _. next (number s at) λ n e. let k = number-ok-past s at n e in gives _ (omega arith)) (λ _.

@@ -266,7 +266,7 @@ module _ (source : ℕ) (s : Bytes) (at : ℕ) where
   string-refused h = rw (h .word) (scalar-refused (h .number) (h .place) (rw (h .gives)))
 
   pub literal-read : (kind : ℕ) (label : Label) (rest : Bytes) (r : Scan) (w : Spelled) → kind < numberKind → {next : ℕ} → next ≡ at + 1
-      → scanOutcome r ≡ Definition.spelled rest s next → w ≡ unspelled r → ((T : Texts) → labelOf T kind noSpelling ≡ label)
+      → scanOutcome r ≡ Definition.wordAt rest s next → w ≡ unspelled r → ((T : Texts) → labelOf T kind noSpelling ≡ label)
       → ScalarIs source s kind (literalValue label rest s at) w
   unfolding literalValue unspelled scanOutcome _>>=_
   literal-read kind label rest (Scan.To next) w k here e is says =

@@ -20,7 +20,7 @@ use tape::layout;
 use tape::layout::Node;
 use tape::layout::Texts;
 
-// The names of a text of at most so many bytes are looked up quickly in an index that is not empty.
+// The names of a text of at most this many bytes are looked up quickly even in an index that is not empty.
 const FEW_BYTES: usize = 512;
 
 // The index is made empty before a text of this length is read. It need not be empty to be right, only to be quick;

@@ -32,7 +32,7 @@ use Rattle.tape.proofs.Held.{held-node}
 use Rattle.table.specs.Meaning.{partOf, members, meant}
 use Rattle.table.specs.Sound.{NodeHeld, RowsHeld}
 use Rattle.shape.specs.Kinds.{kindOutcome, answered, asks}
-use Rattle.shape.specs.Members.{ForNode, TextIs, StringIs}
+use Rattle.shape.specs.Members.{ForMeant, TextIs, StringIs}
 use Rattle.shape.specs.Operation as Shapes
 use Rattle.shape.specs.Operation.{Answers, OperationNumber, Knows, KindIs, MembersAre}
 use Rattle.shape.specs.Patch.{ShapeIs}
@@ -102,7 +102,7 @@ said v o e =
 
 -- ---- the path: whether it begins with the region's tokens and has one more at least
 pub record PathIs (w : Table) (row : ℕ) (region : Bytes) (r : Bool) : Type 0 where
-  pub held : ForRegion region λ R. ForNode w row λ v. (o : Operation.Operation) → operation v ≡ ok o → r ≡ properPrefix R (o .path)
+  pub held : ForRegion region λ R. ForMeant w row λ v. (o : Operation.Operation) → operation v ≡ ok o → r ≡ properPrefix R (o .path)
 
 module _ {w : Table} {row : ℕ} {region : Bytes} {path : Spelled} (is : StringIs w row (ascii "path") path) where
   pub path-judged : (s : Spelling) → path ≡ Spelled.As s → {bytes : Bytes} → bytes ≡ partOf (w .texts) s

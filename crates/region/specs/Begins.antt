@@ -16,7 +16,7 @@ begins [] (d ∷ ds) = eqb d (code "/")
 begins (c ∷ cs) [] = false
 begins (c ∷ cs) (d ∷ ds) = eqb c d && begins cs ds
 
--- Of so many bytes from the first on, every one of ASCII stands for itself in a JSON string.
+-- Of the first n bytes, every one of ASCII stands for itself in a JSON string.
 pub record RawTo (region : Bytes) (n : ℕ) : Type 0 where
   pub each : (i : ℕ) → i < n → byte region i < 0x80 → standsForItself (byte region i) ≡ true
 
@@ -24,7 +24,7 @@ pub record RawTo (region : Bytes) (n : ℕ) : Type 0 where
 abbrev pub Raw : Bytes → Type 0
 Raw region = RawTo region (length region)
 
--- so many bytes from the first on are the same in both
+-- the first n bytes are the same in both
 pub record SameTo (region part : Bytes) (n : ℕ) : Type 0 where
   pub each : (i : ℕ) → i < n → byte part i ≡ byte region i
 

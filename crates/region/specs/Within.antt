@@ -15,7 +15,7 @@ use Rattle.tape.specs.declared.fields.Cell.{Cell}
 use Rattle.tape.specs.Lent.{Table}
 use Rattle.table.specs.Meaning.{members}
 use Rattle.table.specs.Sound.{RowsHeld}
-use Rattle.shape.specs.Members.{ForNode}
+use Rattle.shape.specs.Members.{ForMeant}
 use Rattle.shape.specs.Operation.{Answers, OperationNumber}
 use Rattle.shape.specs.Patch.{ShapeIs}
 use Rattle.shape.specs.declared.patch.Shape.{Shape}
@@ -35,7 +35,7 @@ ForRegion region Q = (R : Tokens) → regionTokens region ≡ ok R → Q R
 -- the element in a row, of the operation op
 pub record ElementIs (w : Table) (row op : ℕ) (region : Bytes) (r : ℕ) : Type 0 where
   pub number : ElementNumber r
-  pub held : ForRegion region λ R. ForNode w row λ v. Answers (operationWithin R op v) r
+  pub held : ForRegion region λ R. ForMeant w row λ v. Answers (operationWithin R op v) r
 
 -- the elements in the rows from one up to another, the first of which is operation 1
 pub data ElementsNumber : Shape → Type 0 where
@@ -55,4 +55,4 @@ pub data PatchNumber (w : Table) (row : ℕ) : Shape → Type 0 where
 
 pub record PatchWithinIs (w : Table) (row : ℕ) (region : Bytes) (r : Shape) : Type 0 where
   pub number : PatchNumber w row r
-  pub held : ForRegion region λ R. ForNode w row λ v. ShapeIs (shapeWithin R v) r
+  pub held : ForRegion region λ R. ForMeant w row λ v. ShapeIs (shapeWithin R v) r

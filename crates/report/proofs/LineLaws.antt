@@ -21,9 +21,9 @@ use Rattle.writer.proofs.PlacedLaws.{placed-as, placed-on, placed-whole}
 use Rattle.json_patch.specs.Call.{Memory, Answered, ApplyIs, lentOf, wiped}
 use Rattle.json_patch.specs.declared.answer.Answer.{Answer}
 use Rattle.json_patch.proofs.AnswerLaws.{answered-as}
-use Rattle.report.specs.Line.{decimal, newline, lastField, refusalLine, lineOf}
+use Rattle.report.specs.Line.{inDecimal, newline, lastField, refusalLine, lineOf}
 use Rattle.report.specs.Report.{refusalOf, ending, lentTo, lineLimit, RunIs}
-use Rattle.report.proofs.DecimalLaws.{decimal-short}
+use Rattle.report.proofs.DecimalLaws.{inDecimal-short}
 
 -- a text of form 1 is laid down as it stands
 pub laid-plain : {s before after : Bytes} {form count n : ℕ} → form ≡ 1 → LaidDown (written form s) before after count → n ≡ min count (length after)
@@ -38,13 +38,14 @@ pub placed-past : (bytes before : Bytes) (at : ℕ) → length before < at → P
 placed-past bytes before at h = record { next-is = omega arith; after-is = sym (sets-out before at bytes (omega arith)) }
 
 -- ---- the refusal's line
-pub last-pieces : (pointer : ℕ) → lastField pointer ≡ (ascii " pointer " ++ decimal pointer) ++ newline
+pub last-pieces : (pointer : ℕ) → lastField pointer ≡ (ascii " pointer " ++ inDecimal pointer) ++ newline
 unfolding lastField
 last-pieces pointer = simp append-assoc
 
 module _ (number text op place pointer : ℕ) where
   pub refusal-pieces : refusalLine number text op place pointer ≡
-      (((ascii "refused " ++ decimal number) ++ (ascii " text " ++ decimal text)) ++ ((ascii " op " ++ decimal op) ++ (ascii " place " ++ decimal place)))
+      (((ascii "refused " ++ inDecimal number) ++ (ascii " text " ++ inDecimal text)) ++
+      ((ascii " op " ++ inDecimal op) ++ (ascii " place " ++ inDecimal place)))
       ++ lastField pointer
   unfolding refusalLine
   refusal-pieces = simp append-assoc
@@ -60,11 +61,11 @@ pub record Fits (r : Answer) : Type 0 where
 refusal-short : {r : Answer} → Fits r → length (refusalOf r) ≤ lineLimit
 unfolding refusalLine lastField ascii
 refusal-short {r} fit =
-    let a = decimal-short 2 (r .number) (omega arith) in
-    let b = decimal-short 2 (r .text) (omega arith) in
-    let c = decimal-short 19 (r .op) (omega arith) in
-    let d = decimal-short 19 (r .place) (omega arith) in
-    let e = decimal-short 2 (r .pointer) (omega arith) in
+    let a = inDecimal-short 2 (r .number) (omega arith) in
+    let b = inDecimal-short 2 (r .text) (omega arith) in
+    let c = inDecimal-short 19 (r .op) (omega arith) in
+    let d = inDecimal-short 19 (r .place) (omega arith) in
+    let e = inDecimal-short 2 (r .pointer) (omega arith) in
     simp length-append (omega arith)
 
 -- ---- what ends the line

@@ -14,27 +14,27 @@ unfoldable pub digit : ℕ → ℕ
 digit n = code "0" + n
 
 -- A number's digits, the last one behind those of its tenth part. Its tenth part is less, so that fuel above the number never runs out.
-unfoldable pub decimalFrom : ℕ → ℕ → Bytes
-decimalFrom zero n = []
-decimalFrom (suc fuel) n = if ltb n 10 then digit n ∷ [] else decimalFrom fuel (n / 10) ++ (digit (n % 10) ∷ [])
+unfoldable pub inDecimalFrom : ℕ → ℕ → Bytes
+inDecimalFrom zero n = []
+inDecimalFrom (suc fuel) n = if ltb n 10 then digit n ∷ [] else inDecimalFrom fuel (n / 10) ++ (digit (n % 10) ∷ [])
 
-unfoldable pub decimal : ℕ → Bytes
-decimal n = decimalFrom (suc n) n
+unfoldable pub inDecimal : ℕ → Bytes
+inDecimal n = inDecimalFrom (suc n) n
 
 abbrev pub newline : Bytes
 newline = 0x0A ∷ []
 
 -- what a refusal's line ends in
 unfoldable pub lastField : ℕ → Bytes
-lastField pointer = ascii " pointer " ++ decimal pointer ++ newline
+lastField pointer = ascii " pointer " ++ inDecimal pointer ++ newline
 
 -- the line of a refusal with this number, text, op, place and pointer
 unfoldable pub refusalLine : ℕ → ℕ → ℕ → ℕ → ℕ → Bytes
 refusalLine number text op place pointer =
-    ascii "refused " ++ decimal number
-    ++ ascii " text " ++ decimal text
-    ++ ascii " op " ++ decimal op
-    ++ ascii " place " ++ decimal place
+    ascii "refused " ++ inDecimal number
+    ++ ascii " text " ++ inDecimal text
+    ++ ascii " op " ++ inDecimal op
+    ++ ascii " place " ++ inDecimal place
     ++ lastField pointer
 
 -- the line of an answer

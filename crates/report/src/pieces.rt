@@ -4,7 +4,7 @@ ghost use mathlib.Core.Path.{_≡_};
 ghost use mathlib.Core.List.{_++_};
 ghost use Prim.Native.Nat.{min};
 ghost use Rattle.writer.specs.Writing.{Placed};
-ghost use Rattle.report.specs.Line.{decimal, lastField};
+ghost use Rattle.report.specs.Line.{inDecimal, lastField};
 ghost use Rattle.report.specs.Report.{refusalOf, ending};
 use json_patch::Answer;
 use tape::fields::long;
@@ -27,7 +27,7 @@ pub fn put_bytes(s: &[u8], out: &mut [u8]) -> usize
 
 // The digits of a number.
 fn put_decimal(n: u64, out: &mut [u8]) -> usize
-    ensures { λ r. ⌜ Placed (decimal n) 0 (now (out .entry)) (now (out .exit)) r ⌝ }
+    ensures { λ r. ⌜ Placed (inDecimal n) 0 (now (out .entry)) (now (out .exit)) r ⌝ }
 {
     let mut digits = [0u8; 20];
     let count = io::decimal(n, &mut digits);
@@ -36,7 +36,7 @@ fn put_decimal(n: u64, out: &mut [u8]) -> usize
 
 // A number after a word.
 fn put_field(word: &[u8], n: u64, out: &mut [u8]) -> usize
-    ensures { λ r. ⌜ Placed (now (word .entry) ++ decimal n) 0 (now (out .entry)) (now (out .exit)) r ⌝ }
+    ensures { λ r. ⌜ Placed (now (word .entry) ++ inDecimal n) 0 (now (out .entry)) (now (out .exit)) r ⌝ }
 {
     let put = put_bytes(word, out);
     let more = put_decimal(n, &mut out[put..]);
@@ -45,7 +45,7 @@ fn put_field(word: &[u8], n: u64, out: &mut [u8]) -> usize
 
 // Two of them.
 pub fn put_two_fields(first: &[u8], m: u64, second: &[u8], n: u64, out: &mut [u8]) -> usize
-    ensures { λ r. ⌜ Placed ((now (first .entry) ++ decimal m) ++ (now (second .entry) ++ decimal n)) 0
+    ensures { λ r. ⌜ Placed ((now (first .entry) ++ inDecimal m) ++ (now (second .entry) ++ inDecimal n)) 0
         (now (out .entry)) (now (out .exit)) r ⌝ }
 {
     let put = put_field(first, m, out);

@@ -13,14 +13,15 @@ use Rattle.spec.specs.Equality.{sameLabel, equal}
 use Rattle.spec.specs.Operation.{Operation, perform, notTooDeep, notTooLarge, limited}
 use Rattle.spec.specs.Patch.{operation}
 use Rattle.spec.proofs.OutcomeLaws.{refused≢ok, both-ok}
+use Rattle.spec.proofs.MatchLaws.{equal-is}
 use Rattle.spec.proofs.TextLaws.{both-true}
-use Rattle.claims.specs.Proper.{Proper}
-use Rattle.claims.specs.Equality.{Distinct}
+use Rattle.spec.specs.Proper.{Proper}
+use Rattle.spec.specs.Distinct.{Distinct}
 use Rattle.claims.specs.Operations.{Same, both, neither}
 use Rattle.claims.proofs.CharacterScalar.{if-ok}
 use Rattle.claims.proofs.LabelLaws.{SameLabels, sameLabel-true, true-sameLabel, isObject-same}
 use Rattle.claims.proofs.Matching.{matches-true, true-matches, matches-alike, alike-count, alike-matches}
-use Rattle.claims.proofs.EqualityRules.{proper-repeats}
+use Rattle.spec.proofs.NameLaws.{proper-repeats}
 use Rattle.claims.proofs.EqualityTheorem.{equality}
 use Rattle.claims.proofs.ProperOperations.{ProperOperation, perform-proper}
 use Rattle.claims.proofs.ProperPatch.{operation-proper}
@@ -29,20 +30,18 @@ use Rattle.reversal.proofs.LikeOperations.{limited-like}
 
 -- `equal` as the relation by labels that test the same
 equal-like : (v w : Value.Value) → Proper v → Proper w → equal v w ≡ true → LikeValues SameLabels v w
-unfolding equal
 equal-like v w p q h =
-    let (l, rest) = both-true (sameLabel (v .label) (w .label)) _ h in
+    let (l, rest) = both-true (sameLabel (v .label) (w .label)) _ (sym (equal-is v w) ∙ h) in
     let (c, items) = both-true (eqb (count (v .kids)) (count (w .kids))) _ rest in
     let labels = sameLabel-true _ _ l in
     let alike = matches-alike (proper-repeats (p .items)) (matches-true _ _ _ items) (eqb-true _ _ c) in
     record { labels = labels; kids = alike-like alike (p .items) (rw (← isObject-same labels) at (q .items)) }
 
 like-equal : (v w : Value.Value) → Proper w → LikeValues SameLabels v w → equal v w ≡ true
-unfolding equal
 like-equal v w q r =
     let a = like-alike (r .kids) in
     let items = true-matches (alike-matches a (rw (← isObject-same (r .labels)) at (proper-repeats (q .items)))) in
-    rw (true-sameLabel _ _ (r .labels), eq-eqb _ _ (alike-count a)) items
+    equal-is v w ∙ rw (true-sameLabel _ _ (r .labels), eq-eqb _ _ (alike-count a)) items
 
 -- equal values are equal to the same values
 equal-to : (x u w : Value.Value) → Proper x → Proper u → Proper w → equal u w ≡ true → equal u x ≡ equal w x

@@ -13,7 +13,7 @@ use Rattle.spec.specs.Worth.{decimal}
 use Rattle.spec.specs.Pointer.{isIndex, allDigits, isDash, elementBelow}
 use Rattle.spec.proofs.OutcomeLaws.{refused≢ok}
 use Rattle.spec.proofs.TextLaws.{sameText-true}
-use Rattle.claims.specs.Proper.{below-surrogates, ScalarValues, nothing, another}
+use Rattle.spec.specs.Proper.{below-surrogates, ScalarValues, nothing, another}
 use Rattle.claims.proofs.CharacterScalar.{if-ok}
 use Rattle.claims.proofs.Rest.{within-true}
 use Rattle.reversal.specs.Undo.{digitsBefore, indexToken}

@@ -8,8 +8,8 @@ use Rattle.spec.specs.Forest.{Forest, none, tree, count, size}
 use Rattle.spec.specs.Value as Value
 use Rattle.spec.specs.Value.{Label, Entry, Members, tag, isArray, isObject, isContainer, levels, depths, depth, nodes}
 use Rattle.claims.specs.Equality.{Permuted, empty, same, swap, more, Reordered}
-use Rattle.claims.specs.Proper as Proper
-use Rattle.claims.specs.Proper.{ProperItems}
+use Rattle.spec.specs.Proper as Proper
+use Rattle.spec.specs.Proper.{ProperItems}
 use Rattle.claims.proofs.LabelLaws.{SameLabels, same-refl, same-trans, isObject-same}
 use Rattle.claims.proofs.RemoveAddLaws.{permuted-refl}
 use Rattle.claims.proofs.Alike as Alike

@@ -16,11 +16,13 @@ use Rattle.spec.specs.Operation.{put, withKids, insertMember}
 use Rattle.spec.proofs.TextLaws.{sameText-true, sameText-refl}
 use Rattle.spec.proofs.ForestLaws.{name-find}
 use Rattle.spec.proofs.ChildLaws.{child-there}
-use Rattle.claims.specs.Proper.{Proper}
-use Rattle.claims.specs.Equality.{NoRepeats}
+use Rattle.spec.specs.Proper.{Proper}
+use Rattle.spec.specs.Distinct.{NoRepeats}
 use Rattle.claims.proofs.Alike.{Inserted, here, there}
-use Rattle.claims.proofs.Found.{absent-parts, absent-inserted, inserted-repeats, sameText-apart}
-use Rattle.claims.proofs.EqualityRules.{proper-repeats}
+use Rattle.spec.proofs.TextLaws.{sameText-apart}
+use Rattle.spec.proofs.NameLaws.{absent-parts}
+use Rattle.claims.proofs.Found.{absent-inserted, inserted-repeats}
+use Rattle.spec.proofs.NameLaws.{proper-repeats}
 use Rattle.claims.proofs.RemoveAddLaws.{insert-last}
 use Rattle.reversal.proofs.Like.{Labels, Like, nothing, element, member, LikeValues, counterpart, exchange, like-count, object-like, array-like}
 

@@ -1,5 +1,5 @@
 -- Alike documents answer every operation alike: both refuse it alike, or their results are alike.
-use mathlib.Core.Path.{_≡_, refl, subst}
+use mathlib.Core.Path.{_≡_, refl}
 use mathlib.Core.Bool.{Bool, true, false}
 use mathlib.Core.List.{[], _∷_}
 use Prim.Native.Nat.{ℕ, suc}
@@ -14,23 +14,14 @@ use Rattle.spec.specs.Equality.{equal}
 use Rattle.spec.specs.Pointer.{Tokens, childAt, child, farther, walk, elementBelow, isDash}
 use Rattle.spec.specs.Operation.{Kind, Operation, withKids, atParent, insertElement, insertMember, insertChild, removeChild, replaceChild, addAt, removeAtPath}
 use Rattle.spec.specs.Operation.{replaceAtPath, moveTo, copyTo, testAt, perform, notTooDeep, notTooLarge, limited}
-use Rattle.spec.proofs.OutcomeLaws.{both-ok}
-use Rattle.spec.proofs.FartherLaws.{farther-ok}
-use Rattle.claims.specs.Proper as Proper
-use Rattle.claims.specs.Proper.{Proper}
+use Rattle.spec.specs.Proper as Proper
+use Rattle.spec.specs.Proper.{Proper}
 use Rattle.claims.specs.Operations.{Same, both, neither, removing}
 use Rattle.claims.proofs.OperationsTheorem.{proper-child}
-use Rattle.claims.proofs.ProperOperations.{AllCharacters, no-tokens, ProperOperation, perform-proper}
+use Rattle.claims.proofs.ProperOperations.{AllCharacters, no-tokens, ProperOperation, walk-proper, perform-proper}
 use Rattle.reversal.proofs.Like.{Labels, LikeValues, values-refl, like-count, object-like, array-like, nodes-like, depth-like}
 use Rattle.reversal.proofs.LikeChildren.{ChildLike, corresponding, missing, Corresponding, children-like, child-like, put-like, removed-like}
 use Rattle.reversal.proofs.LikeChildren.{element-added, member-added}
-
-pub walk-proper : (ts : Tokens) (v w : Value.Value) → Proper v → walk ts v ≡ ok w → Proper w
-unfolding walk
-walk-proper [] v w p h = let same : v ≡ w = cc in subst Proper same p
-walk-proper (t ∷ ts) v w p h =
-    let (k, e, i) = both-ok (childAt t v) _ w h in
-    walk-proper ts (valueOf (child k v)) w (proper-child t k v e p) (farther-ok _ i)
 
 pub removed-proper : (path : Tokens) (v w : Value.Value) → AllCharacters path → Proper v → removeAtPath path v ≡ ok w → Proper w
 unfolding perform

@@ -16,7 +16,7 @@ use Rattle.spec.specs.Limits.{maxBytes, maxDepth, maxNodes, maxOperations}
 use Rattle.spec.specs.Forest.{none, tree, count}
 use Rattle.spec.specs.Value as Value
 use Rattle.spec.specs.Value.{Label, Members, isArray, isObject, isString, has, valueOf, depth, nodes, sameText}
-use Rattle.spec.specs.Read.{blanks, spelled, roomFor, literalValue, numberValue, stringValue, scalar, fresh, nameFor, closingBracket, items, contents}
+use Rattle.spec.specs.Read.{blanks, wordAt, roomFor, literalValue, numberValue, stringValue, scalar, fresh, nameFor, closingBracket, items, contents}
 use Rattle.spec.specs.Read.{container, value, read}
 use Rattle.spec.specs.Write.{write}
 use Rattle.spec.specs.Equality.{equal}
@@ -151,10 +151,10 @@ unfolding Numbers.number
 number-numbered s start =
     next _ (int-numbered s start (minus s start)) λ fraction. next _ (frac-numbered s start fraction) λ e. exp-numbered s start e
 
-spelled-numbered : (word s : Bytes) (at : ℕ) → Numbered (spelled word s at)
-unfolding spelled
-spelled-numbered [] s at = result
-spelled-numbered (b ∷ word) s at = next _ (byteIn-numbered s at b b) λ _. spelled-numbered word s (at + 1)
+wordAt-numbered : (word s : Bytes) (at : ℕ) → Numbered (wordAt word s at)
+unfolding wordAt
+wordAt-numbered [] s at = result
+wordAt-numbered (b ∷ word) s at = next _ (byteIn-numbered s at b b) λ _. wordAt-numbered word s (at + 1)
 
 room-numbered : (n at : ℕ) → Numbered (roomFor n at)
 unfolding roomFor
@@ -162,7 +162,7 @@ room-numbered n at = either (ltb n 2_048) result (number refl)
 
 literal-numbered : (label : Label) (word s : Bytes) (at : ℕ) → Numbered (literalValue label word s at)
 unfolding literalValue
-literal-numbered label word s at = next _ (spelled-numbered word s (at + 1)) λ _. result
+literal-numbered label word s at = next _ (wordAt-numbered word s (at + 1)) λ _. result
 
 scalar-numbered : (s : Bytes) (at n : ℕ) → Numbered (scalar s at n)
 unfolding scalar stringValue numberValue

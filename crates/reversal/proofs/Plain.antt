@@ -9,16 +9,16 @@ use Rattle.spec.specs.Value.{Label, Members, leaf}
 use Rattle.spec.specs.Pointer.{Tokens, walk, isDash}
 use Rattle.spec.specs.Operation.{Kind, Operation, removeAtPath, limited}
 use Rattle.spec.specs.Patch.{properPrefix}
-use Rattle.claims.specs.Proper as Proper
-use Rattle.claims.specs.Proper.{Proper, ScalarValues}
+use Rattle.spec.specs.Proper as Proper
+use Rattle.spec.specs.Proper.{Proper, ScalarValues}
 use Rattle.claims.specs.Operations.{adding, removing, replacing}
-use Rattle.claims.proofs.ProperOperations.{AllCharacters, no-tokens, token, ProperOperation, perform-proper}
+use Rattle.claims.proofs.ProperOperations.{AllCharacters, no-tokens, token, ProperOperation, walk-proper, perform-proper}
 use Rattle.claims.proofs.ProperPatch.{AllProper, nothing, first}
 use Rattle.reversal.specs.Undo.{resultOr, valueAt, remaining, elementToken, parentTokens, lastToken, mended, isReplace, undoMoved, undoMove, undoOf}
 use Rattle.reversal.specs.Undo.{undoRun}
 use Rattle.reversal.proofs.IndexToken.{by-test, index-characters}
 use Rattle.reversal.proofs.Mended.{mended-cases}
-use Rattle.reversal.proofs.LikeOperations.{walk-proper, removed-proper}
+use Rattle.reversal.proofs.LikeOperations.{removed-proper}
 use Rattle.reversal.proofs.EqualDocuments.{limited-performs}
 
 pub data Plain : Operation → Type 0 where

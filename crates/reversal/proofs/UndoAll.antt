@@ -7,7 +7,7 @@ use Rattle.spec.specs.Value as Value
 use Rattle.spec.specs.Operation.{Operation, limited}
 use Rattle.spec.specs.Patch.{finished, atOp, onFinish, whichPointer, run}
 use Rattle.spec.proofs.OutcomeLaws.{refused≢ok}
-use Rattle.claims.specs.Proper.{Proper, Readable}
+use Rattle.spec.specs.Proper.{Proper, Readable}
 use Rattle.claims.specs.Operations.{Same, both, neither}
 use Rattle.claims.proofs.ProperOperations.{ProperOperation, perform-proper}
 use Rattle.claims.proofs.ProperPatch.{AllProper, nothing, first, stopped≢finished}

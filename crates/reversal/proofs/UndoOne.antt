@@ -17,7 +17,7 @@ use Rattle.spec.proofs.OutcomeLaws.{refused≢ok, both-ok}
 use Rattle.spec.proofs.FartherLaws.{farther-ok}
 use Rattle.spec.proofs.TextLaws.{both-true, sameText-true}
 use Rattle.spec.proofs.ChildLaws.{child-there, childAt-put, child-put, put-put, put-child}
-use Rattle.claims.specs.Proper.{Proper, Readable}
+use Rattle.spec.specs.Proper.{Proper, Readable}
 use Rattle.claims.specs.Equality.{Reordered}
 use Rattle.claims.specs.Operations.{Same, both, neither, adding, replacing}
 use Rattle.claims.proofs.OperationsTheorem.{operations}

@@ -17,8 +17,8 @@ use Rattle.spec.specs.Operation.{Kind, Operation}
 use Rattle.spec.specs.Patch.{member, stringOf, stringMember, kindNamed, usesValue, usesFrom, isMove, valueFor, fromFor, membersFor, operationMembers}
 use Rattle.spec.specs.Patch.{withPointers, operation, finished, atOp, onFinish, operations, shape}
 use Rattle.spec.proofs.TextLaws.{both-true}
-use Rattle.claims.specs.Proper as Proper
-use Rattle.claims.specs.Proper.{Proper, ProperItems, ScalarValue, ScalarValues}
+use Rattle.spec.specs.Proper as Proper
+use Rattle.spec.specs.Proper.{Proper, ProperItems, ScalarValue, ScalarValues}
 use Rattle.claims.specs.Pointers.{escapeCharacter, escapeToken, pointerOf}
 use Rattle.claims.proofs.PointersTheorem.{Escaped, tilde-escaped, slash-escaped, plain, escaped, pointers}
 use Rattle.claims.proofs.ProperOperations.{AllCharacters, no-tokens, token}

@@ -21,12 +21,13 @@ use Rattle.spec.specs.Patch.{finished, run}
 use Rattle.spec.specs.Answer.{Answer, Lent, answer, success, refusal, fitting, answerOf}
 use Rattle.spec.specs.Region.{Accepted, WellFormed, Enough}
 use Rattle.spec.proofs.RegionTheorem.{called, work-enough, fits}
-use Rattle.claims.specs.Proper.{Proper, Readable}
-use Rattle.claims.specs.Equality.{Distinct, Reordered}
+use Rattle.spec.specs.Proper.{Proper, Readable}
+use Rattle.spec.specs.Distinct.{Distinct}
+use Rattle.claims.specs.Equality.{Reordered}
 use Rattle.claims.specs.RoundTrip.{Patched}
 use Rattle.claims.proofs.Alike.{permuted-alike}
 use Rattle.claims.proofs.Matching.{alike-repeats}
-use Rattle.claims.proofs.EqualityRules.{proper-repeats}
+use Rattle.spec.proofs.NameLaws.{proper-repeats}
 use Rattle.claims.proofs.EqualityTheorem.{equality}
 use Rattle.claims.proofs.ProperPatch.{AllProper, shape-proper, run-readable}
 use Rattle.claims.proofs.RoundTripTheorem.{round-trip}

@@ -15,7 +15,7 @@ use Rattle.spec.specs.Operation.{Operation, limited}
 use Rattle.spec.specs.Patch.{operation, finished, run}
 use Rattle.spec.specs.Answer.{Lent, answer, success}
 use Rattle.spec.specs.Region.{WellFormed, Enough}
-use Rattle.claims.specs.Proper.{Proper, Readable}
+use Rattle.spec.specs.Proper.{Proper, Readable}
 use Rattle.claims.specs.Equality.{Reordered}
 use Rattle.claims.specs.Operations.{Same}
 use Rattle.reversal.specs.Undo.{undoOf}

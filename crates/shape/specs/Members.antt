@@ -26,8 +26,8 @@ use Rattle.shape.specs.declared.members.Spelled.{Spelled}
 use Rattle.shape.specs.declared.members.Spelled.the-variants as Spelled
 
 -- what holds of the value of whatever node the table holds in a row
-abbrev pub ForNode : Table → ℕ → (Value.Value → Type 0) → Type 0
-ForNode w row Q = ForHeld w row λ c kids. Q (meant (w .texts) c kids)
+abbrev pub ForMeant : Table → ℕ → (Value.Value → Type 0) → Type 0
+ForMeant w row Q = ForHeld w row λ c kids. Q (meant (w .texts) c kids)
 
 -- the member of a name, of the object in a row: a node in the rows behind it that are the object's, or the refusal of the definition
 pub data Sought (w : Table) (row : ℕ) (name : Text) (v : Value.Value) : Member → Type 0 where
@@ -39,7 +39,7 @@ pub data Sought (w : Table) (row : ℕ) (name : Text) (v : Value.Value) : Member
 -- whatever the table holds, the first row behind this one that has the name, up to the row behind its tree; and where it holds a node in the row
 pub record MemberIs (w : Table) (row : ℕ) (name : Text) (r : Member) : Type 0 where
   pub rows : FindAsciiIs w (row + 1) (endOf (w .nodes) row) name r
-  pub held : ForNode w row λ v. Sought w row name v r
+  pub held : ForMeant w row λ v. Sought w row name v r
 
 -- a string by where it stands, given what stands there
 unfoldable pub textOutcome : (Spelling → Text) → Spelled → Outcome Text
@@ -64,4 +64,4 @@ pub record StringIs (w : Table) (row : ℕ) (name : Text) (r : Spelled) : Type 0
   pub at : Member
   pub member : MemberIs w row name at
   pub rows : r ≡ stringAt (w .nodes) at
-  pub held : ForNode w row λ v. TextIs (w .texts) (stringMember name v) r
+  pub held : ForMeant w row λ v. TextIs (w .texts) (stringMember name v) r

@@ -18,7 +18,7 @@ use Rattle.tape.specs.declared.fields.Spelling.{Spelling}
 use Rattle.tape.specs.Lent.{Texts, Table}
 use Rattle.table.specs.Meaning.{partOf, spelled}
 use Rattle.shape.specs.Kinds.{kindOutcome}
-use Rattle.shape.specs.Members.{ForNode, textOutcome, TextIs, StringIs}
+use Rattle.shape.specs.Members.{ForMeant, textOutcome, TextIs, StringIs}
 use Rattle.shape.specs.declared.kinds.Kind.{Kind}
 use Rattle.shape.specs.declared.members.Spelled.{Spelled}
 
@@ -40,7 +40,7 @@ pub data KindRows (w : Table) (row : ℕ) (r : Kind) : Type 0 where
 
 pub record KindIs (w : Table) (row : ℕ) (r : Kind) : Type 0 where
   pub rows : KindRows w row r
-  pub held : ForNode w row λ v. kindOutcome r ≡ kindOf v
+  pub held : ForMeant w row λ v. kindOutcome r ≡ kindOf v
 
 -- of an operation of a known kind
 pub record Knows (kind : Kind) (k : Operation.Kind) : Type 0 where
@@ -56,10 +56,10 @@ pub data OperationNumber : ℕ → Type 0 where
 -- ---- the steps: which number is answered of a table that holds no node in the row is free
 pub record ValueIs (w : Table) (row : ℕ) (used : Bool) (r : ℕ) : Type 0 where
   pub number : OperationNumber r
-  pub held : (k : Operation.Kind) → used ≡ usesValue k → ForNode w row λ v. Answers (valueFor k v) r
+  pub held : (k : Operation.Kind) → used ≡ usesValue k → ForMeant w row λ v. Answers (valueFor k v) r
 
 abbrev pub FromIs : Table → ℕ → Bool → Spelled → Type 0
-FromIs w row used r = (k : Operation.Kind) → used ≡ usesFrom k → ForNode w row λ v. TextIs (w .texts) (fromFor k v) r
+FromIs w row used r = (k : Operation.Kind) → used ≡ usesFrom k → ForMeant w row λ v. TextIs (w .texts) (fromFor k v) r
 
 -- the pointers as they stand in strings; the value is free
 pub record PointersAre (T : Texts) (moves : Bool) (path from : Spelling) (r : ℕ) : Type 0 where
@@ -70,13 +70,13 @@ pub record PointersAre (T : Texts) (moves : Bool) (path from : Spelling) (r : �
 -- the members beside `op` and `path`, given where `path` stands
 pub record OthersAre (w : Table) (row : ℕ) (kind : Kind) (path : Spelling) (r : ℕ) : Type 0 where
   pub number : OperationNumber r
-  pub held : (k : Operation.Kind) → Knows kind k → ForNode w row λ v. stringMember (ascii "path") v ≡ ok (decode (partOf (w .texts) path))
+  pub held : (k : Operation.Kind) → Knows kind k → ForMeant w row λ v. stringMember (ascii "path") v ≡ ok (decode (partOf (w .texts) path))
       → Answers (membersFor k v >>= withPointers) r
 
 pub record MembersAre (w : Table) (row : ℕ) (kind : Kind) (r : ℕ) : Type 0 where
   pub number : OperationNumber r
-  pub held : (k : Operation.Kind) → Knows kind k → ForNode w row λ v. Answers (membersFor k v >>= withPointers) r
+  pub held : (k : Operation.Kind) → Knows kind k → ForMeant w row λ v. Answers (membersFor k v >>= withPointers) r
 
 pub record OperationIs (w : Table) (row r : ℕ) : Type 0 where
   pub number : OperationNumber r
-  pub held : ForNode w row λ v. Answers (operation v) r
+  pub held : ForMeant w row λ v. Answers (operation v) r

@@ -13,7 +13,7 @@ use Rattle.tape.specs.declared.fields.Cell.{Cell}
 use Rattle.tape.specs.Lent.{Table}
 use Rattle.table.specs.Meaning.{members}
 use Rattle.table.specs.Sound.{RowsHeld}
-use Rattle.shape.specs.Members.{ForNode}
+use Rattle.shape.specs.Members.{ForMeant}
 use Rattle.shape.specs.Operation.{OperationNumber}
 use Rattle.shape.specs.declared.patch.Shape.{Shape}
 use Rattle.shape.specs.declared.patch.Shape.the-variants as Shape
@@ -42,4 +42,4 @@ pub data PatchNumber (w : Table) (row : ℕ) : Shape → Type 0 where
 
 pub record PatchIs (w : Table) (row : ℕ) (r : Shape) : Type 0 where
   pub number : PatchNumber w row r
-  pub held : ForNode w row λ v. ShapeIs (shape v) r
+  pub held : ForMeant w row λ v. ShapeIs (shape v) r

@@ -5,12 +5,12 @@ use Rattle.spec.specs.Bytes.{Bytes, ascii, byte, within, byteIn}
 use Rattle.spec.specs.Strings.{hexValue, hexIn, lowSurrogate, afterHigh, secondLimit, unicodeEscape, shortEscape, escape, tail, multibyte, character}
 use Rattle.spec.specs.Strings.{characters, string}
 use Rattle.spec.specs.Numbers.{isDigit, isE, counted, digits, someDigits, int, frac, sign, exponentDigits, signedDigits, exp, minus, number}
-use Rattle.spec.specs.Worth.{mantissa, fractionDigits, decimal, signedExponent, exponent, dropZeros, trimmed, isNegative, power, worth}
+use Rattle.spec.specs.Worth.{mantissa, fractionDigits, decimal, signedExponent, exponent, dropZeros, trimmed, isNegative, unlessZero, worth}
 use Rattle.spec.specs.Forest.{_⧺_, count, size, before, from, insertAt, removeAt, replaceAt, nth}
 use Rattle.spec.specs.Value as Value
 use Rattle.spec.specs.Value.{leaf, Label, tag, isNumber, isString, isArray, isObject, isContainer, content, levels, depths, depth, nodes, sameText, find}
-use Rattle.spec.specs.Equality.{sameBool, sameInteger, sameWorth, sameLabel, partner, matches, equal}
-use Rattle.spec.specs.Read.{isBlank, blanksFrom, blanks, spelled, roomFor, literalValue, numberValue, stringValue, scalar}
+use Rattle.spec.specs.Equality.{sameBool, sameInteger, sameWorth, sameLabel, fromName, sameElements, sameMembers, equal}
+use Rattle.spec.specs.Read.{isBlank, blanksFrom, blanks, wordAt, roomFor, literalValue, numberValue, stringValue, scalar}
 use Rattle.spec.specs.Read.{fresh, nameFor, containerLabel, closingBracket, items, contents, container, value, read}
 use Rattle.spec.specs.Write.{utf8, hexDigit, writeCharacter, writeCharacters, writeString, opening, closing, writeName, comma, writeItems, write}
 use Rattle.spec.specs.Pointer.{prepend, segments, tilde, unescape, unescapeAll, tokens, allDigits, isIndex, isDash}
@@ -53,7 +53,7 @@ unfolding isDigit isE counted digits someDigits int frac sign exponentDigits sig
 compute-numbers = tt
 
 unfoldable compute-worth : Unit {0}
-unfolding mantissa fractionDigits decimal signedExponent exponent dropZeros trimmed isNegative power worth
+unfolding mantissa fractionDigits decimal signedExponent exponent dropZeros trimmed isNegative unlessZero worth
 compute-worth = tt
 
 unfoldable compute-forests : Unit {0}
@@ -65,11 +65,11 @@ unfolding tag isNumber isString isArray isObject isContainer content levels dept
 compute-values = tt
 
 unfoldable compute-equality : Unit {0}
-unfolding sameBool sameInteger sameWorth sameLabel partner matches equal
+unfolding sameBool sameInteger sameWorth sameLabel fromName sameElements sameMembers equal
 compute-equality = tt
 
 unfoldable compute-scalars : Unit {0}
-unfolding isBlank blanksFrom blanks spelled roomFor literalValue numberValue stringValue scalar
+unfolding isBlank blanksFrom blanks wordAt roomFor literalValue numberValue stringValue scalar
 compute-scalars = tt
 
 unfoldable compute-containers : Unit {0}

@@ -24,3 +24,5 @@ pub mod Demand3Theorem
 pub mod RegionTheorem
 pub mod Computing
 pub mod ExamplesTheorem
+pub mod MatchLaws
+pub mod NameLaws

@@ -19,7 +19,7 @@ unfoldable pub largeAt : {A : Type 0} → Option ℕ → Run A → Run A
 largeAt none r = r
 largeAt (some op) r = stopped (stop too-many-nodes op 0 0)
 
--- it stops with 6 at the first operation of the bare run that leaves too many nodes, and else as the bare run does
+-- it stops with 6 at the first operation of the bare run that leaves too many nodes, and otherwise as the bare run does
 pub limited-run : (op : ℕ) (os : List Operation) (v : Value.Value) → run limited op os v ≡ largeAt (firstTooLarge op os v) (run bare op os v)
 unfolding run whichPointer limited bare atOp onFinish firstTooLarge largeAt notTooLarge _>>=_
 limited-run op [] v = refl

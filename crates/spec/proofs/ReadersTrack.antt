@@ -17,7 +17,7 @@ use Rattle.spec.specs.Numbers.{isDigit, isE, counted, digits, someDigits
 use Rattle.spec.specs.Forest.{size, single, _⧺_}
 use Rattle.spec.specs.Value as Value
 use Rattle.spec.specs.Value.{Label, Members, leaf, named, has}
-use Rattle.spec.specs.Read.{isBlank, blanksFrom, blanks, spelled, roomFor, fresh, nameFor, literalValue, numberValue, stringValue, scalar, closingBracket}
+use Rattle.spec.specs.Read.{isBlank, blanksFrom, blanks, wordAt, roomFor, fresh, nameFor, literalValue, numberValue, stringValue, scalar, closingBracket}
 use Rattle.spec.specs.Read.{items, contents, container, value}
 use Rattle.spec.specs.Forest as Forest
 use Rattle.spec.proofs.OutcomeLaws.{refused≢ok}
@@ -327,10 +327,10 @@ module _ (strict : Bool) {s t : Bytes} {k n : ℕ} (cut : Cut s t k n) where
   unfolding blanks
   blanks-tracks e = let w = cut .whole in blanksFrom-tracks (length s) (length t) e (omega arith) (omega arith)
 
-  pub spelled-tracks : (word : Bytes) {at p : ℕ} → At k p at → Tracks strict k (suc n) place p (spelled word s at) (spelled word t p)
-  unfolding spelled
-  spelled-tracks [] e = result tt e (omega arith) (λ l. refl)
-  spelled-tracks (b ∷ word) e = later _ (omega arith) (byteIn-step b b e (omega arith) λ a h. spelled-tracks word (on e 1))
+  pub wordAt-tracks : (word : Bytes) {at p : ℕ} → At k p at → Tracks strict k (suc n) place p (wordAt word s at) (wordAt word t p)
+  unfolding wordAt
+  wordAt-tracks [] e = result tt e (omega arith) (λ l. refl)
+  wordAt-tracks (b ∷ word) e = later _ (omega arith) (byteIn-step b b e (omega arith) λ a h. wordAt-tracks word (on e 1))
 
   -- a name with its colon
   nameFor-tracks : (isObject : Bool) (so-far : Members) {at p : ℕ} → At k p at
@@ -414,7 +414,7 @@ module _ (strict : Bool) {s t : Bytes} {k n : ℕ} (cut : Cut s t k n) where
       → Tracks strict k (suc n) pair (suc p) (literalValue label word s at) (literalValue label word t p)
   unfolding literalValue
   literal-tracks {p = p} label word e =
-      later (p + 1) (omega arith) (andThen _ _ (spelled-tracks word (on e 1)) λ a next q e l. result _ e (omega arith) (λ l. refl))
+      later (p + 1) (omega arith) (andThen _ _ (wordAt-tracks word (on e 1)) λ a next q e l. result _ e (omega arith) (λ l. refl))
 
   numberValue-tracks : {at p : ℕ} → At k p at → Tracks strict k (suc n) pair (suc p) (numberValue s at) (numberValue t p)
   unfolding numberValue

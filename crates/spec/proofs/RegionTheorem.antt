@@ -23,8 +23,8 @@ use Rattle.spec.specs.Operation.{Operation, limited}
 use Rattle.spec.specs.Patch.{stop, Run, finished, stopped, noPointer, atOp, onFinish, operation, operations, shape, run}
 use Rattle.spec.specs.Answer.{Lent, success, workSuffices, fitting, answer, answerOf, patched, onPatch, onDocument, answerIn}
 use Rattle.spec.specs.Elements.{Alone, Each, nothing, one, ElementsOf}
-use Rattle.spec.specs.Region.{Shuffle, done, left, right, Accepted, WellFormed, Enough, SucceedsWith, succeeds, bareRun, hereOr, endsAt, firstEnd}
-use Rattle.spec.specs.Region.{firstTooLarge, Situation, RegionStatement}
+use Rattle.spec.specs.Region.{Shuffle, done, left, right, Accepted, WellFormed, Enough, SucceedsWith, succeeds, bareRun, of-first, of-second}
+use Rattle.spec.specs.Region.{turns, firstEnd, firstTooLarge, Situation, RegionStatement}
 use Rattle.spec.proofs.OutcomeLaws.{first-ok}
 use Rattle.spec.proofs.ReadLaws.{read-depth}
 use Rattle.spec.proofs.ElementsThere.{slices, elements, slices-read}
@@ -96,25 +96,25 @@ elements-read {os = os} w e =
 pub elements-meaning : {P : Bytes} {os : List Operation} {es : List Bytes} → WellFormed P os → (e : ElementsOf P es) → Meaning (e .values) os
 elements-meaning {os = os} w e = rw (elements-read w e) (shaped (w .patch) os (w .shaped) .meaning)
 
--- A shuffle of elements' bytes is one of their operations, in which each patch stops at the same place.
+-- A shuffle of elements' bytes is one of their operations, in which each patch has the same turns.
 record OperationsShuffled {es fs gs : List Bytes} (s : Shuffle es fs gs) (xs ys zs : List Operation) : Type 0 where
   order : Shuffle xs ys zs
-  same-end : (op i j : ℕ) (p q : Run Value.Value) → firstEnd order op i j p q ≡ firstEnd s op i j p q
+  same-turns : (i j : ℕ) → turns order i j ≡ turns s i j
 
 operations-shuffled : {es fs gs : List Bytes} {us vs ws : List Value.Value} {xs ys zs : List Operation} (s : Shuffle es fs gs) →
     Each Alone es us → Each Alone fs vs → Each Alone gs ws → Meaning us xs → Meaning vs ys → Meaning ws zs → OperationsShuffled s xs ys zs
-unfolding firstEnd
-operations-shuffled done nothing nothing nothing no-element no-element no-element = record { order = done; same-end = λ op i j p q. refl }
+unfolding turns
+operations-shuffled done nothing nothing nothing no-element no-element no-element = record { order = done; same-turns = λ i j. refl }
 operations-shuffled (left s) (one {y = u} a as') b (one {y = w} c cs) (element {o = o} m ms) n (element {o = o'} k ks) =
     let value : u ≡ w = first-ok (sym a ∙ c) in
     let same : o ≡ o' = cc in
     let rest = operations-shuffled s as' b cs ms n ks in
-    rw (← same) record { order = left (rest .order); same-end = λ op i j p q. ap (hereOr op (endsAt i p)) (rest .same-end (op + 1) (i + 1) j p q) }
+    rw (← same) record { order = left (rest .order); same-turns = λ i j. ap (_∷_ (of-first i)) (rest .same-turns (i + 1) j) }
 operations-shuffled (right s) a (one {y = v} b bs) (one {y = w} c cs) m (element {o = o} n ns) (element {o = o'} k ks) =
     let value : v ≡ w = first-ok (sym b ∙ c) in
     let same : o ≡ o' = cc in
     let rest = operations-shuffled s a bs cs m ns ks in
-    rw (← same) record { order = right (rest .order); same-end = λ op i j p q. ap (hereOr op (endsAt j q)) (rest .same-end (op + 1) i (j + 1) p q) }
+    rw (← same) record { order = right (rest .order); same-turns = λ i j. ap (_∷_ (of-second j)) (rest .same-turns i (j + 1)) }
 
 -- The call on an accepted document and a well-formed patch, where the work area suffices, is the run with limits.
 pub called : {D P : Bytes} {d : Value.Value} {os : List Operation} (lent : Lent) → workSuffices lent ≡ true → Accepted D d → WellFormed P os →
@@ -168,7 +168,7 @@ module _ {D P Q Z : Bytes} {lent : Lent} {R S : Tokens} {d : Value.Value} {xs ys
             (write w, succeeds-with shuffled, succeeds-with joined, succeeds-with joined');
         otherwise = λ not-both.
             let (end, first, stops) = first-stops separate (ops .order) not-both in
-            (end, sym (ops .same-end 1 1 1 _ _) ∙ first, stops);
+            (end, ap (firstEnd (bareRun xs d) (bareRun ys d) 1) (sym (ops .same-turns 1 1)) ∙ first, stops);
         call-too-large = λ op large. call-at (some op) (bareRun zs d) large refl;
         call-refused = λ s small stops. call-at none (stopped s) small stops;
         call-succeeds = λ text small run.

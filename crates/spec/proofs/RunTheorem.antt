@@ -13,7 +13,8 @@ use Rattle.spec.specs.Limits.{maxDepth}
 use Rattle.spec.specs.Pointer.{Tokens, walk}
 use Rattle.spec.specs.Operation.{Operation}
 use Rattle.spec.specs.Patch.{Stop, stop, Run, finished, stopped, atOp, onFinish, whichPointer, run}
-use Rattle.spec.specs.Region.{Shuffle, done, left, right, isPrefix, apart, strictlyInside, allInside, endsAt, succeeds, hereOr, firstEnd, bare, bareRun}
+use Rattle.spec.specs.Region.{Shuffle, done, left, right, isPrefix, apart, strictlyInside, allInside, bare, bareRun, succeeds}
+use Rattle.spec.specs.Region.{endsAt, hereOr, turns, endsAlone, firstEnd}
 use Rattle.spec.proofs.TextLaws.{both-true, sameText-refl, sameText-true, sameText-false}
 use Rattle.spec.proofs.PlaceLaws.{Apart, here, there, plant, plant-plant, plant-walk, walk-plant, walk-plant-apart, plant-commute}
 use Rattle.spec.proofs.OperationLaws.{Local, atRegion-on, atRegion-off, bare-inside, bare-depth}
@@ -147,7 +148,7 @@ ends-now i n p q = rw (eq-eqb i i refl, endsAt)
 
 -- what comes of the shuffled run from its operation op on, by what comes of the two runs alone from their operations i and j on
 data Result (R : Tokens) {xs ys zs : List Operation} (s : Shuffle xs ys zs) (op i j : ℕ) (v a b : Value.Value) : Type 0 where
-  ended : (e : Stop) → firstEnd s op i j (run bare i xs a) (run bare j ys b) ≡ some e → run bare op zs v ≡ stopped e → Result R s op i j v a b
+  ended : (e : Stop) → firstEnd (run bare i xs a) (run bare j ys b) op (turns s i j) ≡ some e → run bare op zs v ≡ stopped e → Result R s op i j v a b
   completed : (x y : Value.Value) → run bare i xs a ≡ finished x → run bare j ys b ≡ finished y → run bare op zs v ≡ finished (graft R x y) →
       Result R s op i j v a b
 
@@ -155,21 +156,21 @@ data Result (R : Tokens) {xs ys zs : List Operation} (s : Shuffle xs ys zs) (op 
 carry : {R : Tokens} {xs ys zs xs' ys' zs' : List Operation} {s : Shuffle xs ys zs} {s' : Shuffle xs' ys' zs'} {op i j op' i' j' : ℕ}
     {v a b v' a' b' : Value.Value} →
     run bare op zs v ≡ run bare op' zs' v' → run bare i xs a ≡ run bare i' xs' a' → run bare j ys b ≡ run bare j' ys' b' →
-    firstEnd s op i j (run bare i xs a) (run bare j ys b) ≡ firstEnd s' op' i' j' (run bare i' xs' a') (run bare j' ys' b') →
+    firstEnd (run bare i xs a) (run bare j ys b) op (turns s i j) ≡ firstEnd (run bare i' xs' a') (run bare j' ys' b') op' (turns s' i' j') →
     Result R s' op' i' j' v' a' b' → Result R s op i j v a b
 carry e f g c (ended s first stop) = ended s (c ∙ first) (e ∙ stop)
 carry e f g c (completed x y p q r) = completed x y (f ∙ p) (g ∙ q) (e ∙ r)
 
 module _ {R S : Tokens} (x : Operation) (xs ys zs : List Operation) (s : Shuffle xs ys zs) (op i j : ℕ) (v a b : Value.Value) where
   left-step : Step R S x v a b → ((w c : Value.Value) → Between R S w c b → Result R s (op + 1) (i + 1) j w c b) → Result R (left {x = x} s) op i j v a b
-  unfolding firstEnd hereOr
+  unfolding firstEnd endsAlone hereOr turns
   left-step (ends n p e f h) ih =
       ended (stop n op p (whichPointer x v n)) (rw (run-ends i x xs a n p f, ends-now i n p (whichPointer x a n), h)) (run-ends op x zs v n p e)
   left-step (goes w c e f k) ih =
       carry (run-goes op x zs v w e) (run-goes i x xs a c f) refl (rw (run-goes i x xs a c f, not-yet i xs c)) (ih w c k)
 
   right-step : Step S R x v b a → ((w c : Value.Value) → Between R S w a c → Result R s (op + 1) i (j + 1) w a c) → Result R (right {y = x} s) op i j v a b
-  unfolding firstEnd hereOr
+  unfolding firstEnd endsAlone hereOr turns
   right-step (ends n p e f h) ih =
       ended (stop n op p (whichPointer x v n)) (rw (run-ends j x ys b n p f, ends-now j n p (whichPointer x b n), h)) (run-ends op x zs v n p e)
   right-step (goes w c e f k) ih =
@@ -212,8 +213,8 @@ mirrored done = done
 mirrored (left s) = right (mirrored s)
 mirrored (right s) = left (mirrored s)
 
-no-end : {xs ys zs : List Operation} (s : Shuffle xs ys zs) (op i j : ℕ) (x y : Value.Value) → firstEnd s op i j (finished x) (finished y) ≡ none
-unfolding firstEnd hereOr endsAt
+no-end : {xs ys zs : List Operation} (s : Shuffle xs ys zs) (op i j : ℕ) (x y : Value.Value) → firstEnd (finished x) (finished y) op (turns s i j) ≡ none
+unfolding firstEnd endsAlone hereOr endsAt turns
 no-end done op i j x y = refl
 no-end (left s) op i j x y = no-end s (op + 1) (i + 1) j x y
 no-end (right s) op i j x y = no-end s (op + 1) i (j + 1) x y
@@ -259,10 +260,10 @@ module _ {d : Value.Value} {R S : Tokens} {xs ys : List Operation} (h : Separate
 
   -- otherwise the shuffle stops at the first operation at which its own list stops alone
   pub first-stops : {zs : List Operation} (s : Shuffle xs ys zs) → (succeeds (bareRun xs d) && succeeds (bareRun ys d)) ≡ false →
-      (e : Stop) × (firstEnd s 1 1 1 (bareRun xs d) (bareRun ys d) ≡ some e) × (bareRun zs d ≡ stopped e)
+      (e : Stop) × (firstEnd (bareRun xs d) (bareRun ys d) 1 (turns s 1 1) ≡ some e) × (bareRun zs d ≡ stopped e)
   unfolding succeeds
   first-stops {zs} s not-both = go (result s)
     where
-      go : Result R s 1 1 1 d d d → (e : Stop) × (firstEnd s 1 1 1 (bareRun xs d) (bareRun ys d) ≡ some e) × (bareRun zs d ≡ stopped e)
+      go : Result R s 1 1 1 d d d → (e : Stop) × (firstEnd (bareRun xs d) (bareRun ys d) 1 (turns s 1 1) ≡ some e) × (bareRun zs d ≡ stopped e)
       go (ended e first stop) = (e, first, stop)
       go (completed x y p q r) = absurd (true≢false (rw (p, q) at not-both))

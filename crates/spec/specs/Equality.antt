@@ -30,25 +30,34 @@ sameLabel l m =
     eqb (tag l) (tag m) &&
     (if isNumber l then sameWorth (worth (content l)) (worth (content m)) else sameText (content l) (content m))
 
--- What the next value of a container is compared with, and what follows that: in an array the next element, in an object the member of
--- its name.
-unfoldable pub partner : Bool → Text → Members → Members
-partner false n g = g
-partner true n none = none
-partner true n (tree e kids rest) = if sameText (e .name) n then tree e kids rest else partner true n rest
+-- the member of a name, with those after it
+unfoldable pub fromName : Text → Members → Members
+fromName n none = none
+fromName n (tree e kids rest) = if sameText (e .name) n then tree e kids rest else fromName n rest
 
--- "Arrays in order; objects by names with equal values, in any order": each value of one container against its partner in the other, which
--- has as many; `object` says which kind they are.
-unfoldable pub matches : Bool → Members → Members → Bool
-matches object none g = true
-matches object (tree e kids f) g =
-    elim (partner object (e .name) g) [
-      | none ↦ false
-      | tree p below after ↦
-          sameLabel (e .label) (p .label) &&
-          (eqb (count kids) (count below) && (matches (isObject (e .label)) kids below && matches object f (if object then g else after)))
-    ]
+-- two values by their labels, by how many values are in them, and by whether those are equal
+abbrev pub sameValue : Label → Members → Label → Members → Bool → Bool
+sameValue l kids m below inside = sameLabel l m && (eqb (count kids) (count below) && inside)
+
+unfoldable mutual
+  -- "Arrays in order": of two arrays of one length
+  pub sameElements : Members → Members → Bool
+  sameElements none g = true
+  sameElements (tree e kids f) none = false
+  sameElements (tree e kids f) (tree p below g) =
+      sameValue (e .label) kids (p .label) below (if isObject (e .label) then sameMembers kids below else sameElements kids below) && sameElements f g
+
+  -- "objects by names with equal values, in any order": of two objects with as many members
+  pub sameMembers : Members → Members → Bool
+  sameMembers none g = true
+  sameMembers (tree e kids f) g =
+      elim (fromName (e .name) g) [
+        | none ↦ false
+        | tree p below after ↦
+            sameValue (e .label) kids (p .label) below (if isObject (e .label) then sameMembers kids below else sameElements kids below) && sameMembers f g
+      ]
 
 unfoldable pub equal : Value.Value → Value.Value → Bool
 equal v w =
-    sameLabel (v .label) (w .label) && (eqb (count (v .kids)) (count (w .kids)) && matches (isObject (v .label)) (v .kids) (w .kids))
+    sameValue (v .label) (v .kids) (w .label) (w .kids)
+    (if isObject (v .label) then sameMembers (v .kids) (w .kids) else sameElements (v .kids) (w .kids))

@@ -20,3 +20,5 @@ pub mod Examples
 pub mod Demand3
 pub mod Effects
 pub mod Shape
+pub mod Proper
+pub mod Distinct

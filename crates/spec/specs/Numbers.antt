@@ -49,9 +49,9 @@ sign s start at = if eqb (byte s at) (code "+") || eqb (byte s at) (code "-") th
 unfoldable pub exponentDigits : ℕ → Bytes → ℕ → ℕ → ℕ → Outcome ℕ
 exponentDigits zero s start size at = ok at
 exponentDigits (suc fuel) s start size at =
-    let more = size * 10 + (byte s at - code "0") in
     if isDigit (byte s at) then
-    (if leb more maxExponent then counted start at >>= exponentDigits fuel s start more else refused number-over-limit at) else ok at
+    (let more = size * 10 + (byte s at - code "0") in
+    if leb more maxExponent then counted start at >>= exponentDigits fuel s start more else refused number-over-limit at) else ok at
 
 -- [ minus / plus ] 1*DIGIT
 unfoldable pub signedDigits : Bytes → ℕ → ℕ → Outcome ℕ
@@ -71,6 +71,6 @@ minus s at = if eqb (byte s at) (code "-") then at + 1 else at
 -- number = [ minus ] int [ frac ] [ exp ]
 unfoldable pub number : Bytes → ℕ → Outcome ℕ
 number s start = do
-  fraction ← int s start (minus s start)
-  exponent ← frac s start fraction
-  exp s start exponent
+  point ← int s start (minus s start)
+  letter ← frac s start point
+  exp s start letter

@@ -71,12 +71,12 @@ isIndex (c ∷ d ∷ s) = within (code "1") (code "9") c && (isDigit d && allDig
 unfoldable pub isDash : Text → Bool
 isDash t = sameText t (ascii "-")
 
--- "On an array: `-` is 11; a token that is not `0`, and not a nonzero digit with any digits after it, is 12; an index not below the length,
--- however long, is 11."
+-- the index of one of n elements: "On an array: `-` is 11; a token that is not `0`, and not a nonzero digit with any digits after it, is 12; an
+-- index not below the length, however long, is 11."
 unfoldable pub elementBelow : ℕ → Text → Outcome ℕ
-elementBelow length t =
+elementBelow n t =
     if isDash t then refused location-missing 0 else
-    if isIndex t then (if ltb (decimal 0 t) length then ok (decimal 0 t) else refused location-missing 0) else refused no-index 0
+    if isIndex t then (if ltb (decimal 0 t) n then ok (decimal 0 t) else refused location-missing 0) else refused no-index 0
 
 -- "On an object: the member so named, else 11."
 unfoldable pub memberNamed : Text → Members → Outcome ℕ

@@ -30,9 +30,9 @@ unfoldable pub blanks : Bytes → ℕ → ℕ
 blanks s at = blanksFrom (length s) s at
 
 -- the place after a word
-unfoldable pub spelled : Bytes → Bytes → ℕ → Outcome ℕ
-spelled [] s at = ok at
-spelled (b ∷ word) s at = byteIn s at b b >>= λ _. spelled word s (at + 1)
+unfoldable pub wordAt : Bytes → Bytes → ℕ → Outcome ℕ
+wordAt [] s at = ok at
+wordAt (b ∷ word) s at = byteIn s at b b >>= λ _. wordAt word s (at + 1)
 
 -- "6: the first byte of value 2,049."
 unfoldable pub roomFor : ℕ → ℕ → Outcome ℕ
@@ -41,7 +41,7 @@ roomFor nodes at = if ltb nodes maxNodes then ok at else refused too-many-nodes 
 -- a literal after its first byte; a number; a string
 unfoldable pub literalValue : Label → Bytes → Bytes → ℕ → Outcome (Value.Value × ℕ)
 literalValue label word s at = do
-  next ← spelled word s (at + 1)
+  next ← wordAt word s (at + 1)
   ok (leaf label, next)
 
 unfoldable pub numberValue : Bytes → ℕ → Outcome (Value.Value × ℕ)
@@ -84,18 +84,22 @@ containerLabel object = if object then Label.object else Label.array
 unfoldable pub closingBracket : Bool → ℕ
 closingBracket object = if object then code "}" else code "]"
 
--- The values of a container up to its closing bracket, from the next one, which begins at a place, on; `so-far` are those before it.
--- `value at nodes` reads a value one level down, and the fuel is at least the number of bytes left.
+-- What follows a value of a container, at a place after the blanks: the closing bracket, or a comma and blanks. `so-far` are the values up to
+-- there, and `next at` reads the one at a place and those after it.
+abbrev pub afterItem : (ℕ → Outcome (Members × ℕ)) → Bool → Bytes → Members → ℕ → Outcome (Members × ℕ)
+afterItem next object s so-far at =
+    if eqb (byte s at) (closingBracket object) then ok (so-far, at + 1) else do
+      _ ← byteIn s at (code ",") (code ",")
+      next (blanks s (at + 1))
+
+-- The values of a container up to its closing bracket, from the one at a place on; `so-far` are those before it, and `nodes` the values that
+-- have begun before the container's first. `value at nodes` reads a value one level down. The fuel is at least the number of bytes left.
 unfoldable pub items : ℕ → (ℕ → ℕ → Outcome (Value.Value × ℕ)) → Bool → Bytes → ℕ → Members → ℕ → Outcome (Members × ℕ)
 items zero value object s nodes so-far at = refused not-json at
 items (suc fuel) value object s nodes so-far at = do
   (name, place) ← nameFor object s so-far at
   (v, next) ← value place (nodes + size so-far)
-  let end = blanks s next in
-      let all = so-far ⧺ single (named name v) in
-      if eqb (byte s end) (closingBracket object) then ok (all, end + 1) else do
-        _ ← byteIn s end (code ",") (code ",")
-        items fuel value object s nodes all (blanks s (end + 1))
+  let all = so-far ⧺ single (named name v) in afterItem (items fuel value object s nodes all) object s all (blanks s next)
 
 -- the same after the opening bracket, where there may be none
 unfoldable pub contents : (ℕ → ℕ → Outcome (Value.Value × ℕ)) → Bool → Bytes → ℕ → ℕ → Outcome (Members × ℕ)
@@ -110,7 +114,7 @@ container value object s at nodes = do
   (kids, next) ← contents value object s (nodes + 1) (at + 1)
   ok (record { label = containerLabel object; kids = kids }, next)
 
--- A value, with so many levels left for containers. "5: the bracket that opens level 33."
+-- A value, where `left` levels are left for containers. "5: the bracket that opens level 33."
 unfoldable pub value : ℕ → Bytes → ℕ → ℕ → Outcome (Value.Value × ℕ)
 value zero s at nodes =
     if eqb (byte s at) (code "[") then refused too-deep at else

@@ -101,17 +101,32 @@ unfoldable pub endsAt : {A : Type 0} → ℕ → Run A → Option Stop
 endsAt op (finished a) = none
 endsAt op (stopped s) = if eqb op (s .op) then some s else none
 
--- the operation op, stopped as its own list is where that ends there, and else what comes later
+-- the operation op with the stop of its own list, where that ends there; otherwise what comes later
 unfoldable pub hereOr : ℕ → Option Stop → Option Stop → Option Stop
 hereOr op (some s) later = some (stop (s .number) op (s .place) (s .pointer))
 hereOr op none later = later
 
--- "The first operation in it at which that operation's own patch ends alone", by what the two patches come to alone: as it stops there, but
--- with its op in the shuffle. `op`, `i` and `j` count the next operation in the shuffle and in each patch.
-unfoldable pub firstEnd : {A B : Type 0} {xs ys zs : List A} → Shuffle xs ys zs → ℕ → ℕ → ℕ → Run B → Run B → Option Stop
-firstEnd done op i j p q = none
-firstEnd (left s) op i j p q = hereOr op (endsAt i p) (firstEnd s (op + 1) (i + 1) j p q)
-firstEnd (right s) op i j p q = hereOr op (endsAt j q) (firstEnd s (op + 1) i (j + 1) p q)
+-- an operation of a shuffle: of the first patch or of the second, by its op there
+pub data Turn : Type 0 where
+  of-first : ℕ → Turn
+  of-second : ℕ → Turn
+
+-- the operations of a shuffle in order, where i and j are the next ops of the two patches
+unfoldable pub turns : {A : Type 0} {xs ys zs : List A} → Shuffle xs ys zs → ℕ → ℕ → List Turn
+turns done i j = []
+turns (left s) i j = of-first i ∷ turns s (i + 1) j
+turns (right s) i j = of-second j ∷ turns s i (j + 1)
+
+-- where an operation's own patch ends alone, if it is at that operation, by what the two patches come to alone
+unfoldable pub endsAlone : {A : Type 0} → Run A → Run A → Turn → Option Stop
+endsAlone p q (of-first i) = endsAt i p
+endsAlone p q (of-second j) = endsAt j q
+
+-- "The first operation in it at which that operation's own patch ends alone": as it stops there, but with its op in the shuffle. The next one
+-- is op.
+unfoldable pub firstEnd : {A : Type 0} → Run A → Run A → ℕ → List Turn → Option Stop
+firstEnd p q op [] = none
+firstEnd p q op (t ∷ ts) = hereOr op (endsAlone p q t) (firstEnd p q (op + 1) ts)
 
 -- the first operation of a bare run that leaves more than 2,048 nodes, if one does; the next one is op
 unfoldable pub firstTooLarge : ℕ → List Operation → Value.Value → Option ℕ
@@ -145,7 +160,7 @@ pub record RegionStatement {D P Q Z : Bytes} {lent : Lent} {R S : Tokens} {docum
   -- "Otherwise it ends at the first operation in it at which that operation's own patch ends alone, with the same number." More than that:
   -- with the same place and pointer, too.
   pub otherwise : (succeeds (bareRun xs document) && succeeds (bareRun ys document)) ≡ false →
-      (s : Stop) × (firstEnd (c .shuffle .order) 1 1 1 (bareRun xs document) (bareRun ys document) ≡ some s) ×
+      (s : Stop) × (firstEnd (bareRun xs document) (bareRun ys document) 1 (turns (c .shuffle .order) 1 1) ≡ some s) ×
       (bareRun zs document ≡ stopped s)
   -- "If an operation of the shuffle's bare run leaves more than 2,048 nodes, the call on the shuffle answers 6 with the op of the first
   -- such one."

@@ -68,7 +68,7 @@ escape s at =
     if eqb (byte s at) (code "u") then unicodeEscape s (at + 1) else
     if eqb (shortEscape (byte s at)) 0 then refused not-json at else ok (shortEscape (byte s at), at + 1)
 
--- The bytes of a character after its first: so many, the second one within the given bounds and the others 80 to BF; `bits` are the code
+-- The bytes of a character after its first, given their number: the second one is within the given bounds, the others 80 to BF; `bits` are the code
 -- point's from the bytes before, to which each byte adds six.
 unfoldable pub tail : ℕ → Bytes → ℕ → ℕ → ℕ → ℕ → Outcome (ℕ × ℕ)
 tail zero s at low high bits = ok (bits, at)

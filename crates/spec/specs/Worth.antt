@@ -58,18 +58,20 @@ unfoldable pub isNegative : Bytes → Bool
 isNegative [] = false
 isNegative (b ∷ t) = eqb b (code "-")
 
--- The power of ten: the exponent, less the digits after the point, and one more for each zero that was dropped at the end. A zero's is 0.
-unfoldable pub power : Bytes → ℤ → ℕ → ℕ → ℤ
-power [] exponent fraction dropped = pos 0
-power (b ∷ t) exponent fraction dropped = (exponent -ℤ pos fraction) +ℤ pos dropped
+-- a power of ten, and 0 where there is no digit to be multiplied by it
+unfoldable pub unlessZero : Bytes → ℤ → ℤ
+unlessZero [] power = pos 0
+unlessZero (b ∷ t) power = power
 
--- The worth of a number by its source text. It is below zero where it has a minus, and a digit that is not 0.
+-- The worth of a number by its source text. It is below zero where it has a minus, and a digit that is not 0. Its power of ten is the exponent,
+-- less the digits after the point, and one more for each zero that was dropped at the end.
 unfoldable pub worth : Bytes → Worth
 worth t =
     let digits = dropZeros (mantissa t) in
     let significand = trimmed digits in
+    let dropped = length digits - length significand in
     record {
       negative = isNegative t && ltb 0 (length significand);
       significand = significand;
-      power = power significand (exponent t) (fractionDigits t) (length digits - length significand);
+      power = unlessZero significand ((exponent t -ℤ pos (fractionDigits t)) +ℤ pos dropped);
     }

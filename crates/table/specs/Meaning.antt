@@ -17,7 +17,7 @@ use Rattle.tape.specs.declared.fields.Cell.{Cell}
 use Rattle.tape.specs.Map.{mapForest}
 use Rattle.tape.specs.Lent.{Texts}
 
--- the text that a source names: 0 the document, and else the patch
+-- the text that a source names: 0 the document, any other number the patch
 unfoldable pub sourceText : Texts → ℕ → Bytes
 sourceText texts source = if eqb source 0 then texts .document else texts .patch
 

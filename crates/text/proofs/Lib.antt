@@ -9,6 +9,7 @@ pub mod RunLaws
 pub mod HashLaws
 pub mod EscapeLaws
 pub mod StoreLaws
+pub mod LaidLaws
 pub mod SegmentLaws
 pub mod PartLaws
 pub mod Examples

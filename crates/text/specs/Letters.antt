@@ -37,7 +37,7 @@ letterAt form s at =
 unfoldable pub isLetter : ℕ → Bool
 isLetter b = ltb b (code "~") && standsForItself b
 
--- the byte at a place, where it is the letter there by itself; else 0
+-- the byte at a place, where it is the letter there by itself, and 0 otherwise
 unfoldable pub plainAt : ℕ → Bytes → ℕ → ℕ
 plainAt form s at = if isLetter (byte s at) then (if within 1 3 form then byte s at else 0) else 0
 

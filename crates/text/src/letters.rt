@@ -72,8 +72,8 @@ pub fn is_form(form: u64) -> bool
     }
 }
 
-// The byte at a place where it is the letter there by itself; else 0. Asked first, it keeps a loop over letters
-// quick.
+// The byte at a place where it is the letter there by itself, and 0 otherwise. Asking this first keeps a loop over
+// letters quick.
 pub fn plain(form: u64, s: &[u8], at: usize) -> u8
     ensures { λ r. ⌜ r ≡ plainAt form (now (s .entry)) at ⌝ }
 {

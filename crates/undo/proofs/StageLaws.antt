@@ -20,7 +20,7 @@ use Rattle.spec.specs.Patch.{Run, finished, stopped, onFinish, shape, run}
 use Rattle.spec.specs.Answer as Plain
 use Rattle.spec.specs.Answer.{fitting, answerOf, patched, onPatch, onDocument, answer}
 use Rattle.spec.proofs.ReadLaws.{read-depth}
-use Rattle.claims.specs.Proper.{Proper}
+use Rattle.spec.specs.Proper.{Proper}
 use Rattle.claims.proofs.ReadProper.{read-proper}
 use Rattle.lexer.specs.declared.cursor.Cursor.{Cursor}
 use Rattle.tape.specs.Layout.{documentRow, patchRow}

@@ -17,7 +17,7 @@ use Rattle.spec.specs.Write.{comma}
 use Rattle.spec.specs.Operation.{Operation}
 use Rattle.text.specs.Written.{written}
 use Rattle.writer.specs.Writing.{Placed}
-use Rattle.writer.proofs.PlacedLaws.{lent, back, placed-as, placed-then, placed-whole}
+use Rattle.writer.proofs.PlacedLaws.{lentPart, back, placed-as, placed-then, placed-whole}
 use Rattle.reversal.specs.UndoValue.{operationValues, undoValue}
 use Rattle.reversal.specs.UndoText.{operationTexts, undoText}
 use Rattle.reversal.proofs.UndoTextLaws.{undo-text}
@@ -149,7 +149,7 @@ written-plain s = refl
 pub copied-out : {log : Log} {work out between part : Bytes} {put n : ℕ} (os : List Operation) (start rest : ℕ)
     → Noted log work os → suc rest ≡ length (undoText os) → start ≡ length work - rest → length (undoText os) ≤ maxBytes
     → length (undoText os) ≤ length out → Placed (91 ∷ []) 0 out between put
-    → Placed (written 1 (take (length work - start) (drop start work))) 0 (lent between put) part n
+    → Placed (written 1 (take (length work - start) (drop start work))) 0 (lentPart between put) part n
     → back between put part ≡ undoText os ++ drop (length (undoText os)) out
 copied-out {work = work} {out} os start rest noted e f short room p q =
     let long = text-length os in

@@ -17,7 +17,7 @@ use Rattle.spec.specs.Operation.{Operation}
 use Rattle.tape.specs.Rows.{WithinIs}
 use Rattle.tape.specs.Lent.{Table}
 use Rattle.writer.specs.Writing.{Placed}
-use Rattle.writer.proofs.PlacedLaws.{lent, back, placed-whole}
+use Rattle.writer.proofs.PlacedLaws.{lentPart, back, placed-whole}
 use Rattle.reversal.specs.UndoValue.{valueMember, operationValue, operationValues, undoValue}
 use Rattle.reversal.specs.UndoText.{operationText, operationTexts}
 use Rattle.reversal.proofs.IndexToken.{by-test}
@@ -68,11 +68,11 @@ module _ (shallow : Bool) (d depth : ℕ) (e : shallow ≡ leb d maxDepth) where
     shallow-held {o = o} v z is = shallow-value (held-within (v .held) 30 is ∙ ap (λ m. leb m 30) (sym (z ∙ member-depth o (v .uses))))
 
 -- ---- a text laid down in the part of the buffer from a place on
-pub laid-from : (before : Bytes) (start : ℕ) {text part : Bytes} {next : ℕ} → Placed text 0 (lent before start) part next
+pub laid-from : (before : Bytes) (start : ℕ) {text part : Bytes} {next : ℕ} → Placed text 0 (lentPart before start) part next
     → start + length text ≤ length before → drop start (back before start part) ≡ text ++ drop (start + length text) before
 laid-from before start {text} {part} p room =
     let long : length (drop start before) ≡ length before - start = length-drop start before in
-    let whole : lent before start ≡ drop start before = take-all (length before - start) (drop start before) (omega arith) in
+    let whole : lentPart before start ≡ drop start before = take-all (length before - start) (drop start before) (omega arith) in
     let rest : drop (length before - start) (drop start before) ≡ [] = drop-of-length-le (drop start before) {i = length before - start} (omega arith) in
     let first : length (take start before) ≡ start = length-take start before ∙ (omega arith) in
     let there = placed-whole p (omega (arith, ap length whole)) .1 in
@@ -81,12 +81,12 @@ laid-from before start {text} {part} p room =
     ∙ ap (λ l. text ++ l) (ap (drop (length text)) whole ∙ drop-drop (length text) start before)
 
 -- so many bytes before the end of the buffer
-pub lay-down-is : (before : Bytes) (bytes : ℕ) {text part : Bytes} {next : ℕ} → Placed text 0 (lent before (length before - bytes)) part next
+pub lay-down-is : (before : Bytes) (bytes : ℕ) {text part : Bytes} {next : ℕ} → Placed text 0 (lentPart before (length before - bytes)) part next
     → (start : ℕ) → start + bytes ≡ length before → length text ≤ bytes
     → drop start (back before (length before - bytes) part) ≡ text ++ drop (start + length text) before
 lay-down-is before bytes {text} {part} {next} p start e h = go (length before - bytes) (omega arith) p
   where
-    go : (s : ℕ) → s ≡ start → Placed text 0 (lent before s) part next → drop start (back before s part) ≡ text ++ drop (start + length text) before
+    go : (s : ℕ) → s ≡ start → Placed text 0 (lentPart before s) part next → drop start (back before s part) ≡ text ++ drop (start + length text) before
     go s same q =
         ap (λ k. drop k (back before s part)) (sym same) ∙ laid-from before s q (omega arith) ∙ ap (λ k. text ++ drop (k + length text) before) same
 

@@ -26,7 +26,7 @@ use Rattle.tape.proofs.Rows.{span-here}
 use Rattle.table.specs.Meaning.{partOf}
 use Rattle.table.proofs.MeaningLaws.{depth-meant, nodes-meant}
 use Rattle.writer.specs.Writing.{Placed, Writable, MeasureIs, WriteIs, lengthLimit}
-use Rattle.writer.proofs.PlacedLaws.{lent, back, placed-as, placed-then}
+use Rattle.writer.proofs.PlacedLaws.{lentPart, back, placed-as, placed-then}
 use Rattle.writer.proofs.CallerLaws.{writable}
 use Rattle.reversal.specs.Undo.{indexToken}
 use Rattle.reversal.specs.UndoValue.{opName, valueMember}
@@ -99,7 +99,7 @@ value-length v = simp length-append (omega arith)
 
 -- a value's text laid down behind its name, and the brace behind it
 pub put-value-is : {w : Table} {row : ℕ} {before first second third : Bytes} {i n m : ℕ} → Placed (written 1 (ascii ",\"value\":")) 0 before first i
-    → WriteIs w row maxDepth (lent first i) second n → Placed (125 ∷ []) 0 (lent (back first i second) (i + n)) third m
+    → WriteIs w row maxDepth (lentPart first i) second n → Placed (125 ∷ []) 0 (lentPart (back first i second) (i + n)) third m
     → PutValueIs w row before (back (back first i second) (i + n) third) (i + n + m)
 unfolding written valueBytes ascii
 put-value-is p q s =
@@ -174,8 +174,8 @@ note-text (undo-replace path e held) = rw e
 
 -- its three pieces laid down one behind another
 pub put-note : (T : Texts) (action : Action) (target : Target) (o : Operation) {before first second third : Bytes} {i n m : ℕ}
-    → Placed (headBytes action) 0 before first i → Placed (pathBytes T target) 0 (lent first i) second n
-    → Placed (endBytes o) 0 (lent (back first i second) (i + n)) third m
+    → Placed (headBytes action) 0 before first i → Placed (pathBytes T target) 0 (lentPart first i) second n
+    → Placed (endBytes o) 0 (lentPart (back first i second) (i + n)) third m
     → Placed (noteBytes T action target o) 0 before (back (back first i second) (i + n) third) (i + n + m)
 put-note T action target o p q s = placed-as (note-pieces T action target o) (placed-then (placed-then p q) s)
 

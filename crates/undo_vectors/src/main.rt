@@ -2,39 +2,31 @@
 // print of the patched document if it lent as many bytes as the case says. Where the patch is applied two more: the
 // undo, and what the patch tool would print of the undo on the patched text. The stored output is what the second
 // program answers, so that each run holds the two to each other.
-mod cases; // a case in the file of cases
-mod checks; // whether a buffer holds one and the same everywhere
-mod lines; // what is printed
-
+use cases::Case;
+use cases::Contents;
 use cases::Found;
-use cases::Part;
-use cases::Place;
-use cases::Rooms;
+use cases::Three;
+use cases::all_bytes;
+use cases::buffer;
+use cases::bytes_of;
 use cases::case_at;
-use checks::all_bytes;
-use checks::all_clear;
-use checks::all_zero;
+use cases::front;
+use cases::print_no_case;
+use cases::read_cases;
+use cases::say;
+use cases::work_clear;
 use index;
 use json_patch::Answer;
 use json_patch::apply;
-use lines::front;
-use lines::print_answer;
-use lines::print_no_case;
-use lines::print_undo;
-use lines::say;
+use report::report;
 use spec::limits;
 use tape::fields::narrow;
 use tape::layout;
 use tape::layout::Node;
 use undo::UndoAnswer;
 use undo::apply_with_undo;
-ghost use mathlib.Core.Path.{_≡_};
 ghost use Prim.Native.Nat.{_≤_};
 ghost use lib.ListN.{length};
-ghost use Rattle.undo_vectors.specs.Places.{Behind, Lies, Within};
-
-// Room for the file of cases.
-const FILE: usize = 1_048_576;
 
 const OUTPUT: usize = 65_536;
 
@@ -49,6 +41,20 @@ const SHORT_BYTES: usize = 32_767;
 
 // What the outputs hold before a call: a byte that no text has.
 const UNWRITTEN: u8 = 255;
+
+// The answer's line. It is laid down in the output, which has the text in front.
+fn print_answer(answer: Answer, output: &mut [u8]) {
+    let n = report(answer, output);
+    say(front(output, n));
+}
+
+// The undo's line.
+fn print_undo(name: &[u8], undo: &[u8]) {
+    say(name);
+    say(b" undo: ");
+    say(undo);
+    say(b"\n");
+}
 
 // The plain call, with the first `room` bytes of the output lent.
 fn lend<'a>(
@@ -68,18 +74,18 @@ fn lend<'a>(
 fn lend_both<'a>(
     document: &'a [u8],
     patch: &'a [u8],
-    rooms: Rooms,
+    rooms: Three,
     output: &mut [u8],
     undo: &mut [u8],
     nodes: &mut [Node],
     index: &mut [u16],
     work: &mut [u8],
 ) -> UndoAnswer
-    requires { ⌜ rooms .output ≤ length (now output) ⌝ }
-    requires { ⌜ rooms .undo ≤ length (now undo) ⌝ }
+    requires { ⌜ rooms .first ≤ length (now output) ⌝ }
+    requires { ⌜ rooms .second ≤ length (now undo) ⌝ }
 {
-    let room = rooms.output;
-    let undo_room = rooms.undo;
+    let room = rooms.first;
+    let undo_room = rooms.second;
     apply_with_undo(
         document,
         patch,
@@ -93,10 +99,7 @@ fn lend_both<'a>(
 
 // Whether the work area is all zero.
 fn zeroed(nodes: &[Node], index: &[u16], work: &[u8]) -> bool {
-    if !all_clear(nodes) {
-        return false;
-    }
-    if !all_zero(index) {
+    if !work_clear(nodes, index) {
         return false;
     }
     all_bytes(work, 0, 0)
@@ -124,9 +127,9 @@ fn print_undone<'a>(name: &[u8], r: UndoAnswer, output: &'a [u8], undo: &'a [u8]
 
 // The case's lines, with another text in them where the call has not left the memory as it must. Before the call the
 // work area holds rubbish.
-fn run_case<'a>(name: &'a [u8], rooms: Rooms, document: &'a [u8], patch: &'a [u8], rubbish: u16)
-    requires { ⌜ rooms .output ≤ 65_536 ⌝ }
-    requires { ⌜ rooms .undo ≤ 32_768 ⌝ }
+fn run_case<'a>(name: &'a [u8], rooms: Three, document: &'a [u8], patch: &'a [u8], rubbish: u16)
+    requires { ⌜ rooms .first ≤ 65_536 ⌝ }
+    requires { ⌜ rooms .second ≤ 32_768 ⌝ }
 {
     let mut output = [UNWRITTEN; LINE];
     let mut undo = [UNWRITTEN; UNDO];
@@ -163,86 +166,39 @@ fn run_case<'a>(name: &'a [u8], rooms: Rooms, document: &'a [u8], patch: &'a [u8
 }
 
 // The same where there is as much room.
-fn run_with<'a>(name: &'a [u8], rooms: Rooms, document: &'a [u8], patch: &'a [u8], rubbish: u16) {
+fn run_with<'a>(name: &'a [u8], rooms: Three, document: &'a [u8], patch: &'a [u8], rubbish: u16) {
     say(name);
     say(b": ");
-    if OUTPUT < rooms.output {
+    if OUTPUT < rooms.first {
         say(b"there is less room\n");
         return;
     }
-    if UNDO < rooms.undo {
+    if UNDO < rooms.second {
         say(b"there is less room\n");
         return;
     }
     run_case(name, rooms, document, patch, rubbish);
 }
 
-fn part<'a>(file: &'a [u8], p: Part) -> &'a [u8]
-    requires { ⌜ Lies (length (now file)) p ⌝ }
-{
-    let start = p.start;
-    let end = p.end;
-    &file[start..end]
+// The case that was found. Its rooms are those of the output and of the undo's.
+fn run_found(file: &[u8], c: Case, rubbish: u16) {
+    let texts = c.texts;
+    let document = bytes_of(file, texts.first);
+    let patch = bytes_of(file, texts.second);
+    run_with(bytes_of(file, c.name), c.rooms, document, patch, rubbish);
 }
 
-// The case that begins at a place, and the place behind it. What the work area holds before the call differs from
-// case to case.
-fn run_at(file: &[u8], at: usize) -> Place
-    ensures { λ r. ⌜ Behind (length (now (file .entry))) at r ⌝ }
-{
-    let Found::Here(c) = case_at(file, at) else {
-        return Place::Nowhere;
-    };
-    let name = part(file, c.name);
-    let document = part(file, c.document);
-    let patch = part(file, c.patch);
-    run_with(name, c.rooms, document, patch, narrow(at));
-    Place::At(c.next)
-}
-
-// One case after another, to the end of the file.
+// One case after another, to the end of the file. What the work area holds before a call differs from case to case.
 fn run_all(file: &[u8]) {
     let mut at = 0;
     while at < file.len() {
-        let Place::At(next) = run_at(file, at) else {
+        let Found::Here(c) = case_at(file, at, 2, 2) else {
             print_no_case(at);
             return;
         };
-        at = next;
+        run_found(file, c, narrow(at));
+        at = c.next;
     }
-}
-
-pub enum Contents {
-    Bytes(usize),
-    Unreadable,
-}
-
-// All of the file's bytes, if the buffer has room for them.
-fn read_all(fd: i32, buf: &mut [u8]) -> Contents
-    ensures { λ r. ⌜ Within (length (now (buf .exit))) r ⌝ }
-{
-    let n = io::read_full(fd, buf);
-    // where the file has ended, and only there, another read answers 0
-    let mut more = [0u8; 1];
-    if libc::read(fd, &mut more) != 0 {
-        return Contents::Unreadable;
-    }
-    Contents::Bytes(n)
-}
-
-// The contents of the file that argument 1 names.
-fn read_file(buf: &mut [u8]) -> Contents
-    ensures { λ r. ⌜ Within (length (now (buf .exit))) r ⌝ }
-{
-    let mut path = io::buffer();
-    let n = os::arg(1, &mut path);
-    let fd = os::open_read(&path[..n]);
-    if fd < 0 {
-        return Contents::Unreadable;
-    }
-    let r = read_all(fd, buf);
-    libc::close(fd);
-    r
 }
 
 // The call with a buffer that is a byte too short, which no case can say: 1, before anything else, and both outputs
@@ -279,19 +235,12 @@ fn run_short() {
     print_answer(r.answer, &mut output);
 }
 
-// A buffer for the file. The `ensures` gives only the length, which lending it needs.
-fn empty() -> [u8; FILE]
-    ensures { λ r. ⌜ 1_048_576 ≡ length r ⌝ }
-{
-    [0; FILE]
-}
-
 fn main() {
-    let mut file = empty();
-    let Contents::Bytes(n) = read_file(&mut file) else {
+    let mut room = buffer();
+    let Contents::Bytes(n) = read_cases(&mut room) else {
         say(b"unreadable\n");
         return;
     };
-    run_all(&file[..n]);
+    run_all(front(&room, n));
     run_short();
 }

@@ -1,33 +1,27 @@
 // Every committed case, run through the library. For each a line: its name, and what the patch tool would print if it
 // lent as many bytes of output as the case says. The stored output is what the second program answers, so that each
 // run holds the two to each other.
-mod cases; // a case in the file of cases
-mod checks; // whether a buffer holds one and the same everywhere
-mod lines; // what is printed
-
+use cases::Case;
+use cases::Contents;
 use cases::Found;
-use cases::Part;
-use cases::Place;
+use cases::all_bytes;
+use cases::buffer;
+use cases::bytes_of;
 use cases::case_at;
-use checks::all_bytes;
-use checks::all_clear;
-use checks::all_zero;
+use cases::front;
+use cases::print_no_case;
+use cases::read_cases;
+use cases::say;
+use cases::work_clear;
 use index;
 use json_patch::Answer;
 use json_patch::apply;
-use lines::print_answer;
-use lines::print_no_case;
-use lines::say;
+use report::report;
 use tape::fields::narrow;
 use tape::layout;
 use tape::layout::Node;
-ghost use mathlib.Core.Path.{_≡_};
 ghost use Prim.Native.Nat.{_≤_};
 ghost use lib.ListN.{length};
-ghost use Rattle.vectors.specs.Places.{Behind, Lies, Within};
-
-// Room for the file of cases.
-const FILE: usize = 1_048_576;
 
 const OUTPUT: usize = 65_536;
 
@@ -39,6 +33,12 @@ const SHORT_ROWS: usize = 6_143;
 
 // What the output holds before a call: a byte that no text has.
 const UNWRITTEN: u8 = 255;
+
+// The answer's line. It is laid down in the output, which has the text in front.
+fn print_answer(answer: Answer, output: &mut [u8]) {
+    let n = report(answer, output);
+    say(front(output, n));
+}
 
 // The call, with the first `room` bytes of the output lent.
 fn lend<'a>(
@@ -56,8 +56,12 @@ fn lend<'a>(
 
 // The case's line, with another text in it where there is not as much room, or where the call has not left the memory
 // as it must. Before the call the work area holds rubbish.
-fn run_case<'a>(name: &'a [u8], room: usize, document: &'a [u8], patch: &'a [u8], rubbish: u16) {
-    say(name);
+fn run_case(file: &[u8], c: Case, rubbish: u16) {
+    let texts = c.texts;
+    let document = bytes_of(file, texts.first);
+    let patch = bytes_of(file, texts.second);
+    let room = c.rooms.first;
+    say(bytes_of(file, c.name));
     say(b": ");
     if OUTPUT < room {
         say(b"there is less room\n");
@@ -68,11 +72,7 @@ fn run_case<'a>(name: &'a [u8], room: usize, document: &'a [u8], patch: &'a [u8]
     let mut nodes = [node; layout::ROWS];
     let mut index = [rubbish; index::SLOTS];
     let answer = lend(document, patch, room, &mut output, &mut nodes, &mut index);
-    if !all_clear(&nodes) {
-        say(b"the work area is not all zero\n");
-        return;
-    }
-    if !all_zero(&index) {
+    if !work_clear(&nodes, &index) {
         say(b"the work area is not all zero\n");
         return;
     }
@@ -83,72 +83,17 @@ fn run_case<'a>(name: &'a [u8], room: usize, document: &'a [u8], patch: &'a [u8]
     print_answer(answer, &mut output);
 }
 
-fn part<'a>(file: &'a [u8], p: Part) -> &'a [u8]
-    requires { ⌜ Lies (length (now file)) p ⌝ }
-{
-    let start = p.start;
-    let end = p.end;
-    &file[start..end]
-}
-
-// The case that begins at a place, and the place behind it. What the work area holds before the call differs from
-// case to case.
-fn run_at(file: &[u8], at: usize) -> Place
-    ensures { λ r. ⌜ Behind (length (now (file .entry))) at r ⌝ }
-{
-    let Found::Here(c) = case_at(file, at) else {
-        return Place::Nowhere;
-    };
-    let name = part(file, c.name);
-    let document = part(file, c.document);
-    let patch = part(file, c.patch);
-    run_case(name, c.room, document, patch, narrow(at));
-    Place::At(c.next)
-}
-
-// One case after another, to the end of the file.
+// One case after another, to the end of the file. What the work area holds before a call differs from case to case.
 fn run_all(file: &[u8]) {
     let mut at = 0;
     while at < file.len() {
-        let Place::At(next) = run_at(file, at) else {
+        let Found::Here(c) = case_at(file, at, 1, 2) else {
             print_no_case(at);
             return;
         };
-        at = next;
+        run_case(file, c, narrow(at));
+        at = c.next;
     }
-}
-
-pub enum Contents {
-    Bytes(usize),
-    Unreadable,
-}
-
-// All of the file's bytes, if the buffer has room for them.
-fn read_all(fd: i32, buf: &mut [u8]) -> Contents
-    ensures { λ r. ⌜ Within (length (now (buf .exit))) r ⌝ }
-{
-    let n = io::read_full(fd, buf);
-    // where the file has ended, and only there, another read answers 0
-    let mut more = [0u8; 1];
-    if libc::read(fd, &mut more) != 0 {
-        return Contents::Unreadable;
-    }
-    Contents::Bytes(n)
-}
-
-// The contents of the file that argument 1 names.
-fn read_file(buf: &mut [u8]) -> Contents
-    ensures { λ r. ⌜ Within (length (now (buf .exit))) r ⌝ }
-{
-    let mut path = io::buffer();
-    let n = os::arg(1, &mut path);
-    let fd = os::open_read(&path[..n]);
-    if fd < 0 {
-        return Contents::Unreadable;
-    }
-    let r = read_all(fd, buf);
-    libc::close(fd);
-    r
 }
 
 // The call with a node table that is a record too short, which no case can say: 1, before anything else, and the
@@ -167,19 +112,12 @@ fn run_short() {
     print_answer(answer, &mut output);
 }
 
-// A buffer for the file. The `ensures` gives only the length, which lending it needs.
-fn empty() -> [u8; FILE]
-    ensures { λ r. ⌜ 1_048_576 ≡ length r ⌝ }
-{
-    [0; FILE]
-}
-
 fn main() {
-    let mut file = empty();
-    let Contents::Bytes(n) = read_file(&mut file) else {
+    let mut room = buffer();
+    let Contents::Bytes(n) = read_cases(&mut room) else {
         say(b"unreadable\n");
         return;
     };
-    run_all(&file[..n]);
+    run_all(front(&room, n));
     run_short();
 }

@@ -35,7 +35,7 @@ pub record Short (T : Texts) : Type 0 where
 abbrev pub noName : Name
 noName = record { text = record { form = Layout.noText; source = Layout.inDocument; start = 0; length = 0 }; hash = 0 }
 
--- which text a spelling names: 0 the document, and else the patch
+-- which text a spelling names: 0 the document, any other number the patch
 unfoldable pub sourceOf : Spelling → ℕ
 sourceOf s = if eqb (s .source) Layout.inDocument then Layout.inDocument else Layout.inPatch
 

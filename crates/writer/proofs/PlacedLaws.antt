@@ -70,14 +70,14 @@ placed-on {u} {v} {i} {j} {k} {before} {between} {after} p q =
     }
 
 -- ---- a part `&mut out[put..]` that is lent to a call, and the whole when it is back
-abbrev pub lent : Bytes → ℕ → Bytes
-lent out put = take (length out - put) (drop put out)
+abbrev pub lentPart : Bytes → ℕ → Bytes
+lentPart out put = take (length out - put) (drop put out)
 
 abbrev pub back : Bytes → ℕ → Bytes → Bytes
 back out put part = putMid put (length out - put) out part
 
 module _ (out : Bytes) (put : ℕ) where
-  lent-is : lent out put ≡ drop put out
+  lent-is : lentPart out put ≡ drop put out
   lent-is = take-all (length out - put) (drop put out) (rw length-drop (omega arith))
 
   back-is : (ys : Bytes) → back out put ys ≡ take put out ++ ys
@@ -86,14 +86,14 @@ module _ (out : Bytes) (put : ℕ) where
       ∙ ap (λ l. take put out ++ l) (append-nil ys)
 
   -- it comes back as long as it was lent, and so does the whole; and what fits the part fits the whole
-  pub back-length : (ys : Bytes) → length ys ≡ length (lent out put) → length (back out put ys) ≡ length out
+  pub back-length : (ys : Bytes) → length ys ≡ length (lentPart out put) → length (back out put ys) ≡ length out
   back-length ys e = same-len-mid put (length out - put) out ys e
 
-  pub lent-fits : (n : ℕ) → n ≤ length (lent out put) → put ≤ length out → put + n ≤ length out
+  pub lent-fits : (n : ℕ) → n ≤ length (lentPart out put) → put ≤ length out → put + n ≤ length out
   lent-fits n h l = omega (arith, ap length lent-is, length-drop put out)
 
 -- bytes laid down in the part behind others, said of the whole
-pub placed-then : {u v : Bytes} {i j n : ℕ} {before between part : Bytes} → Placed u i before between j → Placed v 0 (lent between j) part n
+pub placed-then : {u v : Bytes} {i j n : ℕ} {before between part : Bytes} → Placed u i before between j → Placed v 0 (lentPart between j) part n
     → Placed (u ++ v) i before (back between j part) (j + n)
 placed-then {u} {v} {i} {j} {n} {before} {between} {part} p q =
     let h : j ≤ length between = omega (arith, placed-inside p, placed-length p) in
@@ -112,8 +112,8 @@ placed-then {u} {v} {i} {j} {n} {before} {between} {part} p q =
     })
 
 -- a turn of a loop that lends the rest of the output twice: what both calls put fits, and the output is as long as before
-pub turn-fits : (out : Bytes) (put n : ℕ) (part last : Bytes) {m : ℕ} → put + n ≤ length out → length part ≡ length (lent out put)
-    → length last ≡ length (lent (back out put part) (put + n)) → m ≤ length (lent (back out put part) (put + n))
+pub turn-fits : (out : Bytes) (put n : ℕ) (part last : Bytes) {m : ℕ} → put + n ≤ length out → length part ≡ length (lentPart out put)
+    → length last ≡ length (lentPart (back out put part) (put + n)) → m ≤ length (lentPart (back out put part) (put + n))
     → (put + n + m ≤ length out) × (length (back (back out put part) (put + n) last) ≡ length out)
 turn-fits out put n part last {m} h j k f =
     let between : Bytes = back out put part in
@@ -139,7 +139,7 @@ placed-quoted q s {n} {before} {between} h e p f =
 pub some-none : (at : ℕ) (before : Bytes) → at ≤ length before → PlacedSome at before before at
 some-none at before h = record { bytes = []; placed = placed-none at before h }
 
-pub some-then : {i j n : ℕ} {before between part v : Bytes} → PlacedSome i before between j → Placed v 0 (lent between j) part n
+pub some-then : {i j n : ℕ} {before between part v : Bytes} → PlacedSome i before between j → Placed v 0 (lentPart between j) part n
     → PlacedSome i before (back between j part) (j + n)
 some-then s q = record { bytes = _; placed = placed-then (s .placed) q }
 

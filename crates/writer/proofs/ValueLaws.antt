@@ -23,7 +23,7 @@ use Rattle.tape.proofs.Held.{held-node}
 use Rattle.table.specs.Meaning.{members, meant}
 use Rattle.writer.specs.Pieces.{scalarBytes, openingBracket, closingBracket, prefixBytes}
 use Rattle.writer.specs.Writing.{Placed, PlacedSome, Writable, ForWritable, MeasureIs, WriteIs, lengthLimit}
-use Rattle.writer.proofs.PlacedLaws.{lent, back, placed-as, placed-none, placed-on, placed-then, some-none, some-then, some-on}
+use Rattle.writer.proofs.PlacedLaws.{lentPart, back, placed-as, placed-none, placed-on, placed-then, some-none, some-then, some-on}
 use Rattle.writer.proofs.PieceLaws.{write-scalar, write-container}
 use Rattle.writer.proofs.ProgressLaws.{Progress, progress-all, progress-next, progress-none}
 use Rattle.tape.specs.Lent.{Table}
@@ -145,8 +145,8 @@ module _ {W : Table} {at levels : ℕ} where
       → Laying W at levels object row end first put₀ out₀ out put → row < end
       → (next : ℕ) → ForWritable W row (levels - 1) (λ v. next ≡ endOf (W .nodes) row)
       → (name : Name) → name ≡ nameOf (getD (W .nodes) row [])
-      → Placed (prefixBytes (W .texts) object first name) 0 (lent out put) part n
-      → WriteIs W row (levels - 1) (lent (back out put part) (put + n)) last m
+      → Placed (prefixBytes (W .texts) object first name) 0 (lentPart out put) part n
+      → WriteIs W row (levels - 1) (lentPart (back out put part) (put + n)) last m
       → Laying W at levels object next end false put₀ out₀ (back (back out put part) (put + n) last) (put + n + m)
   laying-next {object} {first} l more next e name name-is p q =
       record {
@@ -169,7 +169,7 @@ module _ {W : Table} {at levels : ℕ} where
         → opening ≡ openingBracket (eqb tag objectKind) → closing ≡ closingBracket (eqb tag objectKind)
         → Placed (opening ∷ []) 0 before out₀ put₀
         → Laying W at levels (eqb tag objectKind) row end first put₀ out₀ out put → end ≤ row
-        → Placed (closing ∷ []) 0 (lent out put) last n
+        → Placed (closing ∷ []) 0 (lentPart out put) last n
         → WriteIs W at levels before (back out put last) (put + n)
     laying-none opening closing o k p l h q =
         record {

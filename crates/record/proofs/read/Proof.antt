@@ -1,5 +1,5 @@
 -- `record::read` meets its contract: a walk of its MIR, by hand. Where the row is in the list, the borrow is looked into, one record is read, and the
--- borrow is shut; else the record is the one of zeros. Assumes nothing.
+-- borrow is shut; otherwise the record is all zeros. Assumes nothing.
 use mathlib.Core.Path.{_≡_, refl, sym}
 use Prim.Native.Nat.{ℕ, _<_, _^_}
 use mathlib.Core.Bool.{Bool}

@@ -1,5 +1,5 @@
 -- `record::store` meets its contract: a walk of its MIR, by hand. Where the row is in the list, the borrow is opened, one record is taken out and
--- stored to, and the borrow is closed; else the list is as it was. Assumes nothing.
+-- stored to, and the borrow is closed; otherwise the list is unchanged. Assumes nothing.
 use mathlib.Core.Path.{_≡_, refl, sym, ap, subst}
 use Prim.Native.Nat.{ℕ, _<_, _^_}
 use mathlib.Core.Bool.{Bool}

@@ -15,13 +15,13 @@ lend-both-spec =
     -- slice-aggregate-apply-with-undo
     (λ c.
     let a = c .before .before .before .before .before .before .before .args in
-    sym (length-take-le (a .rooms .output) (a .output .now) (omega arith)))
+    sym (length-take-le (a .rooms .first) (a .output .now) (omega arith)))
     -- slice-relend-prefix-apply-with-undo-2
     (λ c. search needs)
     -- slice-aggregate-apply-with-undo-2
     (λ c.
     let a = c .before .before .before .before .before .before .before .before .args in
-    sym (length-take-le (a .rooms .undo) (a .undo .now) (omega arith)))
+    sym (length-take-le (a .rooms .second) (a .undo .now) (omega arith)))
     -- apply-with-undo-requires
     (λ c κs. search needs)
     -- same-length

@@ -4,8 +4,9 @@ use mathlib.Core.Path.{ap, _∙_}
 use native.Mathlib.Omega.{arith}
 use Rattle.lexer.proofs.Auto.{auto}
 use Rattle.spec.specs.Bytes.{byte}
+use Rattle.text.proofs.LaidLaws.{Laid, laid-starts, laid-length, laid-bound, laid-on, laid-ends}
 use Rattle.fragment.specs.Link.{encodeAll}
-use Rattle.fragment.proofs.WritingLaws.{Laid, laid-starts, laid-length, laid-bound, laid-on, laid-ends, encode-here, encode-length, encode-end}
+use Rattle.fragment.proofs.WritingLaws.{encode-here, encode-length, encode-end}
 use Rattle.fragment.proofs.WritingLaws.{link-length, link-laid}
 use Rattle.fragment.proofs.writing.put_link.Statement.{statement}
 use Rattle.fragment.proofs.writing.put_link.Tie as tie

@@ -1,5 +1,5 @@
 use Rattle.lexer.proofs.Auto.{auto}
-use Rattle.hex.specs.Record.{upperHex}
+use Rattle.text.specs.UpperHex.{upperHex}
 use Rattle.hex.proofs.digits.hex_digit.Statement.{statement}
 use Rattle.hex.proofs.digits.hex_digit.Tie as tie
 

@@ -2,7 +2,8 @@ use Prim.Native.Nat.{_-_, _≤_}
 use native.Mathlib.Omega.{arith}
 use Rattle.lexer.proofs.Auto.{auto}
 use Rattle.spec.specs.Bytes.{byte}
-use Rattle.hex.proofs.WritingLaws.{laid-length, Filling, filling-starts, filling-digits, filling-on, filling-ends, filling-room}
+use Rattle.text.proofs.LaidLaws.{laid-length}
+use Rattle.hex.proofs.WritingLaws.{Filling, filling-starts, filling-digits, filling-on, filling-ends, filling-room}
 use Rattle.hex.proofs.reading.put_data.Statement.{statement}
 use Rattle.hex.proofs.reading.put_data.Tie as tie
 

@@ -1,8 +1,8 @@
 use Prim.Native.Nat.{_-_}
 use native.Mathlib.Omega.{arith}
 use lib.ListN.{length}
+use Rattle.text.proofs.LaidLaws.{laid-length}
 use Rattle.lexer.proofs.Auto.{auto}
-use Rattle.hex.proofs.WritingLaws.{laid-length}
 use Rattle.hex.proofs.ReadLaws.{Pouring, pouring-starts, lent-room, pouring-last, pouring-on, pouring-missing}
 use Rattle.hex.proofs.reading.put_text.Statement.{statement}
 use Rattle.hex.proofs.reading.put_text.Tie as tie

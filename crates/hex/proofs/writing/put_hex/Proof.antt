@@ -2,9 +2,9 @@ use Prim.Native.Nat.{_+_, _-_, _≤_}
 use mathlib.Core.Path.{_≡_, refl, ap, _∙_}
 use native.Mathlib.Omega.{arith}
 use lib.ListN.{length, drop}
+use Rattle.text.proofs.LaidLaws.{laid-length, stored-length}
 use Rattle.lexer.proofs.Auto.{auto}
 use lib.ListN.{length-take}
-use Rattle.hex.proofs.WritingLaws.{laid-length, stored-length}
 use Rattle.hex.proofs.TextLaws.{Printing, printing-starts, printing-room, printing-on, printing-last, printing-last-room, cut, none-left}
 use Rattle.hex.proofs.writing.put_hex.Statement.{statement}
 use Rattle.hex.proofs.writing.put_hex.Tie as tie

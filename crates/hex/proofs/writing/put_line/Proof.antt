@@ -1,15 +1,16 @@
 use mathlib.Core.Path.{ap}
 use native.Mathlib.Omega.{arith}
 use lib.ListN.{length, length-set}
+use Rattle.text.proofs.LaidLaws.{stored-length}
 use Rattle.lexer.proofs.Auto.{auto}
-use Rattle.hex.specs.Record.{spelled, digits}
-use Rattle.hex.proofs.RecordLaws.{spelled-length}
-use Rattle.hex.proofs.WritingLaws.{line-stored, stored-length}
+use Rattle.hex.specs.Record.{digitsOf, digits}
+use Rattle.hex.proofs.RecordLaws.{digitsOf-length}
+use Rattle.hex.proofs.WritingLaws.{line-stored}
 use Rattle.hex.proofs.writing.put_line.Statement.{statement}
 use Rattle.hex.proofs.writing.put_line.Tie as tie
 
 pub put-line-spec : {M : Type 1} → statement M
-unfolding spelled digits
+unfolding digitsOf digits
 put-line-spec =
     tie.close
     (tie.spec
@@ -46,7 +47,7 @@ put-line-spec =
       start .pre,
       one .next-is,
       two .next-is,
-      spelled-length (start .args .bytes .now),
+      digitsOf-length (start .args .bytes .now),
       stored-length one,
       stored-length two,
       simp length-set at (ap length (here .put .ensures)),
@@ -64,7 +65,7 @@ put-line-spec =
       h14 .put-spelled .ensures .next-is,
       h10 .put-spelled2 .ensures .next-is,
       h6 .put-digits .ensures .next-is,
-      spelled-length
+      digitsOf-length
           (h27 .args .bytes .now),
     ))
     (λ c. search auto)

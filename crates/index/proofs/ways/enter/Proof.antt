@@ -1,4 +1,4 @@
--- `enter` meets its contract: nothing is done where the numbers do not fit, and else the row is put where the way of its name ends.
+-- `enter` meets its contract: nothing is done where the numbers do not fit; otherwise the row is put where the path of its name ends.
 use mathlib.Core.Path.{refl}
 use native.Mathlib.Omega.{arith}
 use borrow.Author.Needs.{needs}

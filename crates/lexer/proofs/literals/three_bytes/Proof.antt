@@ -1,6 +1,6 @@
 use native.Mathlib.Omega.{arith}
 use Rattle.spec.specs.Outcome.{_>>=_}
-use Rattle.spec.specs.Read.{spelled}
+use Rattle.spec.specs.Read.{wordAt}
 use Rattle.lexer.specs.Answers.{scanOutcome}
 use Rattle.lexer.proofs.AnswerLaws.{within-ok, outside-refused, byte-known}
 use Rattle.lexer.proofs.Auto.{auto}
@@ -8,7 +8,7 @@ use Rattle.lexer.proofs.literals.three_bytes.Statement.{statement}
 use Rattle.lexer.proofs.literals.three_bytes.Tie as tie
 
 pub three-bytes-spec : {M : Type 1} → statement M
-unfolding spelled scanOutcome _>>=_
+unfolding wordAt scanOutcome _>>=_
 three-bytes-spec =
     tie.close
     (tie.spec

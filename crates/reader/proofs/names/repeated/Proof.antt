@@ -1,4 +1,4 @@
--- `repeated` meets its contract: by the hash, by the search path, and else by a search.
+-- `repeated` meets its contract: by the hash, by the search path, otherwise by a search.
 use Rattle.lexer.proofs.Auto.{auto}
 use native.Mathlib.Omega.{arith}
 use mathlib.Core.Path.{refl, subst}

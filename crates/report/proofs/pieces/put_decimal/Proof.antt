@@ -2,7 +2,7 @@
 use borrow.Author.Needs.{needs}
 use mathlib.Core.Path.{sym, _∙_}
 use Rattle.writer.proofs.PlacedLaws.{placed-as}
-use Rattle.report.proofs.DecimalLaws.{decimal-is}
+use Rattle.report.proofs.DecimalLaws.{inDecimal-is}
 use Rattle.report.proofs.pieces.put_decimal.Statement.{statement}
 use Rattle.report.proofs.pieces.put_decimal.Tie as tie
 
@@ -23,4 +23,4 @@ put-decimal-spec =
     -- returns
     (λ c.
     let digits = c .before .before .before .before .before .decimal .ensures in
-    placed-as (sym (digits .1 .1 ∙ decimal-is _ _ (digits .1 .0))) (c .before .before .put-bytes .ensures)))
+    placed-as (sym (digits .1 .1 ∙ inDecimal-is _ _ (digits .1 .0))) (c .before .before .put-bytes .ensures)))

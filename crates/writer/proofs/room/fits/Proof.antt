@@ -1,4 +1,4 @@
--- `fits` meets its contract: where the text surely fits it does, and else its length is compared.
+-- `fits` meets its contract: where the text surely fits the answer is yes; otherwise its length is compared.
 use mathlib.Core.Path.{sym}
 use borrow.Author.Needs.{needs}
 use borrow.Author.Tests.{le-leb}

@@ -1,7 +1,7 @@
 use native.Mathlib.Omega.{arith}
 use Rattle.spec.specs.Outcome.{_>>=_}
 use Rattle.spec.specs.Bytes.{ascii}
-use Rattle.spec.specs.Read.{spelled}
+use Rattle.spec.specs.Read.{wordAt}
 use Rattle.lexer.specs.Answers.{scanOutcome}
 use Rattle.lexer.proofs.AnswerLaws.{within-ok, outside-refused, byte-known}
 use Rattle.lexer.proofs.Auto.{auto}
@@ -9,7 +9,7 @@ use Rattle.lexer.proofs.cursor.Cursor.false_literal.Statement.{statemen
 use Rattle.lexer.proofs.cursor.Cursor.false_literal.Tie as tie
 
 pub false-literal-spec : {M : Type 1} → statement M
-unfolding ascii spelled scanOutcome _>>=_
+unfolding ascii wordAt scanOutcome _>>=_
 false-literal-spec =
     tie.close
     (tie.spec

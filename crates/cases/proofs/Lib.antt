@@ -1,0 +1,4 @@
+pub mod NumeralLaws
+pub mod PlaceLaws
+pub mod SameLaws
+pub mod TakingLaws

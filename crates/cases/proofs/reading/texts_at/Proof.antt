@@ -1,0 +1,46 @@
+-- `texts_at` meets its contract: a text after another.
+use borrow.Author.Needs.{needs}
+use Rattle.cases.specs.CaseFile.{textsAt}
+use Rattle.cases.proofs.TakingLaws.{told}
+use Rattle.cases.proofs.reading.texts_at.Statement.{statement}
+use Rattle.cases.proofs.reading.texts_at.Tie as tie
+
+pub texts-at-spec : {M : Type 1} → statement M
+unfolding textsAt
+texts-at-spec =
+    tie.close
+    (tie.spec
+    -- text-at-requires
+    (λ c κs. search needs)
+    -- enum-known-first
+    (λ c. search needs)
+    -- enum-told
+    (λ c. search needs)
+    -- returns
+    (λ c. rw (told (c .before .before .text-at .ensures) (c .enum-told .given .1)))
+    -- text-at-requires-2
+    (λ c κs. search needs)
+    -- enum-known-second
+    (λ c. search needs)
+    -- enum-told-2
+    (λ c. search needs)
+    -- returns-2
+    (λ c. rw (told (c .before .before .before .before .before .before .text-at .ensures) (c .before .before .before .before .first .given .1), told (c .before .before .text-at2 .ensures) (c .enum-told2 .given .1)))
+    -- text-at-requires-3
+    (λ c κs. search needs)
+    -- enum-known-third
+    (λ c. search needs)
+    -- enum-told-3
+    (λ c. search needs)
+    -- returns-3
+    (λ c. rw (
+      told (c .before .before .before .before .before .before .before .before .before .before .text-at .ensures) (c .before .before .before .before .before .before .before .before .first .given .1),
+      told (c .before .before .before .before .before .before .text-at2 .ensures) (c .before .before .before .before .second .given .1),
+      told (c .before .before .text-at3 .ensures) (c .enum-told3 .given .1),
+    ))
+    -- returns-4
+    (λ c. rw (
+      told (c .before .before .before .before .before .before .before .before .before .before .before .text-at .ensures) (c .before .before .before .before .before .before .before .before .before .first .given .1),
+      told (c .before .before .before .before .before .before .before .text-at2 .ensures) (c .before .before .before .before .before .second .given .1),
+      told (c .before .before .before .text-at3 .ensures) (c .before .third .given .1),
+    )))
