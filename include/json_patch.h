@@ -111,7 +111,7 @@ typedef struct json_patch_node {
     uint16_t span;        /* how many nodes are below it, at every depth */
     uint16_t hash;        /* a hash of the name */
     uint16_t tags;        /* kind, form and source: json_patch_node_kind() and its neighbours */
-    uint16_t origin;      /* the operation that put it there, else 0; complete where origins are listed */
+    uint16_t origin;      /* the operation that put it there, else 0 (complete where origins are listed) */
 } json_patch_node;
 
 /* Applies the patch to the document and writes the result to the output, or
