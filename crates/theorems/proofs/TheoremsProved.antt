@@ -49,6 +49,10 @@ use Rattle.listing.proofs.apply_listing.Met as ApplyListing
 use Rattle.listing.proofs.json_patch_apply_origins.Met as ApplyListingForC
 use Rattle.region_listing.proofs.apply_within_listing.Met as ApplyWithinListing
 use Rattle.region_listing.proofs.json_patch_apply_within_origins.Met as ApplyWithinListingForC
+use Rattle.merge_listing.proofs.merge_listing.Met as MergeListing
+use Rattle.merge_listing.proofs.json_patch_merge_origins.Met as MergeListingForC
+use Rattle.undo_listing.proofs.apply_with_undo_listing.Met as ApplyWithUndoListing
+use Rattle.undo_listing.proofs.json_patch_apply_with_undo_origins.Met as ApplyWithUndoListingForC
 use Rattle.fragment.proofs.write_link.Met as WriteLink
 use Rattle.fragment.proofs.read_link.Met as ReadLink
 use Rattle.hex.proofs.write_hex.Met as WriteHex
@@ -144,6 +148,10 @@ theorems =
             apply-listing-for-c = ApplyListingForC.met;
             apply-within-listing = ApplyWithinListing.met;
             apply-within-listing-for-c = ApplyWithinListingForC.met;
+            merge-listing = MergeListing.met;
+            merge-listing-for-c = MergeListingForC.met;
+            apply-with-undo-listing = ApplyWithUndoListing.met;
+            apply-with-undo-listing-for-c = ApplyWithUndoListingForC.met;
             inspect = Inspect.met;
             inspect-for-c = InspectForC.met;
             write-link = WriteLink.met;

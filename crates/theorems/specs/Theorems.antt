@@ -54,6 +54,10 @@ use Rattle.listing.proofs.apply_listing.Statement as ApplyListing
 use Rattle.listing.proofs.json_patch_apply_origins.Statement as ApplyListingForC
 use Rattle.region_listing.proofs.apply_within_listing.Statement as ApplyWithinListing
 use Rattle.region_listing.proofs.json_patch_apply_within_origins.Statement as ApplyWithinListingForC
+use Rattle.merge_listing.proofs.merge_listing.Statement as MergeListing
+use Rattle.merge_listing.proofs.json_patch_merge_origins.Statement as MergeListingForC
+use Rattle.undo_listing.proofs.apply_with_undo_listing.Statement as ApplyWithUndoListing
+use Rattle.undo_listing.proofs.json_patch_apply_with_undo_origins.Statement as ApplyWithUndoListingForC
 use Rattle.fragment.proofs.write_link.Statement as WriteLink
 use Rattle.fragment.proofs.read_link.Statement as ReadLink
 use Rattle.hex.proofs.write_hex.Statement as WriteHex
@@ -191,6 +195,10 @@ pub record Calls : Type 2 where
   pub apply-listing-for-c : {M : Type 1} → ApplyListingForC.statement M
   pub apply-within-listing : {M : Type 1} → ApplyWithinListing.statement M
   pub apply-within-listing-for-c : {M : Type 1} → ApplyWithinListingForC.statement M
+  pub merge-listing : {M : Type 1} → MergeListing.statement M
+  pub merge-listing-for-c : {M : Type 1} → MergeListingForC.statement M
+  pub apply-with-undo-listing : {M : Type 1} → ApplyWithUndoListing.statement M
+  pub apply-with-undo-listing-for-c : {M : Type 1} → ApplyWithUndoListingForC.statement M
   -- T-12
   pub inspect : {M : Type 1} → Inspect.statement M
   pub inspect-for-c : {M : Type 1} → InspectForC.statement M
