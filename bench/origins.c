@@ -24,23 +24,25 @@ static uint32_t call(char kind, int list) {
     const size_t entries = JSON_PATCH_MAX_NODES;
     switch (kind) {
     case 'a':
-        return list ? json_patch_apply_origins_with(document, document_length, patch, patch_length, output, sizeof output,
-                                                    origins, entries, &work.work, &answer)
+        return list ? json_patch_apply_origins_with(document, document_length, patch, patch_length, output,
+                                                    sizeof output, origins, entries, &work.work, &answer)
                     : json_patch_apply_with(document, document_length, patch, patch_length, output, sizeof output,
                                             &work.work, &answer);
     case 'w':
-        return list ? json_patch_apply_within_origins_with(document, document_length, patch, patch_length, "", 0, output,
-                                                           sizeof output, origins, entries, &work.work, &answer)
+        return list ? json_patch_apply_within_origins_with(document, document_length, patch, patch_length, "", 0,
+                                                           output, sizeof output, origins, entries, &work.work,
+                                                           &answer)
                     : json_patch_apply_within_with(document, document_length, patch, patch_length, "", 0, output,
                                                    sizeof output, &work.work, &answer);
     case 'm':
-        return list ? json_patch_merge_origins_with(document, document_length, patch, patch_length, output, sizeof output,
-                                                    origins, entries, &work.work, &answer)
+        return list ? json_patch_merge_origins_with(document, document_length, patch, patch_length, output,
+                                                    sizeof output, origins, entries, &work.work, &answer)
                     : json_patch_merge_with(document, document_length, patch, patch_length, output, sizeof output,
                                             &work.work, &answer);
     default:
-        return list ? json_patch_undo_origins_with(document, document_length, patch, patch_length, output, sizeof output,
-                                                   undo, sizeof undo, origins, entries, &work, &with_undo)
+        return list ? json_patch_undo_origins_with(document, document_length, patch, patch_length, output,
+                                                   sizeof output, undo, sizeof undo, origins, entries, &work,
+                                                   &with_undo)
                     : json_patch_undo_with(document, document_length, patch, patch_length, output, sizeof output, undo,
                                            sizeof undo, &work, &with_undo);
     }
