@@ -19,7 +19,9 @@ object-origin-spec =
     -- returns
     (λ c.
     let at-kind = c .before .before in
-    ap originOf (c .load .ensures) ∙ sym (origin-object _ _ _ (sym (at-kind .kind .ensures) ∙ c .before .if1 .taken)))
+    let at-args = at-kind .before in
+    ap originOf (c .load .ensures) ∙ sym (origin-object _ (at-args .args .target) (at-args .args .patch)
+    (sym (at-kind .kind .ensures) ∙ c .before .if1 .taken)))
     -- load-requires-2
     (λ c κs. search needs)
     -- array-read-result-2
@@ -27,4 +29,6 @@ object-origin-spec =
     -- returns-2
     (λ c.
     let at-kind = c .before .before in
-    ap originOf (c .load2 .ensures) ∙ sym (origin-other _ _ _ (λ e. c .before .if1 .left (at-kind .kind .ensures ∙ e)))))
+    let at-args = at-kind .before in
+    ap originOf (c .load2 .ensures) ∙ sym (origin-other _ (at-args .args .target) (at-args .args .patch)
+    (λ e. c .before .if1 .left (at-kind .kind .ensures ∙ e)))))
