@@ -162,10 +162,11 @@ module _ {w : Table} {s : Shape} (shaped : PatchIs w patchRow s) {o : Outputs} (
             let fails = is n k i j h in
             rw f (patch-refused (length (o .texts .undo)) (undoValue us) without (answered-failure fails) n (fails .0) (numbered n k i j h))
 
-    pub run-done : {rows : ℕ} → logged .ran ≡ Ran.Done rows → {o' : Outputs} → WriteAllIs (table (w .texts) nodes') o o' rows work' (logged .log) r
-        → RunPatchIs w o o' work used r
+    -- as many rows are listed as the document has then
+    pub run-done : {rows listed : ℕ} → logged .ran ≡ Ran.Done rows → {o' : Outputs}
+        → WriteAllIs (table (w .texts) nodes') o o' listed work' (logged .log) r → listed ≡ rows → RunPatchIs w o o' work used r
     unfolding applied onFinish answerOf undoShaped
-    run-done {rows} t {o'} writes v p d held short long =
+    run-done {rows} t {o'} writes all v p d held short long =
         let (os, right-shape) = shape-right (shape-told shaped held) e in
         let told = logged-told stamps work begins runs d held short long os right-shape in
         rw right-shape (go (undoRun os v) (ran-listed stamps (runs .runs) d held short os right-shape) t (done-noted told t))
@@ -173,5 +174,5 @@ module _ {w : Table} {s : Shape} (shaped : PatchIs w patchRow s) {o : Outputs} (
         go : (us : List Operation) {q : Run Value.Value} {t : Ran} → RanBearing (w .texts) nodes' q t → t ≡ Ran.Done rows → Noted (logged .log) work' us
             → UndoListedIs (afterPatch (length (o .texts .undo)) (answerOf (length (o .texts .document)) (length (o .list)) q) (undoValue us)) o o' r
         go us (ran {used = n} {v = u} f b) h noted =
-            let same : n ≡ rows = cc in rw f (writes u (subst (λ m. Bearing (table (w .texts) nodes') m u) same b) us noted)
+            let same : n ≡ rows = cc in rw f (writes u (subst (λ m. Bearing (table (w .texts) nodes') m u) (same ∙ sym all) b) us noted)
         go us (halted f) h noted = absurd (let z : _≡_ {A = ℕ} 0 1 = cc in omega arith)

@@ -1,4 +1,5 @@
 -- `run_patch` meets its contract, by the patch's shape and by its run.
+use native.Mathlib.Omega.{arith}
 use borrow.Author.Needs.{needs}
 use mathlib.Core.Path.{_∙_}
 use Rattle.undo_listing.proofs.StageLaws.{run-misshapen, run-stopped, run-done}
@@ -107,4 +108,4 @@ run-patch-spec =
     let at-args = at-shape-of .before .before .before .before .before .before .before in
     run-done (at-shape-of .shape-of .ensures) (at-args .args .work .now) (at-enum-told .enum-told .given .1) (at-stamp-texts .stamp-texts .ensures)
     (at-begin .begin .ensures) (at-run .run .ensures)
-    (at-ran .ran .given .1) (at-write-all .write-all .ensures)))
+    (at-ran .ran .given .1) (at-write-all .write-all .ensures) (omega arith)))
