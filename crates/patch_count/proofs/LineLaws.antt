@@ -12,7 +12,7 @@ use Rattle.spec.specs.Bytes.{Bytes, ascii}
 use Rattle.writer.specs.Writing.{Placed}
 use Rattle.writer.proofs.PlacedLaws.{placed-as, placed-whole, placed-length, placed-inside}
 use Rattle.report.specs.Line.{inDecimal, newline}
-use Rattle.report.proofs.DecimalLaws.{decimal-short}
+use Rattle.report.proofs.DecimalLaws.{inDecimal-short}
 use Rattle.inspect.specs.Counts.{countsIn}
 use Rattle.inspection.specs.Inspection.{total}
 use Rattle.inspection.specs.Tally.{File, results, fieldsOf, line, tally, maxNames}
@@ -54,16 +54,16 @@ module _ (t : Tally) where
       let few : t .patches ≤ maxNames = sums-patches-few s in
       let some : t .refused ≤ t .patches = sums-refused s in
       let all : total (countsIn (t .counts)) ≤ maxOperations * maxNames = sums-few s in
-      let P = decimal-short 8 (t .patches) (omega arith) in
-      let R = decimal-short 8 (t .refused) (omega arith) in
-      let A = decimal-short 8 (t .counts .adds) (omega arith) in
-      let B = decimal-short 8 (t .counts .removes) (omega arith) in
-      let C = decimal-short 8 (t .counts .replaces) (omega arith) in
-      let D = decimal-short 8 (t .counts .moves) (omega arith) in
-      let E = decimal-short 8 (t .counts .copies) (omega arith) in
-      let F = decimal-short 8 (t .counts .tests) (omega arith) in
-      let N = decimal-short 8 (total (countsIn (t .counts))) (omega arith) in
-      let Q = decimal-short 8 (t .patches - t .refused) (omega arith) in
+      let P = inDecimal-short 8 (t .patches) (omega arith) in
+      let R = inDecimal-short 8 (t .refused) (omega arith) in
+      let A = inDecimal-short 8 (t .counts .adds) (omega arith) in
+      let B = inDecimal-short 8 (t .counts .removes) (omega arith) in
+      let C = inDecimal-short 8 (t .counts .replaces) (omega arith) in
+      let D = inDecimal-short 8 (t .counts .moves) (omega arith) in
+      let E = inDecimal-short 8 (t .counts .copies) (omega arith) in
+      let F = inDecimal-short 8 (t .counts .tests) (omega arith) in
+      let N = inDecimal-short 8 (total (countsIn (t .counts))) (omega arith) in
+      let Q = inDecimal-short 8 (t .patches - t .refused) (omega arith) in
       simp length-append (omega arith)
 
   -- the line of the files, where the sums are theirs
