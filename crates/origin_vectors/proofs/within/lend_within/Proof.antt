@@ -13,11 +13,15 @@ lend-within-spec =
     -- slice-relend-prefix-apply-within-listing
     (λ c. search needs)
     -- slice-aggregate-apply-within-listing
-    (λ c. let a = c .before .before .before .before .before .before .before .args in sym (length-take-le (a .rooms .first) (a .output .now) (omega arith)))
+    (λ c.
+    let a = c .before .before .before .before .before .before .before .args in
+    sym (length-take-le (a .rooms .first) (a .output .now) (omega arith)))
     -- slice-relend-prefix-apply-within-listing-2
     (λ c. search needs)
     -- slice-aggregate-apply-within-listing-2
-    (λ c. let a = c .before .before .before .before .before .before .before .before .args in sym (length-take-le (a .rooms .third) (a .origins .now) (omega arith)))
+    (λ c.
+    let a = c .before .before .before .before .before .before .before .before .args in
+    sym (length-take-le (a .rooms .third) (a .origins .now) (omega arith)))
     -- apply-within-listing-requires
     (λ c κs. search needs)
     -- same-length
