@@ -1,13 +1,15 @@
 // Every committed case of the calls that list origins, run through the library. For each a line: its name, and what the
 // patch tool would print of its answer, with as many bytes of output lent as the case says. Where the patch is applied
-// another: the origins listed. The stored output is what the second program answers, so that each run holds the two to
-// each other.
+// there are more: the undo, where the call has one, and the origins listed. The stored output is what the second
+// program answers, so that each run holds the two to each other.
 //
 // A case begins with the name of its call, has the rooms of the output, of the undo and of the list, and three texts:
 // document, patch and region. What its call does not take is 0 or empty.
 mod lines; // what is printed
+mod merged; // the call for merge patches
 mod plain; // the plain call
 mod rooms; // how much is lent
+mod undone; // the call with an undo
 mod within; // the call with a region
 
 use cases::Case;
@@ -23,11 +25,17 @@ use cases::read_cases;
 use cases::say;
 use cases::word_at;
 use check::same;
+use merged::run_merged;
+use merged::short_merged;
 use plain::run_plain;
 use plain::short_plain;
 use rooms::LIST;
 use rooms::OUTPUT;
+use rooms::UNDO;
 use tape::fields::narrow;
+use undone::run_undone;
+use undone::short_buffer;
+use undone::short_undone;
 use within::run_within;
 use within::short_within;
 ghost use Prim.Native.Nat.{_≤_};
@@ -35,6 +43,7 @@ ghost use Prim.Native.Nat.{_≤_};
 // The case's lines behind its name.
 fn run_call(call: &[u8], file: &[u8], c: Case, rubbish: u16)
     requires { ⌜ c .rooms .first ≤ 65_536 ⌝ }
+    requires { ⌜ c .rooms .second ≤ 32_768 ⌝ }
     requires { ⌜ c .rooms .third ≤ 2_048 ⌝ }
 {
     if same(call, b"apply") {
@@ -43,6 +52,14 @@ fn run_call(call: &[u8], file: &[u8], c: Case, rubbish: u16)
     }
     if same(call, b"within") {
         run_within(file, c, rubbish);
+        return;
+    }
+    if same(call, b"merge") {
+        run_merged(file, c, rubbish);
+        return;
+    }
+    if same(call, b"undo") {
+        run_undone(file, c, rubbish);
         return;
     }
     say(b"no such call\n");
@@ -54,6 +71,10 @@ fn run_case(call: &[u8], file: &[u8], c: Case, rubbish: u16) {
     say(bytes_of(file, c.name));
     say(b": ");
     if OUTPUT < lent.first {
+        say(b"there is less room\n");
+        return;
+    }
+    if UNDO < lent.second {
         say(b"there is less room\n");
         return;
     }
@@ -91,4 +112,7 @@ fn main() {
     run_all(front(&room, n));
     short_plain();
     short_within();
+    short_merged();
+    short_undone();
+    short_buffer();
 }
