@@ -61,6 +61,8 @@ pub record MergeTreesIs (w : Table) (nodes' : List Row) (r : ℕ) : Type 0 where
   pub bearing : (v : Origin.Value) (p : Value.Value) (b : BothBearing w v p) → b .both .patch .c .kind ≡ objectKind
       → r ≤ rows → BearingAt (record { texts = w .texts; nodes = nodes' }) scratchRow (Origins.mergePatch v p)
 
--- For any work area. Where its lengths are not the stated ones, the answer and the scratch rows are free.
-abbrev pub MergeReadIs : Table → List ℕ → List Row → ℕ → Type 0
-MergeReadIs w xs nodes' r = length (w .nodes) ≡ rows → slots ≤ length xs → MergeTreesIs w nodes' r
+-- For any work area: where its lengths are not the stated ones, nothing changes, and the answer is 0. Where the table does not hold two texts, the
+-- answer is free but for its bounds, and so are the work area's rows and entries.
+pub record MergeReadIs (w : Table) (xs : List ℕ) (nodes' : List Row) (ys : List ℕ) (r : ℕ) : Type 0 where
+  pub merged : length (w .nodes) ≡ rows → slots ≤ length xs → MergeTreesIs w nodes' r
+  pub other : (length (w .nodes) ≡ rows → slots ≤ length xs → ⊥) → (r ≡ 0) × (nodes' ≡ w .nodes) × (ys ≡ xs)

@@ -36,7 +36,8 @@ pub fn merge_trees<'a>(texts: Texts<'a>, nodes: &mut [Node], index: &mut [u16]) 
 
 // As `merge_trees`, for any work area: where its lengths are not the stated ones, nothing is merged.
 pub fn merge_read<'a>(texts: Texts<'a>, nodes: &mut [Node], index: &mut [u16]) -> usize
-    ensures { λ r. ⌜ MergeReadIs (before texts nodes) (now (index .entry)) (now (nodes .exit)) r ⌝ }
+    ensures { λ r. ⌜ MergeReadIs (before texts nodes) (now (index .entry)) (now (nodes .exit))
+        (now (index .exit)) r ⌝ }
 {
     if nodes.len() != layout::ROWS {
         return 0;

@@ -51,14 +51,14 @@ run-listed-spec =
     let at-stamp-both = at-kind .before .before .before in
     let at-pre = at-stamp-both .before .before .before .before .before in
     run-many (at-stamp-both .stamp-both .ensures) (at-kind .kind .ensures) (at-if1 .if1 .left)
-    (at-merge-read .merge-read .ensures (omega (arith, at-pre .pre, at-stamp-both .stamp-both .kept)) (omega (arith, at-pre .pre)))
+    (at-merge-read .merge-read .ensures .merged (omega (arith, at-pre .pre, at-stamp-both .stamp-both .kept)) (omega (arith, at-pre .pre)))
     (at-if2 .if2 .taken) (c .refused .ensures))
     -- sub-count-2
     (λ c.
     let at-merge-read = c .before .before .before .before in
     let at-stamp-both = at-merge-read .before .before .before .before .before .before .before in
     let at-pre = at-stamp-both .before .before .before .before .before in
-    omega (arith, at-merge-read .merge-read .ensures (omega (arith, at-pre .pre, at-stamp-both .stamp-both .kept)) (omega (arith, at-pre .pre)) .onward))
+    omega (arith, at-merge-read .merge-read .ensures .merged (omega (arith, at-pre .pre, at-stamp-both .stamp-both .kept)) (omega (arith, at-pre .pre)) .onward))
     -- write-listed-requires-2
     (λ c κs. search needs)
     -- same-length-6
@@ -79,5 +79,5 @@ run-listed-spec =
     let at-stamp-both = at-kind .before .before .before in
     let at-pre = at-stamp-both .before .before .before .before .before in
     run-done (at-stamp-both .stamp-both .ensures) (at-kind .kind .ensures) (at-if1 .if1 .left)
-    (at-merge-read .merge-read .ensures (omega (arith, at-pre .pre, at-stamp-both .stamp-both .kept)) (omega (arith, at-pre .pre)))
+    (at-merge-read .merge-read .ensures .merged (omega (arith, at-pre .pre, at-stamp-both .stamp-both .kept)) (omega (arith, at-pre .pre)))
     (at-if2 .if2 .left) (at-write-listed2 .write-listed2 .ensures)))
