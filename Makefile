@@ -47,8 +47,8 @@ export JSON_PATCH_LIB
 
 out := target/make
 # As rt makes them: the call, the call with a region, the functions on one record,
-# the links, Intel HEX, the inspection, the call with an undo, that for merge patches, and
-# the comparison.
+# the links, Intel HEX, the inspection, the call with an undo, that for merge patches,
+# the comparison, and the four calls that list origins.
 proved_call := $(JSON_PATCH_LIB)/libjson_patch.a
 proved_region := $(JSON_PATCH_LIB)/libregion_call.a
 proved_record := $(JSON_PATCH_LIB)/librecord.a
@@ -58,7 +58,12 @@ inspect := $(JSON_PATCH_LIB)/libinspect.a
 proved_undo := $(JSON_PATCH_LIB)/libundo.a
 proved_merge := $(JSON_PATCH_LIB)/libmerge.a
 compare := $(JSON_PATCH_LIB)/libcompare.a
-# The library as it is installed: the four calls and the records.
+proved_listing := $(JSON_PATCH_LIB)/liblisting.a
+proved_region_listing := $(JSON_PATCH_LIB)/libregion_listing.a
+proved_merge_listing := $(JSON_PATCH_LIB)/libmerge_listing.a
+proved_undo_listing := $(JSON_PATCH_LIB)/libundo_listing.a
+listings := $(proved_listing) $(proved_region_listing) $(proved_merge_listing) $(proved_undo_listing)
+# The library as it is installed: the four calls, those that list origins, and the records.
 static := $(out)/libjson_patch.a
 shared := libjson_patch.so.$(VERSION)
 soname := libjson_patch.so.$(ABI)
@@ -107,14 +112,29 @@ $(compare): $(proved_undo)
 $(proved_merge): $(compare)
 	rt staticlib merge
 	@touch $@
+
+$(proved_listing): $(proved_merge)
+	rt staticlib listing
+	@touch $@
+
+$(proved_region_listing): $(proved_listing)
+	rt staticlib region_listing
+	@touch $@
+
+$(proved_merge_listing): $(proved_region_listing)
+	rt staticlib merge_listing
+	@touch $@
+
+$(proved_undo_listing): $(proved_merge_listing)
+	rt staticlib undo_listing
+	@touch $@
 endif
 
 # The proved objects, unchanged, in one archive.
-$(static): $(proved_call) $(proved_region) $(proved_record) $(proved_undo) $(proved_merge)
+$(static): $(proved_call) $(proved_region) $(proved_record) $(proved_undo) $(proved_merge) $(listings)
 	@rm -rf $(out)/objects $@
 	@mkdir -p $(out)/objects
-	cd $(out)/objects && $(AR) x $(proved_call) && $(AR) x $(proved_region) && $(AR) x $(proved_record) && \
-		$(AR) x $(proved_undo) && $(AR) x $(proved_merge)
+	cd $(out)/objects && for archive in $^; do $(AR) x $$archive || exit 1; done
 	$(AR) rcs $@ $(out)/objects/*.o
 
 # The shared library is the archives, linked whole.
@@ -126,7 +146,7 @@ $(out)/$(shared): $(static) $(links) $(hex) $(inspect) $(compare)
 $(out)/$(soname): $(out)/$(shared)
 	ln -sf $(shared) $@
 
-$(command): $(rust) $(proved_call) $(proved_region) $(links) $(hex) $(inspect) $(proved_undo) $(proved_merge) $(compare)
+$(command): $(rust) $(static) $(links) $(hex) $(inspect) $(compare)
 	@mkdir -p $(out)
 	$(CARGO) build --release $(CARGO_FLAGS) --manifest-path rust/Cargo.toml --package json-patch-cli --target-dir rust/target
 	cp rust/target/release/json-patch $@

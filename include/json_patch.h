@@ -7,9 +7,11 @@
  *
  * The call is json_patch_apply, proved to answer as the definitions say on every
  * input. json_patch_apply_with_undo does the same and also writes a patch that
- * takes the result back, and json_patch_merge applies a merge patch (RFC 7396);
- * both are proved too. They allocate nothing, keep no state and may be called from
- * several threads at once, each with buffers of its own.
+ * takes the result back, and json_patch_merge applies a merge patch (RFC 7396).
+ * Each call has a twin with `_origins` in its name, which also lists for every
+ * value of the result which operation put it there. All are proved. They allocate
+ * nothing, keep no state and may be called from several threads at once, each with
+ * buffers of its own.
  * Three small functions look at one record of the work area and clear it; they
  * are proved too. The inline functions are not part of the proof: one work area
  * in place of buffers, words for an answer, the parts of a record's tags.
@@ -18,11 +20,12 @@
  * of them. As `rt staticlib` makes them, json_patch_apply is in
  * target/staticlib/libjson_patch.a (`rt staticlib json_patch`),
  * json_patch_apply_with_undo in target/staticlib/libundo.a (`rt staticlib undo`),
- * json_patch_merge in target/staticlib/libmerge.a (`rt staticlib merge`),
- * and json_patch_node_read, _store and _clear are in target/staticlib/librecord.a
- * (`rt staticlib record`). The library needs memcpy and memset and nothing else.
- * examples/apply.c and examples/undo.c are worked examples, json_patch(3) is the
- * manual.
+ * json_patch_merge in target/staticlib/libmerge.a (`rt staticlib merge`), the four
+ * that list origins in liblisting.a, libregion_listing.a, libmerge_listing.a and
+ * libundo_listing.a, and json_patch_node_read, _store and _clear are in
+ * target/staticlib/librecord.a (`rt staticlib record`). The library needs memcpy
+ * and memset and nothing else. examples/apply.c, examples/undo.c and
+ * examples/origins.c are worked examples, json_patch(3) is the manual.
  *
  * C99, and C++. */
 #ifndef JSON_PATCH_H
@@ -74,7 +77,7 @@ enum json_patch_number {
     JSON_PATCH_REMOVE_OF_ROOT = 13,     /* remove of the root: op */
     JSON_PATCH_MOVE_INTO_CHILD = 14,    /* move into its own child: op */
     JSON_PATCH_TEST_DIFFERS = 15,       /* test found a difference: op */
-    JSON_PATCH_OUTPUT_TOO_SHORT = 16,   /* written text longer than the lent output */
+    JSON_PATCH_OUTPUT_TOO_SHORT = 16,   /* written text longer than the lent output, or a list of origins too short */
     JSON_PATCH_NOT_PERMITTED = 17       /* the rule of a region is broken: op */
 };
 
@@ -108,7 +111,7 @@ typedef struct json_patch_node {
     uint16_t span;        /* how many nodes are below it, at every depth */
     uint16_t hash;        /* a hash of the name */
     uint16_t tags;        /* kind, form and source: json_patch_node_kind() and its neighbours */
-    uint16_t origin;      /* 0 */
+    uint16_t origin;      /* the operation that put it there, else 0 (complete where origins are listed) */
 } json_patch_node;
 
 /* Applies the patch to the document and writes the result to the output, or
@@ -217,6 +220,65 @@ typedef struct json_patch_undo_work {
     json_patch_work work;
     uint8_t text[JSON_PATCH_UNDO_BYTES];
 } json_patch_undo_work;
+
+/* Which operation put this here? As json_patch_apply. Beside the result the origins of
+ * its values are written to `origins`, one for each value in the order of their first
+ * written bytes: each container before what is in it, members in order. An origin is 0
+ * for a value from the document, and k for one that operation k put in, be it by add,
+ * replace or copy, and for all values in it. A moved value keeps its own, and a
+ * container keeps its origin when a child changes. So an origin is at most
+ * JSON_PATCH_MAX_OPERATIONS.
+ *
+ * origins_count is in entries. JSON_PATCH_MAX_NODES entries always suffice. After a 0
+ * the list's first entries are the origins, as many as the result has values
+ * (json_patch_values counts them), and the rest is unchanged; after a refusal all of it
+ * is unchanged. A list that is too short is refused with 16, as a short output is, and
+ * nothing is written then.
+ * In liblisting.a (`rt staticlib listing`), and in -ljson_patch. */
+uint32_t json_patch_apply_origins(const uint8_t *document, size_t document_length,
+                                  const uint8_t *patch, size_t patch_length,
+                                  uint8_t *output, size_t output_length,
+                                  uint16_t *origins, size_t origins_count,
+                                  json_patch_node *nodes, size_t nodes_count,
+                                  uint16_t *index, size_t index_count,
+                                  json_patch_answer *answer);
+
+/* The same for the patch of a pack maker: json_patch_apply_within with the origins
+ * listed. In libregion_listing.a (`rt staticlib region_listing`), and in -ljson_patch. */
+uint32_t json_patch_apply_within_origins(const uint8_t *document, size_t document_length,
+                                         const uint8_t *patch, size_t patch_length,
+                                         const uint8_t *region, size_t region_length,
+                                         uint8_t *output, size_t output_length,
+                                         uint16_t *origins, size_t origins_count,
+                                         json_patch_node *nodes, size_t nodes_count,
+                                         uint16_t *index, size_t index_count,
+                                         json_patch_answer *answer);
+
+/* The same for a merge patch: json_patch_merge with the origins listed. A merge patch
+ * counts as operation 1, also for the objects that it makes; an object of the document
+ * that is merged into keeps its 0. In libmerge_listing.a (`rt staticlib merge_listing`),
+ * and in -ljson_patch. */
+uint32_t json_patch_merge_origins(const uint8_t *document, size_t document_length,
+                                  const uint8_t *patch, size_t patch_length,
+                                  uint8_t *output, size_t output_length,
+                                  uint16_t *origins, size_t origins_count,
+                                  json_patch_node *nodes, size_t nodes_count,
+                                  uint16_t *index, size_t index_count,
+                                  json_patch_answer *answer);
+
+/* The same with an undo: json_patch_apply_with_undo with the origins of the result
+ * listed. 16 for a short list comes with that for a short output, before the undo's own
+ * refusals; each refusal leaves both outputs and the list unchanged. In
+ * libundo_listing.a (`rt staticlib undo_listing`), and in -ljson_patch. */
+uint32_t json_patch_apply_with_undo_origins(const uint8_t *document, size_t document_length,
+                                            const uint8_t *patch, size_t patch_length,
+                                            uint8_t *output, size_t output_length,
+                                            uint8_t *undo, size_t undo_length,
+                                            uint16_t *origins, size_t origins_count,
+                                            json_patch_node *nodes, size_t nodes_count,
+                                            uint16_t *index, size_t index_count,
+                                            uint8_t *work, size_t work_length,
+                                            json_patch_undo_answer *answer);
 
 /* The rows of the work area where the document begins, the patch, and the value
  * on its way in a move or a copy. */
@@ -335,6 +397,103 @@ static inline uint32_t json_patch_undo_with(const void *document, size_t documen
                                       undo_length ? JSON_PATCH_AS_(uint8_t *, undo) : &nothing, undo_length,
                                       work->work.nodes, JSON_PATCH_WORK_NODES, work->work.index, JSON_PATCH_WORK_ENTRIES,
                                       work->text, JSON_PATCH_UNDO_BYTES, answer);
+}
+
+/* json_patch_apply_origins in a work area. A pointer may be null where its length or
+ * count is 0. */
+static inline uint32_t json_patch_apply_origins_with(const void *document, size_t document_length,
+                                                     const void *patch, size_t patch_length,
+                                                     void *output, size_t output_length,
+                                                     uint16_t *origins, size_t origins_count,
+                                                     json_patch_work *work, json_patch_answer *answer) {
+    uint8_t none = 0;
+    uint16_t no_entry = 0;
+    return json_patch_apply_origins(document_length ? JSON_PATCH_AS_(const uint8_t *, document) : &none,
+                                    document_length,
+                                    patch_length ? JSON_PATCH_AS_(const uint8_t *, patch) : &none, patch_length,
+                                    output_length ? JSON_PATCH_AS_(uint8_t *, output) : &none, output_length,
+                                    origins_count ? origins : &no_entry, origins_count,
+                                    work->nodes, JSON_PATCH_WORK_NODES, work->index, JSON_PATCH_WORK_ENTRIES, answer);
+}
+
+/* json_patch_apply_within_origins in a work area. A pointer may be null where its length
+ * or count is 0. */
+static inline uint32_t json_patch_apply_within_origins_with(const void *document, size_t document_length,
+                                                            const void *patch, size_t patch_length,
+                                                            const void *region, size_t region_length,
+                                                            void *output, size_t output_length,
+                                                            uint16_t *origins, size_t origins_count,
+                                                            json_patch_work *work, json_patch_answer *answer) {
+    uint8_t none = 0;
+    uint16_t no_entry = 0;
+    return json_patch_apply_within_origins(document_length ? JSON_PATCH_AS_(const uint8_t *, document) : &none,
+                                           document_length,
+                                           patch_length ? JSON_PATCH_AS_(const uint8_t *, patch) : &none, patch_length,
+                                           region_length ? JSON_PATCH_AS_(const uint8_t *, region) : &none,
+                                           region_length,
+                                           output_length ? JSON_PATCH_AS_(uint8_t *, output) : &none, output_length,
+                                           origins_count ? origins : &no_entry, origins_count,
+                                           work->nodes, JSON_PATCH_WORK_NODES,
+                                           work->index, JSON_PATCH_WORK_ENTRIES, answer);
+}
+
+/* json_patch_merge_origins in a work area. A pointer may be null where its length or
+ * count is 0. */
+static inline uint32_t json_patch_merge_origins_with(const void *document, size_t document_length,
+                                                     const void *patch, size_t patch_length,
+                                                     void *output, size_t output_length,
+                                                     uint16_t *origins, size_t origins_count,
+                                                     json_patch_work *work, json_patch_answer *answer) {
+    uint8_t none = 0;
+    uint16_t no_entry = 0;
+    return json_patch_merge_origins(document_length ? JSON_PATCH_AS_(const uint8_t *, document) : &none,
+                                    document_length,
+                                    patch_length ? JSON_PATCH_AS_(const uint8_t *, patch) : &none, patch_length,
+                                    output_length ? JSON_PATCH_AS_(uint8_t *, output) : &none, output_length,
+                                    origins_count ? origins : &no_entry, origins_count,
+                                    work->nodes, JSON_PATCH_WORK_NODES, work->index, JSON_PATCH_WORK_ENTRIES, answer);
+}
+
+/* json_patch_apply_with_undo_origins in a work area. A pointer may be null where its
+ * length or count is 0. */
+static inline uint32_t json_patch_undo_origins_with(const void *document, size_t document_length,
+                                                    const void *patch, size_t patch_length,
+                                                    void *output, size_t output_length,
+                                                    void *undo, size_t undo_length,
+                                                    uint16_t *origins, size_t origins_count,
+                                                    json_patch_undo_work *work, json_patch_undo_answer *answer) {
+    uint8_t none = 0, nothing = 0;
+    uint16_t no_entry = 0;
+    return json_patch_apply_with_undo_origins(document_length ? JSON_PATCH_AS_(const uint8_t *, document) : &none,
+                                              document_length,
+                                              patch_length ? JSON_PATCH_AS_(const uint8_t *, patch) : &none,
+                                              patch_length,
+                                              output_length ? JSON_PATCH_AS_(uint8_t *, output) : &none, output_length,
+                                              undo_length ? JSON_PATCH_AS_(uint8_t *, undo) : &nothing, undo_length,
+                                              origins_count ? origins : &no_entry, origins_count,
+                                              work->work.nodes, JSON_PATCH_WORK_NODES,
+                                              work->work.index, JSON_PATCH_WORK_ENTRIES,
+                                              work->text, JSON_PATCH_UNDO_BYTES, answer);
+}
+
+/* How many values a text has that the library wrote, and so how many entries of a list
+ * were written: json_patch_values(output, answer.length). */
+static inline size_t json_patch_values(const void *text, size_t length) {
+    const unsigned char *bytes = JSON_PATCH_AS_(const unsigned char *, text);
+    size_t at = 0, values = 0;
+    while (at < length) {
+        const unsigned char first = bytes[at++];
+        if (first == ',' || first == ':' || first == ']' || first == '}') continue;
+        if (first == '"') {
+            while (at < length && bytes[at] != '"') at += bytes[at] == '\\' ? 2 : 1;
+            at++;
+            if (at < length && bytes[at] == ':') continue; /* a name */
+        } else if (first != '[' && first != '{') {
+            while (at < length && bytes[at] != ',' && bytes[at] != ']' && bytes[at] != '}') at++;
+        }
+        values++;
+    }
+    return values;
 }
 
 /* Whether the undo is refused and not the patch: it could not be read back. The

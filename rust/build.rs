@@ -13,7 +13,9 @@ fn main() {
             .join("../target/staticlib"),
     };
     println!("cargo:rustc-link-search=native={}", folder.display());
-    for name in ["json_patch", "region_call", "fragment", "hex", "inspect", "undo", "merge", "compare"] {
+    let calls = ["json_patch", "region_call", "undo", "merge"];
+    let listing = ["listing", "region_listing", "merge_listing", "undo_listing"];
+    for name in calls.into_iter().chain(listing).chain(["fragment", "hex", "inspect", "compare"]) {
         let library = folder.join(format!("lib{name}.a"));
         println!("cargo:rerun-if-changed={}", library.display());
         if !library.is_file() {

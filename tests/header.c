@@ -109,6 +109,24 @@ static void regions(void) {
                     made(JSON_PATCH_LOCATION_MISSING, 0, 1, 1, JSON_PATCH_POINTER_PATH, 0));
 }
 
+static void values(void) {
+    static const struct {
+        const char *text;
+        size_t count;
+    } texts[] = {
+        {"7", 1}, {"\"\"", 1}, {"[]", 1}, {"{}", 1}, {"[[],{}]", 3}, {"[null,true,-0.5e+1]", 4},
+        {"{\"a\":1}", 2}, {"{\"\":[\"x\",{\"y\":\"]},:\\\"\\\\\"}],\"z\":\"\"}", 6}, {"{\"a\":\"a\",\"b\":\"b\"}", 3},
+    };
+    size_t k, size;
+    for (k = 0; k < sizeof texts / sizeof *texts; k++) {
+        const size_t length = strlen(texts[k].text);
+        expect(json_patch_values(texts[k].text, length) == texts[k].count, texts[k].text);
+        for (size = 0; size < length; size++)
+            expect(json_patch_values(texts[k].text, size) <= size, "a text that is cut short");
+    }
+    expect(json_patch_values(NULL, 0) == 0, "no text");
+}
+
 static void calls(void) {
     json_patch_answer answer;
     char output[4];
@@ -277,6 +295,7 @@ int main(void) {
     words();
     pointers();
     regions();
+    values();
     calls();
     layout();
     dumped();

@@ -1,9 +1,10 @@
 #!/bin/sh
-# Compiles tests/header.c, inspect.c, undo.c, merge.c and compare.c with every compiler that
-# is here, as C99, C11, C++11 and C++17, with many warnings as errors and under both
+# Compiles tests/header.c, inspect.c, undo.c, merge.c, origins.c and compare.c with every compiler
+# that is here, as C99, C11, C++11 and C++17, with many warnings as errors and under both
 # sanitizers, and runs them.
 #   JSON_PATCH_LIB=DIR   where libjson_patch.a, libregion_call.a, librecord.a, libinspect.a,
-#                        libundo.a, libmerge.a and libcompare.a are, if not in target/staticlib
+#                        libundo.a, libmerge.a, libcompare.a, liblisting.a, libregion_listing.a,
+#                        libmerge_listing.a and libundo_listing.a are, if not in target/staticlib
 set -eu
 here=$(cd "$(dirname "$0")" && pwd)
 root=$(dirname "$here")
@@ -29,6 +30,7 @@ try() { # NAME COMPILER..
     one inspect "$name" "libjson_patch.a libinspect.a" "$@"
     one undo "$name" "libjson_patch.a libundo.a" "$@"
     one merge "$name" "libmerge.a" "$@"
+    one origins "$name" "liblisting.a libregion_listing.a libmerge_listing.a libundo_listing.a" "$@"
     one compare "$name" "libjson_patch.a libcompare.a" "$@"
 }
 for compiler in gcc clang; do

@@ -47,6 +47,12 @@ as_expected undo undo
 $CC -std=c99 $strict examples/undo.c $(pkg-config --cflags json_patch) "$prefix/lib/libjson_patch.a" -o "$place/undo-static"
 "$place/undo-static" >"$place/undo-static.out"
 as_expected undo-static undo
+$CC -std=c99 $strict examples/origins.c $flags -o "$place/origins"
+LD_LIBRARY_PATH="$prefix/lib" "$place/origins" >"$place/origins.out"
+as_expected origins origins
+$CC -std=c99 $strict examples/origins.c $(pkg-config --cflags json_patch) "$prefix/lib/libjson_patch.a" -o "$place/origins-static"
+"$place/origins-static" >"$place/origins-static.out"
+as_expected origins-static origins
 exported=$(nm -D --defined-only "$prefix/lib/libjson_patch.so" | grep -v ' json_patch_' || true)
 [ -z "$exported" ] || failed "the shared library exports more than its functions: $exported"
 

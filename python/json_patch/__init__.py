@@ -11,8 +11,8 @@ How it differs from the package ``jsonpatch``:
   so are a repeated member name, NaN and all else that RFC 8259 does not have.
 * A refusal is an exception with the number of the refusal, the operation, the
   place, and how far a pointer got that leads nowhere: `Refusal`.
-* It applies patches, and makes the one that takes a patch back. ``jsonpatch`` also
-  makes them from two documents.
+* It applies patches, makes the one that takes a patch back, and tells which
+  operation put each value there. ``jsonpatch`` also makes them from two documents.
 
 The work is done by a shared library in which every function is proved to meet
 its contract; this module calls it by ctypes and is not part of the proof. It
@@ -52,6 +52,18 @@ b'{"mAh":3000,"cut":[4.2,3.0]}'
 >>> merge(document, b'{"mAh": null, "maker": "acme"}')
 b'{"cut":[4.2,3.0],"maker":"acme"}'
 
+`apply_with_origins` also tells which operation put each value there:
+
+>>> patch = b'[{"op": "test", "path": "/mAh", "value": 3e3}, {"op": "add", "path": "/b", "value": []}]'
+>>> for origin in apply_with_origins(document, patch).origins:
+...     print(origin.op, repr(origin.pointer))
+0 ''
+0 '/mAh'
+0 '/cut'
+0 '/cut/0'
+0 '/cut/1'
+2 '/b'
+
 The library is looked for at $JSON_PATCH_LIBRARY, beside this package as
 ``make`` and ``make install`` lay it down, and where the system's loader looks.
 """
@@ -64,11 +76,13 @@ import json
 import os
 import threading
 from pathlib import Path
-from typing import Any, List, NamedTuple, Tuple, Union
+from typing import Any, Iterator, List, NamedTuple, Tuple, Union
 
 __all__ = [
-    "Compared", "Counts", "Kind", "Patched", "Pointer", "Refusal", "UndoRefusal", "apply",
-    "apply_with_undo", "compare", "inspect", "merge", "MAX_BYTES", "OUTPUT", "__version__",
+    "Compared", "Counts", "Kind", "Listed", "Origin", "Patched", "PatchedListed", "Pointer",
+    "Refusal", "UndoRefusal", "apply", "apply_with_origins", "apply_with_undo",
+    "apply_with_undo_and_origins", "compare", "inspect", "merge", "merge_with_origins",
+    "MAX_BYTES", "MAX_NODES", "OUTPUT", "__version__",
 ]
 __version__ = "0.2.0"
 
@@ -76,6 +90,9 @@ Bytes = Union[bytes, bytearray, memoryview]
 
 MAX_BYTES = 32_768
 """The longest document, and the longest patch, in bytes."""
+
+MAX_NODES = 2_048
+"""The most values that a document, or a result, may have."""
 
 OUTPUT = 65_536
 """The room for a result, in bytes, where none is given."""
@@ -291,6 +308,35 @@ class Patched(NamedTuple):
     """The patch that takes it back, compact."""
 
 
+class Origin(NamedTuple):
+    """Where a value comes from."""
+
+    op: int
+    """The operation that put it there, counted from 1; 0 for the document."""
+    pointer: str
+    """Where it stands in the result: a JSON Pointer, empty for the root."""
+
+
+class Listed(NamedTuple):
+    """What a call that lists origins returns."""
+
+    document: bytes
+    """The patched document, compact."""
+    origins: Tuple[Origin, ...]
+    """The origin of each of its values, in the order in which they are written."""
+
+
+class PatchedListed(NamedTuple):
+    """What a call with an undo that lists origins returns."""
+
+    document: bytes
+    """The patched document, compact."""
+    undo: bytes
+    """The patch that takes it back, compact."""
+    origins: Tuple[Origin, ...]
+    """The origin of each value of the document, in the order in which they are written."""
+
+
 def apply(
     document: Bytes, patch: Bytes, *, region: Union[str, Bytes, None] = None, room: int = OUTPUT
 ) -> bytes:
@@ -394,6 +440,100 @@ def merge(document: Bytes, patch: Bytes, *, room: int = OUTPUT) -> bytes:
         return ctypes.string_at(output, answer.length)
     fields = (answer.number, answer.text, answer.op, answer.place, answer.pointer)
     raise Refusal(*fields, _words(*fields, *texts))
+
+
+def apply_with_origins(
+    document: Bytes, patch: Bytes, *, region: Union[str, Bytes, None] = None, room: int = OUTPUT
+) -> Listed:
+    """Applies the patch as `apply` does; returns the result and its values' origins.
+
+    An origin is the number of the operation that put the value there by add, replace or
+    copy, and 0 for a value from the document. A moved value keeps its own, and a
+    container keeps its origin when a child changes.
+
+    >>> apply_with_origins(b'{"a": 1}', b'[{"op": "copy", "from": "/a", "path": "/b"}]').origins[2]
+    Origin(op=1, pointer='/b')
+    """
+    texts = _octets(document, "document"), _octets(patch, "patch")
+    if room < 0:
+        raise ValueError("room is less than 0")
+    answer, output, entries = _Answer(), ctypes.create_string_buffer(max(room, 1)), _List()
+    lent = [texts[0], len(texts[0]), texts[1], len(texts[1])]
+    lists = [output, room, entries, MAX_NODES, *_work().lent()]
+    if region is None:
+        _apply_origins(*lent, *lists, answer)
+    else:
+        within = region.encode() if isinstance(region, str) else _octets(region, "region")
+        _apply_within_origins(*lent, within, len(within), *lists, answer)
+    return _listed(answer, output, entries, texts)
+
+
+def merge_with_origins(document: Bytes, patch: Bytes, *, room: int = OUTPUT) -> Listed:
+    """Applies a merge patch as `merge` does; returns the result and its values' origins.
+
+    A merge patch counts as operation 1, also for the objects that it makes; an object of
+    the document that is merged into keeps its 0.
+
+    >>> [origin.op for origin in merge_with_origins(b'{"a": {}}', b'{"a": {"b": {}}}').origins]
+    [0, 0, 1]
+    """
+    texts = _octets(document, "document"), _octets(patch, "patch")
+    if room < 0:
+        raise ValueError("room is less than 0")
+    answer, output, entries = _Answer(), ctypes.create_string_buffer(max(room, 1)), _List()
+    _merge_origins(
+        texts[0], len(texts[0]), texts[1], len(texts[1]), output, room, entries, MAX_NODES,
+        *_work().lent(), answer,
+    )
+    return _listed(answer, output, entries, texts)
+
+
+def apply_with_undo_and_origins(
+    document: Bytes, patch: Bytes, *, room: int = OUTPUT, undo_room: int = MAX_BYTES
+) -> PatchedListed:
+    """Applies the patch as `apply_with_undo` does; returns the result, its undo and its
+    values' origins.
+
+    >>> apply_with_undo_and_origins(b'[1]', b'[{"op": "add", "path": "/0", "value": 0}]').origins
+    (Origin(op=0, pointer=''), Origin(op=1, pointer='/0'), Origin(op=0, pointer='/1'))
+    """
+    texts = _octets(document, "document"), _octets(patch, "patch")
+    if room < 0 or undo_room < 0:
+        raise ValueError("room is less than 0")
+    laid_down, entries = _UndoAnswer(), _List()
+    answer = laid_down.answer
+    output, undo = (ctypes.create_string_buffer(max(length, 1)) for length in (room, undo_room))
+    _apply_with_undo_origins(
+        texts[0], len(texts[0]), texts[1], len(texts[1]), output, room, undo, undo_room,
+        entries, MAX_NODES, *_undo_work().lent(), laid_down,
+    )
+    if _of_undo(answer.number, answer.text, answer.place, texts[1]):
+        fields = (answer.number, answer.text, answer.op, answer.place, answer.pointer)
+        raise UndoRefusal(*fields, f"undo: {Kind(answer.number).meaning}")
+    patched, origins = _listed(answer, output, entries, texts)
+    return PatchedListed(patched, ctypes.string_at(undo, laid_down.undo), origins)
+
+
+def _listed(answer: _Answer, output: Any, entries: Any, texts: Tuple[bytes, bytes]) -> Listed:
+    """What an answer and a list come to, or the refusal."""
+    if answer.number == 0:
+        document = ctypes.string_at(output, answer.length)
+        return Listed(document, tuple(map(Origin, entries, _pointers(json.loads(document)))))
+    fields = (answer.number, answer.text, answer.op, answer.place, answer.pointer)
+    raise Refusal(*fields, _words(*fields, *texts))
+
+
+def _pointers(value: Any, pointer: str = "") -> Iterator[str]:
+    """The pointers of a value and of all in it, a container's before those of its children."""
+    yield pointer
+    children: Any = ()
+    if isinstance(value, dict):
+        children = value.items()
+    elif isinstance(value, list):
+        children = enumerate(value)
+    for token, child in children:
+        escaped = str(token).replace("~", "~0").replace("/", "~1")
+        yield from _pointers(child, f"{pointer}/{escaped}")
 
 
 def _of_undo(number: int, text: int, place: int, patch: bytes) -> bool:
@@ -519,6 +659,11 @@ def _shown(text: str) -> str:
     return json.dumps(text, ensure_ascii=not text.isprintable())
 
 
+_List = ctypes.c_uint16 * MAX_NODES
+"""A list of origins: long enough for any result."""
+
+_LIST = [ctypes.POINTER(ctypes.c_uint16), ctypes.c_size_t]
+
 _local = threading.local()
 
 
@@ -575,5 +720,13 @@ _apply = _call("json_patch_apply", 3, _Work.types, _Answer)
 _apply_within = _call("json_patch_apply_within", 4, _Work.types, _Answer)
 _apply_with_undo = _call("json_patch_apply_with_undo", 4, _UndoWork.types, _UndoAnswer)
 _merge = _call("json_patch_merge", 3, _Work.types, _Answer)
+_apply_origins = _call("json_patch_apply_origins", 3, [*_LIST, *_Work.types], _Answer)
+_apply_within_origins = _call(
+    "json_patch_apply_within_origins", 4, [*_LIST, *_Work.types], _Answer
+)
+_merge_origins = _call("json_patch_merge_origins", 3, [*_LIST, *_Work.types], _Answer)
+_apply_with_undo_origins = _call(
+    "json_patch_apply_with_undo_origins", 4, [*_LIST, *_UndoWork.types], _UndoAnswer
+)
 _inspect = _call("json_patch_inspect", 1, _Work.types, _Inspection)
 _compare = _call("json_patch_compare", 2, _Work.types, _Comparison)

@@ -11,8 +11,9 @@ from pathlib import Path
 
 import json_patch
 from json_patch import (
-    Compared, Counts, Kind, Patched, Pointer, Refusal, UndoRefusal, apply, apply_with_undo, compare,
-    inspect,
+    Compared, Counts, Kind, Listed, Origin, Patched, PatchedListed, Pointer, Refusal, UndoRefusal,
+    apply, apply_with_origins, apply_with_undo, apply_with_undo_and_origins, compare, inspect, merge,
+    merge_with_origins,
 )
 
 ROOT = Path(__file__).resolve().parents[2]
@@ -251,6 +252,121 @@ class Undos(unittest.TestCase):
             return refusal.line.encode()
 
 
+class Origins(unittest.TestCase):
+    document = b'{"mAh":3000,"cut":[4.2,3.0]}'
+
+    def test_each_kind_of_operation(self):
+        patch = (
+            b'[{"op":"test","path":"/mAh","value":3e3},{"op":"replace","path":"/mAh","value":3100},'
+            b'{"op":"copy","from":"/cut","path":"/old"},{"op":"move","from":"/cut","path":"/limits"},'
+            b'{"op":"add","path":"/old/0","value":{"a/b":1}},{"op":"remove","path":"/limits/0"}]'
+        )
+        text, origins = apply_with_origins(bytearray(self.document), memoryview(patch))
+        self.assertEqual(text, apply(self.document, patch))
+        self.assertEqual(text, b'{"mAh":3100,"old":[{"a/b":1},4.2,3.0],"limits":[3.0]}')
+        self.assertEqual(origins, (
+            (0, ""), (2, "/mAh"), (3, "/old"), (5, "/old/0"), (5, "/old/0/a~1b"), (3, "/old/1"),
+            (3, "/old/2"), (0, "/limits"), (0, "/limits/0"),
+        ))
+        self.assertIsInstance(origins[0], Origin)
+
+    def test_names_and_numbers_of_every_kind(self):
+        text = b'{"":[],"~":{"\\"\\n":1E400},"\xc3\xa9":-0.10}'
+        self.assertEqual(
+            apply_with_origins(text, b"[]"),
+            Listed(text, tuple(
+                Origin(0, pointer) for pointer in ("", "/", "/~0", '/~0/"\n', "/\u00e9")
+            )),
+        )
+
+    def test_merge(self):
+        patch = b'{"mAh":null,"maker":{"name":"acme","lot":{"old":null}}}'
+        text, origins = merge_with_origins(self.document, patch)
+        self.assertEqual(text, merge(self.document, patch))
+        self.assertEqual([origin.op for origin in origins], [0, 0, 0, 0, 1, 1, 1])
+        self.assertEqual(origins[-1], (1, "/maker/lot"))
+        self.assertEqual(merge_with_origins(b"[1]", b"{}"), (b"{}", ((1, ""),)))
+
+    def test_undo(self):
+        patch = b'[{"op":"add","path":"/a","value":[1]}]'
+        self.assertEqual(
+            apply_with_undo_and_origins(b"{}", patch),
+            PatchedListed(
+                *apply_with_undo(b"{}", patch), (Origin(0, ""), Origin(1, "/a"), Origin(1, "/a/0"))
+            ),
+        )
+        with self.assertRaisesRegex(UndoRefusal, "undo: more than 32 nested containers"):
+            apply_with_undo_and_origins(31 * b"[" + 31 * b"]", b'[{"op":"add","path":"","value":0}]')
+        with self.assertRaisesRegex(Refusal, "patch:1:2: not JSON text"):
+            apply_with_undo_and_origins(b"{}", b"[")
+
+    def test_region(self):
+        patch = b'[{"op":"test","path":"/cut/0","value":4.2},{"op":"add","path":"/cut/-","value":1}]'
+        origins = apply_with_origins(self.document, patch, region="/cut").origins
+        self.assertEqual(origins[-1], (2, "/cut/2"))
+        with self.assertRaises(Refusal) as refused:
+            apply_with_origins(self.document, patch, region=b"/mAh")
+        self.assertEqual((refused.exception.number, refused.exception.op), (Kind.NOT_PERMITTED, 1))
+
+    def test_room_and_texts(self):
+        self.assertEqual(apply_with_origins(b"1", b"[]", room=1).document, b"1")
+        for call, patch in ((apply_with_origins, b"[]"), (merge_with_origins, b"{}"),
+                            (apply_with_undo_and_origins, b"[]")):
+            with self.assertRaises(Refusal) as refused:
+                call(b"{}", patch, room=1)
+            self.assertEqual(refused.exception.number, Kind.OUTPUT_TOO_SHORT)
+            with self.assertRaisesRegex(ValueError, "room is less than 0"):
+                call(b"{}", patch, room=-1)
+            with self.assertRaisesRegex(TypeError, "document is a str: encode it"):
+                call("{}", patch)
+
+    def test_the_longest_list(self):
+        zeros = b"[" + b",".join([b"0"] * 2046) + b"]"
+        origins = apply_with_origins(zeros, b'[{"op":"add","path":"/-","value":0}]').origins
+        self.assertEqual(len(origins), json_patch.MAX_NODES)
+        self.assertEqual([origin.op for origin in origins], [0] * 2047 + [1])
+
+    @unittest.skipUnless((ROOT / "crates" / "origin_vectors").is_dir(), "no committed cases")
+    def test_the_committed_cases(self):
+        folder = ROOT / "crates" / "origin_vectors"
+        cases = (folder / "data" / "cases").read_bytes()
+        lines = (folder / "stdout").read_bytes().split(b"\n")
+        at = count = 0
+        while at < len(cases):
+            end = cases.index(b"\n", at)
+            call, name, *numbers = cases[at:end].split(b" ")
+            room, undo_room, entries, *lengths = map(int, numbers)
+            at, texts = end + 1, []
+            for length in lengths:
+                texts.append(cases[at : at + length])
+                at += length + 1
+            if entries != json_patch.MAX_NODES:
+                continue
+            for line in self.said(call, texts, room, undo_room):
+                self.assertIn(name + line, lines)
+            count += 1
+        self.assertGreater(count, 100)
+
+    def said(self, call, texts, room, undo_room):
+        document, patch, region = texts
+        try:
+            if call == b"undo":
+                text, undo, origins = apply_with_undo_and_origins(
+                    document, patch, room=room, undo_room=undo_room
+                )
+                yield b" undo: " + undo
+            elif call == b"merge":
+                text, origins = merge_with_origins(document, patch, room=room)
+            else:
+                within = {"region": region} if call == b"within" else {}
+                text, origins = apply_with_origins(document, patch, room=room, **within)
+        except Refusal as refusal:
+            yield b": " + refusal.line.encode()
+            return
+        yield b": " + text
+        yield b" origins: " + b" ".join(b"%d" % origin.op for origin in origins)
+
+
 class Agreement(unittest.TestCase):
     header = (ROOT / "include" / "json_patch.h").read_text()
 
@@ -274,6 +390,7 @@ class Agreement(unittest.TestCase):
 
     def test_the_header_has_the_same_limits(self):
         self.assertEqual(self.defined("MAX_BYTES"), json_patch.MAX_BYTES)
+        self.assertEqual(self.defined("MAX_NODES"), json_patch.MAX_NODES)
         self.assertEqual(self.defined("TOOL_OUTPUT"), json_patch.OUTPUT)
         self.assertEqual(self.defined("WORK_NODES"), json_patch._NODES)
         self.assertEqual(self.defined("WORK_ENTRIES"), json_patch._ENTRIES)

@@ -154,7 +154,7 @@ fn end_of_item(text: &[u8]) -> usize {
 }
 
 /// The length of the string that a text begins with, quotation marks included.
-fn end_of_string(text: &[u8]) -> usize {
+pub(crate) fn end_of_string(text: &[u8]) -> usize {
     let mut at = 1;
     while at < text.len() {
         match text[at] {

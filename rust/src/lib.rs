@@ -37,7 +37,8 @@
 //!
 //! [`Refusal::explain`] shows a person where and why, given the two texts.
 //! [`undo`] also writes the patch that takes the result back. [`merge`] applies a
-//! merge patch (RFC 7396) instead.
+//! merge patch (RFC 7396) instead. [`origins`] also lists which operation put each
+//! value there.
 
 #![no_std]
 #![warn(missing_docs)]
@@ -48,6 +49,7 @@ pub mod hex;
 pub mod inspect;
 mod json;
 pub mod link;
+pub mod origins;
 mod place;
 pub mod raw;
 mod refusal;

@@ -31,7 +31,7 @@ pub struct Node {
     pub hash: u16,
     /// Its kind, and how and where its text and its name are read.
     pub tags: u16,
-    /// 0.
+    /// The operation that put it there, else 0 (complete where origins are listed).
     pub origin: u16,
 }
 

@@ -60,6 +60,11 @@ impl UndoWork {
     pub fn plain(&mut self) -> &mut Work {
         &mut self.plain
     }
+
+    /// Its two lists, and the buffer.
+    pub(crate) fn lists(&mut self) -> (&mut [Node], &mut [u16], &mut [u8]) {
+        (&mut self.plain.nodes, &mut self.plain.index, &mut self.text)
+    }
 }
 
 impl Default for UndoWork {
@@ -103,7 +108,7 @@ impl Refused {
 
     /// Which of the two it is: a patch that was read is refused with a place, and
     /// one that was not was too long.
-    fn of(refusal: Refusal, patch: &[u8]) -> Self {
+    pub(crate) fn of(refusal: Refusal, patch: &[u8]) -> Self {
         let Refusal { text, place, .. } = refusal;
         let of_undo = match refusal.kind() {
             Some(Kind::TooManyOperations | Kind::TooDeep | Kind::TooManyNodes) => true,

@@ -148,6 +148,9 @@ fn fields_of(source: &str, name: &str, kind: &str) -> Vec<String> {
     names
 }
 
+/// Where the calls that list origins are declared.
+const ORIGINS: &str = "rust/src/origins.rs";
+
 #[test]
 fn the_functions_are_declared_alike() {
     let calls = [
@@ -155,6 +158,10 @@ fn the_functions_are_declared_alike() {
         ("json_patch_apply_within", "crates/region_call/src/exports.rt", "rust/src/raw.rs", 13),
         ("json_patch_apply_with_undo", "crates/undo/src/exports.rt", "rust/src/undo.rs", 15),
         ("json_patch_merge", "crates/merge/src/exports.rt", "rust/src/raw.rs", 11),
+        ("json_patch_apply_origins", "crates/listing/src/exports.rt", ORIGINS, 13),
+        ("json_patch_apply_within_origins", "crates/region_listing/src/exports.rt", ORIGINS, 15),
+        ("json_patch_merge_origins", "crates/merge_listing/src/exports.rt", ORIGINS, 13),
+        ("json_patch_apply_with_undo_origins", "crates/undo_listing/src/exports.rt", ORIGINS, 17),
     ];
     for (name, source, rust, parameters) in calls {
         let source = of_source(name, source);
@@ -428,7 +435,13 @@ fn the_manual_has_the_headers_structs_prototypes_and_numbers() {
     let on_a_record = ["node_read", "node_store", "node_clear"];
     let with_undo = ["apply_with_undo", "undo_with", "undo_refused", "undo_describe"];
     let functions = ["apply", "apply_with", "message", "describe"].into_iter();
-    for function in functions.chain(on_a_record).chain(with_undo) {
+    let merging = ["merge", "merge_with"];
+    let listing = ["apply", "apply_within", "merge"].map(|call| format!("{call}_origins"));
+    let listing_with = listing.clone().map(|call| format!("{call}_with"));
+    let undo_listing = ["apply_with_undo_origins", "undo_origins_with"].map(str::to_string);
+    let plain_ones = functions.chain(on_a_record).chain(with_undo).chain(merging);
+    let all = plain_ones.map(str::to_string).chain(listing).chain(listing_with).chain(undo_listing);
+    for function in all {
         let begin = format!("json_patch_{function}(");
         let code = &header[header.find("extern \"C\"").expect("declarations")..];
         let wanted = format!("{begin}{})", plain(between(code, &begin, ")")));

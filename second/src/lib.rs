@@ -23,6 +23,7 @@ pub mod merges;
 mod number;
 mod numeral;
 pub mod operations;
+pub mod origins;
 pub mod patch;
 pub mod pointer;
 pub mod reader;

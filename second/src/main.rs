@@ -3,7 +3,8 @@
 #![forbid(unsafe_code)]
 
 use second::{
-    cases, compare, count, equal, generate, hex, links, makers, merges, tool, undo, vectors,
+    cases, compare, count, equal, generate, hex, links, makers, merges, origins, tool, undo,
+    vectors,
 };
 use std::env;
 use std::ffi::OsString;
@@ -48,6 +49,11 @@ const USAGE: &str = "usage:
   second merge-answers FILE
   second merge-vectors FILE
   second merge-generate SEED COUNT
+  second origins DOC PATCH
+  second origins-cases
+  second origins-answers FILE
+  second origins-vectors FILE
+  second origins-generate SEED COUNT
 ";
 
 /// The line of a call whose work area is too short. This program has none, so
@@ -56,6 +62,15 @@ const SHORT_WORK: &[u8] = b"work-a-record-short: refused 1 text 0 op 0 place 0 p
 
 /// The same for the buffer of a call with an undo.
 const SHORT_BUFFER: &[u8] = b"buffer-a-byte-short: refused 1 text 0 op 0 place 0 pointer 0\n";
+
+/// The same for each call that lists origins.
+const SHORT_LISTED: &str = "\
+apply-work-a-record-short: refused 1 text 0 op 0 place 0 pointer 0
+within-work-a-record-short: refused 1 text 0 op 0 place 0 pointer 0
+merge-work-a-record-short: refused 1 text 0 op 0 place 0 pointer 0
+undo-work-a-record-short: refused 1 text 0 op 0 place 0 pointer 0
+undo-buffer-a-byte-short: refused 1 text 0 op 0 place 0 pointer 0
+";
 
 /// How a command ends when it does not end well.
 enum Trouble {
@@ -229,6 +244,23 @@ fn run(arguments: &[OsString]) -> Result<(), Trouble> {
                 out.write_all(&merges::generate::case(seed, index).text())?;
             }
         }
+        (Some("origins"), files) => out.write_all(&tool::origins_output(files))?,
+        (Some("origins-cases"), []) => {
+            for vector in origins::vectors::all() {
+                out.write_all(&vector.case.file())?;
+            }
+        }
+        (Some("origins-answers"), [file]) => origins_answers(file, &mut out)?,
+        (Some("origins-vectors"), [file]) => {
+            origins_answers(file, &mut out)?;
+            out.write_all(SHORT_LISTED.as_bytes())?;
+        }
+        (Some("origins-generate"), [seed, count]) => {
+            let seed = number(seed)?;
+            for index in 0..number(count)? {
+                out.write_all(&origins::generate::case(seed, index).file())?;
+            }
+        }
         (Some("compare"), [seed, count, dashes, command @ ..])
             if dashes == "--" && !command.is_empty() =>
         {
@@ -289,6 +321,14 @@ fn merge_answers(file: &OsString, out: &mut impl Write) -> Result<(), Trouble> {
         write!(out, "{}: ", case.name)?;
         out.write_all(&merges::line_of(&case))?;
         out.write_all(b"\n")?;
+    }
+    Ok(())
+}
+
+/// The lines of each case with a list in a file.
+fn origins_answers(file: &OsString, out: &mut impl Write) -> Result<(), Trouble> {
+    for case in origins::cases::parse(&fs::read(file)?).map_err(Trouble::Message)? {
+        out.write_all(&case.lines())?;
     }
     Ok(())
 }

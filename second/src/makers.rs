@@ -3,7 +3,7 @@
 //! A maker sends only test, replace and add, a test first, and every path lies
 //! strictly inside the region. What keeps that rule is applied as any patch is.
 
-use crate::answer::{at_op, in_text, plain, DOCUMENT, PATCH};
+use crate::answer::{at_op, in_text, plain, Applied, DOCUMENT, PATCH};
 use crate::limits::{LONGEST_TEXT, MOST_OPERATIONS};
 use crate::patch::{self, refusal, Operation, Refusal};
 use crate::refusals::{
@@ -20,14 +20,19 @@ pub mod vectors;
 /// Applies a maker's patch to a document, within a region given as a pointer's
 /// text, to be written in an output of that room.
 pub fn apply(document: &[u8], patch: &[u8], region: &[u8], room: usize) -> Answer {
-    match attempt(document, patch, region, room) {
-        Ok(written) => Answer { written, ..plain(0) },
+    match applied(document, patch, region, room) {
+        Ok(Applied { written, .. }) => Answer { written, ..plain(0) },
         Err(refusal) => refusal,
     }
 }
 
-/// The written text, or the refusal as an answer.
-fn attempt(document: &[u8], patch: &[u8], region: &[u8], room: usize) -> Result<Vec<u8>, Answer> {
+/// What comes of a maker's patch, or the refusal as an answer.
+pub(crate) fn applied(
+    document: &[u8],
+    patch: &[u8],
+    region: &[u8],
+    room: usize,
+) -> Result<Applied, Answer> {
     if document.len() > LONGEST_TEXT {
         return Err(in_text(TOO_LONG, DOCUMENT, 0));
     }
@@ -41,12 +46,12 @@ fn attempt(document: &[u8], patch: &[u8], region: &[u8], room: usize) -> Result<
     let patch = reader::read(patch).map_err(|r| in_text(r.number, PATCH, r.place))?;
     let region = tokens(region).ok_or_else(|| plain(MALFORMED_POINTER))?;
     let operations = shape(&patch, &region).map_err(at_op)?;
-    let result = operations::run(document, &operations).map_err(at_op)?;
+    let result = operations::run(document.clone(), &operations).map_err(at_op)?;
     let written = writer::write(&result);
     if written.len() > room {
         return Err(plain(NO_ROOM));
     }
-    Ok(written)
+    Ok(Applied { document, operations, written })
 }
 
 /// The tokens of a region, if its bytes are UTF-8 and a pointer.

@@ -43,12 +43,21 @@ pub fn merge_patch(target: Option<Value>, patch: &Value) -> Value {
 /// Applies a merge patch to a document, to be written in an output of that room.
 pub fn merge(document: &[u8], patch: &[u8], room: usize) -> Answer {
     match merged(document, patch, room) {
-        Ok(written) => Answer { written, ..plain(0) },
+        Ok(Merged { written, .. }) => Answer { written, ..plain(0) },
         Err(refusal) => refusal,
     }
 }
 
-fn merged(document: &[u8], patch: &[u8], room: usize) -> Result<Vec<u8>, Answer> {
+/// A merge that succeeds: the two values as read, the result, and the written text.
+pub(crate) struct Merged {
+    pub document: Value,
+    pub patch: Value,
+    pub result: Value,
+    pub written: Vec<u8>,
+}
+
+/// What comes of a merge patch, or the refusal as an answer.
+pub(crate) fn merged(document: &[u8], patch: &[u8], room: usize) -> Result<Merged, Answer> {
     if document.len() > LONGEST_TEXT {
         return Err(in_text(TOO_LONG, DOCUMENT, 0));
     }
@@ -57,7 +66,7 @@ fn merged(document: &[u8], patch: &[u8], room: usize) -> Result<Vec<u8>, Answer>
     }
     let document = reader::read(document).map_err(|r| in_text(r.number, DOCUMENT, r.place))?;
     let patch = reader::read(patch).map_err(|r| in_text(r.number, PATCH, r.place))?;
-    let result = merge_patch(Some(document), &patch);
+    let result = merge_patch(Some(document.clone()), &patch);
     if result.nodes() > MOST_NODES {
         return Err(plain(TOO_MANY_NODES));
     }
@@ -65,7 +74,7 @@ fn merged(document: &[u8], patch: &[u8], room: usize) -> Result<Vec<u8>, Answer>
     if written.len() > room {
         return Err(plain(NO_ROOM));
     }
-    Ok(written)
+    Ok(Merged { document, patch, result, written })
 }
 
 /// The line that this engine answers of a case.

@@ -8,6 +8,7 @@ mod hex;
 mod links;
 mod makers;
 mod merges;
+mod origins;
 mod pairs;
 mod parts;
 mod regions;

@@ -1,7 +1,8 @@
 //! The patch tool: two file names in, one line out.
 
-use crate::limits::{LONGEST_TEXT, TOOL_READS, TOOL_ROOM};
+use crate::limits::{LONGEST_TEXT, MOST_NODES, TOOL_READS, TOOL_ROOM};
 use crate::merges::merge;
+use crate::origins::{self, Lent};
 use crate::undo::apply_with_undo;
 use crate::{apply, line};
 use std::ffi::OsString;
@@ -39,6 +40,25 @@ pub fn undo_output(arguments: &[OsString]) -> Vec<u8> {
                 answered.undo
             } else {
                 line(&answered.answer)
+            }
+        }
+        None => b"unreadable".to_vec(),
+    };
+    printed.push(b'\n');
+    printed
+}
+
+/// The origins of the patched document's values, or the line of a refusal; the newline
+/// included.
+pub fn origins_output(arguments: &[OsString]) -> Vec<u8> {
+    let mut printed = match inputs(arguments) {
+        Some((document, patch)) => {
+            let lent = Lent { room: TOOL_ROOM, list: MOST_NODES };
+            let listed = origins::apply(&document, &patch, lent);
+            if listed.answer.number == 0 {
+                origins::cases::said(&listed.origins).into_bytes()
+            } else {
+                line(&listed.answer)
             }
         }
         None => b"unreadable".to_vec(),

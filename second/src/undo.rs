@@ -45,7 +45,16 @@ fn attempt(
     undo_room: usize,
 ) -> Result<(Vec<u8>, Vec<u8>), Answer> {
     let Applied { document, operations, written } = applied(document, patch, room)?;
-    let steps = undo(document, &operations);
+    Ok((written, undo_text(document, &operations, undo_room)?))
+}
+
+/// The undo's text of a run that succeeds, or its refusal as an answer.
+pub(crate) fn undo_text(
+    document: Value,
+    operations: &[Operation],
+    undo_room: usize,
+) -> Result<Vec<u8>, Answer> {
+    let steps = undo(document, operations);
     let count = steps.len();
     let value = value(&steps);
     let text = writer::write(&value);
@@ -63,7 +72,7 @@ fn attempt(
     if text.len() > undo_room {
         return Err(plain(NO_ROOM));
     }
-    Ok((written, text))
+    Ok(text)
 }
 
 /// One operation of an undo.

@@ -64,7 +64,9 @@ module _ (s : List ℕ) (at count : ℕ) where
   unfolding bytesAt
   bytes-unended d = go (ltb (at + count) (length s))
     where
-      go : (b : Bool) → (if b then (if eqb (getD s (at + count) 0) 10 then Is (record { start = at; end = at + count }) (at + count + 1) else Missing) else Missing) ≡ Missing
+      go : (b : Bool) →
+          (if b then (if eqb (getD s (at + count) 0) 10 then Is (record { start = at; end = at + count }) (at + count + 1) else Missing) else Missing) ≡
+          Missing
       go true = rw (ne-eqb _ _ d)
       go false = refl
 

@@ -1,5 +1,5 @@
-// A case in the file of cases: a header, a newline, and texts, each with a newline behind it. The header has a word, the
-// case's name, numbers that say how much is lent, and the length of each text, with a blank between each two.
+// A case in the file of cases: a header, a newline, and texts, each with a newline behind it. The header has a word,
+// the case's name, numbers that say how much is lent, and the length of each text, with a blank between each two.
 use crate::numbers::Numbers;
 use crate::numbers::Three;
 use crate::numbers::three_at;

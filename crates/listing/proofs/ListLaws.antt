@@ -75,7 +75,7 @@ pub list-over : (nodes : List Row) (used : ℕ) (xs : List ℕ) (i : ℕ) → le
 list-over nodes used xs i h = list-none (take used nodes) xs i (omega (arith, length-take used nodes))
 
 -- ---- where all have room
-entries-front : (rs : List Row) (xs : List ℕ) → length rs ≤ length xs → entries rs xs ≡ map originOf rs ++ drop (length rs) xs
+pub entries-front : (rs : List Row) (xs : List ℕ) → length rs ≤ length xs → entries rs xs ≡ map originOf rs ++ drop (length rs) xs
 unfolding entries
 entries-front [] xs h = refl
 entries-front (r ∷ rs) [] h = absurd (omega arith)
@@ -85,11 +85,11 @@ map-both : (rs qs : List Row) → map originOf (rs ++ qs) ≡ map originOf rs ++
 map-both [] qs = refl
 map-both (r ∷ rs) qs = ap (λ (ys : List ℕ). originOf r ∷ ys) (map-both rs qs)
 
-length-origins-of : (rs : List Row) → length (map originOf rs) ≡ length rs
+pub length-origins-of : (rs : List Row) → length (map originOf rs) ≡ length rs
 length-origins-of [] = refl
 length-origins-of (r ∷ rs) = ap suc (length-origins-of rs)
 
-tape-origins : (T : Texts) (f : Forest Cell) → map originOf (tape rowOf f) ≡ originsOf (borneMembers T f)
+pub tape-origins : (T : Texts) (f : Forest Cell) → map originOf (tape rowOf f) ≡ originsOf (borneMembers T f)
 unfolding tape mapForest originsOf rowOf
 tape-origins T none = refl
 tape-origins T (tree c kids rest) =

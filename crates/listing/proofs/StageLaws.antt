@@ -102,7 +102,7 @@ module _ {w : Table} {used : ℕ} {v : Value.Value} (b : Bearing w used v) (o : 
 -- ---- the operations run, on nodes that bear their origins
 module _ {w : Table} {ns nodes' : List Row} {used : ℕ} {told : Ran} (stamps : StampTextsIs (w .nodes) ns used)
     (runs : RunIs (table (w .texts) ns) nodes' used told) where
-  ran-listed : {v p : Plain.Value} → Document w used v → PatchHeld w p → Short (w .texts) → (os : List Operation.Operation) → shape p ≡ finished os
+  pub ran-listed : {v p : Plain.Value} → Document w used v → PatchHeld w p → Short (w .texts) → (os : List Operation.Operation) → shape p ≡ finished os
       → RanBearing (w .texts) nodes' (run limited 1 os (painted 0 v)) told
   ran-listed {v} {p} document held short os shaped =
       let s = stamps (w .texts) v p document held in

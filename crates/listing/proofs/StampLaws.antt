@@ -164,7 +164,7 @@ drop-row n [] ys h = absurd (omega arith)
 drop-row zero (x ∷ xs) ys h = refl
 drop-row (suc n) (x ∷ xs) ys h = drop-row n xs ys (omega arith)
 
-drop-stamped : (xs : List Row) (n m k : ℕ) → n ≤ m → drop m (stamped xs 0 n k) ≡ drop m xs
+pub drop-stamped : (xs : List Row) (n m k : ℕ) → n ≤ m → drop m (stamped xs 0 n k) ≡ drop m xs
 unfolding stamped stampedRows
 drop-stamped xs zero m k h = refl
 drop-stamped xs (suc n) zero k h = absurd (omega arith)
@@ -173,7 +173,7 @@ drop-stamped (x ∷ xs) (suc n) (suc m) k h = drop-stamped xs n m k (omega arith
 
 -- the document, with its rows as they were, and stamped
 module _ {T : Texts} {xs ys : List Row} {used : ℕ} {v : Plain.Value} (d : Document (table T xs) used v) where
-  document-same : take patchRow ys ≡ take patchRow xs → rows ≤ length ys → Document (table T ys) used v
+  pub document-same : take patchRow ys ≡ take patchRow xs → rows ≤ length ys → Document (table T ys) used v
   unfolding size
   document-same same long =
       let inside : size (tree (d .c) (d .kids) none) ≤ patchRow = omega (arith, d .ends, d .few) in
@@ -194,7 +194,7 @@ module _ {T : Texts} {xs ys : List Row} {used : ℕ} {v : Plain.Value} (d : Docu
         long = long;
       }
 
-  document-stamped : ys ≡ stamped xs 0 used 0 → Bearing (table T ys) used (painted 0 v)
+  pub document-stamped : ys ≡ stamped xs 0 used 0 → Bearing (table T ys) used (painted 0 v)
   unfolding mapForest size
   document-stamped is =
       let words : take used (drop 0 xs) ≡ tape rowOf (tree (d .c) (d .kids) none) =

@@ -1,23 +1,18 @@
 -- The loop over the patch's members: what stands so far, and what a turn makes of it; and the object closed.
-use Prim.Native.Nat.{ℕ, zero, suc, _+_, _-_, _≤_, _<_, min}
+use Prim.Native.Nat.{ℕ, suc, _+_, _-_, _≤_, _<_, min}
 use native.Mathlib.Omega.{arith}
-use native.Mathlib.Nat.{add-zero}
-use mathlib.Core.Path.{_≡_, refl, sym, ap, ap₂, _∙_, subst}
-use mathlib.Core.Bool.{Bool, true, false, true≢false}
+use mathlib.Core.Path.{_≡_, refl, sym, ap, _∙_, subst}
+use mathlib.Core.Bool.{Bool, true, false}
 use mathlib.Core.List.{List, []}
-use lib.Dec.{eqb, leb}
+use lib.Dec.{eqb}
 use lib.ListN.{length, getD}
 use borrow.Author.Tests.{eqb-true, lt-leb}
-use Rattle.spec.specs.Outcome.{if_then_else_}
 use Rattle.spec.specs.Bytes.{Text}
 use Rattle.spec.specs.Forest.{Forest, none, tree, single, size, before, from, _⧺_}
 use Rattle.spec.specs.Value as Value
-use Rattle.spec.specs.Value.{Label, Entry, Members, leaf, named, isObject, has}
-use Rattle.merging.specs.MergePatch.{isNull, mergePatch}
-use Rattle.merging.specs.Parts.{gather, kept, appended, mergedMembers}
-use Rattle.merging.proofs.PartLaws.{⧺-none, ⧺-assoc}
-use Rattle.merging.proofs.ObjectLaws.{merge-other}
-use Rattle.tape.specs.Layout.{values, patchRow, scratchRow, objectKind, rows}
+use Rattle.spec.specs.Value.{Label, Entry, isObject, has}
+use Rattle.merging.specs.MergePatch.{isNull}
+use Rattle.tape.specs.Layout.{scratchRow, objectKind, rows}
 use Rattle.tape.specs.Fields.{Row, kindOf}
 use Rattle.tape.specs.declared.fields.Cell.{Cell}
 use Rattle.tape.specs.Rows.{endOf}
@@ -28,23 +23,28 @@ use Rattle.tape.proofs.Held.{held-node}
 use Rattle.tape.proofs.Rows.{end-here, kind-here}
 use Rattle.table.specs.Meaning.{nameText, entryOf, members, meant}
 use Rattle.table.proofs.MeaningLaws.{isObject-label}
-use Rattle.equality.proofs.SiblingLaws.{Siblings, siblings-all, siblings-first, siblings-next, siblings-none, siblings-value}
-use Rattle.merge.specs.Building.{full, closed, CopyIs, Framed, Built, BuiltNode}
+use Rattle.table.proofs.AllLaws.{all-first, all-kids}
+use Rattle.origin.specs.Value.{Members, leaf, named}
+use Rattle.origin.specs.MergePatch.{mergeOrigin, mergePatch}
+use Rattle.merge.specs.Bearing.{View, membersBy, BearsMerge}
+use Rattle.merge.specs.Parts.{gather, kept, appended, mergedMembers}
+use Rattle.merge.specs.Building.{full, closed, CopyIs, BuiltNode}
 use Rattle.merge.specs.Marks.{noteOf, Changed, Marks, marks-tree}
 use Rattle.merge.specs.Partner.{PatchObject}
 use Rattle.merge.specs.Steps.{stepFor, appendStep}
-use Rattle.merge.specs.Merged.{Merges, MergeObjectIs}
+use Rattle.merge.specs.Merged.{Target, Merges, MergeObjectIs}
 use Rattle.merge.specs.declared.steps.Step.{Step}
 use Rattle.merge.specs.declared.steps.Step.the-variants.{Nothing, Copy, Merge}
-use Rattle.merge.proofs.BuildLaws.{framed-then, framed-before, framed-closed, close-built}
+use Rattle.merge.proofs.BuildLaws.{close-built}
 use Rattle.merge.proofs.MarkLaws.{changed-self, changed-wider, marks-kept}
 use Rattle.merge.proofs.StepLaws.{member-siblings, member-inside}
-use Rattle.merge.proofs.LaidLaws.{with-nodes, siblings-stay, Laid, laid-none, no-target}
+use Rattle.merge.proofs.LaidLaws.{with-nodes, Laid, laid-none, no-target, forget-view, target-origin}
+use Rattle.merge.proofs.PartLaws.{⧺-none, ⧺-assoc, merge-other}
 use Rattle.merge.proofs.KeepLaws.{step-nothing, step-copy, step-merge, null-label, Given, SoFar, object-now, end-now, so-far-framed, so-far-more}
 use Rattle.merge.proofs.KeepLaws.{member-kind, member-copied, member-merged, member-changed, AllKept}
 
 -- ---- what becomes of a member of the patch
-module _ (target : Members) (e : Entry) (ks : Members) where
+module _ (target : Value.Members) (e : Entry) (ks : Value.Members) where
   appended-there : has (e .name) target ≡ true → appended target e ks ≡ none
   unfolding appended
   appended-there h = rw h
@@ -54,7 +54,7 @@ module _ (target : Members) (e : Entry) (ks : Members) where
   appended-null h z = rw (h, z)
 
   appended-some : has (e .name) target ≡ false → isNull (e .label) ≡ false
-      → appended target e ks ≡ single (named (e .name) (mergePatch (leaf Label.null-literal) (record { label = e .label; kids = ks })))
+      → appended target e ks ≡ single (named (e .name) (mergePatch (leaf mergeOrigin Label.null-literal) (record { label = e .label; kids = ks })))
   unfolding appended
   appended-some h z = rw (h, z)
 
@@ -77,23 +77,23 @@ module _ (nodes : List Row) (row : ℕ) (ys : List ℕ) (near : row < scratchRow
   step-unmet h = rw (lt-leb scratchRow row near, h)
 
 -- ---- the loop: the patch's members from the k-th on are left
-pub record Appending (w : Table) (xs : List ℕ) (patch to levels last : ℕ) (c : Cell)
+pub record Appending (o : View) (w : Table) (xs : List ℕ) (patch to levels last : ℕ) (c : Cell)
     (kids ts : Forest Cell) (nodes : List Row) (ys : List ℕ) (next row : ℕ) : Type 0 where
-  pub given : Given w xs patch to levels c kids
+  pub given : Given o w xs patch to levels c kids
   pub k : ℕ
   pub place : row ≡ patch + 1 + size (before k kids)
   pub ends : last ≡ patch + 1 + size kids
   pub all : Members
-  pub so-far : SoFar w xs patch to kids all nodes ys next
-  pub whole : mergedMembers (members (w .texts) ts) (members (w .texts) kids)
+  pub so-far : SoFar o w xs patch to kids all nodes ys next
+  pub whole : mergedMembers (membersBy o (w .texts) ts) (members (w .texts) kids)
       ≡ all ⧺ gather (appended (members (w .texts) ts)) (members (w .texts) (from k kids))
   pub marks : Marks (w .texts) ys (λ n. has n (members (w .texts) ts)) row (from k kids)
 
-pub appending-start : {w : Table} {xs : List ℕ} {patch to levels : ℕ} {c : Cell} {kids ts : Forest Cell} {nodes : List Row} {ys : List ℕ} {next : ℕ}
-    → AllKept w xs patch to levels c kids ts nodes ys next → (last : ℕ) → last ≡ endOf nodes patch
-    → Appending w xs patch to levels last c kids ts nodes ys next (patch + 1)
+pub appending-start : {o : View} {w : Table} {xs : List ℕ} {patch to levels : ℕ} {c : Cell} {kids ts : Forest Cell} {nodes : List Row} {ys : List ℕ} {next : ℕ}
+    → AllKept o w xs patch to levels c kids ts nodes ys next → (last : ℕ) → last ≡ endOf nodes patch
+    → Appending o w xs patch to levels last c kids ts nodes ys next (patch + 1)
 unfolding before from size mergedMembers
-appending-start {patch = patch} q last e =
+appending-start {o} {w} {patch = patch} {kids = kids} {ts = ts} q last e =
     record {
       given = q .given;
       k = 0;
@@ -101,17 +101,22 @@ appending-start {patch = patch} q last e =
       ends = e ∙ end-now (q .given) (q .so-far);
       all = _;
       so-far = q .so-far;
-      whole = refl;
+      whole =
+          ap (λ f. gather (kept (members (w .texts) kids)) (membersBy o (w .texts) ts) ⧺ gather (appended f) (members (w .texts) kids))
+          (forget-view o (w .texts) ts);
       marks = q .marks;
     }
 
-module _ {w : Table} {xs : List ℕ} {patch to levels last : ℕ} {c : Cell} {kids ts : Forest Cell} {nodes : List Row} {ys : List ℕ} {next row : ℕ}
-    (q : Appending w xs patch to levels last c kids ts nodes ys next row) where
+module _ {o : View} {w : Table} {xs : List ℕ} {patch to levels last : ℕ} {c : Cell} {kids ts : Forest Cell} {nodes : List Row} {ys : List ℕ} {next row : ℕ}
+    (q : Appending o w xs patch to levels last c kids ts nodes ys next row) where
   object-here : PatchObject (with-nodes w nodes) patch c kids ys
   object-here = object-now (q .given) (q .so-far)
 
   long-here : length nodes ≡ rows
   long-here = q .so-far .framed .same-length ∙ q .given .long
+
+  ones : BearsMerge o kids
+  ones = all-kids (q .given .merged)
 
   module _ (more : row < last) (row' : ℕ) (goes : row' ≡ endOf nodes row) where
     turn : {A : Type 0} → ((d : Cell) (ds rest : Forest Cell) → from (q .k) kids ≡ tree d ds rest → A) → A
@@ -132,8 +137,8 @@ module _ {w : Table} {xs : List ℕ} {patch to levels last : ℕ} {c : Cell} {ki
 
       -- the first of those left is done
       appending-on : {nodes' : List Row} {ws : List ℕ} {next' : ℕ}
-          → Laid (w .texts) nodes next (appended (members (w .texts) ts) (entryOf (w .texts) d) (members (w .texts) ds)) nodes' next'
-          → Changed nodes row (row + 1 + size ds) ys ws → Appending w xs patch to levels last c kids ts nodes' ws next' row'
+          → Laid o (w .texts) nodes next (appended (members (w .texts) ts) (entryOf (w .texts) d) (members (w .texts) ds)) nodes' next'
+          → Changed nodes row (row + 1 + size ds) ys ws → Appending o w xs patch to levels last c kids ts nodes' ws next' row'
       unfolding mapForest gather size
       appending-on {nodes'} {ws} {next'} laid changed =
           let T : Texts = w .texts in
@@ -170,14 +175,14 @@ module _ {w : Table} {xs : List ℕ} {patch to levels last : ℕ} {c : Cell} {ki
             go false h = unmet h (steps ∙ step-unmet nodes row ys near (note-is ∙ h) ∙ ap (λ n. stepFor n row) kind-is)
 
         kind-low : d .kind ≤ objectKind
-        kind-low = member-kind object-here long-here (q .k) row is (q .place)
+        kind-low = member-kind object-here long-here o ones (q .k) row is (q .place)
 
         laid-nothing : appended (members (w .texts) ts) (entryOf (w .texts) d) (members (w .texts) ds) ≡ none
-            → Appending w xs patch to levels last c kids ts nodes ys next row'
+            → Appending o w xs patch to levels last c kids ts nodes ys next row'
         laid-nothing e =
-            appending-on (subst (λ f. Laid (w .texts) nodes next f nodes next) (sym e) (laid-none (omega (arith, q .so-far .counted)))) changed-self
+            appending-on (subst (λ f. Laid o (w .texts) nodes next f nodes next) (sym e) (laid-none (omega (arith, q .so-far .counted)))) changed-self
 
-        nothing-appended : step ≡ Nothing → Appending w xs patch to levels last c kids ts nodes ys next row'
+        nothing-appended : step ≡ Nothing → Appending o w xs patch to levels last c kids ts nodes ys next row'
         nothing-appended e =
             by-note (λ h _. laid-nothing (appended-there (members (w .texts) ts) (entryOf (w .texts) d) (members (w .texts) ds) h))
             (λ h told.
@@ -185,7 +190,7 @@ module _ {w : Table} {xs : List ℕ} {patch to levels last : ℕ} {c : Cell} {ki
             (null-label (w .texts) d kind-low ∙ step-nothing (d .kind) row (sym told ∙ e))))
 
         value-copied : (from : ℕ) → step ≡ Copy from → {nodes' : List Row} {next' : ℕ} → CopyIs nodes from next nodes' next'
-            → Appending w xs patch to levels last c kids ts nodes' ys next' row'
+            → Appending o w xs patch to levels last c kids ts nodes' ys next' row'
         value-copied from e {nodes'} {next'} copy =
             by-note (λ h told. absurd (let z : _≡_ {A = ℕ} 0 1 = cc in omega arith))
             (λ h told.
@@ -194,15 +199,15 @@ module _ {w : Table} {xs : List ℕ} {patch to levels last : ℕ} {c : Cell} {ki
             let no-object : isObject (entryOf (w .texts) d .label) ≡ false = isObject-label (w .texts) (d .kind) (d .value) kind-low ∙ other in
             let x : Value.Value = meant (w .texts) d ds in
             appending-on
-            (subst (λ f. Laid (w .texts) nodes next f nodes' next')
-            (ap (λ u. single (named (nameText (w .texts) (d .name)) u)) (sym (merge-other (leaf Label.null-literal) x no-object))
+            (subst (λ f. Laid o (w .texts) nodes next f nodes' next')
+            (ap (λ u. single (named (nameText (w .texts) (d .name)) u)) (sym (merge-other (leaf mergeOrigin Label.null-literal) x no-object))
             ∙ sym (appended-some (members (w .texts) ts) (entryOf (w .texts) d) (members (w .texts) ds) h no-null))
-            (member-copied object-here long-here (q .k) row is (q .place) (subst (λ n. CopyIs nodes n next nodes' next') (sym here) copy)))
+            (member-copied object-here long-here o ones (q .k) row is (q .place) (subst (λ n. CopyIs nodes n next nodes' next') (sym here) copy)))
             changed-self)
 
         object-merged : (from : ℕ) → step ≡ Merge from → {nodes' : List Row} {ws : List ℕ} {next' : ℕ}
             → MergeObjectIs (with-nodes w nodes) rows from next (levels - 1) ys nodes' ws next'
-            → Appending w xs patch to levels last c kids ts nodes' ws next' row'
+            → Appending o w xs patch to levels last c kids ts nodes' ws next' row'
         object-merged from e {nodes'} {ws} {next'} merges =
             by-note (λ h told. absurd (let z : _≡_ {A = ℕ} 0 1 = cc in omega arith))
             (λ h told.
@@ -211,42 +216,43 @@ module _ {w : Table} {xs : List ℕ} {patch to levels last : ℕ} {c : Cell} {ki
             let no-null : isNull (entryOf (w .texts) d .label) ≡ false = null-label (w .texts) d kind-low ∙ some-value in
             let merges-here = subst (λ n. MergeObjectIs (with-nodes w nodes) rows n next (levels - 1) ys nodes' ws next') (sym here) merges in
             appending-on
-            (subst (λ f. Laid (w .texts) nodes next f nodes' next')
+            (subst (λ f. Laid o (w .texts) nodes next f nodes' next')
             (sym (appended-some (members (w .texts) ts) (entryOf (w .texts) d) (members (w .texts) ds) h no-null))
-            (member-merged object-here long-here (q .k) row is (q .place) (no-target long-here) kind changed-self merges-here (q .given .shallow)))
-            (member-changed object-here long-here (q .k) row is (q .place) (no-target long-here) kind changed-self merges-here (q .given .shallow)))
+            (member-merged object-here long-here o ones (q .k) row is (q .place) (no-target long-here) kind changed-self merges-here (q .given .shallow)))
+            (member-changed object-here long-here o ones (q .k) row is (q .place) (no-target long-here) kind changed-self merges-here (q .given .shallow)))
 
     module _ {step : Step} (steps : step ≡ appendStep nodes row ys) where
-      pub appending-nothing : step ≡ Nothing → Appending w xs patch to levels last c kids ts nodes ys next row'
+      pub appending-nothing : step ≡ Nothing → Appending o w xs patch to levels last c kids ts nodes ys next row'
       appending-nothing e = turn λ d ds rest is. nothing-appended d ds rest is steps e
 
       pub appending-copied : (from : ℕ) → step ≡ Copy from → {nodes' : List Row} {next' : ℕ} → CopyIs nodes from next nodes' next'
-          → Appending w xs patch to levels last c kids ts nodes' ys next' row'
+          → Appending o w xs patch to levels last c kids ts nodes' ys next' row'
       appending-copied from e copy = turn λ d ds rest is. value-copied d ds rest is steps from e copy
 
       pub appending-merged : (from : ℕ) → step ≡ Merge from → {nodes' : List Row} {ws : List ℕ} {next' : ℕ}
           → MergeObjectIs (with-nodes w nodes) rows from next (levels - 1) ys nodes' ws next'
-          → Appending w xs patch to levels last c kids ts nodes' ws next' row'
+          → Appending o w xs patch to levels last c kids ts nodes' ws next' row'
       appending-merged from e merges = turn λ d ds rest is. object-merged d ds rest is steps from e merges
 
   -- ---- behind the last turn: the object is closed
-  pub appending-done : last ≤ row → {nodes' : List Row} → nodes' ≡ closed nodes patch to next
-      → Merges w patch to c kids (mergedMembers (members (w .texts) ts) (members (w .texts) kids)) xs nodes' ys next
+  pub appending-done : last ≤ row → {target k : ℕ} → Target o w target k ts → {nodes' : List Row} → nodes' ≡ closed nodes target patch to next
+      → Merges o w patch to c kids k (mergedMembers (membersBy o (w .texts) ts) (members (w .texts) kids)) xs nodes' ys next
   unfolding mapForest gather size
-  appending-done over {nodes'} is =
+  appending-done over {target} {k} t {nodes'} is =
       let T : Texts = w .texts in
       let no-more : from (q .k) kids ≡ none = size-none (from (q .k) kids) (omega (arith, q .place, q .ends, size-cut (q .k) kids)) in
-      let is-all : mergedMembers (members T ts) (members T kids) ≡ q .all =
+      let is-all : mergedMembers (membersBy o T ts) (members T kids) ≡ q .all =
       q .whole ∙ ap (λ f. q .all ⧺ gather (appended (members T ts)) (members T f)) no-more ∙ ⧺-none (q .all) in
       let node = held-node (q .given .object .held .held) in
       let node-now = held-node (object-here .held .held) in
+      let origin = target-origin t (so-far-framed (q .given) (q .so-far)) (object-here .held) (all-first (q .given .merged)) in
       record {
         changed = subst (λ n. Changed (w .nodes) patch n xs ys) (sym (end-here node)) (q .so-far .changed);
         counted = q .so-far .counted ∙ ap (λ f. min (to + 1 + size f) full) (sym is-all);
         built = λ room.
-            subst (λ xs. BuiltNode T xs to next c (mergedMembers (members T ts) (members T kids))) (sym is)
-            (subst (BuiltNode T (closed nodes patch to next) to next c) (sym is-all)
-            (close-built node-now (omega (arith, q .given .object .object))
+            subst (λ xs. BuiltNode o T xs to next c k (mergedMembers (membersBy o T ts) (members T kids))) (sym is)
+            (subst (BuiltNode o T (closed nodes target patch to next) to next c k) (sym is-all)
+            (close-built node-now (omega (arith, q .given .object .object)) target origin
             (omega (arith, q .so-far .counted)) (omega (arith, long-here)) (omega (arith, long-here))
             (q .so-far .built room)));
       }

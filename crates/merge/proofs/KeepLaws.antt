@@ -1,28 +1,26 @@
 -- The loop over the target's members: what stands so far, and what a turn makes of it.
-use Prim.Native.Nat.{ℕ, zero, suc, _+_, _-_, _≤_, _<_, min, max}
+use Prim.Native.Nat.{ℕ, zero, suc, _+_, _-_, _≤_, _<_, min}
 use native.Mathlib.Omega.{arith}
 use mathlib.Core.Path.{_≡_, refl, sym, ap, ap₂, _∙_, subst}
 use mathlib.Core.Bool.{Bool, true, false, true≢false}
 use mathlib.Core.List.{List, []}
 use mathlib.Core.Option as Option
-use lib.Dec.{eqb, leb}
+use lib.Dec.{eqb}
 use lib.ListN.{length, drop, getD}
 use borrow.Author.Tests.{eqb-true, eq-eqb, ne-eqb}
 use Rattle.spec.specs.Outcome.{if_then_else_}
 use Rattle.spec.specs.Bytes.{Text}
 use Rattle.spec.specs.Forest.{Forest, none, tree, single, size, count, before, from, _⧺_}
 use Rattle.spec.specs.Value as Value
-use Rattle.spec.specs.Value.{Label, Entry, Members, named, tag, isObject, isContainer, sameText, find, has, depths, levels}
-use Rattle.spec.proofs.TextLaws.{sameText-refl, sameText-true, sameText-false, sameText-apart}
+use Rattle.spec.specs.Value.{Label, tag, isObject, isContainer, sameText, find, has, depths, levels}
+use Rattle.spec.proofs.TextLaws.{sameText-refl, sameText-apart}
 use Rattle.spec.specs.Distinct as Repeats
 use Rattle.spec.specs.Distinct.{NoRepeats}
 use Rattle.spec.proofs.NameLaws.{has-cons}
-use Rattle.merging.specs.MergePatch.{isNull, mergePatch}
-use Rattle.merging.specs.Parts.{get, gather, keptBy, kept, appended, mergedMembers}
-use Rattle.merging.proofs.PartLaws.{⧺-none, ⧺-assoc}
+use Rattle.merging.specs.MergePatch.{isNull}
+use Rattle.merging.specs.Parts.{get}
 use Rattle.merging.proofs.MemberLaws.{absent-has}
-use Rattle.merging.proofs.ObjectLaws.{merge-other}
-use Rattle.tape.specs.Layout.{patchRow, scratchRow, objectKind, rows}
+use Rattle.tape.specs.Layout.{scratchRow, objectKind, rows}
 use Rattle.tape.specs.Fields.{Row, kindOf}
 use Rattle.tape.specs.declared.fields.Cell.{Cell}
 use Rattle.tape.specs.Tape.{tape}
@@ -36,12 +34,17 @@ use Rattle.tape.proofs.Cells.{formed-fit}
 use Rattle.tape.proofs.Held.{held-node}
 use Rattle.tape.proofs.Rows.{end-here, kind-here}
 use Rattle.table.specs.Meaning.{nameText, entryOf, members, meant}
-use Rattle.table.specs.Sound.{NodeHeld, NameFits}
-use Rattle.table.specs.All.{all-none}
-use Rattle.table.proofs.AllLaws.{all-first}
+use Rattle.table.specs.Sound.{NameFits}
+use Rattle.table.specs.All.{all-none, all-tree}
+use Rattle.table.proofs.AllLaws.{all-first, all-kids, all-from}
 use Rattle.table.proofs.MeaningLaws.{isObject-label, tag-label}
 use Rattle.equality.proofs.MatchLaws.{inside}
 use Rattle.equality.proofs.SiblingLaws.{Siblings, siblings-all, siblings-first, siblings-next, siblings-none, siblings-value}
+use Rattle.origin.specs.Value as Origin
+use Rattle.origin.specs.Value.{Entry, Members, named, painted}
+use Rattle.origin.specs.MergePatch.{mergeOrigin, mergePatch}
+use Rattle.merge.specs.Bearing.{View, entryBy, membersBy, valueBy, BearsMerge}
+use Rattle.merge.specs.Parts.{gather, keptBy, kept, mergedMembers}
 use Rattle.merge.specs.Building.{full, CopyIs, Framed, Built}
 use Rattle.merge.specs.Marks.{Changed, Marks, NotedIs}
 use Rattle.merge.specs.Partner.{PatchObject}
@@ -50,12 +53,13 @@ use Rattle.merge.specs.Merged.{membersEnd, Target, target-object, target
 use Rattle.merge.specs.declared.steps.Step.{Step}
 use Rattle.merge.specs.declared.steps.Step.the-variants.{Nothing, Copy, Merge}
 use Rattle.merge.proofs.BuildLaws.{framed-self, built-none, framed-then, framed-before, built-kept, built-join}
-use Rattle.merge.proofs.MarkLaws.{changed-self, changed-then, changed-wider, marks-inside, marks-as, marks-absent, has-from, alone-first, alone-kids}
+use Rattle.merge.proofs.MarkLaws.{changed-then, changed-wider, marks-inside, marks-as, marks-absent, has-from, alone-first, alone-kids}
 use Rattle.merge.proofs.MarkLaws.{alone-rest}
 use Rattle.merge.proofs.PathLaws.{ways-kept, ways-member}
 use Rattle.merge.proofs.StepLaws.{member-siblings, member-inside}
-use Rattle.merge.proofs.LaidLaws.{with-nodes, framed-back, siblings-stay, node-stays, object-stays, changed-on, Laid, laid-none, laid-copy, laid-merge}
-use Rattle.merge.proofs.LaidLaws.{is-object, AsTarget, as-target, merged-value}
+use Rattle.merge.proofs.LaidLaws.{with-nodes, siblings-stay, object-stays, changed-on, Laid, laid-none, laid-copy, laid-merge}
+use Rattle.merge.proofs.LaidLaws.{is-object, value-merged, AsTarget, as-target, merged-value}
+use Rattle.merge.proofs.PartLaws.{⧺-none, ⧺-assoc, merge-other}
 
 -- ---- what a step tells
 module _ (kind found : ℕ) where
@@ -107,8 +111,8 @@ get-from T (suc k) (tree d ds rest) {c} is distinct =
     rw apart (get-from T k rest is (alone-rest distinct))
 
 -- ---- what becomes of a member of the target
-module _ (patch : Members) (e : Entry) (ks : Members) where
-  kept-own : get (e .name) patch ≡ Option.none → kept patch e ks ≡ single (named (e .name) (record { label = e .label; kids = ks }))
+module _ (patch : Value.Members) (e : Entry) (ks : Members) where
+  kept-own : get (e .name) patch ≡ Option.none → kept patch e ks ≡ single (named (e .name) (record { label = e .label; origin = e .origin; kids = ks }))
   unfolding kept keptBy
   kept-own h = rw h
 
@@ -117,27 +121,30 @@ module _ (patch : Members) (e : Entry) (ks : Members) where
     unfolding kept keptBy
     kept-null z = rw (h, z)
 
-    kept-some : isNull (x .label) ≡ false → kept patch e ks ≡ single (named (e .name) (mergePatch (record { label = e .label; kids = ks }) x))
+    kept-some : isNull (x .label) ≡ false
+        → kept patch e ks ≡ single (named (e .name) (mergePatch (record { label = e .label; origin = e .origin; kids = ks }) x))
     unfolding kept keptBy
     kept-some z = rw (h, z)
 
 -- ---- what is given
-pub record Given (w : Table) (xs : List ℕ) (patch to levels : ℕ) (c : Cell) (kids : Forest Cell) : Type 0 where
+pub record Given (o : View) (w : Table) (xs : List ℕ) (patch to levels : ℕ) (c : Cell) (kids : Forest Cell) : Type 0 where
   pub object : PatchObject w patch c kids xs
+  pub merged : BearsMerge o (tree c kids none)
   pub low : scratchRow ≤ to
   pub few : to ≤ full
   pub long : length (w .nodes) ≡ rows
   pub shallow : depths (members (w .texts) kids) < levels
 
 -- ---- what stands so far behind the object's own row
-pub record SoFar (w : Table) (xs : List ℕ) (patch to : ℕ) (kids : Forest Cell) (all : Members) (nodes : List Row) (ys : List ℕ) (next : ℕ) : Type 0 where
+pub record SoFar (o : View) (w : Table) (xs : List ℕ) (patch to : ℕ) (kids : Forest Cell)
+    (all : Members) (nodes : List Row) (ys : List ℕ) (next : ℕ) : Type 0 where
   pub framed : Framed to (w .nodes) nodes
   pub changed : Changed (w .nodes) patch (patch + 1 + size kids) xs ys
   pub counted : next ≡ min (to + 1 + size all) full
-  pub built : next ≤ rows → Built (w .texts) nodes (to + 1) next all
+  pub built : next ≤ rows → Built o (w .texts) nodes (to + 1) next all
 
-module _ {w : Table} {xs : List ℕ} {patch to levels : ℕ} {c : Cell} {kids : Forest Cell} (g : Given w xs patch to levels c kids) {all : Members}
-    {nodes : List Row} {ys : List ℕ} {next : ℕ} (s : SoFar w xs patch to kids all nodes ys next) where
+module _ {o : View} {w : Table} {xs : List ℕ} {patch to levels : ℕ} {c : Cell} {kids : Forest Cell} (g : Given o w xs patch to levels c kids) {all : Members}
+    {nodes : List Row} {ys : List ℕ} {next : ℕ} (s : SoFar o w xs patch to kids all nodes ys next) where
   pub so-far-framed : Framed scratchRow (w .nodes) nodes
   so-far-framed = framed-before scratchRow (g .low) (s .framed)
 
@@ -148,8 +155,8 @@ module _ {w : Table} {xs : List ℕ} {patch to levels : ℕ} {c : Cell} {kids : 
   end-now = end-here (held-node (object-now .held .held))
 
   -- one more
-  pub so-far-more : {one : Members} {nodes' : List Row} {ws : List ℕ} {next' : ℕ} → Laid (w .texts) nodes next one nodes' next'
-      → Changed nodes patch (patch + 1 + size kids) ys ws → SoFar w xs patch to kids (all ⧺ one) nodes' ws next'
+  pub so-far-more : {one : Members} {nodes' : List Row} {ws : List ℕ} {next' : ℕ} → Laid o (w .texts) nodes next one nodes' next'
+      → Changed nodes patch (patch + 1 + size kids) ys ws → SoFar o w xs patch to kids (all ⧺ one) nodes' ws next'
   so-far-more {one} {nodes'} {ws} {next'} l ch =
       let onward : (to ≤ next) × (next ≤ next') = (omega (arith, s .counted, g .few), omega (arith, s .counted, l .counted)) in
       record {
@@ -178,18 +185,24 @@ unfolding levels isContainer isObject
 object-levels l below o = rw (eqb-true (tag l) 6 o)
 
 -- ---- a member of an object of the patch is merged, or put in as it is
-module _ {w : Table} {patch : ℕ} {p : Cell} {kids : Forest Cell} {ys : List ℕ} (o : PatchObject w patch p kids ys) (long : length (w .nodes) ≡ rows) (k : ℕ)
-    {c : Cell} {below after : Forest Cell} (found : ℕ) (is : from k kids ≡ tree c below after) (place : found ≡ patch + 1 + size (before k kids)) where
+module _ {w : Table} {patch : ℕ} {p : Cell} {kids : Forest Cell} {ys : List ℕ} (o : PatchObject w patch p kids ys) (long : length (w .nodes) ≡ rows)
+    (view : View) (ones : BearsMerge view kids) (k : ℕ) {c : Cell} {below after : Forest Cell}
+    (found : ℕ) (is : from k kids ≡ tree c below after) (place : found ≡ patch + 1 + size (before k kids)) where
   pub member-fits : NameFits (w .texts) (c .name)
   member-fits = all-first (member-siblings o k found is place .sound) .name
 
   pub member-kind : c .kind ≤ objectKind
   member-kind = formed-fit (member-siblings o k found is place .left .held .formed) .kind
 
+  ones-here : BearsMerge view (tree c below after)
+  ones-here = subst (BearsMerge view) is (all-from k ones)
+
   -- it is put in
   pub member-copied : {nodes' : List Row} {next next' : ℕ} → CopyIs (w .nodes) found next nodes' next'
-      → Laid (w .texts) (w .nodes) next (single (named (nameText (w .texts) (c .name)) (meant (w .texts) c below))) nodes' next'
-  member-copied copy = laid-copy copy (siblings-value (member-siblings o k found is place)) member-fits long
+      → Laid view (w .texts) (w .nodes) next (single (named (nameText (w .texts) (c .name)) (painted mergeOrigin (meant (w .texts) c below)))) nodes' next'
+  member-copied {nodes'} {next} {next'} copy =
+      subst (λ u. Laid view (w .texts) (w .nodes) next (single (named (nameText (w .texts) (c .name)) u)) nodes' next')
+      (value-merged view (w .texts) ones-here) (laid-copy copy (siblings-value (member-siblings o k found is place)) member-fits long)
 
   distinct-below : c .kind ≡ objectKind → NoRepeats true (members (w .texts) below)
   unfolding mapForest
@@ -220,16 +233,20 @@ module _ {w : Table} {patch : ℕ} {p : Cell} {kids : Forest Cell} {ys : List �
       )
 
   -- it is merged with a value
-  module _ {at : ℕ} {v : Value.Value} (t : AsTarget w at v) (kind : c .kind ≡ objectKind) {zs ws : List ℕ} {nodes' : List Row} {next next' levels : ℕ}
+  module _ {at : ℕ} {v : Origin.Value} (t : AsTarget view w at v) (kind : c .kind ≡ objectKind) {zs ws : List ℕ} {nodes' : List Row} {next next' levels : ℕ}
       (changed : Changed (w .nodes) patch (endOf (w .nodes) patch) ys zs) (merges : MergeObjectIs w at found next (levels - 1) zs nodes' ws next')
       (shallow : depths (members (w .texts) kids) < levels) where
-    merged-here : Merges w found next c below (mergedMembers (members (w .texts) (t .cells)) (members (w .texts) below)) zs nodes' ws next'
-    merged-here = merges .held c below (member-object kind changed) (t .cells) (t .target) (member-depth kind shallow)
+    merged-here : Merges view w found next c below (t .origin)
+        (mergedMembers (membersBy view (w .texts) (t .cells)) (members (w .texts) below)) zs nodes' ws next'
+    merged-here =
+        merges .held view c below (member-object kind changed) (all-tree (all-first ones-here) (all-kids ones-here) all-none)
+        (t .origin) (t .cells) (t .target) (member-depth kind shallow)
 
-    pub member-merged : Laid (w .texts) (w .nodes) next (single (named (nameText (w .texts) (c .name)) (mergePatch v (meant (w .texts) c below)))) nodes' next'
+    pub member-merged : Laid view (w .texts) (w .nodes) next
+        (single (named (nameText (w .texts) (c .name)) (mergePatch v (meant (w .texts) c below)))) nodes' next'
     member-merged =
         let s = siblings-value (member-siblings o k found is place) in
-        subst (λ u. Laid (w .texts) (w .nodes) next (single (named (nameText (w .texts) (c .name)) u)) nodes' next')
+        subst (λ u. Laid view (w .texts) (w .nodes) next (single (named (nameText (w .texts) (c .name)) u)) nodes' next')
         (sym (merged-value t c below kind (distinct-below kind)))
         (laid-merge (merges .framed) merged-here member-fits (s .label))
 
@@ -239,34 +256,34 @@ module _ {w : Table} {patch : ℕ} {p : Cell} {kids : Forest Cell} {ys : List �
         subst (λ n. Changed (w .nodes) found n zs ws) e (merged-here .changed)
 
 -- ---- the loop
-pub record Keeping (w : Table) (xs : List ℕ) (patch to levels end : ℕ) (c : Cell)
+pub record Keeping (o : View) (w : Table) (xs : List ℕ) (patch to levels end : ℕ) (c : Cell)
     (kids ts : Forest Cell) (nodes : List Row) (ys : List ℕ) (next row : ℕ) : Type 0 where
-  pub given : Given w xs patch to levels c kids
+  pub given : Given o w xs patch to levels c kids
   pub left : Forest Cell
   pub siblings : Siblings (with-nodes w nodes) row end left
   pub low : 0 < size left → end ≤ scratchRow
   pub distinct : NoRepeats true (members (w .texts) left)
   pub all : Members
-  pub so-far : SoFar w xs patch to kids all nodes ys next
-  pub whole : gather (kept (members (w .texts) kids)) (members (w .texts) ts) ≡ all ⧺ gather (kept (members (w .texts) kids)) (members (w .texts) left)
+  pub so-far : SoFar o w xs patch to kids all nodes ys next
+  pub whole : gather (kept (members (w .texts) kids)) (membersBy o (w .texts) ts) ≡ all ⧺ gather (kept (members (w .texts) kids)) (membersBy o (w .texts) left)
   pub met : Text → Bool
   pub marks : Marks (w .texts) ys met (patch + 1) kids
   pub had : (n : Text) → has n (members (w .texts) ts) ≡ (if met n then true else has n (members (w .texts) left))
 
-module _ {w : Table} {xs : List ℕ} {patch to levels end : ℕ} {c : Cell} {kids ts : Forest Cell} {nodes : List Row} {ys : List ℕ} {next row : ℕ}
-    (q : Keeping w xs patch to levels end c kids ts nodes ys next row) (more : row < end) (row' : ℕ) (goes : row' ≡ endOf nodes row) where
+module _ {o : View} {w : Table} {xs : List ℕ} {patch to levels end : ℕ} {c : Cell} {kids ts : Forest Cell} {nodes : List Row} {ys : List ℕ} {next row : ℕ}
+    (q : Keeping o w xs patch to levels end c kids ts nodes ys next row) (more : row < end) (row' : ℕ) (goes : row' ≡ endOf nodes row) where
   -- the first of those left is done
   keeping-on : (d : Cell) (ds rest : Forest Cell) → q .left ≡ tree d ds rest → Siblings (with-nodes w nodes) row end (tree d ds rest)
       → {nodes' : List Row} {ws : List ℕ} {next' : ℕ}
-      → Laid (w .texts) nodes next (kept (members (w .texts) kids) (entryOf (w .texts) d) (members (w .texts) ds)) nodes' next'
+      → Laid o (w .texts) nodes next (kept (members (w .texts) kids) (entryBy o (w .texts) d) (membersBy o (w .texts) ds)) nodes' next'
       → Changed nodes patch (patch + 1 + size kids) ys ws
       → Marks (w .texts) ws (λ n. if sameText (nameText (w .texts) (d .name)) n then true else q .met n) (patch + 1) kids
-      → Keeping w xs patch to levels end c kids ts nodes' ws next' row'
+      → Keeping o w xs patch to levels end c kids ts nodes' ws next' row'
   unfolding mapForest gather size
   keeping-on d ds rest e s {nodes'} {ws} {next'} laid changed marks =
       let T : Texts = w .texts in
-      let ps : Members = members T kids in
-      let one : Members = kept ps (entryOf T d) (members T ds) in
+      let ps : Value.Members = members T kids in
+      let one : Members = kept ps (entryBy o T d) (membersBy o T ds) in
       let onward : scratchRow ≤ next = omega (arith, q .so-far .counted, q .given .low) in
       let distinct : NoRepeats true (members T (tree d ds rest)) = subst (λ f. NoRepeats true (members T f)) e (q .distinct) in
       let fewer : 0 < size (tree d ds rest) → end ≤ scratchRow = subst (λ (f : Forest Cell). 0 < size f → end ≤ scratchRow) e (q .low) in
@@ -278,7 +295,7 @@ module _ {w : Table} {xs : List ℕ} {patch to levels end : ℕ} {c : Cell} {kid
         distinct = alone-rest distinct;
         all = q .all ⧺ one;
         so-far = so-far-more (q .given) (q .so-far) laid changed;
-        whole = q .whole ∙ ap (λ f. q .all ⧺ gather (kept ps) (members T f)) e ∙ sym (⧺-assoc (q .all) one (gather (kept ps) (members T rest)));
+        whole = q .whole ∙ ap (λ f. q .all ⧺ gather (kept ps) (membersBy o T f)) e ∙ sym (⧺-assoc (q .all) one (gather (kept ps) (membersBy o T rest)));
         met = λ n. if sameText (nameText T (d .name)) n then true else q .met n;
         marks = marks;
         had = λ n.
@@ -313,6 +330,9 @@ module _ {w : Table} {xs : List ℕ} {patch to levels end : ℕ} {c : Cell} {kid
       long-here : length nodes ≡ rows
       long-here = q .so-far .framed .same-length ∙ q .given .long
 
+      ones : BearsMerge o kids
+      ones = all-kids (q .given .merged)
+
       target-low : row + size ds < scratchRow
       unfolding size
       target-low =
@@ -330,77 +350,77 @@ module _ {w : Table} {xs : List ℕ} {patch to levels end : ℕ} {c : Cell} {kid
       value-here k at name = ap (λ n. get n (members (w .texts) kids)) (sym name) ∙ get-from (w .texts) k kids at (q .given .object .distinct)
 
       nothing-kept : {t : Step} → Keeps (with-nodes w nodes) patch row kids (nameText (w .texts) (d .name)) (q .met) zs t → t ≡ Nothing
-          → Keeping w xs patch to levels end c kids ts nodes zs next row'
+          → Keeping o w xs patch to levels end c kids ts nodes zs next row'
       nothing-kept (keeps-own alone marks) e = absurd (let z : _≡_ {A = ℕ} 0 1 = cc in omega arith)
       nothing-kept (keeps-other k e below after found at place name marks) told =
           let null : isNull (entryOf (w .texts) e .label) ≡ true =
-          null-label (w .texts) e (member-kind object-here long-here k found at place) ∙ step-nothing (e .kind) found told in
+          null-label (w .texts) e (member-kind object-here long-here o ones k found at place) ∙ step-nothing (e .kind) found told in
           keeping-on d ds rest is s
-          (subst (λ f. Laid (w .texts) nodes next f nodes next)
-          (sym (kept-null (members (w .texts) kids) (entryOf (w .texts) d) (members (w .texts) ds) (value-here k at name) null))
+          (subst (λ f. Laid o (w .texts) nodes next f nodes next)
+          (sym (kept-null (members (w .texts) kids) (entryBy o (w .texts) d) (membersBy o (w .texts) ds) (value-here k at name) null))
           (laid-none (omega (arith, q .so-far .counted))))
           ch marks
 
       own-copied : (from : ℕ) {t : Step} → Keeps (with-nodes w nodes) patch row kids (nameText (w .texts) (d .name)) (q .met) zs t → t ≡ Copy from
-          → {nodes' : List Row} {next' : ℕ} → CopyIs nodes from next nodes' next' → Keeping w xs patch to levels end c kids ts nodes' zs next' row'
+          → {nodes' : List Row} {next' : ℕ} → CopyIs nodes from next nodes' next' → Keeping o w xs patch to levels end c kids ts nodes' zs next' row'
       own-copied from (keeps-own alone marks) e {nodes'} {next'} copy =
           let here : from ≡ row = cc in
           keeping-on d ds rest is s
-          (subst (λ f. Laid (w .texts) nodes next f nodes' next')
-          (sym (kept-own (members (w .texts) kids) (entryOf (w .texts) d) (members (w .texts) ds) alone))
+          (subst (λ f. Laid o (w .texts) nodes next f nodes' next')
+          (sym (kept-own (members (w .texts) kids) (entryBy o (w .texts) d) (membersBy o (w .texts) ds) alone))
           (laid-copy (subst (λ n. CopyIs nodes n next nodes' next') here copy) (siblings-value s) (all-first (s .sound) .name) long-here))
           ch (marks-absent (nameText (w .texts) (d .name)) (absent-has (nameText (w .texts) (d .name)) (members (w .texts) kids) alone) marks)
       own-copied from (keeps-other k e below after found at place name marks) told {nodes'} {next'} copy =
           let (some-value, other, here) = step-copy (e .kind) found from told in
-          let kind = member-kind object-here long-here k found at place in
+          let kind = member-kind object-here long-here o ones k found at place in
           let no-null : isNull (entryOf (w .texts) e .label) ≡ false = null-label (w .texts) e kind ∙ some-value in
           let no-object : isObject (entryOf (w .texts) e .label) ≡ false = isObject-label (w .texts) (e .kind) (e .value) kind ∙ other in
           let x : Value.Value = meant (w .texts) e below in
-          let v : Value.Value = meant (w .texts) d ds in
+          let v : Origin.Value = valueBy o (w .texts) d ds in
           keeping-on d ds rest is s
-          (subst (λ f. Laid (w .texts) nodes next f nodes' next')
+          (subst (λ f. Laid o (w .texts) nodes next f nodes' next')
           (ap₂ (λ n u. single (named n u)) name (sym (merge-other v x no-object))
-          ∙ sym (kept-some (members (w .texts) kids) (entryOf (w .texts) d) (members (w .texts) ds) (value-here k at name) no-null))
-          (member-copied object-here long-here k found at place (subst (λ n. CopyIs nodes n next nodes' next') (sym here) copy)))
+          ∙ sym (kept-some (members (w .texts) kids) (entryBy o (w .texts) d) (membersBy o (w .texts) ds) (value-here k at name) no-null))
+          (member-copied object-here long-here o ones k found at place (subst (λ n. CopyIs nodes n next nodes' next') (sym here) copy)))
           ch marks
 
       both-merged : (from : ℕ) {t : Step} → Keeps (with-nodes w nodes) patch row kids (nameText (w .texts) (d .name)) (q .met) zs t → t ≡ Merge from
           → {nodes' : List Row} {ws : List ℕ} {next' : ℕ} → MergeObjectIs (with-nodes w nodes) row from next (levels - 1) zs nodes' ws next'
-          → Keeping w xs patch to levels end c kids ts nodes' ws next' row'
+          → Keeping o w xs patch to levels end c kids ts nodes' ws next' row'
       both-merged from (keeps-own alone marks) e merges = absurd (let z : _≡_ {A = ℕ} 0 1 = cc in omega arith)
       both-merged from (keeps-other k e below after found at place name marks) told {nodes'} {ws} {next'} merges =
           let (some-value, object, here) = step-merge (e .kind) found from told in
           let kind : e .kind ≡ objectKind = eqb-true (e .kind) 6 object in
           let no-null : isNull (entryOf (w .texts) e .label) ≡ false =
-          null-label (w .texts) e (member-kind object-here long-here k found at place) ∙ some-value in
+          null-label (w .texts) e (member-kind object-here long-here o ones k found at place) ∙ some-value in
           let merges-here = subst (λ n. MergeObjectIs (with-nodes w nodes) row n next (levels - 1) zs nodes' ws next') (sym here) merges in
           let changed = subst (λ n. Changed nodes patch n ys zs) (sym (end-now (q .given) (q .so-far))) ch in
           let t = as-target (siblings-value s) target-low target-distinct in
-          let below-changed = member-changed object-here long-here k found at place t kind changed merges-here (q .given .shallow) in
+          let below-changed = member-changed object-here long-here o ones k found at place t kind changed merges-here (q .given .shallow) in
           let inside = member-inside object-here k found at place in
           keeping-on d ds rest is s
-          (subst (λ f. Laid (w .texts) nodes next f nodes' next')
-          (ap (λ n. single (named n (mergePatch (meant (w .texts) d ds) (meant (w .texts) e below)))) name
-          ∙ sym (kept-some (members (w .texts) kids) (entryOf (w .texts) d) (members (w .texts) ds) (value-here k at name) no-null))
-          (member-merged object-here long-here k found at place t kind changed merges-here (q .given .shallow)))
+          (subst (λ f. Laid o (w .texts) nodes next f nodes' next')
+          (ap (λ n. single (named n (mergePatch (valueBy o (w .texts) d ds) (meant (w .texts) e below)))) name
+          ∙ sym (kept-some (members (w .texts) kids) (entryBy o (w .texts) d) (membersBy o (w .texts) ds) (value-here k at name) no-null))
+          (member-merged object-here long-here o ones k found at place t kind changed merges-here (q .given .shallow)))
           (changed-then ch (changed-wider patch (patch + 1 + size kids) (omega (arith, inside)) (omega (arith, inside)) below-changed))
           (marks-inside k found at place (omega (arith, q .given .object .behind)) below-changed marks)
 
-    pub keeping-nothing : step ≡ Nothing → Keeping w xs patch to levels end c kids ts nodes zs next row'
+    pub keeping-nothing : step ≡ Nothing → Keeping o w xs patch to levels end c kids ts nodes zs next row'
     keeping-nothing e = turn λ d ds rest is s ch told. nothing-kept d ds rest is s ch told e
 
     pub keeping-copied : (from : ℕ) → step ≡ Copy from → {nodes' : List Row} {next' : ℕ} → CopyIs nodes from next nodes' next'
-        → Keeping w xs patch to levels end c kids ts nodes' zs next' row'
+        → Keeping o w xs patch to levels end c kids ts nodes' zs next' row'
     keeping-copied from e copy = turn λ d ds rest is s ch told. own-copied d ds rest is s ch from told e copy
 
     pub keeping-merged : (from : ℕ) → step ≡ Merge from → {nodes' : List Row} {ws : List ℕ} {next' : ℕ}
-        → MergeObjectIs (with-nodes w nodes) row from next (levels - 1) zs nodes' ws next' → Keeping w xs patch to levels end c kids ts nodes' ws next' row'
+        → MergeObjectIs (with-nodes w nodes) row from next (levels - 1) zs nodes' ws next' → Keeping o w xs patch to levels end c kids ts nodes' ws next' row'
     keeping-merged from e merges = turn λ d ds rest is s ch told. both-merged d ds rest is s ch from told e merges
 
 -- ---- before the first turn
-module _ {w : Table} {xs ys : List ℕ} {patch to levels : ℕ} {c : Cell} {kids : Forest Cell} (g : Given w xs patch to levels c kids)
+module _ {o : View} {w : Table} {xs ys : List ℕ} {patch to levels : ℕ} {c : Cell} {kids : Forest Cell} (g : Given o w xs patch to levels c kids)
     (noted : NotedIs (w .nodes) patch xs ys) where
-  so-far-none : {next : ℕ} → next ≡ min (to + 1) full → SoFar w xs patch to kids none (w .nodes) ys next
+  so-far-none : {next : ℕ} → next ≡ min (to + 1) full → SoFar o w xs patch to kids none (w .nodes) ys next
   unfolding size
   so-far-none {next} is =
       let node = held-node (g .object .held .held) in
@@ -410,11 +430,12 @@ module _ {w : Table} {xs ys : List ℕ} {patch to levels : ℕ} {c : Cell} {kids
         counted = omega arith;
         built = λ room.
             let here : to + 1 ≡ next = omega arith in
-            subst (λ n. Built (w .texts) (w .nodes) (to + 1) n none) here (built-none (to + 1) (w .nodes));
+            subst (λ n. Built o (w .texts) (w .nodes) (to + 1) n none) here (built-none (to + 1) (w .nodes));
       }
 
-  pub keeping-start : {target : ℕ} {ts : Forest Cell} → Target w target ts → (next end : ℕ) → next ≡ min (to + 1) full → end ≡ membersEnd (w .nodes) target
-      → Keeping w xs patch to levels end c kids ts (w .nodes) ys next (target + 1)
+  pub keeping-start : {target k : ℕ} {ts : Forest Cell} → Target o w target k ts
+      → (next end : ℕ) → next ≡ min (to + 1) full → end ≡ membersEnd (w .nodes) target
+      → Keeping o w xs patch to levels end c kids ts (w .nodes) ys next (target + 1)
   unfolding membersEnd _⧺_ tape mapForest size
   keeping-start {target} (target-object {c = d} {kids = ds} held kind low distinct) next end is ends =
       let node = held-node (held .held) in
@@ -433,7 +454,7 @@ module _ {w : Table} {xs ys : List ℕ} {patch to levels : ℕ} {c : Cell} {kids
         had = λ n. refl;
       }
   keeping-start {target} (target-other other) next end is ends =
-      let end-is : end ≡ target + 1 = ends ∙ rw (ne-eqb (kindOf (getD (w .nodes) target [])) objectKind other) in
+      let end-is : end ≡ target + 1 = ends ∙ rw (ne-eqb (kindOf (getD (w .nodes) target [])) objectKind (other (w .nodes) framed-self)) in
       record {
         given = g;
         left = none;
@@ -456,22 +477,24 @@ module _ {w : Table} {xs ys : List ℕ} {patch to levels : ℕ} {c : Cell} {kids
       }
 
 -- ---- behind the last turn: the members of the target, and those of the patch that it has
-pub record AllKept (w : Table) (xs : List ℕ) (patch to levels : ℕ) (c : Cell) (kids ts : Forest Cell) (nodes : List Row) (ys : List ℕ) (next : ℕ) : Type 0 where
-  pub given : Given w xs patch to levels c kids
-  pub so-far : SoFar w xs patch to kids (gather (kept (members (w .texts) kids)) (members (w .texts) ts)) nodes ys next
+pub record AllKept (o : View) (w : Table) (xs : List ℕ) (patch to levels : ℕ) (c : Cell)
+    (kids ts : Forest Cell) (nodes : List Row) (ys : List ℕ) (next : ℕ) : Type 0 where
+  pub given : Given o w xs patch to levels c kids
+  pub so-far : SoFar o w xs patch to kids (gather (kept (members (w .texts) kids)) (membersBy o (w .texts) ts)) nodes ys next
   pub marks : Marks (w .texts) ys (λ n. has n (members (w .texts) ts)) (patch + 1) kids
 
-pub keeping-done : {w : Table} {xs : List ℕ} {patch to levels end : ℕ} {c : Cell} {kids ts : Forest Cell} {nodes : List Row} {ys : List ℕ} {next row : ℕ}
-    → Keeping w xs patch to levels end c kids ts nodes ys next row → end ≤ row → AllKept w xs patch to levels c kids ts nodes ys next
+pub keeping-done : {o : View} {w : Table} {xs : List ℕ} {patch to levels end : ℕ} {c : Cell}
+    {kids ts : Forest Cell} {nodes : List Row} {ys : List ℕ} {next row : ℕ}
+    → Keeping o w xs patch to levels end c kids ts nodes ys next row → end ≤ row → AllKept o w xs patch to levels c kids ts nodes ys next
 unfolding mapForest gather find count
-keeping-done {w} {xs} {patch} {to} {kids = kids} {ts} {nodes} {ys} {next} q over =
+keeping-done {o} {w} {xs} {patch} {to} {kids = kids} {ts} {nodes} {ys} {next} q over =
     let T : Texts = w .texts in
     let no-more : q .left ≡ none = siblings-none (q .siblings) over in
-    let is-all : q .all ≡ gather (kept (members T kids)) (members T ts) =
-    sym (q .whole ∙ ap (λ f. q .all ⧺ gather (kept (members T kids)) (members T f)) no-more ∙ ⧺-none (q .all)) in
+    let is-all : q .all ≡ gather (kept (members T kids)) (membersBy o T ts) =
+    sym (q .whole ∙ ap (λ f. q .all ⧺ gather (kept (members T kids)) (membersBy o T f)) no-more ∙ ⧺-none (q .all)) in
     record {
       given = q .given;
-      so-far = subst (λ f. SoFar w xs patch to kids f nodes ys next) is-all (q .so-far);
+      so-far = subst (λ f. SoFar o w xs patch to kids f nodes ys next) is-all (q .so-far);
       marks = marks-as (λ n. sym (q .had n ∙ ap (λ f. (if q .met n then true else has n (members T f))) no-more ∙ at-end (q .met n))) (q .marks);
     }
   where

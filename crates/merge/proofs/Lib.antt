@@ -1,3 +1,4 @@
+pub mod PartLaws
 pub mod BuildLaws
 pub mod MarkLaws
 pub mod PathLaws

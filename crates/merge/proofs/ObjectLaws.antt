@@ -1,20 +1,17 @@
 -- Laws of two objects merged: what holds of the rows on every input, and each way out of `merge_object`.
-use Prim.Native.Nat.{ℕ, _+_, _-_, _≤_, _<_, min, max}
+use Prim.Native.Nat.{ℕ, _+_, _-_, _≤_, _<_, max}
 use native.Mathlib.Omega.{arith}
-use mathlib.Core.Path.{_≡_, refl, sym, ap, _∙_, subst}
+use mathlib.Core.Path.{_≡_, refl, sym, _∙_, subst}
 use mathlib.Core.Bool.{Bool, true, false}
 use mathlib.Core.List.{List, []}
 use lib.Dec.{eqb, leb}
 use lib.ListN.{length, getD}
 use borrow.Author.Tests.{leb-false}
 use Rattle.spec.specs.Outcome.{if_then_else_}
-use Rattle.spec.specs.Forest.{Forest}
-use Rattle.spec.specs.Value.{depths}
 use Rattle.tape.specs.Layout.{patchRow, scratchRow, objectKind, rows}
 use Rattle.tape.specs.Fields.{Row, kindOf}
-use Rattle.tape.specs.declared.fields.Cell.{Cell}
 use Rattle.tape.specs.Rows.{endOf}
-use Rattle.tape.specs.Lent.{Texts, Table}
+use Rattle.tape.specs.Lent.{Table}
 use Rattle.merge.specs.Building.{full, treeRows, CopyIs, Framed}
 use Rattle.merge.specs.Marks.{noteOf}
 use Rattle.merge.specs.Steps.{stepFor, appendStep, Reaches}
@@ -87,7 +84,7 @@ module _ (row : ℕ) {step : Step} (reaches : Reaches row step) (from : ℕ) whe
 
 -- ---- no level is left
 pub merge-flat : {w : Table} {target patch to levels : ℕ} {xs : List ℕ} → levels ≡ 0 → to ≤ full → MergeObjectIs w target patch to levels xs (w .nodes) xs to
-merge-flat z f = record { framed = framed-self; onward = (omega arith, f); held = λ c kids o ts t d. absurd (omega arith) }
+merge-flat z f = record { framed = framed-self; onward = (omega arith, f); held = λ view c kids o merged k ts t d. absurd (omega arith) }
 
 -- ---- the rows of the two loops
 -- in the first, the target's members stand in the table

@@ -1,3 +1,5 @@
+pub mod Bearing
+pub mod Parts
 pub mod Building
 pub mod Marks
 pub mod Paths

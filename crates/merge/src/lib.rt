@@ -1,4 +1,5 @@
-// A merge patch applied to a document: RFC 7396, as document 02, T-02, reads it. `merge` is the whole library.
+// A merge patch applied to a document: RFC 7396, as document 02, T-02, reads it. `merge` is the whole library;
+// `merge_read` serves the call that lists origins.
 //
 // What is proved: on every input the answer is that of the definition `mergeAnswer` of crate `merging`. Of the output
 // and the work area it holds what holds of the plain call.
@@ -19,3 +20,4 @@ mod exports; // the call for C
 
 pub use call::merge;
 pub use exports::json_patch_merge;
+pub use trees::merge_read;

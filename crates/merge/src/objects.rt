@@ -85,6 +85,6 @@ pub fn merge_object<'a>(
             }
         }
     }
-    close(nodes, patch, to, next);
+    close(nodes, target, patch, to, next);
     next
 }

@@ -1,6 +1,7 @@
 // The tree of the patch merged with that of the document.
 use crate::objects::merge_object;
 use crate::paths::enter_members;
+use index::SLOTS;
 use index::empty;
 use spec::limits;
 use tape::layout;
@@ -12,7 +13,7 @@ ghost use lib.ListN.{length};
 ghost use Rattle.tape.specs.Layout.{rows};
 ghost use Rattle.tape.specs.Lent.{before};
 ghost use Rattle.index.specs.Slots.{slots};
-ghost use Rattle.merge.specs.Trees.{MergeTreesIs};
+ghost use Rattle.merge.specs.Trees.{MergeTreesIs, MergeReadIs};
 
 // The patch is an object: it is merged with the document, and the result laid down in the rows from SCRATCH on. The
 // answer is the row behind it, or one behind the table.
@@ -31,4 +32,18 @@ pub fn merge_trees<'a>(texts: Texts<'a>, nodes: &mut [Node], index: &mut [u16]) 
         layout::SCRATCH,
         limits::MAX_DEPTH,
     )
+}
+
+// As `merge_trees`, for any work area: where its lengths are not the stated ones, nothing is merged.
+pub fn merge_read<'a>(texts: Texts<'a>, nodes: &mut [Node], index: &mut [u16]) -> usize
+    ensures { λ r. ⌜ MergeReadIs (before texts nodes) (now (index .entry)) (now (nodes .exit))
+        (now (index .exit)) r ⌝ }
+{
+    if nodes.len() != layout::ROWS {
+        return 0;
+    }
+    if index.len() < SLOTS {
+        return 0;
+    }
+    merge_trees(texts, nodes, index)
 }

@@ -24,6 +24,11 @@ use Rattle.tape.specs.declared.fields.Cell.{Cell}
 use Rattle.tape.specs.Lent.{Texts, Table}
 use Rattle.table.specs.Meaning.{partOf, meant}
 use Rattle.table.specs.Sound.{NodeHeld}
+use Rattle.origin.specs.Value as Origin
+use Rattle.origin.specs.Value.{forget}
+use Rattle.origin.specs.Pointer as Origins
+use Rattle.origin.specs.Operation as OriginOperation
+use Rattle.walk.specs.Bearing.{borne}
 use Rattle.pointer.specs.Tokens.{FirstOf}
 use Rattle.pointer.specs.Prefix.{PrefixOf}
 use Rattle.pointer.specs.declared.answers.First.{First}
@@ -37,25 +42,26 @@ use Rattle.shape.specs.Members.{StringIs}
 use Rattle.shape.specs.declared.members.Spelled.{Spelled}
 use Rattle.shape.specs.declared.members.Spelled.the-variants as Spelled
 use Rattle.changes.specs.Site.{table}
-use Rattle.changes.specs.Document.{Document, judged, Results, results, refusal, removes-at, ChangeAtIs}
+use Rattle.changes.specs.Document.{Document, judged, Results, results, refusal, removes-at, ChangeAtIs, Bearing, judgedBearing, ResultsBearing}
 use Rattle.changes.specs.declared.answers.Change.the-variants.{Add, Remove}
 use Rattle.changes.specs.declared.answers.Altered.{Altered}
 use Rattle.changes.specs.declared.answers.Altered.the-variants.{Done, Refused}
 use Rattle.changes.proofs.TokenLaws.{some-token}
-use Rattle.changes.proofs.DocumentLaws.{the-value, no-value}
+use Rattle.changes.proofs.DocumentLaws.{the-value, no-value, the-bearing}
 use Rattle.operations.specs.Answers.{fromOrPath, atPath}
-use Rattle.operations.specs.Perform.{SamePatch, SetAsideIs, MoveAsideIs, Listed, PerformIs}
-use Rattle.operations.proofs.AnswerLaws.{which-from, from-there, same-performs, path-performs}
+use Rattle.operations.specs.Perform.{SamePatch, SetAsideIs, MoveAsideIs, Listed, OperationFor, PerformIs}
+use Rattle.operations.proofs.AnswerLaws.{which-from, from-there, bearing-there, same-performs, path-performs}
+use Rattle.operations.proofs.BearingLaws.{move-with}
 use Rattle.operations.proofs.PatchLaws.{patch-then, patch-aside}
 use Rattle.operations.proofs.RemovalLaws.{document-removed}
-use Rattle.operations.proofs.AsideLaws.{aside-offered, aside-document}
+use Rattle.operations.proofs.AsideLaws.{aside-offered, aside-document, aside-bearing}
 use Rattle.operations.proofs.TransferLaws.{same-results, aside-refused, aside-done}
 use Rattle.operations.proofs.ToldLaws.{told}
 use Rattle.operations.proofs.PerformLaws.{move-is, spelled-not, source}
 use Rattle.reversal.specs.Undo.{resultOr, valueAt, remaining, mended, isReplace, undoMoved, undoMove, undoOf}
 use Rattle.undo_log.specs.Log.{Noted, ValueHeld, undo-add, NoteIs}
 use Rattle.undo.specs.Mend.{Present, Addable, NoteReplacedIs, MendIs}
-use Rattle.undo.specs.Step.{StepsTo, PlainIs, InObjectIs, HoldsIs, MoveApartIs, MoveFromIs, MoveBelowIs, MoveStepIs}
+use Rattle.undo.specs.Step.{StepsTo, StepsBearing, PlainIs, InObjectIs, HoldsIs, MoveApartIs, MoveFromIs, MoveBelowIs, MoveStepIs}
 use Rattle.undo_log.specs.declared.log.Log.{Log}
 use Rattle.undo.specs.declared.moving.Stepped.{Stepped}
 use Rattle.undo_log.specs.declared.note.Action.the-variants as Action
@@ -155,6 +161,16 @@ module _ {w : Table} {aside left-nodes : List Row} {used row : ℕ} {from path :
       same-results (rw found)
       (moved .held v (aside-document d node inside is) short g gs from-is ts path-is c kids (aside-offered d node inside is))
 
+  -- with origins
+  apart-bearing : {nodes' : List Row} {r : Altered} → MoveAsideIs (table (w .texts) aside) nodes' used from path r → {v : Origin.Value} → Bearing w used v
+      → Short (w .texts) → {g : Text} {gs : Tokens} → PathIs (w .texts) from (g ∷ gs) → {ts : Tokens} → PathIs (w .texts) path ts → {c : Cell}
+      → {kids : Forest Cell} → NodeHeld w row c kids → row + size kids < used → Origins.walk (g ∷ gs) v ≡ ok (borne (w .texts) c kids)
+      → ResultsBearing (w .texts) nodes' (judgedBearing (OriginOperation.moveTo (g ∷ gs) ts v)) r
+  unfolding OriginOperation.moveTo _>>=_
+  apart-bearing moved {v} b short {g} {gs} from-is {ts} path-is {c} {kids} node inside found =
+      same-results (rw found)
+      (moved .bearing v (aside-bearing b node inside is) short g gs from-is ts path-is c kids (aside-offered (b .document) node inside is))
+
   pub apart-refused : {number place : ℕ} → q ≡ Refused number place → {work : Bytes} {log : Log} → (r : Stepped) → r .outcome ≡ atPath q
       → MoveApartIs w left-nodes work work used from path row log r
   apart-refused e r same =
@@ -166,6 +182,9 @@ module _ {w : Table} {aside left-nodes : List Row} {used row : ℕ} {from path :
               results = path-performs (λ n. from-there (g ∷ gs) v n found) same result;
               noted = λ v' h. no-result result e v' h;
             };
+        bearing = λ v b short g gs from-is ts path-is c kids node inside found.
+            path-performs (λ n. bearing-there (g ∷ gs) v n found) same
+            (apart-bearing (aside-refused q removed e) b short from-is path-is node inside found);
       }
 
   pub apart-done : (left : ℕ) → q ≡ Done left → {work work' : Bytes} {log mended-log : Log}
@@ -186,6 +205,8 @@ module _ {w : Table} {aside left-nodes : List Row} {used row : ℕ} {from path :
                   (mend left u (left-document is q removed left e d short from-is node inside u rem) short ts path-is
                   (record { new = m .value; result = m .result; is = ap (addAt ts (m .value)) (sym left-is) ∙ m .added }) os noted);
             };
+        bearing = λ v b short g gs from-is ts path-is c kids node inside found.
+            path-performs (λ n. bearing-there (g ∷ gs) v n found) same (apart-bearing whole b short from-is path-is node inside found);
       }
     where
       one : {a b : Value.Value} → ok a ≡ ok b → a ≡ b
@@ -209,7 +230,20 @@ steps-as : {T : Texts} {nodes' : List Row} {o p : Outcome Value.Value} {pointer 
 steps-as {work' = work'} {r} e g f s =
     record { results = same-performs e g (s .results); noted = λ v h. subst (Noted (r .log) work') (sym f) (s .noted v (sym e ∙ h)) }
 
--- an operation as it is, with what is noted before it
+-- an operation as it is; so a move, in whatever form it is asked for
+plain-bearing : {w : Table} {nodes' : List Row} {used row op : ℕ} {log : Log} {r : Stepped} → PlainIs w nodes' used row op log r → {v : Origin.Value}
+    → Bearing w used v → Short (w .texts) → {o : Operation} (l : Listed w row o) → StepsBearing w nodes' op l v r
+plain-bearing p {v} b short {o} l = p .performs .bearing v b short o l tt
+
+plain-moves : {w : Table} {nodes' : List Row} {used row op : ℕ} {path : Spelling} {log : Log} {r : Stepped} → PlainIs w nodes' used row op log r
+    → OperationFor (λ k. k ≡ op) w nodes' used row path Operation.move (r .outcome)
+plain-moves {w} {nodes'} {r = r} p =
+    record {
+      patch = p .performs .patch;
+      bearing = λ k same v b short o l moves. subst (λ m. StepsBearing w nodes' m l v r) (sym same) (plain-bearing p b short l);
+    }
+
+-- with what is noted before it
 pub plain-steps : {w : Table} {nodes' : List Row} {used row op : ℕ} {log : Log} {r : Stepped} → PlainIs w nodes' used row op log r → {v : Value.Value}
     → Document w used v → Short (w .texts) → {o : Operation} → Listed w row o → {us : List Operation} {work : Bytes}
     → ((u : Value.Value) → limited o v ≡ ok u → Noted log work us) → StepsTo (w .texts) nodes' (limited o v) (whichPointer o v) us work r
@@ -228,7 +262,7 @@ move-pointer o v kind from n = which-from o v (ap usesFrom kind) n ∙ ap (λ g.
 
 module _ {w : Table} {used row at : ℕ} {from path : Spelling} {b : Bool} (holds : HoldsIs w path from b) where
   pub from-over : b ≡ true → {log replaced : Log} {work work' : Bytes} → NoteReplacedIs w log path work work' replaced → {nodes' : List Row} {r : Stepped}
-      → {op : ℕ} → PlainIs w nodes' used row op replaced r → MoveFromIs w nodes' work work' used row from path at log r
+      → {op : ℕ} → PlainIs w nodes' used row op replaced r → MoveFromIs w nodes' work work' used row op from path at log r
   from-over e {log} {replaced} {work} {work'} note plain =
       record {
         patch = plain .performs .patch;
@@ -240,12 +274,13 @@ module _ {w : Table} {used row at : ℕ} {from path : Spelling} {b : Bool} (hold
             plain-steps plain d short l λ u h.
             subst (λ us. Noted replaced work' (us ++ os)) (sym (undo-over o kind from-is v left removed over))
             (note used v d short (o .path) path-is there os noted);
+        bearing = λ v b short o l kind g gs from-is from-path path-is c kids node inside found. plain-bearing plain b short l;
       }
 
   pub from-apart : b ≡ false → {log added : Log} {work work₁ work' : Bytes} → NoteIs w log (Action.Add at) (Target.At from) work work₁ added
       → {nodes' : List Row} {r : Stepped} → MoveApartIs w nodes' work₁ work' used from path at added r
-      → MoveFromIs w nodes' work work' used row from path at log r
-  from-apart e note apart =
+      → {op : ℕ} → MoveFromIs w nodes' work work' used row op from path at log r
+  from-apart e note apart {op} =
       record {
         patch = apart .patch;
         held = λ v d short o l kind g gs from-is from-path path-is c kids node inside found os noted.
@@ -263,12 +298,16 @@ module _ {w : Table} {used row at : ℕ} {from path : Spelling} {b : Bool} (hold
             steps-as (move-limited o v kind from-is) (move-pointer o v kind from-is) (ap (λ us. us ++ os) (undo-apart o kind from-is v left removed not-over))
             (apart .held v d short g gs from-path (o .path) path-is c kids node inside found left removed _
             (note os _ noted (undo-add (g ∷ gs) (target-at from-path) value)));
+        bearing = λ v b short o l kind g gs from-is from-path path-is c kids node inside found.
+            same-performs
+            (move-with op o _ v kind ∙ ap (λ ts. judgedBearing (OriginOperation.moveTo ts (o .path) v)) from-is) (move-pointer o (forget v) kind from-is)
+            (apart .bearing v b short g gs from-path (o .path) path-is c kids node inside found);
       }
 
 -- ---- by what the walk to `from` leads to
 module _ {w : Table} {used row : ℕ} {from path : Spelling} (s : Reached) (is : WalkIs w documentRow from s) {nodes' : List Row} {log : Log} {r : Stepped} where
   pub below-lost : {number place : ℕ} → s ≡ Reached.Lost number place → {work : Bytes} → {op : ℕ} → PlainIs w nodes' used row op log r
-      → MoveBelowIs w nodes' work work used row from path log r
+      → MoveBelowIs w nodes' work work used row op from path log r
   below-lost e plain =
       record {
         patch = plain .performs .patch;
@@ -276,16 +315,20 @@ module _ {w : Table} {used row : ℕ} {from path : Spelling} (s : Reached) (is :
             plain-steps plain d short l λ u h.
             let m = moves g gs (o .path) v u (sym (move-limited o v kind from-is) ∙ h) in
             absurd (refused≢ok (sym (no-value s is d short from-path e) ∙ m .there));
+        bearing = λ v b short o l kind g gs from-is from-path path-is. plain-bearing plain b short l;
       }
 
-  pub below-found : (at : ℕ) → s ≡ Reached.At at → {work work' : Bytes} → MoveFromIs w nodes' work work' used row from path at log r
-      → MoveBelowIs w nodes' work work' used row from path log r
+  pub below-found : (at : ℕ) → s ≡ Reached.At at → {work work' : Bytes} {op : ℕ} → MoveFromIs w nodes' work work' used row op from path at log r
+      → MoveBelowIs w nodes' work work' used row op from path log r
   below-found at e moved =
       record {
         patch = moved .patch;
         held = λ v d short o l kind g gs from-is from-path path-is os noted.
             the-value s is d short from-path e λ c kids found node inside.
             moved .held v d short o l kind g gs from-is from-path path-is c kids node inside found os noted;
+        bearing = λ v b short o l kind g gs from-is from-path path-is.
+            the-bearing s is b short from-path e λ c kids found node inside.
+            moved .bearing v b short o l kind g gs from-is from-path path-is c kids node inside found;
       }
 
 -- ---- by how `from` begins
@@ -298,44 +341,55 @@ unfolding usesFrom
 move-source is from e l kind = source is from e l (ap usesFrom kind)
 
 module _ {w : Table} {used row : ℕ} {path : Spelling} {s : Spelled} (is : StringIs w row (ascii "from") s) {nodes' : List Row} {log : Log} {r : Stepped} where
-  pub from-missing : s ≡ Spelled.Not → {work : Bytes} → {op : ℕ} → PlainIs w nodes' used row op log r → MoveStepIs w nodes' work work used row path log r
+  pub from-missing : s ≡ Spelled.Not → {work : Bytes} {op : ℕ} → PlainIs w nodes' used row op log r → MoveStepIs w nodes' work work used row op path log r
   unfolding usesFrom
   from-missing e plain =
       record {
-        patch = plain .performs .patch;
+        performs = plain-moves plain;
         held = λ v d short o l kind path-is os noted.
             absurd (spelled-not (is .held (l .c) (l .kids) (l .held)) (told _ o (l .is) .from-there (ap usesFrom kind)) e);
       }
 
   module _ (from : Spelling) (e : s ≡ Spelled.As from) (pointer : Bytes) (pointer-is : pointer ≡ partOf (w .texts) from) (f : First)
       (first : FirstOf pointer f) where
-    pub step-root : f ≡ First.Root → {work : Bytes} → {op : ℕ} → PlainIs w nodes' used row op log r → MoveStepIs w nodes' work work used row path log r
+    pub step-root : f ≡ First.Root → {work : Bytes} {op : ℕ} → PlainIs w nodes' used row op log r → MoveStepIs w nodes' work work used row op path log r
     unfolding undoOf undoMove
     step-root at-root {work} plain =
         record {
-          patch = plain .performs .patch;
+          performs = plain-moves plain;
           held = λ v d short o l kind path-is os noted.
               let none : o .from ≡ [] = first-root (partOf (w .texts) from) f (first-in pointer pointer-is first) (o .from) at-root
               (move-source is from e l kind .is) in
               plain-steps plain d short l λ u h. rw (kind, none) noted;
         }
 
-    pub step-at : (at : ℕ) → f ≡ First.At at → {work work' : Bytes} → MoveBelowIs w nodes' work work' used row from path log r
-        → MoveStepIs w nodes' work work' used row path log r
-    step-at at below moved =
+    pub step-at : (at : ℕ) → f ≡ First.At at → {work work' : Bytes} {op : ℕ} → MoveBelowIs w nodes' work work' used row op from path log r
+        → MoveStepIs w nodes' work work' used row op path log r
+    step-at at below {op = op} moved =
         record {
-          patch = moved .patch;
+          performs = record {
+            patch = moved .patch;
+            bearing = λ k same v b short o l m.
+                below-root l (m .0) λ g gs some path-is.
+                subst (λ n. StepsBearing w nodes' n l v r) (sym same) (moved .bearing v b short o l (m .0) g gs some path-is (m .1));
+          };
           held = λ v d short o l kind path-is os noted.
-              let p = move-source is from e l kind in
-              some-token (partOf (w .texts) from) at (o .from)
-              (first-at (partOf (w .texts) from) f (first-in pointer pointer-is first) at (o .from) below (p .is)) λ g gs some.
-              moved .held v d short o l kind g gs some (subst (PathIs (w .texts) from) some p) path-is os noted;
+              below-root l kind λ g gs some p. moved .held v d short o l kind g gs some p path-is os noted;
         }
+      where
+        below-root : {C : Type 0} {o : Operation} → Listed w row o → o .kind ≡ Operation.move
+            → ((g : Text) (gs : Tokens) → o .from ≡ g ∷ gs → PathIs (w .texts) from (g ∷ gs) → C) → C
+        below-root {C} {o} l kind then-it =
+            let p = move-source is from e l kind in
+            some-token (partOf (w .texts) from) at (o .from)
+            (first-at (partOf (w .texts) from) f (first-in pointer pointer-is first) at (o .from) below (p .is)) λ g gs some.
+            then-it g gs some (subst (PathIs (w .texts) from) some p)
 
-    pub step-malformed : f ≡ First.Malformed → {work : Bytes} {op : ℕ} → PlainIs w nodes' used row op log r → MoveStepIs w nodes' work work used row path log r
+    pub step-malformed : f ≡ First.Malformed → {work : Bytes} {op : ℕ} → PlainIs w nodes' used row op log r
+        → MoveStepIs w nodes' work work used row op path log r
     step-malformed bad plain =
         record {
-          patch = plain .performs .patch;
+          performs = plain-moves plain;
           held = λ v d short o l kind path-is os noted.
               absurd (first-malformed (partOf (w .texts) from) f (first-in pointer pointer-is first) (o .from) bad (move-source is from e l kind .is));
         }

@@ -1,5 +1,5 @@
 -- Laws of the operations of a patch, one after another, with their undo noted.
-use Prim.Native.Nat.{ℕ, _+_, _≤_, _<_}
+use Prim.Native.Nat.{ℕ, _+_, _%_, _≤_, _<_}
 use native.Mathlib.Omega.{arith}
 use mathlib.Core.Path.{_≡_, refl, sym, ap, subst, _∙_}
 use mathlib.Core.Bool.{Bool}
@@ -12,7 +12,7 @@ use Rattle.spec.specs.Value as Value
 use Rattle.spec.specs.Operation.{Operation, limited}
 use Rattle.spec.specs.Patch.{Run, finished, stopped, whichPointer, operations, run}
 use Rattle.spec.specs.Proper.{ProperItems}
-use Rattle.tape.specs.Layout.{patchRow, scratchRow}
+use Rattle.tape.specs.Layout.{patchRow, scratchRow, values}
 use Rattle.tape.specs.Fields.{Row}
 use Rattle.tape.specs.declared.fields.Cell.{Cell}
 use Rattle.tape.specs.Lent.{Texts, Table}
@@ -26,13 +26,12 @@ use Rattle.shape.proofs.RunLaws.{rows-children}
 use Rattle.changes.specs.Site.{table}
 use Rattle.changes.specs.Document.{Document}
 use Rattle.operations.specs.Answers.{Performs, performs}
-use Rattle.operations.specs.Perform.{SamePatch}
 use Rattle.operations.specs.Run.{RanTo, ran, halted}
 use Rattle.operations.specs.declared.answers.Performed.the-variants as Performed
 use Rattle.operations.specs.declared.runs.Ran.{Ran}
 use Rattle.operations.specs.declared.runs.Ran.the-variants as Ran
-use Rattle.operations.proofs.PatchLaws.{patch-same, patch-then}
-use Rattle.operations.proofs.RunLaws.{Going, First, going-none, going-inside, going-first, going-refused, going-done, going-all, shape-operations}
+use Rattle.operations.proofs.RunLaws.{Going, First, going-none, going-inside, going-first, going-refused, going-done, shape-operations}
+use Rattle.operations.proofs.RunLaws.{GoingAny, going-all, run-ends, run-inside, run-halts, run-next, run-patch}
 use Rattle.reversal.specs.Undo.{resultOr, undoOf, undoRun}
 use Rattle.undo_log.specs.Log.{Noted}
 use Rattle.undo_log.specs.declared.log.Log.{Log}
@@ -69,7 +68,7 @@ module _ {w : Table} {used row end op : ℕ} {log : Log} {work : Bytes} {whole :
       let all : g .earlier ≡ undo = rw none-left at (g .undoes) in
       record { ran = going-none (g .going) h; noted = λ v e. subst (Noted log work) all (g .noted) }
 
-  module _ (more : row < end) {nodes' : List Row} {work' : Bytes} {r : Stepped} (is : StepIs w nodes' work work' used row log r) where
+  module _ (more : row < end) {nodes' : List Row} {work' : Bytes} {r : Stepped} {k : ℕ} (is : StepIs w nodes' work work' used row k log r) where
     logging-steps : (first : First w row end op (g .going .object) (g .going .os))
         → StepsTo (w .texts) nodes' (limited (first .o) (g .going .now)) (whichPointer (first .o) (g .going .now))
         (undoOf (first .o) (g .going .now) ++ g .earlier) work' r
@@ -95,7 +94,7 @@ module _ {w : Table} {used row end op : ℕ} {log : Log} {work : Bytes} {whole :
     unfolding going-done
     next-of first (performs {v = u} e d) noted next at =
         record {
-          going = going-done (g .going) first (is .patch) next at (performs e d);
+          going = going-done (g .going) first (is .performs .patch) next at (performs e d);
           earlier = undoOf (first .o) (g .going .now) ++ g .earlier;
           noted = noted u e;
           undoes =
@@ -114,7 +113,7 @@ module _ {w : Table} {used row end op : ℕ} {log : Log} {work : Bytes} {whole :
 -- ---- of whatever the table holds
 pub record LoggingAny (w₀ : Table) (used₀ start end : ℕ) (log₀ : Log) (work₀ : Bytes) (nodes : List Row) (work : Bytes) (used row op : ℕ)
     (log : Log) : Type 0 where
-  pub patch : SamePatch (w₀ .nodes) nodes
+  pub going : GoingAny w₀ used₀ start end nodes used row op
   pub held : (v : Value.Value) → Document w₀ used₀ v → Short (w₀ .texts) → (f : Forest Cell) → RowsHeld w₀ start end f → patchRow ≤ start → end ≤ scratchRow
       → (object : Bool) → ProperItems object (members (w₀ .texts) f) → (os : List Operation) → operations 1 (members (w₀ .texts) f) ≡ finished os
       → (earlier : List Operation) → Noted log₀ work₀ earlier
@@ -124,7 +123,7 @@ pub logging-all : (w : Table) (used start end : ℕ) (log : Log) (work : Bytes) 
 unfolding going-all
 logging-all w used start end log work =
     record {
-      patch = patch-same;
+      going = going-all w used start end;
       held = λ v document short f rows behind before object proper os are earlier noted.
           record {
             going = going-all w used start end .held v document short f rows behind before object proper os are;
@@ -139,7 +138,7 @@ module _ {w₀ : Table} {used₀ start end : ℕ} {log₀ : Log} {work₀ : Byte
   pub logged-ends : end ≤ row → ElementsLoggedIs w₀ nodes work₀ work used₀ start end log₀ (record { ran = Ran.Done used; log = log })
   logged-ends h =
       record {
-        patch = any .patch;
+        runs = run-ends (any .going) h;
         held = λ v document short f rows behind before object proper os are earlier noted.
             logging-ends (any .held v document short f rows behind before object proper os are earlier noted) h;
       }
@@ -148,17 +147,19 @@ module _ {w₀ : Table} {used₀ start end : ℕ} {log₀ : Log} {work₀ : Byte
     pub logged-inside : length nodes ≤ row → {r : Logged} → ElementsLoggedIs w₀ nodes work₀ work used₀ start end log₀ r
     logged-inside h =
         record {
-          patch = any .patch;
+          runs = run-inside (any .going) more h;
           held = λ v document short f rows behind before object proper os are earlier noted.
               going-inside (any .held v document short f rows behind before object proper os are earlier noted .going) more h;
         }
 
-    module _ {nodes' : List Row} {work' : Bytes} {r : Stepped} (is : StepIs (table (w₀ .texts) nodes) nodes' work work' used row log r) where
+    -- the operation's number fits its field
+    module _ {nodes' : List Row} {work' : Bytes} {r : Stepped} {k : ℕ} (is : StepIs (table (w₀ .texts) nodes) nodes' work work' used row k log r)
+        (number : k ≡ (op + 1) % values) (low : op ≤ row) where
       pub logged-halts : {number place pointer : ℕ} → r .outcome ≡ Performed.Refused number place pointer
           → ElementsLoggedIs w₀ nodes' work₀ work' used₀ start end log₀ (record { ran = Ran.Refused number (op + 1) place pointer; log = r .log })
       logged-halts e =
           record {
-            patch = patch-then (any .patch) (is .patch);
+            runs = run-halts (any .going) more (is .performs) number low e;
             held = λ v document short f rows behind before object proper os are earlier noted.
                 logging-halts (any .held v document short f rows behind before object proper os are earlier noted) more is e;
           }
@@ -167,7 +168,7 @@ module _ {w₀ : Table} {used₀ start end : ℕ} {log₀ : Log} {work₀ : Byte
           → LoggingAny w₀ used₀ start end log₀ work₀ nodes' work' used' next (op + 1) (r .log)
       logged-next e next at =
           record {
-            patch = patch-then (any .patch) (is .patch);
+            going = run-next (any .going) more (is .performs) number low e next at;
             held = λ v document short f rows behind before object proper os are earlier noted.
                 logging-next (any .held v document short f rows behind before object proper os are earlier noted) more is e next at;
           }
@@ -176,7 +177,7 @@ pub logged-patch : {w : Table} {nodes' : List Row} {work work' : Bytes} {used : 
     → ElementsLoggedIs w nodes' work work' used (patchRow + 1) end log r → LoggedIs w nodes' work work' used log r
 logged-patch {w} end e is =
     record {
-      patch = is .patch;
+      runs = run-patch end e (is .runs);
       held = λ v document short c kids node before proper os right earlier noted.
           let rows = rows-children end e node in
           is .held v document short kids rows (omega arith) (omega (arith, rows .ends)) _ (proper .items) os

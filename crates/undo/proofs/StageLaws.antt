@@ -139,7 +139,7 @@ module _ {w : Table} (log : Log) (work : Bytes) (out : Outputs) {told : Bool} (f
               (d .means) (λ fits-in. written-whole (d .held) (rw (d .means) (d .shallow)) writes fits-in)
 
 -- ---- the shape of the patch, and its operations
-shape-told : {w : Table} {s : Shape} → PatchIs w patchRow s → {p : Value.Value} → PatchHeld w p → ShapeIs (shape p) s
+pub shape-told : {w : Table} {s : Shape} → PatchIs w patchRow s → {p : Value.Value} → PatchHeld w p → ShapeIs (shape p) s
 shape-told {s = s} shaped held = subst (λ u. ShapeIs (shape u) s) (held .means) (shaped .held (held .c) (held .kids) (held .held))
 
 shape-finished : {o : Run (List Operation)} {s : Shape} → ShapeIs o s → s ≡ Shape.Right → (os : List Operation) × (o ≡ finished os)
@@ -148,7 +148,7 @@ shape-finished (wrong number op) e = absurd (let z : _≡_ {A = ℕ} 0 1 = cc in
 
 module _ {w : Table} (work : Bytes) {used : ℕ} {begin : Log} {work₁ : Bytes} (begins : BeginIs work work₁ begin) {nodes' : List Row} {work' : Bytes}
     {logged : Logged} (runs : LoggedIs w nodes' work₁ work' used begin logged) where
-  run-told : {v p : Value.Value} → Document w used v → PatchHeld w p → Short (w .texts) → length work ≡ maxBytes → (os : List Operation)
+  pub run-told : {v p : Value.Value} → Document w used v → PatchHeld w p → Short (w .texts) → length work ≡ maxBytes → (os : List Operation)
       → shape p ≡ finished os → LoggedTo (w .texts) nodes' (run limited 1 os v) (undoRun os v) work' logged
   run-told {v} {p} d held short long os shaped-as =
       subst (λ us. LoggedTo (w .texts) nodes' (run limited 1 os v) us work' logged) (append-nil (undoRun os v))

@@ -32,7 +32,7 @@ use Rattle.shape.specs.declared.members.Spelled.the-variants as Spelled
 use Rattle.changes.specs.Document.{Document}
 use Rattle.operations.specs.Perform.{Listed}
 use Rattle.operations.proofs.ToldLaws.{told}
-use Rattle.operations.proofs.PerformLaws.{spelled-not, spelled-path}
+use Rattle.operations.proofs.PerformLaws.{spelled-not, spelled-path, of-kind}
 use Rattle.reversal.specs.Undo.{mended, undoOf}
 use Rattle.undo_log.specs.Log.{Noted}
 use Rattle.undo_log.specs.declared.log.Log.{Log}
@@ -150,10 +150,10 @@ module _ {w : Table} {path : Spelling} {kind : Kind} {log : Log} {work : Bytes} 
 
 -- ---- an operation, by its path and its kind
 module _ {w : Table} {used row : ℕ} {s : Spelled} (is : StringIs w row (ascii "path") s) {nodes' : List Row} {log : Log} {r : Stepped} where
-  pub path-missing : s ≡ Spelled.Not → {work : Bytes} → {op : ℕ} → PlainIs w nodes' used row op log r → StepIs w nodes' work work used row log r
+  pub path-missing : s ≡ Spelled.Not → {work : Bytes} {op : ℕ} → PlainIs w nodes' used row op log r → StepIs w nodes' work work used row op log r
   path-missing e plain =
       record {
-        patch = plain .performs .patch;
+        performs = plain .performs;
         held = λ v d short o l os noted. absurd (spelled-not (is .held (l .c) (l .kids) (l .held)) (told _ o (l .is) .path-there) e);
       }
 
@@ -177,24 +177,29 @@ is-move Operation.move e = refl
 is-move Operation.copy e = absurd (false≢true e)
 is-move Operation.test e = absurd (false≢true e)
 
-module _ {w : Table} {used row : ℕ} {s : Spelled} (is : StringIs w row (ascii "path") s) (path : Spelling) (e : s ≡ Spelled.As path)
+known-move : (o : Outcome Operation.Kind) → answered isMove o ≡ true → o ≡ ok Operation.move
+unfolding answered
+known-move (ok k) e = ap ok (is-move k e)
+known-move (refused number place) e = absurd (false≢true e)
+
+module _ {w : Table} {used row op : ℕ} {s : Spelled} (is : StringIs w row (ascii "path") s) (path : Spelling) (e : s ≡ Spelled.As path)
     {kind : Kind} (kind-is : KindIs w row kind) {uses : Uses}
     (uses-is : uses ≡ usesOf kind) {nodes' : List Row} {log : Log} {r : Stepped} {work work' : Bytes} where
-  pub step-moves : uses .moves ≡ true → MoveStepIs w nodes' work work' used row path log r → StepIs w nodes' work work' used row log r
+  pub step-moves : uses .moves ≡ true → MoveStepIs w nodes' work work' used row op path log r → StepIs w nodes' work work' used row op log r
   step-moves m moved =
       record {
-        patch = moved .patch;
+        performs =
+            of-kind is kind-is Operation.move path e (known-move _ (sym (ap (λ u. u .moves) uses-is) ∙ m)) refl (moved .performs);
         held = λ v d short o l os noted.
             let k = is-move (o .kind) (sym (moves-told uses-is (kind-told kind-is l)) ∙ m) in
             moved .held v d short o l k (path-told is path e l) os noted;
       }
 
   pub step-other : uses .moves ≡ false → {before-log : Log} → NoteBeforeIs w work work' kind path log before-log
-      → {op : ℕ} → PlainIs w nodes' used row op before-log r
-      → StepIs w nodes' work work' used row log r
+      → PlainIs w nodes' used row op before-log r → StepIs w nodes' work work' used row op log r
   step-other m note plain =
       record {
-        patch = plain .performs .patch;
+        performs = plain .performs;
         held = λ v d short o l os noted.
             let knows = kind-told kind-is l in
             let stays = sym (moves-told uses-is knows) ∙ m in

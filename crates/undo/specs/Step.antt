@@ -19,13 +19,19 @@ use Rattle.tape.specs.declared.fields.Cell.{Cell}
 use Rattle.tape.specs.Lent.{Texts, Table}
 use Rattle.table.specs.Meaning.{meant}
 use Rattle.table.specs.Sound.{NodeHeld}
+use Rattle.origin.specs.Value as Origin
+use Rattle.origin.specs.Value.{forget}
+use Rattle.origin.specs.Pointer as Origins
+use Rattle.origin.specs.Operation as OriginOperation
+use Rattle.walk.specs.Bearing.{borne}
 use Rattle.walk.specs.Names.{Short}
 use Rattle.walk.specs.Path.{PathIs}
 use Rattle.shape.specs.Operation.{Knows}
 use Rattle.shape.specs.declared.kinds.Kind.{Kind}
-use Rattle.changes.specs.Document.{Document, judged}
-use Rattle.operations.specs.Answers.{fromOrPath, Performs}
-use Rattle.operations.specs.Perform.{SamePatch, Listed, PerformIs}
+use Rattle.changes.specs.Document.{Document, judged, Bearing, judgedBearing}
+use Rattle.operations.specs.Bearing.{limitedWith, valueIn}
+use Rattle.operations.specs.Answers.{fromOrPath, Performs, PerformsBearing}
+use Rattle.operations.specs.Perform.{SamePatch, Listed, OperationFor, PerformIs}
 use Rattle.reversal.specs.Undo.{parentTokens, mended, isReplace, undoOf}
 use Rattle.undo_log.specs.Log.{Noted}
 use Rattle.undo_log.specs.declared.log.Log.{Log}
@@ -36,6 +42,12 @@ pub record StepsTo (T : Texts) (nodes' : List Row) (o : Outcome Value.Value) (po
     (r : Stepped) : Type 0 where
   pub results : Performs T nodes' o pointer (r .outcome)
   pub noted : (v : Value.Value) → o ≡ ok v → Noted (r .log) work' undo
+
+-- What the operation in a row, op of the run, comes to with origins. What is noted bears none. From here on the field `bearing` speaks of values with
+-- their origins, and `held` of the same without.
+abbrev pub StepsBearing : (w : Table) → List Row → ℕ → {row : ℕ} {o : Operation} → Listed w row o → Origin.Value → Stepped → Type 0
+StepsBearing w nodes' op {o = o} l v r =
+    PerformsBearing (w .texts) nodes' (limitedWith op o (valueIn (borne (w .texts) (l .c) (l .kids))) v) (whichPointer o (forget v)) (r .outcome)
 
 -- ---- an operation as it is, with what is noted
 pub record PlainIs (w : Table) (nodes' : List Row) (used row op : ℕ) (log : Log) (r : Stepped) : Type 0 where
@@ -64,22 +76,34 @@ pub record MoveApartIs (w : Table) (nodes' : List Row) (work work' : Bytes) (use
       → walk (g ∷ gs) v ≡ ok (meant (w .texts) c kids) → (left : Value.Value) → removeAtPath (g ∷ gs) v ≡ ok left
       → (os : List Operation) → Noted log work os
       → StepsTo (w .texts) nodes' (judged (moveTo (g ∷ gs) ts v)) (fromOrPath (g ∷ gs) v) (mended ts left ∷ os) work' r
+  pub bearing : (v : Origin.Value) → Bearing w used v → Short (w .texts) → (g : Text) (gs : Tokens) → PathIs (w .texts) from (g ∷ gs)
+      → (ts : Tokens) → PathIs (w .texts) path ts → (c : Cell) (kids : Forest Cell) → NodeHeld w row c kids → row + size kids < used
+      → Origins.walk (g ∷ gs) v ≡ ok (borne (w .texts) c kids)
+      → PerformsBearing (w .texts) nodes' (judgedBearing (OriginOperation.moveTo (g ∷ gs) ts v)) (fromOrPath (g ∷ gs) (forget v)) (r .outcome)
 
 -- the value at `from`, which is in a row, and not the root
-pub record MoveFromIs (w : Table) (nodes' : List Row) (work work' : Bytes) (used row : ℕ) (from path : Spelling) (at : ℕ) (log : Log)
+pub record MoveFromIs (w : Table) (nodes' : List Row) (work work' : Bytes) (used row op : ℕ) (from path : Spelling) (at : ℕ) (log : Log)
     (r : Stepped) : Type 0 where
   pub patch : SamePatch (w .nodes) nodes'
   pub held : (v : Value.Value) → Document w used v → Short (w .texts) → (o : Operation) → Listed w row o → o .kind ≡ Operation.move
       → (g : Text) (gs : Tokens) → o .from ≡ g ∷ gs → PathIs (w .texts) from (g ∷ gs) → PathIs (w .texts) path (o .path)
       → (c : Cell) (kids : Forest Cell) → NodeHeld w at c kids → at + size kids < used → walk (g ∷ gs) v ≡ ok (meant (w .texts) c kids)
       → (os : List Operation) → Noted log work os → StepsTo (w .texts) nodes' (limited o v) (whichPointer o v) (undoOf o v ++ os) work' r
+  pub bearing : (v : Origin.Value) → Bearing w used v → Short (w .texts) → (o : Operation) (l : Listed w row o) → o .kind ≡ Operation.move
+      → (g : Text) (gs : Tokens) → o .from ≡ g ∷ gs → PathIs (w .texts) from (g ∷ gs) → PathIs (w .texts) path (o .path)
+      → (c : Cell) (kids : Forest Cell) → NodeHeld w at c kids → at + size kids < used → Origins.walk (g ∷ gs) v ≡ ok (borne (w .texts) c kids)
+      → StepsBearing w nodes' op l v r
 
 -- the value at `from`, which is not the root
-pub record MoveBelowIs (w : Table) (nodes' : List Row) (work work' : Bytes) (used row : ℕ) (from path : Spelling) (log : Log) (r : Stepped) : Type 0 where
+pub record MoveBelowIs (w : Table) (nodes' : List Row) (work work' : Bytes) (used row op : ℕ) (from path : Spelling) (log : Log)
+    (r : Stepped) : Type 0 where
   pub patch : SamePatch (w .nodes) nodes'
   pub held : (v : Value.Value) → Document w used v → Short (w .texts) → (o : Operation) → Listed w row o → o .kind ≡ Operation.move
       → (g : Text) (gs : Tokens) → o .from ≡ g ∷ gs → PathIs (w .texts) from (g ∷ gs) → PathIs (w .texts) path (o .path)
       → (os : List Operation) → Noted log work os → StepsTo (w .texts) nodes' (limited o v) (whichPointer o v) (undoOf o v ++ os) work' r
+  pub bearing : (v : Origin.Value) → Bearing w used v → Short (w .texts) → (o : Operation) (l : Listed w row o) → o .kind ≡ Operation.move
+      → (g : Text) (gs : Tokens) → o .from ≡ g ∷ gs → PathIs (w .texts) from (g ∷ gs) → PathIs (w .texts) path (o .path)
+      → StepsBearing w nodes' op l v r
 
 -- ---- before an operation: of a kind that moves nothing, with its path
 abbrev pub NoteBeforeIs : Table → Bytes → Bytes → Kind → Spelling → Log → Log → Type 0
@@ -89,15 +113,15 @@ NoteBeforeIs w work work' kind path log r =
     → (os : List Operation) → Noted log work os → Noted r work' (undoOf o v ++ os)
 
 -- ---- an operation in a row of the patch
--- a move, with its path
-pub record MoveStepIs (w : Table) (nodes' : List Row) (work work' : Bytes) (used row : ℕ) (path : Spelling) (log : Log) (r : Stepped) : Type 0 where
-  pub patch : SamePatch (w .nodes) nodes'
+-- a move, with its path: it is performed as without an undo, and the patch's rows are as they were
+pub record MoveStepIs (w : Table) (nodes' : List Row) (work work' : Bytes) (used row op : ℕ) (path : Spelling) (log : Log) (r : Stepped) : Type 0 where
+  pub performs : OperationFor (λ k. k ≡ op) w nodes' used row path Operation.move (r .outcome)
   pub held : (v : Value.Value) → Document w used v → Short (w .texts) → (o : Operation) → Listed w row o → o .kind ≡ Operation.move
       → PathIs (w .texts) path (o .path) → (os : List Operation) → Noted log work os
       → StepsTo (w .texts) nodes' (limited o v) (whichPointer o v) (undoOf o v ++ os) work' r
 
 -- any
-pub record StepIs (w : Table) (nodes' : List Row) (work work' : Bytes) (used row : ℕ) (log : Log) (r : Stepped) : Type 0 where
-  pub patch : SamePatch (w .nodes) nodes'
+pub record StepIs (w : Table) (nodes' : List Row) (work work' : Bytes) (used row op : ℕ) (log : Log) (r : Stepped) : Type 0 where
+  pub performs : PerformIs w nodes' used row op (r .outcome)
   pub held : (v : Value.Value) → Document w used v → Short (w .texts) → (o : Operation) → Listed w row o → (os : List Operation) → Noted log work os
       → StepsTo (w .texts) nodes' (limited o v) (whichPointer o v) (undoOf o v ++ os) work' r

@@ -124,7 +124,7 @@ fn move_from<'a>(
     work: &mut [u8],
 ) -> Stepped
     ensures { λ r. ⌜ MoveFromIs (before texts nodes) (now (nodes .exit)) (now (work .entry)) (now (work .exit)) used
-        row from path at log r ⌝ }
+        row op from path at log r ⌝ }
 {
     if holds(texts, nodes, path, from) {
         let replaced = note_replaced(texts, nodes, log, path, work);
@@ -148,7 +148,7 @@ fn move_below<'a>(
     work: &mut [u8],
 ) -> Stepped
     ensures { λ r. ⌜ MoveBelowIs (before texts nodes) (now (nodes .exit)) (now (work .entry)) (now (work .exit))
-        used row from path log r ⌝ }
+        used row op from path log r ⌝ }
 {
     let Reached::At(at) = walk(texts, nodes, layout::DOCUMENT, from) else {
         return plain(texts, nodes, index, used, row, op, log);
@@ -181,7 +181,7 @@ pub fn move_step<'a>(
     work: &mut [u8],
 ) -> Stepped
     ensures { λ r. ⌜ MoveStepIs (before texts nodes) (now (nodes .exit)) (now (work .entry))
-        (now (work .exit)) used row path log r ⌝ }
+        (now (work .exit)) used row op path log r ⌝ }
 {
     let Spelled::As(from) = string_member(texts, nodes, row, b"from") else {
         return plain(texts, nodes, index, used, row, op, log);

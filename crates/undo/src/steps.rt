@@ -52,7 +52,7 @@ pub fn step<'a>(
     work: &mut [u8],
 ) -> Stepped
     ensures { λ r. ⌜ StepIs (before texts nodes) (now (nodes .exit)) (now (work .entry))
-        (now (work .exit)) used row log r ⌝ }
+        (now (work .exit)) used row op log r ⌝ }
 {
     let Spelled::As(path) = string_member(texts, nodes, row, b"path") else {
         return plain(texts, nodes, index, used, row, op, log);

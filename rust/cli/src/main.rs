@@ -18,6 +18,7 @@ mod hex;
 mod inspect;
 mod link;
 mod merge;
+mod origins;
 mod patches;
 mod pointer;
 mod replace;
@@ -38,6 +39,7 @@ pub const COMMANDS: &[&Command] = &[
     &check::COMMAND,
     &undo::COMMAND,
     &merge::COMMAND,
+    &origins::COMMAND,
     &inspect::COMMAND,
     &equal::COMMAND,
     &link::COMMAND,

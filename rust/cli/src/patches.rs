@@ -4,9 +4,10 @@ use crate::arguments::{wrong, Arguments};
 use crate::command::Command;
 use crate::files::{Name, Text};
 use crate::trouble::Trouble;
+use json_patch::origins::{self, Listed};
 use json_patch::undo::{self, apply_with_undo, UndoWork, Written};
 use json_patch::{
-    apply, apply_within, elements, merge, Kind, Refusal, Work, MAX_BYTES, TOOL_OUTPUT,
+    apply, apply_within, elements, merge, Kind, Refusal, Work, MAX_BYTES, MAX_NODES, TOOL_OUTPUT,
 };
 use std::os::unix::ffi::OsStrExt;
 
@@ -113,6 +114,31 @@ impl Run {
             Ok(length) => {
                 output.truncate(length);
                 Ok(output)
+            }
+            Err(refusal) => {
+                Err(Refused { refusal, index: 0, document: document.clone(), undo: false })
+            }
+        }
+    }
+
+    /// The text that the first patch leaves, and the origins of its values, or its
+    /// refusal.
+    pub fn origins(&self, merge: bool) -> Result<(Vec<u8>, Vec<u16>), Refused> {
+        let (document, patch) = (&self.document.bytes, &self.patches[0].bytes);
+        let (mut output, mut list) = (vec![0; TOOL_OUTPUT], vec![0; MAX_NODES]);
+        let mut work = Work::new();
+        let result = match &self.region {
+            _ if merge => origins::merge(document, patch, &mut output, &mut list, &mut work),
+            Some(region) => {
+                origins::apply_within(document, patch, region, &mut output, &mut list, &mut work)
+            }
+            None => origins::apply(document, patch, &mut output, &mut list, &mut work),
+        };
+        match result {
+            Ok(Listed { length, values }) => {
+                output.truncate(length);
+                list.truncate(values);
+                Ok((output, list))
             }
             Err(refusal) => {
                 Err(Refused { refusal, index: 0, document: document.clone(), undo: false })

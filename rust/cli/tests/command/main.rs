@@ -7,6 +7,7 @@ mod hex;
 mod inspect;
 mod links;
 mod merge;
+mod origins;
 mod regions;
 mod replacing;
 mod statuses;

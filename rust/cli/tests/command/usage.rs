@@ -3,8 +3,20 @@
 use crate::support::{file_of_root, left_out, program, words, Folder, Ran, COMMAND};
 use std::process::Command;
 
-const COMMANDS: [&str; 10] =
-    ["apply", "check", "undo", "inspect", "equal", "link", "pointer", "hex", "unhex", "completion"];
+const COMMANDS: [&str; 12] = [
+    "apply",
+    "check",
+    "undo",
+    "merge",
+    "origins",
+    "inspect",
+    "equal",
+    "link",
+    "pointer",
+    "hex",
+    "unhex",
+    "completion",
+];
 
 /// The help of a subcommand.
 fn help(name: &str) -> String {
@@ -150,6 +162,10 @@ fn bash_completes() {
     assert_eq!(offered(&folder, &["a"]), ["apply"]);
     assert_eq!(offered(&folder, &["c"]), ["check", "completion"]);
     assert_eq!(offered(&folder, &["equal", "--c"]), ["--count"]);
+    assert_eq!(offered(&folder, &["o"]), ["origins"]);
+    assert_eq!(offered(&folder, &["origins", "--c"]), ["--changed"]);
+    assert_eq!(offered(&folder, &["origins", "--m"]), ["--merge"]);
+    assert_eq!(offered(&folder, &["origins", "pack.json", "f"]), ["fix.json"]);
     assert_eq!(offered(&folder, &["apply", "--o"]), ["--output"]);
     assert_eq!(offered(&folder, &["apply", "--in"]), ["--in-place"]);
     assert_eq!(offered(&folder, &["check", "--o"]), [""; 0]);

@@ -27,6 +27,17 @@ number-at-spec =
     -- enum-told-2
     (λ c. search needs)
     -- returns-2
-    (λ c. rw (told (c .before .before .before .before .before .before .before .word-at .ensures) (c .before .before .before .before .before .p .given .1), ← c .before .before .before .bytes-of .ensures, told (c .before .before .worth .ensures) (c .enum-told2 .given .1)))
+    (λ c.
+    let at-worth = c .before .before in
+    let at-bytes-of = at-worth .before in
+    let at-p = at-bytes-of .before .before in
+    let at-word-at = at-p .before .before in
+    rw (told (at-word-at .word-at .ensures) (at-p .p .given .1), ← at-bytes-of .bytes-of .ensures, told (at-worth .worth .ensures) (c .enum-told2 .given .1)))
     -- returns-3
-    (λ c. rw (told (c .before .before .before .before .before .before .before .before .word-at .ensures) (c .before .before .before .before .before .before .p .given .1), ← c .before .before .before .before .bytes-of .ensures, told (c .before .before .before .worth .ensures) (c .before .n .given .1))))
+    (λ c.
+    let at-n = c .before in
+    let at-worth = at-n .before .before in
+    let at-bytes-of = at-worth .before in
+    let at-p = at-bytes-of .before .before in
+    let at-word-at = at-p .before .before in
+    rw (told (at-word-at .word-at .ensures) (at-p .p .given .1), ← at-bytes-of .bytes-of .ensures, told (at-worth .worth .ensures) (at-n .n .given .1))))

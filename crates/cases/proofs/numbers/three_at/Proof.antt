@@ -25,7 +25,11 @@ three-at-spec =
     -- enum-told-2
     (λ c. search needs)
     -- returns-2
-    (λ c. rw (told (c .before .before .before .before .before .before .counted .ensures) (c .before .before .before .before .first .given .1), told (c .before .before .counted2 .ensures) (c .enum-told2 .given .1)))
+    (λ c.
+    let at-counted2 = c .before .before in
+    let at-first = at-counted2 .before .before in
+    let at-counted = at-first .before .before in
+    rw (told (at-counted .counted .ensures) (at-first .first .given .1), told (at-counted2 .counted2 .ensures) (c .enum-told2 .given .1)))
     -- counted-requires-3
     (λ c κs. search needs)
     -- enum-known-third
@@ -33,14 +37,27 @@ three-at-spec =
     -- enum-told-3
     (λ c. search needs)
     -- returns-3
-    (λ c. rw (
-      told (c .before .before .before .before .before .before .before .before .before .before .counted .ensures) (c .before .before .before .before .before .before .before .before .first .given .1),
-      told (c .before .before .before .before .before .before .counted2 .ensures) (c .before .before .before .before .second .given .1),
-      told (c .before .before .counted3 .ensures) (c .enum-told3 .given .1),
+    (λ c.
+    let at-counted3 = c .before .before in
+    let at-second = at-counted3 .before .before in
+    let at-counted2 = at-second .before .before in
+    let at-first = at-counted2 .before .before in
+    let at-counted = at-first .before .before in
+    rw (
+      told (at-counted .counted .ensures) (at-first .first .given .1),
+      told (at-counted2 .counted2 .ensures) (at-second .second .given .1),
+      told (at-counted3 .counted3 .ensures) (c .enum-told3 .given .1),
     ))
     -- returns-4
-    (λ c. rw (
-      told (c .before .before .before .before .before .before .before .before .before .before .before .counted .ensures) (c .before .before .before .before .before .before .before .before .before .first .given .1),
-      told (c .before .before .before .before .before .before .before .counted2 .ensures) (c .before .before .before .before .before .second .given .1),
-      told (c .before .before .before .counted3 .ensures) (c .before .third .given .1),
+    (λ c.
+    let at-third = c .before in
+    let at-counted3 = at-third .before .before in
+    let at-second = at-counted3 .before .before in
+    let at-counted2 = at-second .before .before in
+    let at-first = at-counted2 .before .before in
+    let at-counted = at-first .before .before in
+    rw (
+      told (at-counted .counted .ensures) (at-first .first .given .1),
+      told (at-counted2 .counted2 .ensures) (at-second .second .given .1),
+      told (at-counted3 .counted3 .ensures) (at-third .third .given .1),
     )))

@@ -28,12 +28,21 @@ worth-spec =
     -- shared-slice-read-digit
     (λ c. search needs)
     -- returns-2
-    (λ c. sym (worth-low (c .before .before .before .before .before .args .text .now) (c .before .before .before .loop .n) (c .before .before .before .loop .i) (omega arith) (omega arith)) ∙ c .before .before .before .loop .inv .0)
+    (λ c.
+    let at-loop = c .before .before .before in
+    let at-args = at-loop .before .before in
+    sym (worth-low (at-args .args .text .now) (at-loop .loop .n) (at-loop .loop .i) (omega arith) (omega arith)) ∙ at-loop .loop .inv .0)
     -- returns-3
-    (λ c. sym (worth-high (c .before .before .before .before .before .before .args .text .now) (c .before .before .before .before .loop .n) (c .before .before .before .before .loop .i) (omega arith) (omega arith) (omega arith)) ∙ c .before .before .before .before .loop .inv .0)
+    (λ c.
+    let at-loop = c .before .before .before .before in
+    let at-args = at-loop .before .before in
+    sym (worth-high (at-args .args .text .now) (at-loop .loop .n) (at-loop .loop .i) (omega arith) (omega arith) (omega arith)) ∙ at-loop .loop .inv .0)
     -- returns-4
     (λ c.
-    sym (worth-much (c .before .before .before .before .before .before .before .args .text .now) (c .before .before .before .before .before .loop .n) (c .before .before .before .before .before .loop .i) (omega arith) (omega arith) (omega arith) (omega arith)) ∙ c .before .before .before .before .before .loop .inv .0)
+    let at-loop = c .before .before .before .before .before in
+    let at-args = at-loop .before .before in
+    sym (worth-much (at-args .args .text .now) (at-loop .loop .n) (at-loop .loop .i) (omega arith) (omega arith) (omega arith) (omega arith)) ∙
+    at-loop .loop .inv .0)
     -- mul-n
     (λ c. search needs)
     -- cast-n
@@ -45,8 +54,11 @@ worth-spec =
     -- loop-less
     (λ c. search needs)
     -- loop-again
-    (λ c. (
-      sym (worth-next (c .before .before .before .before .before .before .before .args .text .now) (c .before .before .before .before .before .loop .n) (c .before .before .before .before .before .loop .i) (omega arith) (omega arith) (omega arith) (omega arith)) ∙ c .before .before .before .before .before .loop .inv .0,
+    (λ c.
+    let at-loop = c .before .before .before .before .before in
+    let at-args = at-loop .before .before in (
+      sym (worth-next (at-args .args .text .now) (at-loop .loop .n) (at-loop .loop .i) (omega arith) (omega arith) (omega arith) (omega arith)) ∙
+          at-loop .loop .inv .0,
       omega arith,
     ))
     -- returns-5

@@ -25,7 +25,11 @@ case-of-spec =
     -- enum-told-2
     (λ c. search needs)
     -- returns-2
-    (λ c. rw (told (c .before .before .before .before .before .before .name-at .ensures) (c .before .before .before .before .name .given .1), told (c .before .before .three-at .ensures) (c .enum-told2 .given .1)))
+    (λ c.
+    let at-three-at = c .before .before in
+    let at-name = at-three-at .before .before in
+    let at-name-at = at-name .before .before in
+    rw (told (at-name-at .name-at .ensures) (at-name .name .given .1), told (at-three-at .three-at .ensures) (c .enum-told2 .given .1)))
     -- three-at-requires-2
     (λ c κs. search needs)
     -- enum-known-lengths
@@ -33,10 +37,16 @@ case-of-spec =
     -- enum-told-3
     (λ c. search needs)
     -- returns-3
-    (λ c. rw (
-      told (c .before .before .before .before .before .before .before .before .before .before .name-at .ensures) (c .before .before .before .before .before .before .before .before .name .given .1),
-      told (c .before .before .before .before .before .before .three-at .ensures) (c .before .before .before .before .lent .given .1),
-      told (c .before .before .three-at2 .ensures) (c .enum-told3 .given .1),
+    (λ c.
+    let at-three-at2 = c .before .before in
+    let at-lent = at-three-at2 .before .before in
+    let at-three-at = at-lent .before .before in
+    let at-name = at-three-at .before .before in
+    let at-name-at = at-name .before .before in
+    rw (
+      told (at-name-at .name-at .ensures) (at-name .name .given .1),
+      told (at-three-at .three-at .ensures) (at-lent .lent .given .1),
+      told (at-three-at2 .three-at2 .ensures) (c .enum-told3 .given .1),
     ))
     -- texts-at-requires
     (λ c κs. search needs)
@@ -45,16 +55,33 @@ case-of-spec =
     -- enum-told-4
     (λ c. search needs)
     -- returns-4
-    (λ c. rw (
-      told (c .before .before .before .before .before .before .before .before .before .before .before .before .before .before .name-at .ensures) (c .before .before .before .before .before .before .before .before .before .before .before .before .name .given .1),
-      told (c .before .before .before .before .before .before .before .before .before .before .three-at .ensures) (c .before .before .before .before .before .before .before .before .lent .given .1),
-      told (c .before .before .before .before .before .before .three-at2 .ensures) (c .before .before .before .before .lengths .given .1),
-      told (c .before .before .texts-at .ensures) (c .enum-told4 .given .1),
+    (λ c.
+    let at-texts-at = c .before .before in
+    let at-lengths = at-texts-at .before .before in
+    let at-three-at2 = at-lengths .before .before in
+    let at-lent = at-three-at2 .before .before in
+    let at-three-at = at-lent .before .before in
+    let at-name = at-three-at .before .before in
+    let at-name-at = at-name .before .before in
+    rw (
+      told (at-name-at .name-at .ensures) (at-name .name .given .1),
+      told (at-three-at .three-at .ensures) (at-lent .lent .given .1),
+      told (at-three-at2 .three-at2 .ensures) (at-lengths .lengths .given .1),
+      told (at-texts-at .texts-at .ensures) (c .enum-told4 .given .1),
     ))
     -- returns-5
-    (λ c. rw (
-      told (c .before .before .before .before .before .before .before .before .before .before .before .before .before .before .before .name-at .ensures) (c .before .before .before .before .before .before .before .before .before .before .before .before .before .name .given .1),
-      told (c .before .before .before .before .before .before .before .before .before .before .before .three-at .ensures) (c .before .before .before .before .before .before .before .before .before .lent .given .1),
-      told (c .before .before .before .before .before .before .before .three-at2 .ensures) (c .before .before .before .before .before .lengths .given .1),
-      told (c .before .before .before .texts-at .ensures) (c .before .stand .given .1),
+    (λ c.
+    let at-stand = c .before in
+    let at-texts-at = at-stand .before .before in
+    let at-lengths = at-texts-at .before .before in
+    let at-three-at2 = at-lengths .before .before in
+    let at-lent = at-three-at2 .before .before in
+    let at-three-at = at-lent .before .before in
+    let at-name = at-three-at .before .before in
+    let at-name-at = at-name .before .before in
+    rw (
+      told (at-name-at .name-at .ensures) (at-name .name .given .1),
+      told (at-three-at .three-at .ensures) (at-lent .lent .given .1),
+      told (at-three-at2 .three-at2 .ensures) (at-lengths .lengths .given .1),
+      told (at-texts-at .texts-at .ensures) (at-stand .stand .given .1),
     )))

@@ -25,7 +25,11 @@ texts-at-spec =
     -- enum-told-2
     (λ c. search needs)
     -- returns-2
-    (λ c. rw (told (c .before .before .before .before .before .before .text-at .ensures) (c .before .before .before .before .first .given .1), told (c .before .before .text-at2 .ensures) (c .enum-told2 .given .1)))
+    (λ c.
+    let at-text-at2 = c .before .before in
+    let at-first = at-text-at2 .before .before in
+    let at-text-at = at-first .before .before in
+    rw (told (at-text-at .text-at .ensures) (at-first .first .given .1), told (at-text-at2 .text-at2 .ensures) (c .enum-told2 .given .1)))
     -- text-at-requires-3
     (λ c κs. search needs)
     -- enum-known-third
@@ -33,14 +37,27 @@ texts-at-spec =
     -- enum-told-3
     (λ c. search needs)
     -- returns-3
-    (λ c. rw (
-      told (c .before .before .before .before .before .before .before .before .before .before .text-at .ensures) (c .before .before .before .before .before .before .before .before .first .given .1),
-      told (c .before .before .before .before .before .before .text-at2 .ensures) (c .before .before .before .before .second .given .1),
-      told (c .before .before .text-at3 .ensures) (c .enum-told3 .given .1),
+    (λ c.
+    let at-text-at3 = c .before .before in
+    let at-second = at-text-at3 .before .before in
+    let at-text-at2 = at-second .before .before in
+    let at-first = at-text-at2 .before .before in
+    let at-text-at = at-first .before .before in
+    rw (
+      told (at-text-at .text-at .ensures) (at-first .first .given .1),
+      told (at-text-at2 .text-at2 .ensures) (at-second .second .given .1),
+      told (at-text-at3 .text-at3 .ensures) (c .enum-told3 .given .1),
     ))
     -- returns-4
-    (λ c. rw (
-      told (c .before .before .before .before .before .before .before .before .before .before .before .text-at .ensures) (c .before .before .before .before .before .before .before .before .before .first .given .1),
-      told (c .before .before .before .before .before .before .before .text-at2 .ensures) (c .before .before .before .before .before .second .given .1),
-      told (c .before .before .before .text-at3 .ensures) (c .before .third .given .1),
+    (λ c.
+    let at-third = c .before in
+    let at-text-at3 = at-third .before .before in
+    let at-second = at-text-at3 .before .before in
+    let at-text-at2 = at-second .before .before in
+    let at-first = at-text-at2 .before .before in
+    let at-text-at = at-first .before .before in
+    rw (
+      told (at-text-at .text-at .ensures) (at-first .first .given .1),
+      told (at-text-at2 .text-at2 .ensures) (at-second .second .given .1),
+      told (at-text-at3 .text-at3 .ensures) (at-third .third .given .1),
     )))

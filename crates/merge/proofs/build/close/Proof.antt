@@ -1,5 +1,4 @@
 -- `close` meets its contract.
-use mathlib.Core.Path.{sym, ap}
 use borrow.Author.Tests.{eq-eqb, ne-eqb}
 use Rattle.merge.specs.Building.{closed}
 use borrow.Author.Needs.{needs}
@@ -13,6 +12,8 @@ close-spec =
     (tie.spec
     -- returns
     (λ c. rw (eq-eqb _ _ (c .if1 .taken)))
+    -- object-origin-requires
+    (λ c κs. search needs)
     -- load-requires
     (λ c κs. search needs)
     -- sub-narrow
@@ -23,6 +24,8 @@ close-spec =
     (λ c κs. search needs)
     -- array-write-node
     (λ c. search needs)
+    -- array-write-node-2
+    (λ c. search needs)
     -- store-requires
     (λ c κs. search needs)
     -- same-length
@@ -32,5 +35,12 @@ close-spec =
     let at-store = c .before in
     let at-narrow = at-store .before .before in
     let at-load = at-narrow .before in
-    let at-if1 = at-load .before .before in
-    rw (ne-eqb _ _ (at-if1 .if1 .left), at-store .store .ensures, at-narrow .narrow .ensures, at-load .load .ensures)))
+    let at-object-origin = at-load .before .before in
+    let at-if1 = at-object-origin .before .before in
+    rw (
+      ne-eqb _ _ (at-if1 .if1 .left),
+      at-store .store .ensures,
+      at-narrow .narrow .ensures,
+      at-load .load .ensures,
+      at-object-origin .object-origin .ensures,
+    )))

@@ -1,7 +1,7 @@
 -- `merge_object` meets its contract, by the levels, which fall. Its first loop passes the target's members, its second one those of the patch.
 use Prim.Native.Nat.{ℕ, _+_, _≤_, _<_, _-_, max}
 use native.Mathlib.Omega.{arith}
-use mathlib.Core.Path.{_≡_, refl, _∙_, sym, ap, subst}
+use mathlib.Core.Path.{_≡_, refl, _∙_, sym, subst}
 use mathlib.Core.List.{List}
 use lib.ListN.{length}
 use borrow.Author.Needs.{needs}
@@ -13,6 +13,7 @@ use Rattle.tape.specs.Fields.{Row}
 use Rattle.tape.specs.declared.fields.Cell.{Cell}
 use Rattle.tape.specs.Lent.{tableOf}
 use Rattle.index.specs.Slots.{slots}
+use Rattle.merge.specs.Bearing.{View}
 use Rattle.merge.specs.Building.{Framed}
 use Rattle.merge.specs.Steps.{Reaches}
 use Rattle.merge.proofs.BuildLaws.{framed-then, framed-closed}
@@ -48,9 +49,9 @@ merge-object-below t = and 3 merge-object-kinds.ps (falls 3 merge-object-kinds.p
 abbrev merge-object-Inv-loop : merge-object-lts.InvT-loop
 merge-object-Inv-loop texts nodes₀ index₀ target patch to levels next₀ end row₀ nodes index next row =
     Onward to nodes₀ nodes index₀ index next × (target < row) × (length nodes₀ ≡ rows) × (end ≤ max (target + 1) rows) × (slots ≤ length index₀)
-    × ((first : List Row) (xs : List ℕ) (c : Cell) (kids ts : Forest Cell)
-    → Keeping (tableOf texts first) xs patch to levels end c kids ts nodes₀ index₀ next₀ row₀
-    → Keeping (tableOf texts first) xs patch to levels end c kids ts nodes index next row)
+    × ((o : View) (first : List Row) (xs : List ℕ) (c : Cell) (kids ts : Forest Cell)
+    → Keeping o (tableOf texts first) xs patch to levels end c kids ts nodes₀ index₀ next₀ row₀
+    → Keeping o (tableOf texts first) xs patch to levels end c kids ts nodes index next row)
 
 abbrev merge-object-μ-loop : merge-object-lts.MeasureT-loop
 merge-object-μ-loop texts nodes₀ index₀ target patch to levels next₀ end row₀ nodes index next row = end - row
@@ -58,9 +59,9 @@ merge-object-μ-loop texts nodes₀ index₀ target patch to levels next₀ end 
 abbrev merge-object-Inv-loop2 : merge-object-lts.InvT-loop2
 merge-object-Inv-loop2 texts nodes₀ index₀ target patch to levels next₀ end row₀ last nodes index next row =
     Onward to nodes₀ nodes index₀ index next × (patch < row) × (length nodes₀ ≡ rows) × (last ≤ rows) × (slots ≤ length index₀)
-    × ((first : List Row) (xs : List ℕ) (c : Cell) (kids ts : Forest Cell)
-    → Appending (tableOf texts first) xs patch to levels last c kids ts nodes₀ index₀ next₀ row₀
-    → Appending (tableOf texts first) xs patch to levels last c kids ts nodes index next row)
+    × ((o : View) (first : List Row) (xs : List ℕ) (c : Cell) (kids ts : Forest Cell)
+    → Appending o (tableOf texts first) xs patch to levels last c kids ts nodes₀ index₀ next₀ row₀
+    → Appending o (tableOf texts first) xs patch to levels last c kids ts nodes index next row)
 
 abbrev merge-object-μ-loop2 : merge-object-lts.MeasureT-loop2
 merge-object-μ-loop2 texts nodes₀ index₀ target patch to levels next₀ end row₀ last nodes index next row = last - row
@@ -112,7 +113,7 @@ pub +merge-object-spec : {M : Type 1} → statement M
       omega (arith, at-pre .pre),
       omega (arith, c .members-end .ensures, members-end-low (at-pre .args .nodes .now) (at-pre .args .target), at-pre .pre),
       omega (arith, at-note-members .note-members .ensures .changed .same-length, at-pre .pre),
-      λ first xs p kids ts q. q,
+      λ o first xs p kids ts q. q,
     ))
     -- end-of-requires
     (λ c κs. search needs)
@@ -145,8 +146,8 @@ pub +merge-object-spec : {M : Type 1} → statement M
       stored .2,
       stored .3,
       stored .4,
-      λ first xs p kids ts q.
-          keeping-nothing (stored .5 first xs p kids ts q) (at-loop-test .loop-test .taken) _
+      λ o first xs p kids ts q.
+          keeping-nothing (stored .5 o first xs p kids ts q) (at-loop-test .loop-test .taken) _
           (at-end-of .end-of .ensures) (at-keep .keep .ensures) (c .enum-told .given .1),
     ))
     -- enum-known-from
@@ -193,8 +194,8 @@ pub +merge-object-spec : {M : Type 1} → statement M
       stored .2,
       stored .3,
       stored .4,
-      λ first xs p kids ts q.
-          keeping-copied (stored .5 first xs p kids ts q) (at-loop-test .loop-test .taken) _
+      λ o first xs p kids ts q.
+          keeping-copied (stored .5 o first xs p kids ts q) (at-loop-test .loop-test .taken) _
           (at-end-of .end-of .ensures) (at-keep .keep .ensures) _ (at-from .from .given .1) (at-copy .copy .ensures),
     ))
     -- enum-known-from-2
@@ -247,8 +248,8 @@ pub +merge-object-spec : {M : Type 1} → statement M
       stored .2,
       stored .3,
       stored .4,
-      λ first xs p kids ts q.
-          keeping-merged (stored .5 first xs p kids ts q) (at-loop-test .loop-test .taken) _ (at-end-of .end-of .ensures)
+      λ o first xs p kids ts q.
+          keeping-merged (stored .5 o first xs p kids ts q) (at-loop-test .loop-test .taken) _ (at-end-of .end-of .ensures)
           (at-keep .keep .ensures) _ (at-from2 .from2 .given .1) (at-merge-object .merge-object .ensures),
     ))
     -- end-of-requires-2
@@ -262,7 +263,7 @@ pub +merge-object-spec : {M : Type 1} → statement M
       c .before .before .before .loop .inv .0 .framed .same-length ∙ c .before .before .before .loop .inv .2,
       omega (arith, c .end-of2 .ensures, c .before .before .before .loop .inv .0 .framed .same-length, c .before .before .before .loop .inv .2),
       omega (arith, c .before .before .before .loop .inv .0 .same-index, c .before .before .before .loop .inv .4),
-      λ first xs p kids ts q. q,
+      λ o first xs p kids ts q. q,
     ))
     -- end-of-requires-3
     (λ c κs. search needs)
@@ -298,8 +299,8 @@ pub +merge-object-spec : {M : Type 1} → statement M
       stored .2,
       stored .3,
       stored .4,
-      λ first xs p kids ts q.
-          appending-nothing (stored .5 first xs p kids ts q) (at-loop2-test .loop2-test .taken) _
+      λ o first xs p kids ts q.
+          appending-nothing (stored .5 o first xs p kids ts q) (at-loop2-test .loop2-test .taken) _
           (at-end-of3 .end-of3 .ensures) (at-append .append .ensures) (c .enum-told2 .given .1),
     ))
     -- enum-known-from-3
@@ -353,8 +354,8 @@ pub +merge-object-spec : {M : Type 1} → statement M
       stored .2,
       stored .3,
       stored .4,
-      λ first xs p kids ts q.
-          appending-copied (stored .5 first xs p kids ts q) (at-loop2-test .loop2-test .taken) _
+      λ o first xs p kids ts q.
+          appending-copied (stored .5 o first xs p kids ts q) (at-loop2-test .loop2-test .taken) _
           (at-end-of3 .end-of3 .ensures) (at-append .append .ensures) _ (at-from3 .from3 .given .1) (at-copy2 .copy2 .ensures),
     ))
     -- enum-known-from-4
@@ -405,8 +406,8 @@ pub +merge-object-spec : {M : Type 1} → statement M
       stored .2,
       stored .3,
       stored .4,
-      λ first xs p kids ts q.
-          appending-merged (stored .5 first xs p kids ts q) (at-loop2-test .loop2-test .taken) _ (at-end-of3 .end-of3 .ensures)
+      λ o first xs p kids ts q.
+          appending-merged (stored .5 o first xs p kids ts q) (at-loop2-test .loop2-test .taken) _ (at-end-of3 .end-of3 .ensures)
           (at-append .append .ensures) _ (at-from4 .from4 .given .1) (at-merge-object2 .merge-object2 .ensures),
     ))
     -- close-requires
@@ -430,14 +431,21 @@ pub +merge-object-spec : {M : Type 1} → statement M
     record {
       framed = framed-then (framed-then (at-loop .loop .inv .0 .framed) (at-loop2 .loop2 .inv .0 .framed))
           (subst (Framed (at-args .args .to) (at-loop2 .loop2 .nodes)) (sym (at-close .close .ensures))
-          (framed-closed (at-args .args .to) (at-loop2 .loop2 .nodes) (at-args .args .patch) (at-loop2 .loop2 .next)));
+          (framed-closed (at-args .args .to) (at-loop2 .loop2 .nodes) (at-args .args .target) (at-args .args .patch) (at-loop2 .loop2 .next)));
       onward = (at-loop2 .loop2 .inv .0 .from-to, at-loop2 .loop2 .inv .0 .few);
-      held = λ p kids o ts t d.
-          appending-done (at-loop2 .loop2 .inv .5 _ _ p kids ts (appending-start (keeping-done (at-loop .loop .inv .5 _ _ p kids ts
+      held = λ view p kids o merged k ts t d.
+          appending-done (at-loop2 .loop2 .inv .5 view _ _ p kids ts (appending-start (keeping-done (at-loop .loop .inv .5 view _ _ p kids ts
           (keeping-start
-          (record { object = o; low = omega (arith, at-args .pre .1); few = omega (arith, at-args .pre .1); long = at-loop .loop .inv .2; shallow = d })
+          (record {
+            object = o;
+            merged = merged;
+            low = omega (arith, at-args .pre .1);
+            few = omega (arith, at-args .pre .1);
+            long = at-loop .loop .inv .2;
+            shallow = d;
+          })
           (at-note-members .note-members .ensures) t _ _ (at-advance .advance .ensures) (at-members-end .members-end .ensures)))
           (omega (arith, at-loop-test .loop-test .left))) _
           (at-end-of2 .end-of2 .ensures)))
-          (omega (arith, at-loop2-test .loop2-test .left)) (at-close .close .ensures);
+          (omega (arith, at-loop2-test .loop2-test .left)) t (at-close .close .ensures);
     })

@@ -1,5 +1,6 @@
 -- `members_end` meets its contract.
 use borrow.Author.Tests.{eq-eqb, ne-eqb}
+use Rattle.tape.specs.Layout.{objectKind}
 use Rattle.merge.specs.Merged.{membersEnd}
 use mathlib.Core.Path.{sym, _∙_}
 use borrow.Author.Needs.{needs}
@@ -16,8 +17,8 @@ members-end-spec =
     -- end-of-requires
     (λ c κs. search needs)
     -- returns
-    (λ c. rw (eq-eqb _ _ (sym (c .before .before .kind .ensures) ∙ c .before .if1 .taken)) (c .end-of .ensures))
+    (λ c. rw (eq-eqb _ objectKind (sym (c .before .before .kind .ensures) ∙ c .before .if1 .taken)) (c .end-of .ensures))
     -- add-result
     (λ c. search needs)
     -- returns-2
-    (λ c. rw (ne-eqb _ _ (λ e. c .if1 .left (c .before .kind .ensures ∙ e)))))
+    (λ c. rw (ne-eqb _ objectKind (λ e. c .if1 .left (c .before .kind .ensures ∙ e)))))

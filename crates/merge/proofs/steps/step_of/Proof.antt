@@ -14,14 +14,14 @@ step-of-spec =
     -- kind-requires
     (λ c κs. search needs)
     -- returns
-    (λ c. rw (eq-eqb _ _ (sym (c .before .kind .ensures) ∙ c .if1 .taken)))
+    (λ c. rw (eq-eqb _ 0 (sym (c .before .kind .ensures) ∙ c .if1 .taken)))
     -- returns-2
     (λ c. rw (
-      ne-eqb _ _ (λ e. c .before .if1 .left (c .before .before .kind .ensures ∙ e)),
-      eq-eqb _ _ (sym (c .before .before .kind .ensures) ∙ c .if2 .taken),
+      ne-eqb _ 0 (λ e. c .before .if1 .left (c .before .before .kind .ensures ∙ e)),
+      eq-eqb _ 6 (sym (c .before .before .kind .ensures) ∙ c .if2 .taken),
     ))
     -- returns-3
     (λ c. rw (
-      ne-eqb _ _ (λ e. c .before .if1 .left (c .before .before .kind .ensures ∙ e)),
-      ne-eqb _ _ (λ e. c .if2 .left (c .before .before .kind .ensures ∙ e)),
+      ne-eqb _ 0 (λ e. c .before .if1 .left (c .before .before .kind .ensures ∙ e)),
+      ne-eqb _ 6 (λ e. c .if2 .left (c .before .before .kind .ensures ∙ e)),
     )))

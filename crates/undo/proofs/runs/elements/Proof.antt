@@ -52,11 +52,11 @@ elements-spec =
       search needs,
       search needs,
       search needs,
-      logged-next
-          (c .before .before .before .before .before .before .before .before .before .before .before .before .before .before .before .before
-          .before .before .loop .inv .4) (omega arith)
-          (c .before .before .before .before .before .before .before .before .before .before .before .step .ensures)
-          (c .before .before .before .outcome .given .1) _ (c .end-of .ensures),
+      (let at-step = c .before .before .before .before .before .before .before .before .before .before .before in
+          let at-narrow = at-step .before .before in
+          let inv = at-narrow .before .before .before .before .before .loop .inv in
+          logged-next (inv .4) (omega arith) (at-step .step .ensures) (at-narrow .narrow .ensures) (inv .0) (c .before .before .before .outcome .given .1) _
+          (c .end-of .ensures)),
     ))
     -- enum-known-outcome-2
     (λ c. search needs)
@@ -67,9 +67,11 @@ elements-spec =
     -- same-length-6
     (λ c. search needs)
     -- returns-2
-    (λ c. logged-halts
-    (c .before .before .before .before .before .before .before .before .before .before .before .before .before .before .before .before .loop .inv .4)
-    (omega arith) (c .before .before .before .before .before .before .before .before .before .step .ensures) (c .before .outcome2 .given .1))
+    (λ c.
+    let at-step = c .before .before .before .before .before .before .before .before .before in
+    let at-narrow = at-step .before .before in
+    let inv = at-narrow .before .before .before .before .before .loop .inv in
+    logged-halts (inv .4) (omega arith) (at-step .step .ensures) (at-narrow .narrow .ensures) (inv .0) (c .before .outcome2 .given .1))
     -- same-length-7
     (λ c. search needs)
     -- same-length-8

@@ -1,0 +1,3 @@
+pub mod StampLaws
+pub mod ListLaws
+pub mod StageLaws

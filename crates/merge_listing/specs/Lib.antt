@@ -1,0 +1,3 @@
+pub mod Stamps
+pub mod Stages
+pub mod Call
