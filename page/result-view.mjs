@@ -8,61 +8,80 @@ import { many } from './words.mjs';
 
 const decoder = new TextDecoder();
 
-export function resultView(patchEditor) {
-    const text = byId('result-text'), tree = byId('tree'), legend = byId('legend');
-    let written = new Uint8Array(), values = [], author;
-    // the origin that was chosen in the legend, and the one that is marked now
-    let pinned, marked;
-
-    const all = origin => document.querySelectorAll(`#apply [data-origin="${origin}"]`);
-    // Marks the values of an origin, its operation in the patch, and its entry in the legend.
-    const mark = origin => {
+// Marks the values of an origin, its operation in the patch, and its entry in the legend;
+// for undefined, nothing.
+function marker() {
+    let marked;
+    return origin => {
         if (origin === marked) return;
         for (const element of document.querySelectorAll('#apply .chosen')) element.classList.remove('chosen');
-        for (const element of origin === undefined ? [] : all(origin)) element.classList.add('chosen');
+        for (const element of document.querySelectorAll(`#apply [data-origin="${origin}"]`)) {
+            element.classList.add('chosen');
+        }
         marked = origin;
     };
+}
+
+// Calls `over` with an event as often as the pointer or the focus comes to another part of
+// a place, and `left` when it has left the place.
+function watch(place, over, left) {
+    for (const kind of ['pointerover', 'focusin']) place.addEventListener(kind, over);
+    for (const kind of ['pointerleave', 'focusout']) place.addEventListener(kind, left);
+}
+
+// The legend: an origin stays marked once it is chosen, until it is chosen again. told:
+// called with the origin that is chosen now.
+function choosing(legend, mark, told) {
+    let chosen;
+    const of = event => event.target.closest('button')?.dataset.origin;
+    const set = origin => {
+        chosen = origin;
+        for (const button of legend.querySelectorAll('button')) {
+            button.setAttribute('aria-pressed', String(Number(button.dataset.origin) === chosen));
+        }
+        mark(chosen);
+    };
+    watch(legend, event => { if (of(event)) mark(Number(of(event))); }, () => mark(chosen));
+    legend.addEventListener('click', event => {
+        if (!of(event)) return;
+        set(Number(of(event)) === chosen ? undefined : Number(of(event)));
+        told(chosen);
+    });
+    return { get chosen() { return chosen; }, clear: () => set(undefined) };
+}
+
+// The number of the value that an event is about.
+function valueOf(event) {
+    const part = event.target.closest('[role=treeitem], [data-value]');
+    return part && Number((part.dataset.value ? part : part.querySelector('[data-value]')).dataset.value);
+}
+
+export function resultView(patchEditor) {
+    const text = byId('result-text'), tree = byId('tree'), legend = byId('legend'), mark = marker();
+    let written = new Uint8Array(), values = [], author;
+    const words = ({ origin }) => origin === undefined ? '' : putBy(author(origin), origin);
     const say = value => {
         byId('pointer').textContent = value.tokens.length ? pointerOf(value.tokens) : 'the root';
-        byId('put-by').textContent = value.origin === undefined ? '' : putBy(author(value.origin), value.origin);
+        byId('put-by').textContent = words(value);
     };
-    const pin = (origin, count) => {
-        pinned = origin === pinned ? undefined : origin;
-        for (const button of legend.querySelectorAll('button')) {
-            button.setAttribute('aria-pressed', String(Number(button.dataset.origin) === pinned));
-        }
-        mark(pinned);
-        if (pinned === undefined) return announce('Nothing is marked');
+    const choice = choosing(legend, mark, origin => {
+        if (origin === undefined) return announce('Nothing is marked');
         for (const place of [text, tree]) {
             const first = place.querySelector('.chosen');
             if (first?.getClientRects().length) reveal(place, first);
         }
         patchEditor.scroll();
-        return announce(`${many(count, 'value')} marked, ${putBy(author(origin), origin)}`);
-    };
-    // The value that an event is about. Those of the document mark nothing.
-    const point = event => {
-        const part = event.target.closest('[role=treeitem], [data-value]');
-        if (!part) return;
-        const value = values[Number((part.dataset.value ? part : part.querySelector('[data-value]')).dataset.value)];
-        say(value);
-        mark(value.origin || pinned);
-    };
-    const over = event => {
-        const button = event.target.closest('button');
-        if (button) mark(Number(button.dataset.origin));
-    };
-    for (const kind of ['pointerover', 'focusin']) {
-        for (const place of [text, tree]) place.addEventListener(kind, point);
-        legend.addEventListener(kind, over);
-    }
-    for (const kind of ['pointerleave', 'focusout']) {
-        for (const place of [text, tree, legend]) place.addEventListener(kind, () => mark(pinned));
-    }
-    legend.addEventListener('click', event => {
-        const origin = Number(event.target.closest('button')?.dataset.origin ?? NaN);
-        if (!Number.isNaN(origin)) pin(origin, values.filter(value => value.origin === origin).length);
+        const count = values.filter(value => value.origin === origin).length;
+        return announce(`${many(count, 'value')} marked, ${words({ origin })}`);
     });
+    // The values of the document mark nothing.
+    const point = event => {
+        const value = values[valueOf(event)];
+        if (!value) return;
+        say(value);
+        mark(value.origin || choice.chosen);
+    };
+    for (const place of [text, tree]) watch(place, point, () => mark(choice.chosen));
     copyAndSave(byId('result'), 'Result', 'patched.json', () => written);
     tabs(byId('result-tabs'));
     treeKeys(tree);
@@ -70,16 +89,16 @@ export function resultView(patchEditor) {
     return {
         // Shows a result, with origins where the answer has them, and gives the operations
         // that have left a value as parts of the patch.
-        show({ written: bytes, origins }, merge) {
-            pinned = marked = undefined;
-            written = bytes;
-            const words = decoder.decode(bytes), root = outline(words);
+        show(answer, merge) {
+            const origins = answer.origins, whole = decoder.decode(answer.written), root = outline(whole);
+            written = answer.written;
             author = origins && authors(patchEditor.text, merge);
             values = numbered(root, origins);
-            text.replaceChildren(coloured(words, root));
-            showTree(tree, root, ({ origin }) => origin === undefined ? '' : putBy(author(origin), origin));
+            text.replaceChildren(coloured(whole, root));
+            showTree(tree, root, words);
             byId('origins').hidden = !origins;
             showLegend(legend, origins ?? [], author);
+            choice.clear();
             say(root);
             return [...new Set(origins)].filter(Boolean).sort((a, b) => a - b).map(origin => {
                 const { start, end } = author(origin);

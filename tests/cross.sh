@@ -82,8 +82,12 @@ if [ "${DEEP:-0}" -gt 0 ]; then
     more undo-deep deep 'print "case", name, 300000, 65536, d, p; print document; print patch'
     more merge-deep deep 'print "case", name, 1000000, d, d; print document; print document'
     if [ "$listed" = 1 ]; then
-        more origins-deep deep 'print "undo", name, 300000, 65536, 2048, d, p, 0
+        more origins-deep-apply deep 'print "apply", name, 300000, 0, 2048, d, p, 0
             print document; print patch; print ""'
+        more origins-deep-undo deep 'print "undo", name, 300000, 65536, 2048, d, p, 0
+            print document; print patch; print ""'
+        more origins-deep-merge deep 'print "merge", name, 300000, 0, 2048, d, d, 0
+            print document; print document; print ""'
     fi
 fi
 count() { grep -a -c -E '^(case|apply|within|merge|undo) [^ ]+ [0-9]+ ' "$out/cases/$1"; }
