@@ -53,6 +53,13 @@ export function copyAndSave(panel, what, name, bytes) {
     });
 }
 
+// Scrolls a place, and nothing around it, so that a part of it is in view.
+export function reveal(place, part) {
+    const [around, inside] = [place, part].map(element => element.getBoundingClientRect());
+    if (inside.top >= around.top && inside.bottom <= around.bottom) return;
+    place.scrollTop += inside.top - around.top - place.clientHeight / 3;
+}
+
 // The tabs of a list, by the keys that people expect: arrows, Home and End.
 export function tabs(list, chosen) {
     const all = [...list.querySelectorAll('[role=tab]')];

@@ -30,10 +30,11 @@ export function editor(place, { name, label, text, changed }) {
     const draw = () => {
         const value = area.value, pieces = [];
         let at = 0;
-        for (const { start, end, kind } of marks) {
-            const piece = value.slice(start, end);
+        for (const { start, end, kind, origin } of marks) {
+            const piece = value.slice(start, end), by = origin === undefined ? {} : { 'data-origin': origin };
             // a line end, or the end of the text, is marked as a blank
-            pieces.push(value.slice(at, start), make('mark', { className: kind }, piece.trim() ? piece : ' ' + piece));
+            pieces.push(value.slice(at, start),
+                make('mark', { className: kind, ...by }, piece.trim() ? piece : ' ' + piece));
             at = end;
         }
         backdrop.replaceChildren(...pieces, value.slice(at) + '\n');
@@ -86,11 +87,12 @@ export function editor(place, { name, label, text, changed }) {
         write: words => set(encoder.encode(words)),
         // Offset in the text of a byte.
         offset: byte => decoder.decode(bytes.subarray(0, byte)).length,
-        // Marks parts of the text, from start to end, and says why below it.
+        // Marks parts of the text, from start to end, and says why below it. A part that has
+        // an origin is no fault.
         mark(parts, note) {
-            marks = parts.map(({ start, end, kind }) =>
-                ({ kind, start: shown(exact.slice(0, start)).length, end: shown(exact.slice(0, end)).length }));
-            area.setAttribute('aria-invalid', String(parts.length > 0));
+            marks = parts.map(({ start, end, ...rest }) =>
+                ({ ...rest, start: shown(exact.slice(0, start)).length, end: shown(exact.slice(0, end)).length }));
+            area.setAttribute('aria-invalid', String(parts.some(({ origin }) => origin === undefined)));
             self.note(note);
             draw();
         },
@@ -103,7 +105,7 @@ export function editor(place, { name, label, text, changed }) {
             self.scroll();
         },
         scroll() {
-            const mark = backdrop.querySelector('mark');
+            const mark = backdrop.querySelector('mark.chosen') ?? backdrop.querySelector('mark');
             if (!mark) return;
             const top = mark.offsetTop, bottom = top + mark.offsetHeight, view = area.clientHeight;
             if (top < area.scrollTop || bottom > area.scrollTop + view) area.scrollTop = Math.max(0, top - view / 3);

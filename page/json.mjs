@@ -35,6 +35,19 @@ export function outline(text) {
     return value();
 }
 
+// Numbers the values of an outline in written order, gives each its tokens and, if there
+// is a list of them, its origin; and gives all values in that order.
+export function numbered(root, origins) {
+    const values = [];
+    const visit = (value, tokens) => {
+        Object.assign(value, { number: values.length, tokens, origin: origins?.[values.length] });
+        values.push(value);
+        for (const child of value.children) visit(child.value, [...tokens, child.token]);
+    };
+    visit(root, []);
+    return values;
+}
+
 export const member = (value, name) => value.children.find(({ token }) => token === name)?.value;
 // A member's string, unescaped.
 export const stringMember = (value, name) => {

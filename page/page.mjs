@@ -20,6 +20,12 @@ const CORRECTION = `[
   {"op": "add", "path": "/stages/1", "value": {"rest_s": 600}},
   {"op": "add", "path": "/revised", "value": "24W18"}
 ]`;
+const MERGE = `{
+  "mAh": null,
+  "cut": [4.15, 3.0],
+  "limits": {"mAh": 3000, "mA": 1500},
+  "revised": "24W18"
+}`;
 const CUTS = `[
   {"op": "test", "path": "/cut/0", "value": 4.2},
   {"op": "replace", "path": "/cut/0", "value": 4.15},
@@ -41,7 +47,7 @@ function start() {
     const make = (place, name, label, text) => editor(byId(place), { name, label, text, changed });
     const documentEditor = make('document-place', 'document', 'Document', PROFILE);
     const views = {
-        apply: applyView(calls, documentEditor, make('patch-place', 'patch', 'Patch', CORRECTION)),
+        apply: applyView(calls, documentEditor, make('patch-place', 'patch', 'Patch', CORRECTION), [CORRECTION, MERGE]),
         shuffles: shuffleView(calls, documentEditor, [make('patch-a-place', 'patch-a', 'Patch A', CUTS),
             make('patch-b-place', 'patch-b', 'Patch B', STAGES)]),
     };

@@ -1,42 +1,40 @@
-// A document as a tree, for eyes, keys and screen readers. Origins (T-11), where there is
-// a list of them, colour each value by the operation that put it there.
+// A document as a tree, for eyes, keys and screen readers. Where there are origins (T-11),
+// each value has the colour and the number of the operation that put it there.
 import { make } from './dom.mjs';
-import { pointerOf } from './json.mjs';
+import { badge, paint } from './origins.mjs';
 import { many } from './words.mjs';
 
-const HUES = 12;
-const paintName = origin => origin === 0 ? 'document' : `operation ${origin}`;
-const paint = origin => origin === 0 ? 'origin' : `origin origin-${(origin - 1) % HUES + 1}`;
-
 const size = ({ kind, children }) => many(children.length, kind === 'array' ? 'element' : 'member');
+const isInner = ({ kind }) => kind === 'object' || kind === 'array';
 
-// root: an outline. chosen: told the pointer of the row that has the focus. origins: one
-// for each value in written order, or undefined.
-export function showTree(place, root, chosen, origins) {
-    let next = 0;
-    const row = (value, token, tokens, level) => {
-        const origin = origins?.[next++], inner = ['object', 'array'].includes(value.kind);
-        const words = make('span', { className: inner ? 'count' : `value ${value.kind}` },
-            value.kind === 'array' ? `[ ${size(value)} ]` : inner ? `{ ${size(value)} }` : value.source);
-        const line = make('span', { className: 'row' },
-            make('span', { className: 'twist', 'aria-hidden': 'true' }),
-            token === undefined ? '' : make('span', { className: 'token' }, token), words,
-            origin === undefined ? '' : make('span', { className: paint(origin) }, paintName(origin)));
-        const from = origin === undefined ? [] : [paintName(origin)];
-        const name = [token ?? 'the root', inner ? size(value) : value.source, ...from].join(', ');
-        const item = make('li', { role: 'treeitem', tabIndex: -1, 'aria-level': level, 'aria-label': name }, line);
-        item.tokens = tokens;
-        if (inner && value.children.length) {
+function rowOf(value, token) {
+    const { kind, origin, number, source } = value, inner = isInner(value);
+    const words = kind === 'array' ? `[ ${size(value)} ]` : inner ? `{ ${size(value)} }` : source;
+    const sign = origin === undefined ? {} : { 'data-origin': origin };
+    const className = `${inner ? 'count' : `value ${kind}`} ${origin ? paint(origin) : ''}`;
+    return make('span', { className: 'row', 'data-value': number },
+        make('span', { className: 'twist', 'aria-hidden': 'true' }),
+        token === undefined ? '' : make('span', { className: 'token' }, token),
+        make('span', { className, ...sign }, words),
+        origin ? badge(origin) : '');
+}
+
+// root: an outline whose values are numbered (page/json.mjs). said: what is said of a
+// value beside its words, or ''.
+export function showTree(place, root, said) {
+    const itemOf = (value, token, level) => {
+        const name = [token ?? 'the root', isInner(value) ? size(value) : value.source, said(value)];
+        const item = make('li', { role: 'treeitem', tabIndex: -1, 'aria-level': level,
+            'aria-label': name.filter(Boolean).join(', ') }, rowOf(value, token));
+        if (value.children.length) {
             item.setAttribute('aria-expanded', 'true');
-            item.append(make('ul', { role: 'group' }, ...value.children.map(child =>
-                row(child.value, child.token, [...tokens, child.token], level + 1))));
+            item.append(make('ul', { role: 'group' },
+                ...value.children.map(child => itemOf(child.value, child.token, level + 1))));
         }
         return item;
     };
-    place.replaceChildren(row(root, undefined, [], 1));
+    place.replaceChildren(itemOf(root, undefined, 1));
     place.firstElementChild.tabIndex = 0;
-    place.chosen = chosen;
-    chosen('');
 }
 
 const open = item => item.getAttribute('aria-expanded') === 'true';
@@ -48,7 +46,6 @@ function choose(place, item) {
     place.querySelector('[tabindex="0"]').tabIndex = -1;
     item.tabIndex = 0;
     item.focus();
-    place.chosen(pointerOf(item.tokens));
 }
 
 function fold(item, on) {
@@ -80,12 +77,4 @@ export function treeKeys(place) {
         event.preventDefault();
         act();
     });
-}
-
-// The colours of the tree: each operation that put a value there.
-export function showLegend(place, origins, operations) {
-    place.hidden = !origins;
-    const found = [...new Set(origins ?? [])].sort((a, b) => a - b);
-    place.replaceChildren(...found.map(origin => make('li', {}, make('span', { className: paint(origin) },
-        paintName(origin)), origin === 0 ? '' : ' ' + operations[origin - 1])));
 }

@@ -22,17 +22,25 @@ need chromedriver chromium-driver
 
 cases() { # KIND FILE EXPECTED
     node --experimental-wasm-memory64 "$here/cross/cases.mjs" "$wasm" "$1" "$2" | cmp - "$3"
-    echo "node: $(grep -a -c '^case ' "$2") cases as expected, $1"
+    echo "node: $(grep -a -c -E '^(case|apply|within|merge|undo) [^ ]+ [0-9]+ ' "$2") cases as expected, $1"
 }
-crates=$root/crates
-cases plain "$crates/vectors/data/cases" "$crates/vectors/stdout"
-cases region "$crates/region_vectors/data/cases" "$crates/region_vectors/stdout"
-cases undo "$crates/undo_vectors/data/cases" "$crates/undo_vectors/stdout"
+# The kinds of cases. Those with origins are there when all calls are.
+kinds="plain region merge undo"
+if [ -d "$root/crates/origin_vectors" ]; then kinds="$kinds origins"; fi
+for kind in $kinds; do
+    case $kind in
+    plain) crate=vectors ;;
+    origins) crate=origin_vectors ;;
+    *) crate=${kind}_vectors ;;
+    esac
+    cases "$kind" "$root/crates/$crate/data/cases" "$root/crates/$crate/stdout"
+done
 
 second=$root/second/target/release/second
-generated() { # KIND GENERATE ANSWER SEED COUNT
-    "$second" "$2" "$4" "$5" >"$out/generated"
-    "$second" "$3" "$out/generated" >"$out/generated.expected"
+generated() { # KIND SEED COUNT
+    if [ "$1" = plain ]; then prefix=; else prefix=$1-; fi
+    "$second" "${prefix}generate" "$2" "$3" >"$out/generated"
+    "$second" "${prefix}vectors" "$out/generated" >"$out/generated.expected"
     cases "$1" "$out/generated" "$out/generated.expected"
     rm "$out/generated" "$out/generated.expected"
 }
@@ -43,9 +51,7 @@ if [ "$left" -gt 0 ]; then
 fi
 while [ "$left" -gt 0 ]; do
     now=$((left < 5000 ? left : 5000))
-    generated plain generate vectors "$seed" "$now"
-    generated region region-generate region-vectors "$seed" "$now"
-    generated undo undo-generate undo-vectors "$seed" "$now"
+    for kind in $kinds; do generated "$kind" "$seed" "$now"; done
     left=$((left - now)) seed=$((seed + 1))
 done
 

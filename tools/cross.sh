@@ -1,8 +1,8 @@
 #!/bin/sh
 # Proves the library and compiles it for other 64-bit processors.
 #   tools/cross.sh [aarch64] [riscv64] [wasm64]   all three if none is named
-#   CRATES="json_patch hex"                       which crates, if not json_patch and undo;
-#                                                 not record, with structs by value
+#   CRATES="json_patch hex"                       which crates, if not those with the calls for
+#                                                 patches; not record, with structs by value
 # Makes target/cross/TARGET/libCRATE.a, and for wasm64 also json_patch.wasm with the calls
 # of all these crates, which needs wasm-ld (Debian: lld). docs/DEVICE.md says what is
 # proved of these. What is there for another target stays.
@@ -15,8 +15,17 @@
 set -eu
 root=$(cd "$(dirname "$0")/.." && pwd -P)
 out=$root/target/cross
-crates=${CRATES:-json_patch undo}
 fail() { echo "cross.sh: $*" >&2; exit 2; }
+
+# The crates with the calls for patches, plain and with origins. A crate that is not there
+# yet is left out.
+calls="json_patch region_call merge undo inspect listing region_listing merge_listing undo_listing"
+crates=${CRATES:-}
+if [ -z "$crates" ]; then
+    for crate in $calls; do
+        if [ -d "$root/crates/$crate" ]; then crates="$crates $crate"; fi
+    done
+fi
 
 for target in "$@"; do
     case $target in

@@ -9,21 +9,15 @@ root=$(cd "$(dirname "$0")/.." && pwd -P)
 out=$root/target/page
 fail() { echo "page.sh: $*" >&2; exit 2; }
 
-# The crates whose calls the page makes. A call that is not there yet is left out, and so
-# is its part of the page.
-crates=
-for crate in json_patch region_call undo inspect merge; do
-    if [ -d "$root/crates/$crate" ]; then crates="$crates $crate"; fi
-done
 module=${MODULE:-$root/target/cross/wasm64/json_patch.wasm}
-if [ -z "${MODULE:-}" ]; then CRATES=$crates "$root/tools/cross.sh" wasm64; fi
+if [ -z "${MODULE:-}" ]; then "$root/tools/cross.sh" wasm64; fi
 [ -f "$module" ] || fail "no $module"
 mkdir -p "$out"
 cmp -s "$module" "$out/json_patch.wasm" || cp "$module" "$out/json_patch.wasm"
 
 # The modules of the script, each behind those that it imports.
-modules="examples/wasm/engine page/words page/dom page/json page/editor page/tree page/refusal
-    page/apply-view page/shuffles page/shuffle-view page/page"
+modules="examples/wasm/engine page/words page/dom page/json page/editor page/origins page/tree page/refusal
+    page/result-view page/apply-view page/shuffles page/shuffle-view page/page"
 
 # A module becomes a function of its own, called once, that gives what the module exports.
 # Those before it are in scope, so its imports are left out.

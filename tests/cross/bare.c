@@ -1,11 +1,11 @@
 /* The cases that lie in the second bank of flash, on the bare machine of
- * examples/device; with UNDOS, those of undos. The last line tells the stack that a call
- * has taken at most; of undos, the call with an undo. */
+ * examples/device; KIND is the kind of the file. The last line tells the stack that a call
+ * has taken at most. */
 #include "cases.h"
 #include "device.h"
 
-#ifndef UNDOS
-#define UNDOS 0
+#ifndef KIND
+#define KIND PLAIN
 #endif
 #define PAINT UINT64_C(0x9e3779b97f4a7c15)
 
@@ -34,28 +34,11 @@ static inline __attribute__((always_inline)) void measure(volatile uint64_t *fra
     calls++;
 }
 
-uint32_t call(const uint8_t *document, size_t document_length, const uint8_t *patch, size_t patch_length,
-              uint8_t *output, size_t output_length, json_patch_node *nodes, size_t nodes_count, uint16_t *index,
-              size_t index_count, json_patch_answer *answer) {
-    volatile uint64_t *frame;
-    __asm__ volatile("mov %0, sp" : "=r"(frame));
-    if (!UNDOS) paint(frame);
-    const uint32_t number = json_patch_apply(document, document_length, patch, patch_length, output, output_length,
-                                             nodes, nodes_count, index, index_count, answer);
-    if (!UNDOS) measure(frame);
-    return number;
-}
-
-uint32_t call_with_undo(const uint8_t *document, size_t document_length, const uint8_t *patch, size_t patch_length,
-                        uint8_t *output, size_t output_length, uint8_t *undo, size_t undo_length,
-                        json_patch_node *nodes, size_t nodes_count, uint16_t *index, size_t index_count,
-                        uint8_t *work, size_t work_length, json_patch_undo_answer *answer) {
+uint32_t call(request *r) {
     volatile uint64_t *frame;
     __asm__ volatile("mov %0, sp" : "=r"(frame));
     paint(frame);
-    const uint32_t number = json_patch_apply_with_undo(document, document_length, patch, patch_length, output,
-                                                       output_length, undo, undo_length, nodes, nodes_count, index,
-                                                       index_count, work, work_length, answer);
+    const uint32_t number = make_call(r);
     measure(frame);
     return number;
 }
@@ -80,7 +63,7 @@ static int memory_works(void) {
 
 void device_main(void) {
     if (!memory_works()) serial_text("memcpy or memset is wrong\n");
-    run_cases(DEVICE_FLASH, UNDOS);
+    run_cases(DEVICE_FLASH, KIND);
     serial_number(calls);
     serial_text(" calls, at most ");
     serial_number(most);

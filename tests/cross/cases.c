@@ -3,18 +3,16 @@
 #include <string.h>
 
 #define OUTPUT 1048576
-#define UNDO 65536
-#define UNWRITTEN 0xff /* a byte that no text has */
+#define UNDO_ROOM 65536
+#define LIST (JSON_PATCH_MAX_NODES + 8)
+#define UNWRITTEN 0xff /* a byte that no text has, and no origin is as large as two of them */
+#define SHORT_RUBBISH 0xa5
 
 /* Eight bytes more than are lent, so that a byte written behind would be seen. */
 static uint8_t output[OUTPUT + 8] __attribute__((aligned(8)));
-static uint8_t undo[UNDO + 8] __attribute__((aligned(8)));
+static uint8_t undo[UNDO_ROOM + 8] __attribute__((aligned(8)));
+static uint16_t origins[LIST + 4] __attribute__((aligned(8)));
 static json_patch_undo_work work __attribute__((aligned(8)));
-
-typedef struct text {
-    const uint8_t *bytes;
-    size_t length;
-} text;
 
 static void say_text(const char *text) { say(text, strlen(text)); }
 
@@ -58,58 +56,72 @@ static void say_answer(const json_patch_answer *answer, const uint8_t *written) 
     say("\n", 1);
 }
 
+/* How many origins were listed. */
+static size_t listed(void) {
+    size_t count = 0;
+    while (count < LIST && origins[count] != 0xffff) count++;
+    return count;
+}
+
 /* The work area holds rubbish, another for each case, and the outputs what no text has. */
-static void prepare(size_t room, size_t undo_room, uint8_t rubbish) {
-    memset(output, UNWRITTEN, room + 8);
-    memset(undo, UNWRITTEN, undo_room + 8);
+static void prepare(request *r, uint8_t rubbish) {
+    r->output = output;
+    r->undo = undo;
+    r->origins = origins;
+    r->work = &work;
+    memset(output, UNWRITTEN, r->room + 8);
+    memset(undo, UNWRITTEN, r->undo_room + 8);
+    memset(origins, UNWRITTEN, sizeof origins);
     memset(&work, rubbish, sizeof work);
+    memset(&r->answer, rubbish, sizeof r->answer);
 }
 
 /* What is lent of the work area is zero afterwards, or unchanged after a 1. */
-static void check(uint32_t returned, const json_patch_answer *answer, size_t room, size_t lent, uint8_t rubbish) {
+static void check(uint32_t returned, const request *r, uint8_t rubbish) {
+    const json_patch_answer *answer = &r->answer.answer;
+    const int done = answer->number == JSON_PATCH_DONE;
+    const size_t lent = r->call == UNDO ? sizeof work : sizeof work.work, count = listed();
     if (returned != answer->number) say_text("the number returned is not the answer's: ");
     if (!all(&work, 0, lent, answer->number == JSON_PATCH_WORK_TOO_SHORT ? rubbish : 0))
         say_text("the work area is not as it must be: ");
     if (!all(&work, lent, sizeof work, rubbish)) say_text("what is not lent is changed: ");
-    if (!all(output, answer->length, room + 8, UNWRITTEN)) say_text("the output is changed behind the text: ");
-}
-
-static void run_plain(text document, text patch, size_t room, size_t nodes_count, uint8_t rubbish) {
-    json_patch_answer answer;
-    prepare(room, 0, rubbish);
-    memset(&answer, rubbish, sizeof answer);
-    const uint32_t number = call(document.bytes, document.length, patch.bytes, patch.length, output, room,
-                                 work.work.nodes, nodes_count, work.work.index, JSON_PATCH_WORK_ENTRIES, &answer);
-    check(number, &answer, room, sizeof work.work, rubbish);
-    say_answer(&answer, output);
+    if (!all(output, answer->length, r->room + 8, UNWRITTEN)) say_text("the output is changed behind the text: ");
+    if (!all(undo, r->call == UNDO ? r->answer.undo : 0, r->undo_room + 8, UNWRITTEN))
+        say_text("the undo is changed behind the text: ");
+    if ((count > 0) != (r->listed && done) || count > r->list_room) say_text("the list is not as it must be: ");
+    if (!all(origins, 2 * count, sizeof origins, UNWRITTEN)) say_text("the list is changed behind the origins: ");
 }
 
 /* The undo on the result; the document comes back behind it. */
-static void run_back(size_t length, size_t undo_length) {
-    json_patch_answer answer;
-    uint8_t *const back = output + OUTPUT / 2;
-    call(output, length, undo, undo_length, back, OUTPUT / 2, work.work.nodes, JSON_PATCH_WORK_NODES,
-         work.work.index, JSON_PATCH_WORK_ENTRIES, &answer);
-    say_answer(&answer, back);
+static void run_back(const request *with_undo) {
+    request r = {.call = PLAIN, .document = {output, with_undo->answer.answer.length},
+                 .patch = {undo, with_undo->answer.undo}, .output = output + OUTPUT / 2, .room = OUTPUT / 2,
+                 .work = &work, .nodes_count = JSON_PATCH_WORK_NODES};
+    make_call(&r);
+    say_answer(&r.answer.answer, r.output);
 }
 
-static void run_with_undo(text name, text document, text patch, size_t room, size_t undo_room, size_t work_length,
-                          uint8_t rubbish) {
-    json_patch_undo_answer answer;
-    prepare(room, undo_room, rubbish);
-    memset(&answer, rubbish, sizeof answer);
-    const uint32_t number = call_with_undo(document.bytes, document.length, patch.bytes, patch.length, output, room,
-                                           undo, undo_room, work.work.nodes, JSON_PATCH_WORK_NODES, work.work.index,
-                                           JSON_PATCH_WORK_ENTRIES, work.text, work_length, &answer);
-    check(number, &answer.answer, room, sizeof work, rubbish);
-    if (!all(undo, answer.undo, undo_room + 8, UNWRITTEN)) say_text("the undo is changed behind the text: ");
-    say_answer(&answer.answer, output);
-    if (answer.answer.number != JSON_PATCH_DONE) return;
-    say_name(name, " undo: ");
-    say(undo, answer.undo);
-    say("\n", 1);
-    say_name(name, " back: ");
-    run_back(answer.answer.length, answer.undo);
+static void run(text name, request *r, uint8_t rubbish) {
+    prepare(r, rubbish);
+    const uint32_t number = call(r);
+    say_name(name, ": ");
+    check(number, r, rubbish);
+    say_answer(&r->answer.answer, output);
+    if (number != JSON_PATCH_DONE) return;
+    if (r->call == UNDO) {
+        say_name(name, " undo: ");
+        say(undo, r->answer.undo);
+        say("\n", 1);
+    }
+    if (r->listed) {
+        const size_t count = listed();
+        say_name(name, " origins:");
+        for (size_t i = 0; i < count; i++) say_field(" ", origins[i]);
+        say("\n", 1);
+    } else if (r->call == UNDO) {
+        say_name(name, " back: ");
+        run_back(r);
+    }
 }
 
 /* A blank and a number. */
@@ -119,37 +131,62 @@ static size_t number_at(const uint8_t **at) {
     return n;
 }
 
-static void run_short(int undos) {
-    const text nothing = {output, 0}, name = {(const uint8_t *)"", 0};
-    say_text(undos ? "buffer-a-byte-short: " : "work-a-record-short: ");
-    if (undos) {
-        run_with_undo(name, nothing, nothing, 0, 0, JSON_PATCH_UNDO_BYTES - 1, 0xa5);
+static text text_at(const uint8_t **at, size_t length) {
+    const text found = {*at + 1, length};
+    *at += 1 + length;
+    return found;
+}
+
+/* A call with a work area that is too short. */
+static void run_short(enum kind kind, int listed, int buffer, const char *words) {
+    const text nothing = {output, 0}, name = {(const uint8_t *)words, strlen(words)};
+    request r = {.call = kind, .listed = listed, .document = nothing, .patch = nothing, .region = nothing,
+                 .list_room = listed ? JSON_PATCH_MAX_NODES : 0, .nodes_count = JSON_PATCH_WORK_NODES - !buffer,
+                 .work_length = JSON_PATCH_UNDO_BYTES - (size_t)buffer};
+    run(name, &r, SHORT_RUBBISH);
+}
+
+static void run_shorts(enum kind kind) {
+    if (kind == UNDO) {
+        run_short(UNDO, 0, 1, "buffer-a-byte-short");
+    } else if (kind != ORIGINS) {
+        run_short(kind, 0, 0, "work-a-record-short");
     } else {
-        run_plain(nothing, nothing, 0, JSON_PATCH_WORK_NODES - 1, 0xa5);
+        run_short(PLAIN, 1, 0, "apply-work-a-record-short");
+        run_short(REGION, 1, 0, "within-work-a-record-short");
+        run_short(MERGE, 1, 0, "merge-work-a-record-short");
+        run_short(UNDO, 1, 0, "undo-work-a-record-short");
+        run_short(UNDO, 1, 1, "undo-buffer-a-byte-short");
     }
 }
 
-void run_cases(const uint8_t *file, int undos) {
-    const uint8_t *at = file;
-    while (*at == 'c') {
-        text name = {at += 5, 0}, document, patch;
+/* The call that a case with a list is put to: apply, within, merge or undo. */
+static enum kind call_named(uint8_t letter) {
+    return letter == 'w' ? REGION : letter == 'm' ? MERGE : letter == 'u' ? UNDO : PLAIN;
+}
+
+void run_cases(const uint8_t *file, enum kind kind) {
+    const int origin_cases = kind == ORIGINS;
+    for (const uint8_t *at = file; *at; at++) {
+        request r = {.call = origin_cases ? call_named(*at) : kind, .listed = origin_cases,
+                     .nodes_count = JSON_PATCH_WORK_NODES, .work_length = JSON_PATCH_UNDO_BYTES};
+        while (*at != ' ') at++;
+        text name = {++at, 0};
         while (*at != ' ') at++;
         name.length = (size_t)(at - name.bytes);
-        say_name(name, ": ");
-        const size_t room = number_at(&at), undo_room = undos ? number_at(&at) : 0;
-        document.length = number_at(&at);
-        patch.length = number_at(&at);
-        document.bytes = at + 1;
-        patch.bytes = document.bytes + document.length + 1;
-        at = patch.bytes + patch.length + 1;
-        if (room > OUTPUT || undo_room > UNDO || (undos && room > OUTPUT / 2)) {
-            say_text("there is less room\n");
-        } else if (undos) {
-            run_with_undo(name, document, patch, room, undo_room, JSON_PATCH_UNDO_BYTES, (uint8_t)(at - file));
+        r.room = number_at(&at);
+        r.undo_room = kind == UNDO || origin_cases ? number_at(&at) : 0;
+        r.list_room = origin_cases ? number_at(&at) : 0;
+        const size_t document = number_at(&at), patch = number_at(&at);
+        const size_t region = kind == REGION || origin_cases ? number_at(&at) : 0;
+        r.document = text_at(&at, document);
+        r.patch = text_at(&at, patch);
+        if (kind == REGION || origin_cases) r.region = text_at(&at, region);
+        if (r.room > OUTPUT / (r.call == UNDO ? 2 : 1) || r.undo_room > UNDO_ROOM || r.list_room > LIST) {
+            say_name(name, ": there is less room\n");
         } else {
-            run_plain(document, patch, room, JSON_PATCH_WORK_NODES, (uint8_t)(at - file));
+            run(name, &r, (uint8_t)(at + 1 - file));
         }
     }
-    if (*at) say_text("not a file of cases\n");
-    run_short(undos);
+    run_shorts(kind);
 }

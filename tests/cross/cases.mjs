@@ -1,4 +1,4 @@
-// node --experimental-wasm-memory64 cases.mjs json_patch.wasm plain|region|undo FILE-OF-CASES
+// node --experimental-wasm-memory64 cases.mjs json_patch.wasm KIND FILE-OF-CASES
 // Says for each case what the stored output of its crate has.
 import { readFileSync, writeSync } from 'node:fs';
 import { engine } from '../../examples/wasm/engine.mjs';

@@ -7,9 +7,15 @@ import { fill, lowContrast, shuffleShown, tooWide } from './looks.mjs';
 const BROKEN = '[\n  {"op": "test" "path": "/mAh"}\n]';
 const MISSING = '[\n  {"op": "test", "path": "/mAh", "value": 3e3},\n' +
     '  {"op": "replace", "path": "/stages/3/mA", "value": 1200},\n  {"op": "remove", "path": "/cut"}\n]';
+// more operations than there are colours, each with a word and a number, and one in another's
+const COLOURS = `[\n${Array.from({ length: 14 }, (_, i) =>
+    `{"op": "add", "path": "/a${i}", "value": ["x", ${i}, null]}`).join(',\n')},\n` +
+    '{"op": "move", "from": "/cut", "path": "/a13/0"}\n]';
 // a picture's name, what is clicked, what is typed
 const STATES = [['shuffles', '#tab-shuffles', {}], ['done', '#tab-apply', {}], ['tree', '#tab-tree', {}],
-    ['byte', '#tab-text', { patch: BROKEN }], ['operation', '#tab-apply', { patch: MISSING }]];
+    ['chosen', '#by-3', {}], ['colours', '#tab-text', { patch: COLOURS }], ['colours-tree', '#tab-tree', {}],
+    ['byte', '#tab-text', { patch: BROKEN }], ['operation', '#tab-apply', { patch: MISSING }],
+    ['merge', '#merge', { patch: '{"mAh": null, "cut": {"low": 3.0}}' }]];
 const NAMED = ['button', 'textbox', 'tab', 'checkbox', 'radio', 'spinbutton', 'tree', 'treeitem', 'tabpanel'];
 
 async function media(at, scheme, width) {
@@ -73,13 +79,14 @@ export async function keyboard({ at, check, load }) {
     await check('every control is reached by the tab key, in the order of the page', async () => {
         await load();
         const met = [];
-        for (let i = 0; i < 20; i++) {
+        for (let i = 0; i < 24; i++) {
             await at.keys(KEYS.tab);
             met.push(await at.run(() => document.activeElement.id || document.activeElement.ariaLabel));
         }
         const expected = ['tab-apply', 'Open a file as document', 'document', 'Open a file as patch', 'patch',
-            'in-region', 'tab-text', 'Copy the result', 'Save the result', 'result-text', 'take-back',
-            'Copy the undo', 'Save the undo', 'undo-text', 'Copy the line', 'line'];
+            'plain', 'in-region', 'tab-text', 'Copy the result', 'Save the result', 'result-text',
+            'by-0', 'by-2', 'by-3', 'by-4', 'take-back', 'Copy the undo', 'Save the undo', 'undo-text',
+            'Copy the line', 'line'];
         deepStrictEqual(met.slice(0, expected.length), expected);
     });
 }

@@ -33,8 +33,8 @@ export async function openBench(page, shots) {
             }
         },
         // Types both texts, and what else is given, and gives what is shown then.
-        async enter(document, patch, more = {}) {
-            await at.run(fill, { 'in-region': false, document, patch, ...more });
+        async enter(document, patch, { merge = false, ...more } = {}) {
+            await at.run(fill, { [merge ? 'merge' : 'plain']: true, 'in-region': false, document, patch, ...more });
             const now = await look(), refused = /^refused (\d+)/.exec(now.line);
             if (refused) numbers.add(Number(refused[1]));
             return now;

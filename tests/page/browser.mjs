@@ -50,14 +50,32 @@ export async function browser() {
         run: (script, ...args) => post('/execute/sync', { script: `return (${script})(...arguments)`, args }),
         click: async css => post(`/element/${await find(css)}/click`),
         type: async (css, text) => post(`/element/${await find(css)}/value`, { text }),
+        // Moves the pointer to the middle of an element.
+        hover: async css => {
+            const origin = { [ELEMENT]: await find(css) };
+            return post('/actions', { actions: [{ type: 'pointer', id: 'mouse', actions: [
+                { type: 'pointerMove', duration: 0, origin, x: 0, y: 0 }] }] });
+        },
         // Keys to whatever has the focus.
         keys: text => {
             const actions = [...text].flatMap(value => [{ type: 'keyDown', value }, { type: 'keyUp', value }]);
             return post('/actions', { actions: [{ type: 'key', id: 'keyboard', actions }] });
         },
         cdp: (cmd, params = {}) => post('/goog/cdp/execute', { cmd, params }),
+        // The names that a screen reader says for all of a role.
+        named: async role => {
+            const { nodes } = await post('/goog/cdp/execute', { cmd: 'Accessibility.getFullAXTree', params: {} });
+            return nodes.filter(node => !node.ignored && node.role?.value === role).map(({ name }) => name.value);
+        },
         log: () => post('/se/log', { type: 'browser' }),
-        shot: async file => writeFileSync(file, Buffer.from(await ask('GET', at('/screenshot')), 'base64')),
+        // A picture of the whole page.
+        shot: async file => {
+            const cdp = (cmd, params = {}) => post('/goog/cdp/execute', { cmd, params });
+            const { cssContentSize: { width, height } } = await cdp('Page.getLayoutMetrics');
+            const { data } = await cdp('Page.captureScreenshot',
+                { captureBeyondViewport: true, clip: { x: 0, y: 0, width, height, scale: 1 } });
+            writeFileSync(file, Buffer.from(data, 'base64'));
+        },
         async end() {
             await ask('DELETE', at('')).catch(() => {});
             driver.removeAllListeners('exit');

@@ -35,6 +35,13 @@ export function lowContrast() {
         if (now >= (large ? 3 : 4.5)) continue;
         found.push(`${element.tagName}.${element.className} "${words.slice(0, 20)}" ${now.toFixed(2)}`);
     }
+    // the numbers that the style puts in front of a value
+    for (const element of document.querySelectorAll('[data-badge]')) {
+        const { color, backgroundColor } = getComputedStyle(element, '::before'), own = parse(backgroundColor);
+        const now = ratio(parse(color).rgb, own.alpha === 1 ? own.rgb : ground(element));
+        if (!element.getClientRects().length || now >= 4.5) continue;
+        found.push(`the number ${element.dataset.badge} ${now.toFixed(2)}`);
+    }
     for (const element of document.querySelectorAll('textarea, input:enabled, button:enabled:not([role=tab])')) {
         if (!element.getClientRects().length || element.matches('[type=checkbox], [type=radio]')) continue;
         const now = ratio(parse(getComputedStyle(element).borderTopColor).rgb, ground(element.parentElement));
@@ -56,7 +63,7 @@ export function shown() {
     const text = id => document.getElementById(id).textContent, seen = id => !document.getElementById(id).hidden;
     const marks = name => {
         const backdrop = document.getElementById(name).parentElement.querySelector('.backdrop');
-        const mark = backdrop.querySelector('mark');
+        const mark = backdrop.querySelector('mark:not([data-origin])');
         if (!mark) return null;
         const before = document.createRange();
         before.setStart(backdrop, 0);
@@ -76,6 +83,35 @@ export function shown() {
         marks: { document: marks('document'), patch: marks('patch') },
         notes: { document: text('document-note'), patch: text('patch-note') },
         button: seen('show-it'),
+    };
+}
+
+// Who put the values there, as it is shown: for each value of the text and of the tree in
+// written order, each operation that is marked in the patch, and each entry of the legend,
+// its origin, its ground, its words and the number beside it.
+export function coloursShown() {
+    const ground = element => {
+        for (let now = element; now; now = now.parentElement) {
+            const colour = getComputedStyle(now).backgroundColor;
+            if (!/, 0\)$/.test(colour)) return colour;
+        }
+        return '';
+    };
+    const numberOf = element => {
+        const { content } = getComputedStyle(element, '::before');
+        return element.dataset.badge === undefined ? '' : /"(\d+)"/.exec(content)[1];
+    };
+    const list = (css, by, number) => [...document.querySelectorAll(css)].filter(element => by(element))
+        .map(element => ({ origin: Number(by(element).dataset.origin), ground: ground(element),
+            words: element.textContent, number: number(element) }));
+    const own = element => element.dataset.origin && element;
+    return {
+        text: list('#result-text [data-value]', element => element.closest('[data-origin]'), numberOf),
+        tree: list('#tree .value, #tree .count', own,
+            value => value.parentElement.querySelector('.badge')?.textContent ?? ''),
+        patch: list('#patch-place mark', own, () => ''),
+        legend: list('#legend button', own, () => '').map((entry, i) =>
+            ({ ...entry, ground: ground(document.querySelectorAll('#legend .badge')[i]) })),
     };
 }
 

@@ -6,7 +6,7 @@ import { PROFILE, root } from './bench.mjs';
 import { documented } from './documented.mjs';
 
 // What must be marked and said for a refused line. The texts are ASCII, in one line.
-function marked(now, { document, patch }) {
+export function marked(now, { document, patch }) {
     const [number, text, op, place, pointer] = now.line.match(/\d+/g).map(Number);
     ok(now.kind === 'status refused' && now.status.startsWith(`refused ${number}: `), now.status);
     ok(now.advice && now.result === null && now.undo === null);

@@ -41,7 +41,7 @@ export async function undos({ at, check, enter, look }) {
 
 // The row that has the focus: its words, whether it is open, its pointer as shown.
 const focused = () => [document.activeElement.querySelector('.row').textContent,
-    document.activeElement.getAttribute('aria-expanded'), document.getElementById('tree-pointer').textContent];
+    document.activeElement.getAttribute('aria-expanded'), document.getElementById('pointer').textContent];
 
 export async function trees({ at, check, enter }) {
     const now = () => at.run(focused);
@@ -68,9 +68,8 @@ export async function trees({ at, check, enter }) {
     });
     await check('the tree, said', async () => {
         await enter('{"cut":[4.2,true]}', '[]');
-        const { nodes } = await at.cdp('Accessibility.getFullAXTree');
-        deepStrictEqual(nodes.filter(({ role }) => role?.value === 'treeitem').map(({ name }) => name.value),
-            ['the root, 1 member', 'cut, 2 elements', '0, 4.2', '1, true']);
+        deepStrictEqual(await at.named('treeitem'),
+            ['the root, 1 member', 'cut, 2 elements', '0, 4.2', '1, true'].map(name => name + ', from the document'));
     });
     await check('2,048 values in the tree', async () => {
         await enter(`[${Array(2047).fill(0)}]`, '[]');
@@ -80,31 +79,6 @@ export async function trees({ at, check, enter }) {
         await enter('{"<b>x</b>":"<img src=x>"}', '[]');
         strictEqual(await at.run(() => document.querySelectorAll('#tree b, #tree img').length), 0);
     });
-}
-
-// What waits for T-02 and T-11.
-export async function waiting({ at, check, enter, picture }) {
-    // The list is made by hand, as T-11 defines it: this is a check of the display alone.
-    await check('a list of origins colours the tree', async () => {
-        const words = css => at.run(which => [...document.querySelectorAll(which)].map(part => part.textContent), css);
-        await at.run(() => { jsonPatch.calls.origins = () => [0, 0, 2]; });
-        await enter('{"a":1}', '[{"op":"test","path":"/a","value":1},{"op":"add","path":"/b","value":2}]');
-        deepStrictEqual(await words('#tree .origin'), ['document', 'document', 'operation 2']);
-        deepStrictEqual(await words('#legend li'), ['document', 'operation 2 {"op":"add","path":"/b","value":2}']);
-        await picture('origins');
-        await at.run(() => { delete jsonPatch.calls.origins; });
-        await enter('{"a":1}', '[]');
-        ok(await at.run(() => document.getElementById('legend').hidden && !document.querySelector('.origin')));
-    });
-    await check('merge patches are offered where the module has them', async () => {
-        ok(await at.run(() => document.getElementById('kind').hidden === !jsonPatch.calls.merge));
-        if (!await at.run(() => Boolean(jsonPatch.calls.merge))) return;
-        await at.click('#merge');
-        const { line, undo } = await enter('{"a":"b","c":{"d":"e","f":"g"}}', '{"a":"z","c":{"f":null}}');
-        deepStrictEqual([line, undo], ['{"a":"z","c":{"d":"e"}}', null]);
-        await at.click('#plain');
-    });
-    await at.click('#tab-text');
 }
 
 export async function files({ at, check, enter, look, shots }) {

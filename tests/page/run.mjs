@@ -4,13 +4,16 @@
 import { openBench } from './bench.mjs';
 import { committed, loading } from './loading.mjs';
 import { examples, regions } from './refusals.mjs';
-import { files, trees, undos, waiting } from './results.mjs';
+import { merging } from './merging.mjs';
+import { origins } from './origins.mjs';
+import { files, trees, undos } from './results.mjs';
 import { shuffles } from './shuffles.mjs';
 import { appearance, keyboard } from './appearance.mjs';
 
 const bench = await openBench(process.argv[2], process.argv[3]);
 try {
-    const parts = [loading, committed, examples, regions, undos, trees, waiting, files, shuffles, appearance, keyboard];
+    const parts = [loading, committed, examples, regions, undos, merging, trees, origins, files, shuffles, appearance,
+        keyboard];
     for (const part of parts) await part(bench);
 } finally {
     await bench.at.end();
