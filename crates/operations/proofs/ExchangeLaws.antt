@@ -2,8 +2,8 @@
 use Prim.Native.Nat.{ℕ, _+_, _-_, _≤_}
 use native.Mathlib.Omega.{arith}
 use mathlib.Core.Path.{_≡_, refl, ap, sym, _∙_}
-use mathlib.Core.List.{List, [], _++_, append-assoc}
-use lib.ListN.{length, take, drop, length-append, length-take, length-drop, take-append-drop}
+use mathlib.Core.List.{List, _++_, append-assoc}
+use lib.ListN.{length, take, drop, length-append, take-append-drop}
 use lib.Seq.{take-take, take-at, drop-at, drop-drop}
 use Rattle.spec.specs.Limits.{maxNodes}
 use Rattle.spec.specs.Forest.{Forest, size}

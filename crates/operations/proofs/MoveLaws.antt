@@ -1,13 +1,12 @@
 -- Laws of a move between two children of one node, by the definitions: at the node itself, and at each node above it.
 use Prim.Native.Nat.{ℕ, suc, _<_, _≤_}
-use native.Mathlib.Omega.{arith}
 use mathlib.Core.Path.{_≡_, refl, ap, sym, _∙_}
 use mathlib.Core.Bool.{Bool, true, false}
-use mathlib.Core.List.{List, [], _∷_}
+use mathlib.Core.List.{[], _∷_}
 use borrow.Author.Tests.{eq-eqb}
-use Rattle.spec.specs.Outcome.{Outcome, ok, refused, _>>=_, if_then_else_}
+use Rattle.spec.specs.Outcome.{ok, refused, _>>=_, if_then_else_}
 use Rattle.spec.specs.Bytes.{Text}
-use Rattle.spec.specs.Forest.{Forest, Tree, count, nth, insertAt, removeAt, replaceAt}
+use Rattle.spec.specs.Forest.{Forest, Tree, count, nth, insertAt, removeAt}
 use Rattle.spec.specs.Value.{Label}
 use Rattle.spec.specs.Pointer as PlainPointer
 use Rattle.spec.specs.Pointer.{Tokens, farther, isDash, elementBelow}
@@ -16,7 +15,7 @@ use Rattle.spec.proofs.ForestLaws.{nth-replaceAt, replaceAt-twice}
 use Rattle.spec.proofs.ChildLaws.{child-there, childAt-put}
 use Rattle.claims.proofs.RemoveAddLaws.{count-removeAt}
 use Rattle.origin.specs.Value as Value
-use Rattle.origin.specs.Value.{named, leaf, valueOf, forget, forgetMembers, forgetEntry}
+use Rattle.origin.specs.Value.{named, leaf, valueOf, forget}
 use Rattle.origin.specs.Pointer.{childAt, child, walk}
 use Rattle.origin.specs.Operation.{put, withKids, atParent, insertElement, insertChild, removeChild, addAt, removeAtPath, moveTo}
 use Rattle.origin.proofs.ForgetLaws.{forget-put}
@@ -24,12 +23,11 @@ use Rattle.origin.proofs.OperationLaws.{walk-on, there}
 use Rattle.tape.specs.Layout.{noText, arrayKind, objectKind}
 use Rattle.tape.specs.declared.fields.Name.{Name}
 use Rattle.tape.specs.declared.fields.Cell.{Cell}
-use Rattle.tape.specs.Map.{mapForest}
 use Rattle.tape.specs.Lent.{Texts}
 use Rattle.tape.proofs.Cells.{blank}
 use Rattle.tape.proofs.Map.{count-map}
 use Rattle.text.specs.Decode.{textFrom, textOf}
-use Rattle.table.specs.Meaning.{spelled, nameText, members}
+use Rattle.table.specs.Meaning.{spelled, nameText}
 use Rattle.table.proofs.MeaningLaws.{isArray-label}
 use Rattle.walk.specs.Bearing.{bearing, borneMembers, borne}
 use Rattle.walk.proofs.Children.{child-borne}

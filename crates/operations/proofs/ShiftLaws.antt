@@ -1,5 +1,5 @@
 -- Laws of an element moved within its array: the rows of two runs of children change places, and nothing around the array changes.
-use Prim.Native.Nat.{ℕ, suc, _+_, _-_, _≤_, _<_, min}
+use Prim.Native.Nat.{ℕ, _+_, _-_, _≤_, _<_}
 use native.Mathlib.Omega.{arith}
 use native.Mathlib.Decide.{decLt}
 use mathlib.Core.Path.{_≡_, refl, ap, sym, _∙_, subst}
@@ -10,14 +10,14 @@ use lib.Seq.{take-take}
 use Rattle.spec.specs.Outcome.{ok}
 use Rattle.spec.specs.Limits.{maxNodes}
 use Rattle.spec.specs.Forest.{Forest, tree, count, size, before, nth, insertAt, removeAt, _⧺_}
-use Rattle.tape.specs.Layout.{noText, arrayKind, scratchRow, rows}
-use Rattle.tape.specs.Fields.{Row, noNode, spanOf, nameOf, rowWith}
+use Rattle.tape.specs.Layout.{arrayKind, scratchRow, rows}
+use Rattle.tape.specs.Fields.{Row, spanOf, rowWith}
 use Rattle.tape.specs.Columns.{replaced, moved, Scratched}
 use Rattle.tape.specs.Tape.{tape, Laid}
 use Rattle.tape.specs.Rows.{endOf, childRow}
 use Rattle.tape.specs.declared.fields.Cell.{Cell}
-use Rattle.tape.specs.Cell.{rowOf, Formed, formed-tree, deep}
-use Rattle.tape.specs.Lent.{Texts, Table}
+use Rattle.tape.specs.Cell.{rowOf, Formed, formed-tree}
+use Rattle.tape.specs.Lent.{Table}
 use Rattle.tape.proofs.Columns.{length-replaced, scratched-moved}
 use Rattle.tape.proofs.Cells.{blank, formed-kids, formed-rest, fit-container}
 use Rattle.tape.proofs.Forests.{size-⧺, size-before-suc}
@@ -27,11 +27,10 @@ use Rattle.tape.proofs.Tape.{tape-⧺, length-tape}
 use Rattle.tape.proofs.Changes.{tape-exchange, laid-kids, laid-tree}
 use Rattle.walk.specs.Bearing.{borne}
 use Rattle.changes.specs.Site.{Standing, Site}
-use Rattle.changes.specs.Limited.{limitedTo}
 use Rattle.changes.specs.Change.{Answers, done}
 use Rattle.changes.specs.declared.answers.Altered.the-variants.{Done}
 use Rattle.changes.proofs.CutLaws.{cut-inside, cut-formed, cut-sound, cut-size, past-front}
-use Rattle.changes.proofs.SiteLaws.{site-held, site-fit, site-inside, site-deep, child-rows, child-name}
+use Rattle.changes.proofs.SiteLaws.{site-held, site-fit, site-deep, child-rows}
 use Rattle.changes.proofs.PutLaws.{in-use, changed-fits}
 use Rattle.operations.specs.Shift.{exchangedBack, exchangedFront, TurnIs, turned-front, turned-back, not-turned}
 use Rattle.operations.proofs.ExchangeLaws.{laid-replaced, exchanged-back, exchanged-front}

@@ -10,23 +10,21 @@ use borrow.Author.Tests.{leb-true, not-false}
 use Rattle.spec.specs.Outcome.{ok}
 use Rattle.spec.specs.Limits.{maxDepth, maxNodes}
 use Rattle.spec.specs.Bytes.{Bytes, Text}
-use Rattle.spec.specs.Forest.{Forest, count, size}
+use Rattle.spec.specs.Forest.{count}
 use Rattle.spec.specs.Pointer.{Tokens}
 use Rattle.spec.specs.Value as Plain
 use Rattle.spec.specs.Value.{sameText}
 use Rattle.spec.proofs.TextLaws.{both-true, sameText-true}
 use Rattle.origin.specs.Value as Value
-use Rattle.origin.specs.Value.{valueOf}
 use Rattle.origin.specs.Pointer.{childAt, child}
 use Rattle.origin.specs.Operation.{put, moveTo}
 use Rattle.text.specs.Decode.{textOf}
 use Rattle.tape.specs.Layout.{noText, arrayKind, documentRow, patchRow, scratchRow, rows}
-use Rattle.tape.specs.Fields.{Row, noNode, kindOf, spanOf, nameOf}
+use Rattle.tape.specs.Fields.{Row, noNode, kindOf, nameOf}
 use Rattle.tape.specs.Columns.{inside, copied, moved}
 use Rattle.tape.specs.Rows.{childRow}
 use Rattle.tape.specs.declared.fields.Spelling.{Spelling}
 use Rattle.tape.specs.declared.fields.Name.{Name}
-use Rattle.tape.specs.declared.fields.Cell.{Cell}
 use Rattle.tape.specs.Lent.{Texts, Table}
 use Rattle.tape.proofs.Cells.{container-fit}
 use Rattle.tape.proofs.Columns.{drop-replaced}
@@ -34,7 +32,7 @@ use Rattle.tape.proofs.Forests.{count-le-size}
 use Rattle.tape.proofs.Held.{held-node}
 use Rattle.tape.proofs.Rows.{kind-here}
 use Rattle.table.specs.Meaning.{partOf, nameText}
-use Rattle.pointer.specs.Tokens.{tokensFrom, FirstOf, TokenAt, tokenBytes}
+use Rattle.pointer.specs.Tokens.{FirstOf, TokenAt, tokenBytes}
 use Rattle.pointer.specs.declared.answers.First.{First}
 use Rattle.pointer.specs.declared.answers.First.the-variants as First
 use Rattle.pointer.specs.declared.answers.Token.{Token}
@@ -159,15 +157,15 @@ module _ {w : Table} {nodes' : List Row} {used : ℕ} where
         },
       )
 
-  pub pair-moves : {from path : Spelling} {i j row : ℕ} {r : Pair} → Short (w .texts) → Paired w from path i j row r → Ends w nodes' used r → (levels : ℕ) (z : Site w used row levels)
-      → i ≤ length (partOf (w .texts) from) → j ≤ length (partOf (w .texts) path) → (t : Text) (ts : Tokens) → TokensFrom (w .texts) from i (t ∷ ts)
-      → (u : Text) (us : Tokens) → TokensFrom (w .texts) path j (u ∷ us) → Along w nodes' used z (t ∷ ts) (u ∷ us)
+  pub pair-moves : {from path : Spelling} {i j row : ℕ} {r : Pair} → Short (w .texts) → Paired w from path i j row r → Ends w nodes' used r
+      → (levels : ℕ) (z : Site w used row levels) → i ≤ length (partOf (w .texts) from) → j ≤ length (partOf (w .texts) path) → (t : Text) (ts : Tokens)
+      → TokensFrom (w .texts) from i (t ∷ ts) → (u : Text) (us : Tokens) → TokensFrom (w .texts) path j (u ∷ us) → Along w nodes' used z (t ∷ ts) (u ∷ us)
   pair-moves short (paired-last {end = end} {last} a an b bn) ends levels z i-in j-in t ts from-is u us path-is =
       let one = one-left (record { is = a; named = an }) short i-in from-is end refl in
       let other = one-left (record { is = b; named = bn }) short j-in path-is last refl in
       rw (one .0, one .1, other .0, other .1) (ends levels z (an .names short i-in .token) (bn .names short j-in .token))
-  pair-moves {from = from} {path} {i = i} {j} short (paired-next {end = end} {next} {last} {after} {child = inner} {token = token} a an b same step rest) ends levels z i-in j-in t ts from-is
-      u us path-is =
+  pair-moves {from = from} {path} {i = i} {j} short (paired-next {end = end} {next} {last} {after} {child = inner} {token = token} a an b same step rest) ends
+      levels z i-in j-in t ts from-is u us path-is =
       more-left (record { is = a; named = an }) short i-in from-is end next refl λ v vs more first later.
       let f = next-token (partOf (w .texts) path) j (Token.Next last after) b last after (u ∷ us) refl (path-is .is) in
       some-token (partOf (w .texts) path) after (f .rest) (f .from) λ x xs g.
@@ -238,7 +236,8 @@ module _ {w : Table} {from path : Spelling} {i j row : ℕ} (a b : Bytes) (a-is 
       go pair-apart u-at = paired-apart
 
   pub pairs-next : {end next last after : ℕ} → s ≡ Token.Next end next → t ≡ Token.Next last after → (x y : Bytes)
-      → x ≡ tokenBytes a i (Token.Next end next) → y ≡ tokenBytes b j (Token.Next last after) → (same : Bool) → same ≡ sameText (textOf 3 x) (textOf 3 y) → not same ≡ false → {child : ℕ} (c : Child)
+      → x ≡ tokenBytes a i (Token.Next end next) → y ≡ tokenBytes b j (Token.Next last after) → (same : Bool)
+      → same ≡ sameText (textOf 3 x) (textOf 3 y) → not same ≡ false → {child : ℕ} (c : Child)
       → StepIs w row name c → c ≡ Child.At child → {r : Pair} → Paired w from path next after child r → Paired w from path i j row r
   pairs-next {end} {next} {last} {after} e f x y x-is y-is same same-is is-same c step there rest =
       let from-at : TokenAt (partOf (w .texts) from) i s = subst (λ l. TokenAt l i s) a-is s-at in

@@ -1,13 +1,12 @@
 -- Laws of the children of a node, two runs of which change places.
-use Prim.Native.Nat.{ℕ, zero, suc, _+_, _-_, _≤_, _<_, max}
+use Prim.Native.Nat.{ℕ, zero, suc, _+_, _-_, _≤_, _<_}
 use native.Mathlib.Omega.{arith}
 use mathlib.Core.Path.{_≡_, refl, ap, sym, _∙_, subst}
-use mathlib.Core.List.{List, [], _∷_, _++_, append-assoc}
-use lib.ListN.{length, drop, length-append}
+use mathlib.Core.List.{List, _++_, append-assoc}
+use lib.ListN.{length, drop}
 use lib.Seq.{drop-at, drop-drop}
 use Rattle.spec.specs.Forest.{Forest, none, Tree, tree, single, count, size, before, from, nth, insertAt, removeAt, _⧺_}
 use Rattle.spec.proofs.SplitLaws.{split, count-before, count-append, before-split, insert-split, remove-split}
-use Rattle.tape.specs.Fields.{Row}
 use Rattle.tape.specs.Tape.{tape, Laid}
 use Rattle.tape.specs.Rows.{childRow}
 use Rattle.tape.specs.declared.fields.Cell.{Cell}
@@ -16,7 +15,7 @@ use Rattle.tape.specs.Lent.{Texts}
 use Rattle.tape.proofs.Cells.{blank, formed-⧺}
 use Rattle.tape.proofs.Forests.{⧺-assoc, size-⧺, size-single, before-from, count-from}
 use Rattle.tape.proofs.Tape.{tape-⧺, length-tape}
-use Rattle.tape.proofs.Changes.{laid-kids, laid-holds}
+use Rattle.tape.proofs.Changes.{laid-holds}
 use Rattle.table.specs.Sound.{Sound}
 use Rattle.table.proofs.AllLaws.{all-⧺}
 use Rattle.changes.specs.Cut.{Cut}

@@ -25,7 +25,8 @@ use walk::token_name;
 ghost use mathlib.Core.Path.{_≡_};
 ghost use Prim.Native.Nat.{_+_, _-_, _≤_};
 ghost use Rattle.tape.specs.Lent.{before, lent};
-ghost use Rattle.operations.specs.Shift.{exchangedBack, exchangedFront, TurnIs, ChildShiftIs, PairAt, Paired, ShiftIs};
+ghost use Rattle.operations.specs.Shift.{exchangedBack, exchangedFront, TurnIs, ChildShiftIs};
+ghost use Rattle.operations.specs.Shift.{PairAt, Paired, ShiftIs};
 
 // Rows change places with those behind them: `count` from `at` on, and as many as `between` says.
 fn exchange_back(nodes: &mut [Node], at: usize, count: usize, between: usize)
@@ -47,7 +48,7 @@ fn exchange_front(nodes: &mut [Node], at: usize, count: usize, to: usize)
     slide(nodes, to, layout::SCRATCH, count);
 }
 
-// The tree in the row `at` is moved to the place of its sibling in the row `to`.
+// The tree in the row `at` is moved to the place of its sibling in the row `to`. Behind the rows in use nothing moves.
 fn turn(nodes: &mut [Node], used: usize, at: usize, to: usize) -> bool
     requires { ⌜ used ≤ 2048 ⌝ }
     ensures { λ r. ⌜ TurnIs (now (nodes .entry)) (now (nodes .exit)) used at to r ⌝ }
@@ -169,7 +170,7 @@ fn siblings<'a>(
     }
 }
 
-// Whether a text ends as an index does. Asked first, it keeps other moves from being tried.
+// Whether a text ends in a digit, as an index does. This is a guess, asked first: other moves are not tried in vain.
 fn ends_in_digit(s: &[u8]) -> bool {
     if s.len() == 0 {
         return false;

@@ -1,8 +1,4 @@
 -- `last_pair` meets its contract, by which token it is.
-use Prim.Native.Nat.{_-_}
-use native.Mathlib.Omega.{arith}
-use mathlib.Core.Path.{refl, ap, _∙_}
-use lib.ListN.{length}
 use borrow.Author.Needs.{needs}
 use Rattle.operations.specs.Shift.{pair-apart}
 use Rattle.operations.proofs.SiblingLaws.{last-paired}

@@ -1,8 +1,5 @@
 -- `shift` meets its contract, by what the two tokens name.
-use Prim.Native.Nat.{_-_}
-use native.Mathlib.Omega.{arith}
 use mathlib.Core.Path.{refl, ap, _∙_}
-use lib.ListN.{length}
 use borrow.Author.Needs.{needs}
 use Rattle.tape.specs.Fields.{nameOf}
 use Rattle.operations.specs.Shift.{child-kept}

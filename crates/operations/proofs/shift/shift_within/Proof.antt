@@ -1,8 +1,6 @@
 -- `shift_within` meets its contract, by what the two pointers name.
-use Prim.Native.Nat.{_-_}
 use native.Mathlib.Omega.{arith}
-use mathlib.Core.Path.{refl, ap, _∙_}
-use lib.ListN.{length}
+use mathlib.Core.Path.{refl}
 use borrow.Author.Needs.{needs}
 use Rattle.operations.specs.Shift.{kept}
 use Rattle.operations.proofs.SiblingLaws.{siblings-shift}
@@ -47,7 +45,8 @@ shift-within-spec =
     (λ c. kept refl)
     -- shift-requires
     (λ c κs.
-    let at-if1 = c .before .before .before .before .before .before .before .before .before .before .before .before .before .before .before .before .before .before in
+    let at-first = c .before .before .before .before .before .before .before .before .before .before .before .before .before in
+    let at-if1 = at-first .before .before .before .before .before in
     omega (arith, at-if1 .if1 .left))
     -- same-length-2
     (λ c. search needs)
@@ -62,5 +61,5 @@ shift-within-spec =
     let at-first = at-i .before .before in
     let at-part2 = at-first .before .before .before in
     let at-part = at-part2 .before in
-    siblings-shift _ _ (at-part .part .ensures) (at-part2 .part2 .ensures) _ _ (at-first .first .ensures) (at-first2 .first2 .ensures) _ _ (at-i .i .given .1) (at-j .j .given .1) _
-    (at-siblings .siblings .ensures) (at-parent .parent .given .1) (at-shift .shift .ensures)))
+    siblings-shift _ _ (at-part .part .ensures) (at-part2 .part2 .ensures) _ _ (at-first .first .ensures) (at-first2 .first2 .ensures) _ _
+    (at-i .i .given .1) (at-j .j .given .1) _ (at-siblings .siblings .ensures) (at-parent .parent .given .1) (at-shift .shift .ensures)))

@@ -1,7 +1,6 @@
 -- `siblings`: what is right of the tokens that are left is right of all; the measure is what is left of the first pointer.
 use Prim.Native.Nat.{_-_}
 use native.Mathlib.Omega.{arith}
-use mathlib.Core.Path.{refl, ap, _∙_}
 use lib.ListN.{length}
 use borrow.Author.Needs.{needs}
 use Rattle.tape.specs.Lent.{tableOf}
@@ -52,8 +51,8 @@ siblings-spec =
     let at-loop = at-token .before in
     let at-part2 = at-loop .before in
     let at-part = at-part2 .before in
-    at-loop .loop .inv _ (pairs-last _ _ (at-part .part .ensures) (at-part2 .part2 .ensures) _ _ (at-token .token .ensures) (at-token2 .token2 .ensures) (at-token-name .token-name .ensures)
-    (at-enum-told .enum-told .given .1) (c .last-pair .ensures)))
+    at-loop .loop .inv _ (pairs-last _ _ (at-part .part .ensures) (at-part2 .part2 .ensures) _ _ (at-token .token .ensures)
+    (at-token2 .token2 .ensures) (at-token-name .token-name .ensures) (at-enum-told .enum-told .given .1) (c .last-pair .ensures)))
     -- enum-known-t
     (λ c. search needs)
     -- enum-told-2
@@ -104,6 +103,8 @@ siblings-spec =
     let at-loop = at-token .before in
     let at-part2 = at-loop .before in
     let at-part = at-part2 .before in
-    λ r rest. at-loop .loop .inv r (pairs-next _ _ (at-part .part .ensures) (at-part2 .part2 .ensures) _ _ (at-token .token .ensures) (at-token2 .token2 .ensures)
-    (at-token-name .token-name .ensures) (at-s .s .given .1) (at-t .t .given .1) _ _ (at-token-part .token-part .ensures) (at-token-part2 .token-part2 .ensures) _ (at-same-text .same-text .ensures)
-    (at-if1 .if1 .left) _ (at-step .step .ensures) (at-child .child .given .1) rest)))
+    λ r rest. at-loop .loop .inv r
+    (pairs-next _ _ (at-part .part .ensures) (at-part2 .part2 .ensures) _ _ (at-token .token .ensures) (at-token2 .token2 .ensures)
+    (at-token-name .token-name .ensures) (at-s .s .given .1) (at-t .t .given .1) _ _ (at-token-part .token-part .ensures)
+    (at-token-part2 .token-part2 .ensures) _ (at-same-text .same-text .ensures) (at-if1 .if1 .left) _ (at-step .step .ensures)
+    (at-child .child .given .1) rest)))

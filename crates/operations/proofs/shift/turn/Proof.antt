@@ -1,8 +1,6 @@
 -- `turn` meets its contract, by which of the two rows is before the other.
-use Prim.Native.Nat.{_-_}
 use native.Mathlib.Omega.{arith}
-use mathlib.Core.Path.{refl, ap, _∙_}
-use lib.ListN.{length}
+use mathlib.Core.Path.{refl}
 use borrow.Author.Needs.{needs}
 use Rattle.operations.specs.Shift.{turned-front, not-turned}
 use Rattle.operations.proofs.ShiftLaws.{back-is}
@@ -34,7 +32,8 @@ turn-spec =
     let at-if2 = at-if3 .before in
     let at-if1 = at-if2 .before in
     let at-size = at-if1 .before in
-    turned-front _ (at-size .size .ensures) (at-if3 .if3 .taken) (omega (arith, at-if1 .if1 .left, at-if2 .if2 .left)) (at-exchange-front .exchange-front .ensures))
+    turned-front _ (at-size .size .ensures) (at-if3 .if3 .taken) (omega (arith, at-if1 .if1 .left, at-if2 .if2 .left))
+    (at-exchange-front .exchange-front .ensures))
     -- end-of-requires
     (λ c κs. search needs)
     -- same-length-4
@@ -63,5 +62,5 @@ turn-spec =
     let at-end-of = at-if4 .before in
     let at-if3 = at-end-of .before .before in
     let at-size = at-if3 .before .before .before in
-    back-is _ _ (at-size .size .ensures) (omega (arith, at-if3 .if3 .left)) (at-end-of .end-of .ensures) (omega (arith, at-if4 .if4 .left)) (omega (arith, at-if5 .if5 .left))
-    (at-exchange-back .exchange-back .ensures)))
+    back-is _ _ (at-size .size .ensures) (omega (arith, at-if3 .if3 .left)) (at-end-of .end-of .ensures) (omega (arith, at-if4 .if4 .left))
+    (omega (arith, at-if5 .if5 .left)) (at-exchange-back .exchange-back .ensures)))

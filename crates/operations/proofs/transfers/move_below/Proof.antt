@@ -37,7 +37,8 @@ move-below-spec =
     let at-if1 = at-walk .before .before in
     let at-shift-within = at-if1 .before .before in
     below-kept (shift-kept (at-if1 .if1 .left) (at-shift-within .shift-within .ensures))
-    (value-moved _ (at-walk .walk .ensures) _ (at-row .row .given .1) (at-set-aside .set-aside .ensures) (at-move-aside .move-aside .ensures) (c .at-path .ensures)))
+    (value-moved _ (at-walk .walk .ensures) _ (at-row .row .given .1) (at-set-aside .set-aside .ensures)
+    (at-move-aside .move-aside .ensures) (c .at-path .ensures)))
     -- enum-known-number
     (λ c. search needs)
     -- at-from-requires
