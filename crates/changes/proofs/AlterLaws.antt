@@ -18,8 +18,8 @@ use Rattle.origin.specs.Value.{valueOf, nodes}
 use Rattle.origin.specs.Pointer.{childAt, child}
 use Rattle.origin.specs.Operation.{put, atParent, removeChild, replaceChild}
 use Rattle.spec.proofs.ChildLaws.{depth-child}
-use Rattle.tape.specs.Layout.{arrayKind, objectKind, values}
-use Rattle.tape.specs.Fields.{Row, spanOf}
+use Rattle.tape.specs.Layout.{arrayKind, objectKind, values, rows}
+use Rattle.tape.specs.Fields.{Row, spanOf, rowWith}
 use Rattle.tape.specs.Tape.{tape}
 use Rattle.tape.specs.declared.fields.Spelling.{Spelling}
 use Rattle.tape.specs.declared.fields.Name.{Name}
@@ -30,7 +30,7 @@ use Rattle.tape.specs.Lent.{Texts, Table}
 use Rattle.tape.proofs.Forests.{size-replaceAt}
 use Rattle.tape.proofs.Cells.{blank, span-row, formed-kids, formed-rest, formed-child, formed-replaceAt, container-fit, fit-container}
 use Rattle.tape.proofs.Depth.{level-container}
-use Rattle.tape.proofs.Changes.{laid-length, laid-child, laid-put, child-front, laid-word, laid-span-child}
+use Rattle.tape.proofs.Changes.{laid-length, laid-child, laid-tree, laid-put, child-front, laid-word, laid-span-child}
 use Rattle.table.specs.Meaning.{partOf, nameText, meant}
 use Rattle.table.specs.Sound.{CellFits}
 use Rattle.table.proofs.MeaningLaws.{depth-meant}
@@ -187,6 +187,10 @@ module _ {w : Table} {used row levels : ℕ} (z : Site w used row levels) (t : T
         long = z .long;
       }
 
+  pub site-value : borne (w .texts) (child-site .c) (child-site .kids) ≡ valueOf (child k v)
+  unfolding child-site
+  site-value = sym value-child
+
   -- ---- and up again
   -- what the definitions say of the child, put in its place
   pub child-outcome : (f : ByToken) (u : Text) (us : Tokens)
@@ -262,6 +266,42 @@ module _ {w : Table} {used row levels : ℕ} (z : Site w used row levels) (t : T
     up-refused : {number place : ℕ} → ChangeAnswers child-site nodes' o (Refused number place) → ChangeAnswers z nodes' (put-back o) (Refused number place)
     unfolding child-site _>>=_
     up-refused (refusal e) = refusal (limits o ∙ ap put-back e)
+
+  -- a child that was changed within its own rows: nothing around it changes
+  module _ {nodes' : List Row} (long : rows ≤ length nodes') where
+    module _ {changed : Forest Cell} (stands : Standing (w .texts) nodes' used inner around-child (b .root) changed) where
+      abbrev kept : Tree Cell
+      kept = record { root = b .root; kids = changed }
+
+      same-size : size (replaceAt k kept (z .kids)) ≡ size (z .kids)
+      unfolding size
+      same-size =
+          let after = laid-length (stands .laid) in
+          let first = laid-length (laid-child blank k kth (z .standing .laid)) in
+          omega (arith, size-replaceAt blank k (z .kids) kth kept, z .few, z .long)
+
+      same-standing : Standing (w .texts) nodes' used row (z .around) (z .c) (replaceAt k kept (z .kids))
+      unfolding rowOf
+      same-standing =
+          let cell : CellFits (w .texts) (b .root) = record { name = name-fits k kth (z .standing .sound); label = stands .label } in
+          record {
+            laid = laid-tree (z .c) (rowOf (z .c) (z .kids)) (laid-put kept k (z .kids) (stands .laid)) (ap (rowWith (z .c)) (sym same-size));
+            place = z .standing .place;
+            formed =
+                formed-tree (fit-container (replaceAt k kept (z .kids)) (site-fit z) container (omega (arith, same-size, site-fit z .small)))
+                (formed-replaceAt k (formed-kids (z .standing .formed)) kept (formed-alone (stands .formed)))
+                (formed-rest (z .standing .formed));
+            label = z .standing .label;
+            sound = all-replaceAt k (z .standing .sound) kept (all-single kept cell (stands .sound));
+          }
+
+    pub up-same : {y : Value.Value} → ChangeAnswers child-site nodes' (ok y) (Done used) → ChangeAnswers z nodes' (ok (put k y v)) (Done used)
+    unfolding child-site _>>=_
+    up-same {y} (done {kids = changed} e stands) =
+        let then-value = borne (w .texts) (z .c) (replaceAt k (record { root = b .root; kids = changed }) (z .kids)) in
+        let passed : limitedTo levels (z .room) (ok (put k y v)) ≡ ok then-value =
+        limits (ok y) ∙ ap put-back e ∙ ap ok (put-borne (w .texts) k (z .c) (z .kids) (b .root) changed) in
+        done passed (same-standing stands)
 
 -- ---- through a child
 -- a token names the k-th child, which stands in the row `inner`

@@ -26,23 +26,23 @@ unfolding deep _⧺_
 deep-⧺ none g = omega arith
 deep-⧺ (tree c kids rest) g = let ih = deep-⧺ rest g in omega arith
 
-formed-left : (f g : Forest Cell) → Formed (f ⧺ g) → Formed f
+pub formed-left : (f g : Forest Cell) → Formed (f ⧺ g) → Formed f
 unfolding _⧺_
 formed-left none g o = formed-none
 formed-left (tree c kids rest) g (formed-tree fit k r) = formed-tree fit k (formed-left rest g r)
 
-formed-right : (f g : Forest Cell) → Formed (f ⧺ g) → Formed g
+pub formed-right : (f g : Forest Cell) → Formed (f ⧺ g) → Formed g
 unfolding _⧺_
 formed-right none g o = o
 formed-right (tree c kids rest) g (formed-tree fit k r) = formed-right rest g r
 
 module _ {T : Texts} where
-  sound-left : (f g : Forest Cell) → Sound T (f ⧺ g) → Sound T f
+  pub sound-left : (f g : Forest Cell) → Sound T (f ⧺ g) → Sound T f
   unfolding _⧺_
   sound-left none g m = all-none
   sound-left (tree c kids rest) g (all-tree h k r) = all-tree h k (sound-left rest g r)
 
-  sound-right : (f g : Forest Cell) → Sound T (f ⧺ g) → Sound T g
+  pub sound-right : (f g : Forest Cell) → Sound T (f ⧺ g) → Sound T g
   unfolding _⧺_
   sound-right none g m = m
   sound-right (tree c kids rest) g (all-tree h k r) = sound-right rest g r

@@ -2,4 +2,5 @@ pub mod Stamp
 pub mod Bearing
 pub mod Answers
 pub mod Perform
+pub mod Shift
 pub mod Run

@@ -2,6 +2,7 @@
 use crate::answers::Performed;
 use crate::answers::at_from;
 use crate::answers::at_path;
+use crate::shift::shift_within;
 use crate::stamps::stamp_aside;
 use changes::Altered;
 use changes::Change;
@@ -67,7 +68,7 @@ fn move_aside<'a>(
     change_at(texts, nodes, left, path, Change::Add(layout::SCRATCH))
 }
 
-// The value at `from`, which is not the root, is set aside first.
+// The value at `from`, which is not the root, is moved within its array, or set aside first.
 fn move_below<'a>(
     texts: Texts<'a>,
     nodes: &mut [Node],
@@ -77,6 +78,9 @@ fn move_below<'a>(
 ) -> Performed
     ensures { λ r. ⌜ MoveBelowIs (before texts nodes) (now (nodes .exit)) used from path r ⌝ }
 {
+    if shift_within(texts, nodes, used, from, path) {
+        return Performed::Done(used);
+    }
     match walk(texts, nodes, layout::DOCUMENT, from) {
         Reached::At(row) => {
             set_aside(nodes, row);
