@@ -166,7 +166,8 @@ second-value = record { rest = none; held = held-next held; label = container-fi
 
 -- ---- what it leaves
 are-equal : equal (meant texts object first) (meant texts object second) ≡ true
-unfolding compute compute-numbers mapForest labelOf count tag isNumber isObject content sameText sameBool sameInteger sameWorth sameLabel fromName sameElements sameMembers equal
+unfolding compute compute-numbers mapForest labelOf count tag isNumber isObject content sameText sameBool sameInteger sameWorth
+    sameLabel fromName sameElements sameMembers equal
 are-equal = refl
 
 two-deep : depth (meant texts object first) ≡ 2

@@ -31,8 +31,8 @@ run-listed-spec =
     let at-end-of = at-write-listed .before .before .before .before in
     let at-if1 = at-end-of .before .before in
     let at-kind = at-if1 .before in
-    let at-stamp-both = at-kind .before .before .before in
-    run-whole (at-stamp-both .stamp-both .ensures) (at-kind .kind .ensures) (at-if1 .if1 .taken)
+    let at-stamps = at-kind .before .before .before in
+    run-whole (at-stamps .stamp-both .ensures) (at-kind .kind .ensures) (at-if1 .if1 .taken)
     (at-end-of .end-of .ensures) (at-write-listed .write-listed .ensures))
     -- merge-read-requires
     (λ c κs. search needs)
@@ -48,17 +48,17 @@ run-listed-spec =
     let at-merge-read = at-if2 .before .before .before .before in
     let at-if1 = at-merge-read .before .before .before in
     let at-kind = at-if1 .before in
-    let at-stamp-both = at-kind .before .before .before in
-    let at-pre = at-stamp-both .before .before .before .before .before in
-    run-many (at-stamp-both .stamp-both .ensures) (at-kind .kind .ensures) (at-if1 .if1 .left)
-    (at-merge-read .merge-read .ensures .merged (omega (arith, at-pre .pre, at-stamp-both .stamp-both .kept)) (omega (arith, at-pre .pre)))
+    let at-stamps = at-kind .before .before .before in
+    let at-pre = at-stamps .before .before .before .before .before in
+    run-many (at-stamps .stamp-both .ensures) (at-kind .kind .ensures) (at-if1 .if1 .left)
+    (at-merge-read .merge-read .ensures .merged (omega (arith, at-pre .pre, at-stamps .stamp-both .kept)) (omega (arith, at-pre .pre)))
     (at-if2 .if2 .taken) (c .refused .ensures))
     -- sub-count-2
     (λ c.
     let at-merge-read = c .before .before .before .before in
-    let at-stamp-both = at-merge-read .before .before .before .before .before .before .before in
-    let at-pre = at-stamp-both .before .before .before .before .before in
-    omega (arith, at-merge-read .merge-read .ensures .merged (omega (arith, at-pre .pre, at-stamp-both .stamp-both .kept)) (omega (arith, at-pre .pre)) .onward))
+    let at-stamps = at-merge-read .before .before .before .before .before .before .before in
+    let at-pre = at-stamps .before .before .before .before .before in
+    omega (arith, at-merge-read .merge-read .ensures .merged (omega (arith, at-pre .pre, at-stamps .stamp-both .kept)) (omega (arith, at-pre .pre)) .onward))
     -- write-listed-requires-2
     (λ c κs. search needs)
     -- same-length-6
@@ -76,8 +76,8 @@ run-listed-spec =
     let at-merge-read = at-if2 .before .before .before .before in
     let at-if1 = at-merge-read .before .before .before in
     let at-kind = at-if1 .before in
-    let at-stamp-both = at-kind .before .before .before in
-    let at-pre = at-stamp-both .before .before .before .before .before in
-    run-done (at-stamp-both .stamp-both .ensures) (at-kind .kind .ensures) (at-if1 .if1 .left)
-    (at-merge-read .merge-read .ensures .merged (omega (arith, at-pre .pre, at-stamp-both .stamp-both .kept)) (omega (arith, at-pre .pre)))
+    let at-stamps = at-kind .before .before .before in
+    let at-pre = at-stamps .before .before .before .before .before in
+    run-done (at-stamps .stamp-both .ensures) (at-kind .kind .ensures) (at-if1 .if1 .left)
+    (at-merge-read .merge-read .ensures .merged (omega (arith, at-pre .pre, at-stamps .stamp-both .kept)) (omega (arith, at-pre .pre)))
     (at-if2 .if2 .left) (at-write-listed2 .write-listed2 .ensures)))
