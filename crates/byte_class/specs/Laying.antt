@@ -8,7 +8,7 @@ use lib.ListN.{length, getD}
 unfoldable pub entry : List (List ℕ) → ℕ → ℕ
 entry rows b = getD (getD rows (b / 16) []) (b % 16) 0
 
--- 256 entries, of which the first so many are those of the rows, one after another
+-- 256 entries; the first n are those of the rows, one after another
 pub record Filled (rows : List (List ℕ)) (n : ℕ) (table : List ℕ) : Type 0 where
   pub counted : length table ≡ 256
   pub filled : (b : ℕ) → b < n → getD table b 0 ≡ entry rows b

@@ -44,7 +44,7 @@ onStanding Standing.the-variants.Missing next none = none
 abbrev pub caseWord : List ℕ
 caseWord = 99 ∷ 97 ∷ 115 ∷ 101 ∷ []
 
--- the case that begins at a place with a word, and has so many rooms and texts
+-- the case that begins at a place with a word, and has `rooms` numbers and `texts` texts
 unfoldable pub caseAt : List ℕ → ℕ → List ℕ → ℕ → ℕ → Found
 caseAt s at word rooms texts =
     onTaken (nameAt s at word)

@@ -82,7 +82,7 @@ pub enum Found {
     Nothing,
 }
 
-// The case that begins at a place with a word, and has so many rooms and texts, up to three of each.
+// The case that begins at a place with a word, and has `rooms` numbers and `texts` texts, up to three of each.
 pub fn case_of(file: &[u8], at: usize, word: &[u8], rooms: usize, texts: usize) -> Found
     ensures { λ r. ⌜ r ≡ caseAt (now (file .entry)) at (now (word .entry)) rooms texts ⌝ }
 {

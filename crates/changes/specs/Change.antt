@@ -128,7 +128,7 @@ pub record ChangeChildIs (w : Table) (nodes' : List Row) (p : Parent) (token : N
   pub frame : Frame (w .nodes) nodes' r
   pub held : (f : ByToken) → Makes w change f → Changed w nodes' p token f r
 
--- ---- a change at the parent of a location, along the tokens from a place of the pointer on, behind so many that were walked
+-- ---- a change at the parent of a location, along the tokens from a place of the pointer on, after `walked` tokens
 abbrev pub Alters : {w : Table} {used row levels : ℕ} → ℕ → Site w used row levels → List Row → Spelling → ℕ → Change → Altered → Type 0
 Alters {w} walked z nodes' path at change r =
     (f : ByToken) (t : Text) (ts : Tokens) → Makes w change f → Short (w .texts) → at ≤ length (partOf (w .texts) path)

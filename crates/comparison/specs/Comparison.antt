@@ -15,7 +15,7 @@ pub record Compared : Type 0 where
   pub same : Bool
   pub names : ℕ
 
--- a verdict for which so many names were compared
+-- a verdict, and the number of names compared for it
 abbrev pub after : ℕ → Bool → Compared
 after names same = record { same = same; names = names }
 
@@ -29,7 +29,7 @@ unfoldable pub lookups : Text → Members → ℕ
 lookups n none = 0
 lookups n (tree e kids rest) = if sameText (e .name) n then 1 else 1 + lookups n rest
 
--- Two values, after so many names were compared: by their labels, by how many values are in them, and by what comes of comparing those. "Unequal
+-- Two values, after `names` names were compared: by their labels, by how many values are in them, and by what comes of comparing those. "Unequal
 -- member counts or array lengths differ without a comparison."
 abbrev pub comparedValue : ℕ → Label → Members → Label → Members → Compared → Compared
 comparedValue names l kids m below inside = after names (sameLabel l m) then (after 0 (eqb (count kids) (count below)) then inside)

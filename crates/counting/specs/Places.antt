@@ -11,7 +11,7 @@ use Rattle.tape.specs.declared.fields.Cell.{Cell}
 use Rattle.tape.specs.Cell.{Node, level, deep}
 use Rattle.tape.specs.Rows.{endOf}
 
--- Each row of the second text has a scratch row, so many rows behind it. The place is noted there.
+-- Each row of the second text has a scratch row, this many rows behind it. The place is noted there.
 abbrev pub apart : ℕ
 apart = 2_048
 
@@ -29,7 +29,7 @@ pub data HavePlaces (place : ℕ → ℕ) : ℕ → ℕ → Forest Cell → Type
       → HavePlaces place (row + 1 + size kids) (k + 1) rest → HavePlaces place row k (tree c kids rest)
 
 -- What noting the places below a row comes to. Only scratch rows change, and places up to the row stay. Where the table holds a tree of the second
--- text there, that nests at most so many containers, all below it have their places. What else the scratch rows hold is left free.
+-- text there that nests at most `levels` containers, all below it have their places. What else the scratch rows hold is left free.
 pub record NotedIs (xs ys : List Row) (at levels : ℕ) : Type 0 where
   pub scratched : Scratched xs ys
   pub before : (r : ℕ) → r ≤ at → placeAt ys r ≡ placeAt xs r

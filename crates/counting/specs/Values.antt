@@ -34,7 +34,7 @@ pub record Tells (a : Compared) (r : Comparison) : Type 0 where
   pub verdict : r .same ≡ a .same
   pub counts : r .names ≡ a .names % 2 ^ 64
 
--- of the values that the table holds in two rows, whatever they are, if the first nests at most so many containers, no object of the second has two
+-- of the values that the table holds in two rows, whatever they are, if the first nests at most `levels` containers, no object of the second has two
 -- members of one name, and the places below it are noted; otherwise the answer is free
 abbrev pub CountedIs : Table → ℕ → ℕ → ℕ → Comparison → Type 0
 CountedIs w at other levels r =

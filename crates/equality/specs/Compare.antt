@@ -53,7 +53,7 @@ abbrev pub PartnerOf : Table → Pair → ℕ → ℕ → Member → Type 0
 PartnerOf w pair row next r = PartnerIs w (pair .other) (pair .end) row next (pair .object) r
 
 -- ---- two values
--- whether the values are equal that the table holds in two rows, whatever they are, if the first nests at most so many containers and no object
+-- whether the values are equal that the table holds in two rows, whatever they are, if the first nests at most `levels` containers and no object
 -- of the second has two members of one name; otherwise the answer is free
 abbrev pub EqualIs : Table → ℕ → ℕ → ℕ → Bool → Type 0
 EqualIs w at other levels r =

@@ -155,7 +155,7 @@ fn equal<'a>(
     pair.end <= next
 }
 
-// A value with so many nodes below it is indexed before it is compared.
+// A value with at least this many nodes below it is indexed before it is compared.
 const INDEXED: usize = 64;
 
 // Whether the values in the rows `at` and `other` are equal. Where the second is large it is indexed first, so that

@@ -38,7 +38,7 @@ pub record Begins (w : Bytes) : Type 0 where
   pub meaning : Value.Value
   pub derived : JSON-text (w ++ rest) meaning
 
--- so many bytes of s are its longest prefix that also begins some JSON text
+-- the first p bytes of s are its longest prefix that also begins some JSON text
 pub record LongestBeginning (s : Bytes) (p : ℕ) : Type 0 where
   pub inside : p ≤ length s
   pub begins : Begins (take p s)

@@ -41,7 +41,7 @@ begins b =
     if standsForItself b then 0 else
     if eqb b (code "\\") then 48 else first b
 
--- after a later byte, which must lie between two bounds, when so many are to come after it
+-- after a later byte, which must lie between two bounds, when `more` bytes are to come after it
 unfoldable pub later : ℕ → ℕ → ℕ → ℕ → ℕ
 later more low high b = if within low high b then 6 * more else 63
 

@@ -15,7 +15,7 @@ use Rattle.origin.specs.Answer.{Lending, listed, unlisted, answer, merge
 pub data Example : Type 0 where
   gives : String → String → String → List ℕ → Example
 
--- what the patch tool lends, and a list of so many entries
+-- what the patch tool lends, and a list of that length
 abbrev pub lent : ℕ → Lending Lent
 lent list = record { call = Plain.lent; list = list }
 

@@ -49,7 +49,7 @@ fn read_names(
         pending: 0,
         tally: nothing(),
     };
-    // a loop must end: no input uses up so many turns
+    // a loop must end: no input is long enough to use up its turns
     let mut turns = u64::MAX;
     while turns > 0 {
         let got = libc::read(STDIN_FILENO, chunk);

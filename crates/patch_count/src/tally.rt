@@ -62,7 +62,7 @@ pub fn one_refused(t: Tally) -> Tally
     }
 }
 
-// A file more, with so many operations.
+// One more file, with these operations.
 pub fn one_accepted(t: Tally, c: Counts) -> Tally
     requires { ⌜ Room t ⌝ }
     requires { ⌜ total (countsIn c) ≤ maxOperations ⌝ }

@@ -57,7 +57,7 @@ pub data Taken (source : ℕ) (s : Bytes) (at : ℕ) (text : Text) (base row lim
 abbrev pub ForTitle : ℕ → Bytes → Name → (Text → Type 0) → Type 0
 ForTitle source s name P = (text : Text) → Titles source s text name → P text
 
--- what reading a value comes to, with so many levels left, in a text whose rows begin at `base`
+-- what reading a value comes to, with `levels` levels left, in a text whose rows begin at `base`
 abbrev pub ValueTaken : ℕ → Bytes → ℕ → ℕ → Name → ℕ → ℕ → Work → Work → Declared.Read → Type 0
 ValueTaken source s at levels name base row w w' r =
     ForTitle source s name λ text. Taken source s at text base row (base + maxNodes) w w' (value levels s at (row - base)) r

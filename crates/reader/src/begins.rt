@@ -38,7 +38,7 @@ pub fn room_refusal(base: usize, row: usize) -> u8
     refusal::TOO_MANY_NODES
 }
 
-// The same of a value of a kind, with so many levels left. On one byte the order is 3, 5, 6.
+// The same of a value of a kind, with `levels` levels left. On one byte the order is 3, 5, 6.
 pub fn refusal_at(kind: u16, levels: u32, base: usize, row: usize) -> u8
     requires { ⌜ base ≤ row ⌝ }
     ensures { λ r. ⌜ r ≡ refusalFor kind levels (row - base) ⌝ }

@@ -36,7 +36,7 @@ pub enum Read {
     Refused(u8, usize),
 }
 
-// A node is stored in a row, with so many nodes below it.
+// A node is stored in a row, with `span` nodes below it.
 fn put(nodes: &mut [Node], row: usize, cell: Cell, span: usize)
     ensures { λ _. ⌜ now (nodes .exit) ≡ set (now (nodes .entry)) row (rowWith cell (span % values)) ⌝ }
 {

@@ -95,7 +95,7 @@ Witness =
 
 -- Values that pass limits, for the order in which an undo is refused
 
--- so many of a value in an array
+-- a value n times, as an array's elements
 unfoldable pub times : ℕ → Value.Value → Members
 times zero v = none
 times (suc n) v = tree (record { name = []; label = v .label }) (v .kids) (times n v)
@@ -103,12 +103,12 @@ times (suc n) v = tree (record { name = []; label = v .label }) (v .kids) (times
 abbrev pub listOf : ℕ → Value.Value → Value.Value
 listOf n v = record { label = Label.array; kids = times n v }
 
--- a value so many arrays deep
+-- a value inside n arrays
 unfoldable pub nested : ℕ → Value.Value → Value.Value
 nested zero v = v
 nested (suc n) v = listOf 1 (nested n v)
 
--- a string of so many characters
+-- a string of n characters
 unfoldable pub letters : ℕ → Text
 letters zero = []
 letters (suc n) = 97 ∷ letters n

@@ -140,7 +140,7 @@ pub fn cell_of(node: Node) -> Cell
     }
 }
 
-// The node that bears it, with so many nodes below.
+// The node that bears it, with `span` nodes below it.
 pub fn node_of(cell: Cell, span: usize) -> Node
     ensures { λ r. ⌜ r ≡ rowWith cell (span % values) ⌝ }
 {

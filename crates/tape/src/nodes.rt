@@ -89,7 +89,7 @@ fn leaves(nodes: &[Node], row: usize, end: usize, most: usize) -> bool
 pub enum Located {
     // the child's row
     At(usize),
-    // there are fewer children: so many
+    // there are fewer children: their number
     Fewer(usize),
 }
 

@@ -97,7 +97,7 @@ abbrev pub MoreBytesIs : Table → ℕ → Action → Target → ℕ → Type 0
 MoreBytesIs w bytes action target r =
     (tail : ℕ) → bytes ≡ capped tail → ForCarried w action (λ o. r ≡ capped (length (noteBytes (w .texts) action target o) + tail))
 
--- Where the buffer has room for so many bytes, the operation's text stands before the rest of them, which is as it was.
+-- Where the buffer has room for these bytes, the operation's text stands before the rest of them, which is unchanged.
 abbrev pub LayDownIs : Table → Action → Target → ℕ → Bytes → Bytes → Type 0
 LayDownIs w action target bytes before after =
     ForCarried w action

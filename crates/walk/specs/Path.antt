@@ -35,7 +35,7 @@ pub record PathIs (T : Texts) (path : Spelling) (ts : Tokens) : Type 0 where
 pub record TokensFrom (T : Texts) (path : Spelling) (at : ℕ) (ts : Tokens) : Type 0 where
   pub is : tokensFrom (partOf T path) at ≡ ok ts
 
--- An outcome, and an answer, behind so many tokens more; `farther` is behind one.
+-- An outcome, and an answer, n tokens farther on; `farther` is one token.
 unfoldable pub fartherBy : {A : Type 0} → ℕ → Outcome A → Outcome A
 fartherBy n (ok a) = ok a
 fartherBy n (refused number walked) = refused number (n + walked)
@@ -44,7 +44,7 @@ unfoldable pub reachedBehind : ℕ → Reached → Reached
 reachedBehind n (At row) = At row
 reachedBehind n (Lost number walked) = Lost number (n + walked)
 
--- The outcome of a walk from a node with so many nodes below it: the row of a node that is the value reached, and that lies in the tree where
+-- The outcome of a walk from a node with `span` nodes below it: the row of a node that is the value reached, and that lies in the tree where
 -- the walk began; or the refusal's number, and the count of tokens walked before the one that failed. What a node is, is told with its origins or
 -- without them.
 pub data WalkedBy {A : Type 0} (is : Texts → Cell → Forest Cell → A) (w : Table) (row span : ℕ) (o : Outcome A) : Reached → Type 0 where

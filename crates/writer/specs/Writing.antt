@@ -28,7 +28,7 @@ pub record PlacedSome (at : ℕ) (before after : Bytes) (next : ℕ) : Type 0 wh
   pub bytes : Bytes
   pub placed : Placed bytes at before after next
 
--- a node that can be written: the table holds it in a row, and it nests at most so many containers
+-- a node that can be written: the table holds it in a row, and it nests at most `levels` containers
 pub record Writable (w : Table) (at levels : ℕ) (c : Cell) (kids : Forest Cell) : Type 0 where
   pub node : NodeHeld w at c kids
   pub nested : level c (deep kids) ≤ levels

@@ -3,7 +3,7 @@
 // itself on nested containers, and the levels fall; their scalars are written in the loop.
 //
 // What is proved: of a node that the table holds (`NodeHeld` of table) and that nests at most `levels` containers,
-// `fits` answers whether the text of the definitions has at most so many bytes, and `write` lays that text down;
+// `fits` answers whether the text of the definitions has at most `room` bytes, and `write` lays that text down;
 // behind it the output is as it was. proofs/CallerLaws has it in these words.
 //
 // What a caller should know: both are total. Where the output is too short, `write` fills it with the text's first
