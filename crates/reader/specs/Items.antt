@@ -38,7 +38,7 @@ nextName object s so-far at = afterComma s (eqb (count so-far) 0) at >>= nameFor
 unfoldable pub begun : Text × ℕ → Outcome Next
 begun (name, at) = ok (begins name at)
 
--- what comes from the place after the opening bracket, or after a value
+-- what comes next, from the place after the opening bracket or after a value
 unfoldable pub nextItem : Bool → Bytes → Members → ℕ → Outcome Next
 nextItem object s so-far at =
     let place = blanks s at in

@@ -43,7 +43,7 @@ pub record Ahead (s : Bytes) (at next row end limit : ℕ) : Type 0 where
   pub grows : row < end
   pub room : end ≤ limit
 
--- What reading a value comes to that is to be stored from a row on, in rows below the limit, under a name whose text is given. After a value the index
+-- What reading comes to, for a value that is to be stored from a row on, in rows below the limit, under a name whose text is given. After a value the index
 -- still leads to the rows up to this one. After a refusal the rows from this one up to the limit, and the index, are left free.
 pub data Taken (source : ℕ) (s : Bytes) (at : ℕ) (text : Text) (base row limit : ℕ) (w w' : Work) (o : Outcome (Value.Value × ℕ)) : Declared.Read
     → Type 0 where

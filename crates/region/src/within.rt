@@ -64,8 +64,8 @@ fn kind_permitted(op: usize, kind: Kind) -> bool
     is_makers(kind)
 }
 
-// The number of the refusal of the element in a row, which is operation `op`: it is malformed, or else it breaks the
-// rule. 0 where neither holds. `raw` tells whether the region can stand in a JSON string as it is.
+// The number of the refusal of the element in a row, which is operation `op`: where it is malformed, and then where it
+// breaks the rule. 0 where neither holds. `raw` tells whether the region can stand in a JSON string as it is.
 fn element_number<'a>(
     texts: Texts<'a>,
     nodes: &[Node],

@@ -1,5 +1,5 @@
--- What holds of the words of the node table, beside that they are a tree: each name has its hash, each number is within the limits, and each string stands
--- between quotation marks in one of the two texts. The reader lays down no other words, and every operation keeps them so.
+-- What the words of the node table satisfy besides forming a tree: each name has its hash, each number is within the limits, and each string stands between
+-- quotation marks in one of the two texts. The reader lays down no other words, and every operation keeps them so.
 use Prim.Native.Nat.{ℕ, _+_, _≤_}
 use mathlib.Core.Path.{_≡_}
 use mathlib.Core.Bool.{true}

@@ -130,7 +130,7 @@ fn mend_member<'a>(
     )
 }
 
-// By the last token and the parent, which is in a row.
+// By the last token and the parent in a row.
 fn mend_child<'a>(
     texts: Texts<'a>,
     nodes: &[Node],
