@@ -166,7 +166,7 @@ module _ {o : View} {w : Table} {xs : List ℕ} {patch to levels : ℕ} {c : Cel
         built = λ room. built-join (built-kept (l .framed) (s .built (omega arith))) (l .built room);
       }
 
--- a member nests no more containers than all, and an object one more than its members
+-- a member nests no more containers than the deepest of all, and an object one more than its members
 depths-from : (T : Texts) (k : ℕ) (f : Forest Cell) {c : Cell} {below after : Forest Cell} → from k f ≡ tree c below after
     → levels (entryOf T c .label) (depths (members T below)) ≤ depths (members T f)
 unfolding from depths mapForest

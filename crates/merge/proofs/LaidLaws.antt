@@ -216,7 +216,7 @@ as-target {o} {w} {at} {d} {ds} h low distinct = go (eqb (d .kind) objectKind) r
           distinct = Repeats.empty;
         }
 
--- no row: nothing is the target
+-- the row behind the table: the target is nothing
 pub no-target : {o : View} {w : Table} → length (w .nodes) ≡ rows → AsTarget o w rows (leaf mergeOrigin Label.null-literal)
 unfolding mapForest asObject isObject Value.tag
 no-target {o} {w} long =

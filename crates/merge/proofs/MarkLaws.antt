@@ -97,7 +97,7 @@ module _ {nodes : List Row} {start end : ℕ} (xs : List ℕ) (row v : ℕ) (low
           subst (Child nodes (patchRow + o)) same-row (told o here)
       go r o h is (no n) = p .child r o h (sym (slot-other xs (parentSlot (row - patchRow)) (parentSlot r) v (λ e. n (omega arith))) ∙ is)
 
-  -- whatever it says, if the parent that it notes is one
+  -- whatever it says, if the parent that it notes is the right one
   pub changed-put : Changed nodes start end xs (slotSet xs (parentSlot (row - patchRow)) v)
   unfolding slotSet
   changed-put =
@@ -188,7 +188,7 @@ module _ {T : Texts} where
       let low-next : patchRow ≤ row + 1 + size kids = omega arith in
       marks-tree {kids = kids} (ap (λ n. eqb n 0) (c .notes row low .0 (omega arith)) ∙ e) (marks-inside k at is next low-next c m)
 
-  -- other tests that tell the same of these members
+  -- another test that says the same of these members
   pub marks-as : {xs : List ℕ} {met met' : Text → Bool} {row : ℕ} {f : Forest Cell}
       → ((n : Text) → met n ≡ met' n) → Marks T xs met row f → Marks T xs met' row f
   marks-as same marks-none = marks-none

@@ -88,7 +88,7 @@ module _ {w : Table} {patch : ℕ} {name : Name} {xs ys : List ℕ} {b : Bool} (
             (omega (arith, o .behind)) (omega (arith, o .inside))));
       }
 
-  -- the index tells the member, or the members are searched
+  -- the index finds the member, or the members are searched
   module _ (long : length ys ≡ length xs) where
     pub partner-by : {r : Member}
         → ((c : Cell) (kids : Forest Cell) → PatchObject w patch c kids xs → Hashed (w .texts) name → Named (w .texts) patch kids (nameText (w .texts) name) r)
@@ -99,7 +99,7 @@ module _ {w : Table} {patch : ℕ} {name : Name} {xs ys : List ℕ} {b : Bool} (
     partner-searched {end} ends f = partner-by λ c kids o hashed.
         searched-named (f .held kids (siblings-asked (siblings-all end ends (o .held))) hashed)
 
--- ---- the index tells the member
+-- ---- the index finds the member
 pub partner-hinted : {w : Table} {patch : ℕ} {name : Name} {xs : List ℕ} {r : Member} (row : ℕ) → LookupIs w xs patchRow patch name r → r ≡ At row
     → PartnerIs w patch name xs xs (At row)
 partner-hinted {w} {patch} {name} {xs} row looked e =

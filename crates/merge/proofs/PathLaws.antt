@@ -68,7 +68,7 @@ ways-kept {at = at} (ways-tree {e = e} {kids = kids} {rest = rest} r below w) k 
     let in-rest : at + 1 + size kids + size rest ≤ scratchRow = omega arith in
     ways-tree {kids = kids} (k _ _ _ (omega arith) place r) (λ o. ways-kept (below o) k (omega arith) in-kids) (ways-kept w k next in-rest)
 
--- the first member's, those of its own, and those of the others
+-- those of the first member, of the members below it, and of the others
 module _ {xs : List ℕ} {object at : ℕ} {e : Entry} {kids rest : Members} where
   pub ways-first : Ways xs object at (tree e kids rest) → Reached xs patchRow object at (e .name)
   ways-first (ways-tree r below w) = r
@@ -173,7 +173,7 @@ kept-then a b slot q t h m = b slot q t h (a slot q t h m)
 kept-below : {limit : ℕ} {xs ys : List ℕ} (low : ℕ) → low ≤ limit → Kept limit xs ys → Kept low xs ys
 kept-below low l k slot q t h m = k slot q t (omega arith) m
 
--- no object, or none that nests so few containers
+-- no object, or one that nests too many containers
 pub entered-none : {w : Table} {object levels : ℕ} {xs : List ℕ} → ((c : Cell) (kids : Forest Cell) → NodeHeld w object c kids → c .kind ≡ objectKind
     → depths (members (w .texts) kids) < levels → ⊥) → EnteredIs w object levels xs xs
 entered-none never = record { kept = kept-self; behind = refl; same-length = refl; held = λ c kids h o i d. absurd (never c kids h o d) }

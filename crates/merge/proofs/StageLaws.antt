@@ -81,7 +81,7 @@ module _ {w : Table} {at : ℕ} {v : Value.Value} (d : ValueAt w at v) (shallow 
         answered-as (fitting-whole _ _ room) (answered-success (rw (laid .0) at is) (laid .1))
 
 -- ---- the two merged
--- depth never passes that of the deeper of the two
+-- the depth is at most that of the deeper of the two
 merged-shallow : {w : Table} {v p : Value.Value} → Both w v p → depth (mergePatch v p) ≤ maxDepth
 merged-shallow {w} {v} {p} both = omega (arith, merging .no-deeper v p, both .document .shallow, both .shallow)
 
@@ -140,7 +140,7 @@ module _ (D P : Bytes) (lent : Lent) where
     unfolding mergeAnswer
     merge-read h i = rw (enough, le-ltb maxBytes (length D) h, le-ltb maxBytes (length P) i)
 
--- only that the work area suffices, and the room for the text, make a difference
+-- only whether the work area suffices, and the room for the text, make a difference
 pub merge-same : (D P : Bytes) (lent lent' : Lent) → workSuffices lent ≡ workSuffices lent' → lent .output ≡ lent' .output
     → mergeAnswer D P lent ≡ mergeAnswer D P lent'
 unfolding mergeAnswer

@@ -1,5 +1,5 @@
 -- Nodes of the table with the origins that they bear: document 02, T-11, "A merge patch counts as operation 1, also for the empty objects it makes."
--- A view tells an origin: each as it is, for who lists them, or all of them as the merge's own, for who does not ask. So one contract serves both.
+-- A view gives an origin: each as it is, for a call that lists them, or the merge's own for all, for a call that does not ask. So one contract serves both.
 use Prim.Native.Nat.{ℕ}
 use mathlib.Core.Path.{_≡_}
 use Rattle.spec.specs.Forest.{Forest}

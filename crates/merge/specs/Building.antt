@@ -37,18 +37,18 @@ unfoldable pub objectOrigin : List Row → ℕ → ℕ → ℕ
 objectOrigin nodes target patch =
     if eqb (kindOf (getD nodes target [])) objectKind then originOf (getD nodes target noNode) else originOf (getD nodes patch noNode)
 
--- the node in the row `patch` is stored in the row `to`, with that origin, and with the rows behind that, up to `next`, below it
+-- the node in the row `patch` is stored in the row `to`, with that origin; the rows behind it, up to `next`, are below it
 unfoldable pub closed : List Row → ℕ → ℕ → ℕ → ℕ → List Row
 closed nodes target patch to next =
     if eqb next to then nodes else
     set nodes to (withOrigin (withSpan (getD nodes patch noNode) ((next - to - 1) % values)) (objectOrigin nodes target patch))
 
--- rows before one are the same
+-- the rows before `to` are the same
 pub record Framed (to : ℕ) (nodes nodes' : List Row) : Type 0 where
   pub before : take to nodes' ≡ take to nodes
   pub same-length : length nodes' ≡ length nodes
 
--- the rows from one up to another are those of a sound forest that means these members
+-- the rows from `start` up to `end` are those of a sound forest that means these members
 pub record Built (o : View) (T : Texts) (nodes : List Row) (start end : ℕ) (all : Members) : Type 0 where
   pub cells : Forest Cell
   pub ends : start + size cells ≡ end

@@ -1,4 +1,4 @@
--- Notes of the patch's members in the index: a member that the target has, has none.
+-- Notes of the patch's members in the index. There is none for a member that the target has.
 use Prim.Native.Nat.{ℕ, _+_, _-_, _≤_, _<_}
 use mathlib.Core.Path.{_≡_}
 use mathlib.Core.Bool.{Bool, false}
@@ -27,14 +27,14 @@ noteOf xs row = slotAt xs (parentSlot (row - patchRow))
 abbrev pub PathsKept : List ℕ → List ℕ → Type 0
 PathsKept xs ys = (slot : ℕ) (q : Stream) (t : ℕ) → slot < parents → t < room → Meets xs t slot q → Meets ys t slot q
 
--- of the notes only those of the rows behind one, and before another, change
+-- of the notes, only those of the rows behind `start` and before `end` change
 pub record Changed (nodes : List Row) (start end : ℕ) (xs ys : List ℕ) : Type 0 where
   pub paths : PathsKept xs ys
   pub notes : (r : ℕ) → patchRow ≤ r → (r ≤ start → noteOf ys r ≡ noteOf xs r) × (end ≤ r → noteOf ys r ≡ noteOf xs r)
   pub right : Parents patchRow nodes xs → Parents patchRow nodes ys
   pub same-length : length ys ≡ length xs
 
--- of the members in the rows from one on, those that are met have no note
+-- of the members from a row on, exactly those that are met have no note
 pub data Marks (T : Texts) (xs : List ℕ) (met : Text → Bool) : ℕ → Forest Cell → Type 0 where
   marks-none : {row : ℕ} → Marks T xs met row none
   marks-tree : {row : ℕ} {c : Cell} {kids rest : Forest Cell} → eqb (noteOf xs row) 0 ≡ met (nameText T (c .name))

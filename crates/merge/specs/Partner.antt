@@ -22,7 +22,7 @@ use Rattle.index.specs.Members.{Parents}
 use Rattle.merge.specs.Marks.{PathsKept}
 use Rattle.merge.specs.Paths.{Ways}
 
--- an object in the patch's rows: it repeats no name, the index leads to its members, and each parent that is noted is one
+-- an object in the patch's rows: it repeats no name, the index leads to its members, and each parent that is noted is the right one
 pub record PatchObject (w : Table) (patch : ℕ) (c : Cell) (kids : Forest Cell) (xs : List ℕ) : Type 0 where
   pub held : NodeHeld w patch c kids
   pub object : c .kind ≡ objectKind

@@ -1,4 +1,4 @@
--- What a merge makes of the members, position by position, with their origins. But for those each definition is that of crate merging.
+-- What a merge makes of the members, position by position, with their origins. Apart from those, each definition is that of crate merging.
 use mathlib.Core.Option.{Option, none, some}
 use Rattle.spec.specs.Outcome.{if_then_else_}
 use Rattle.spec.specs.Bytes.{Text}
@@ -12,7 +12,7 @@ use Rattle.origin.specs.Value as Value
 use Rattle.origin.specs.Value.{Entry, Members, leaf, named, forgetMembers}
 use Rattle.origin.specs.MergePatch.{mergeOrigin, mergePatch}
 
--- each member replaced by some, or by none
+-- each member replaced by any number of members
 unfoldable pub gather : {A : Type 0} → (A → Forest A → Members) → Forest A → Members
 gather one Forest.none = Forest.none
 gather one (tree e kids rest) = one e kids ⧺ gather one rest

@@ -15,7 +15,7 @@ use Rattle.index.specs.Slots.{parents}
 use Rattle.index.specs.Ways.{Kept}
 use Rattle.reader.specs.Filled.{Reached}
 
--- by its name and its object's row the index leads to each member of an object, and so with those of the objects among them
+-- the index leads to each member of an object, by its name and its object's row; and so for the members of the objects among them
 pub data Ways (xs : List ℕ) : ℕ → ℕ → Members → Type 0 where
   ways-none : {object at : ℕ} → Ways xs object at none
   ways-tree : {object at : ℕ} {e : Entry} {kids rest : Members} → Reached xs patchRow object at (e .name)

@@ -39,7 +39,7 @@ Reaches row Nothing = Unit {0}
 Reaches row (Copy from) = from < max (row + 1) scratchRow
 Reaches row (Merge from) = (patchRow ≤ from) × (from < scratchRow)
 
--- the target's member of a name: it stays where the patch has no such member, and otherwise goes by that one, which is then met
+-- the target's member of a name: it stays where the patch has no such member; otherwise the patch's member decides, and is then met
 pub data Keeps (w : Table) (patch row : ℕ) (kids : Forest Cell) (text : Text) (met : Text → Bool) (ys : List ℕ) : Step → Type 0 where
   keeps-own : get text (members (w .texts) kids) ≡ Option.none → Marks (w .texts) ys met (patch + 1) kids
       → Keeps w patch row kids text met ys (Copy row)
@@ -47,7 +47,7 @@ pub data Keeps (w : Table) (patch row : ℕ) (kids : Forest Cell) (text : Text) 
       → nameText (w .texts) (c .name) ≡ text → Marks (w .texts) ys (λ n. if sameText text n then true else met n) (patch + 1) kids
       → Keeps w patch row kids text met ys (stepFor (c .kind) found)
 
--- the name of the node in a row
+-- what `keep` promises for the target's member in a row
 pub record KeepIs (w : Table) (patch row : ℕ) (xs ys : List ℕ) (r : Step) : Type 0 where
   pub reaches : Reaches row r
   pub same-length : length ys ≡ length xs

@@ -15,7 +15,7 @@ ghost use Rattle.merge.specs.Building.{full, objectOrigin, closed, CopyI
 // The count stops here: a row behind the table.
 pub const FULL: usize = layout::ROWS + 1;
 
-// So many rows more.
+// The row `count` rows behind `to`, at most FULL.
 pub fn advance(to: usize, count: usize) -> usize
     requires { ⌜ to ≤ full ⌝ }
     ensures { λ r. ⌜ r ≡ min (to + count) full ⌝ }

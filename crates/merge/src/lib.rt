@@ -1,10 +1,10 @@
 // A merge patch applied to a document: RFC 7396, as document 02, T-02, reads it. `merge` is the whole library;
 // `merge_read` serves the call that lists origins.
 //
-// What is proved: on every input the answer is that of the definition `mergeAnswer` of crate `merging`. Of the output
-// and the work area it holds what holds of the plain call.
+// What is proved: on every input the answer is that of the definition `mergeAnswer` of crate `merging`. What holds of
+// the output and the work area in the plain call holds here too.
 //
-// The result is built in the scratch rows, in written order: no row is laid down that is not part of it. So a result
+// The result is built in the scratch rows, in written order: every row that is laid down is part of it. So a result
 // with too many nodes is known by the rows that it would take, and nothing overflows on the way.
 
 mod build; // rows of the result laid down

@@ -16,7 +16,7 @@ ghost use Rattle.merge.specs.Marks.{NotedIs};
 // How many slots there are for parents: the last ones of the index.
 const ROOM: usize = 2048;
 
-// A number is put into the slot of a patch's row.
+// A number is put into the slot of a row of the patch.
 pub fn put_note(index: &mut [u16], row: usize, number: usize)
     requires { ⌜ (patchRow ≤ row) × (row < scratchRow) × (slots ≤ length (now index)) ⌝ }
     ensures { λ _. ⌜ now (index .exit) ≡ slotSet (now (index .entry)) (parentSlot (row - patchRow)) number ⌝ }

@@ -16,7 +16,7 @@ ghost use Rattle.tape.specs.Lent.{before};
 ghost use Rattle.index.specs.Slots.{slots};
 ghost use Rattle.merge.specs.Partner.{PartnerIs};
 
-// The index tells the member. Where it tells none, and no row on the name's search path has the name, no member has it:
+// The index finds the member. Where it finds none, and no row on the name's search path has the name, no member has it:
 // a row behind all others is entered, so that no path to a row is lost. Otherwise the members are searched.
 pub fn partner<'a>(
     texts: Texts<'a>,

@@ -36,8 +36,8 @@ fn write_at<'a>(texts: Texts<'a>, output: &mut [u8], nodes: &[Node], at: usize) 
     success(length)
 }
 
-// The patch, which is read, is merged with the document. What is no object replaces the whole: it is written as it
-// stands.
+// The patch, read before, is merged with the document. A patch that is no object replaces the whole: it is written as
+// it stands.
 fn run_merge<'a>(
     texts: Texts<'a>,
     output: &mut [u8],
@@ -56,7 +56,7 @@ fn run_merge<'a>(
     write_at(texts, output, nodes, layout::SCRATCH)
 }
 
-// All of it, where the work area has its stated length.
+// All stages, where the work area has its stated length.
 pub fn checked_merge<'a>(
     texts: Texts<'a>,
     output: &mut [u8],

@@ -1,4 +1,4 @@
-// What becomes of one member: of the target's in its place, and of the patch's behind all those.
+// What becomes of one member: one of the target's, in its place, or one of the patch's, behind all of those.
 use crate::marks::is_met;
 use crate::marks::put_note;
 use crate::partner::partner;
@@ -42,8 +42,8 @@ fn step_of(nodes: &[Node], row: usize) -> Step
     Step::Copy(row)
 }
 
-// The target's member in a row, by the object of the patch in the row `patch`. The patch's member of its name loses
-// its note.
+// What becomes of the target's member in a row, by the object of the patch in the row `patch`. The patch's member of
+// the same name loses its note.
 pub fn keep<'a>(
     texts: Texts<'a>,
     nodes: &[Node],
@@ -68,7 +68,7 @@ pub fn keep<'a>(
     step_of(nodes, found)
 }
 
-// The patch's member in a row, where the target has no member of its name.
+// What becomes of the patch's member in a row, where the target has no member of the same name.
 pub fn append(nodes: &[Node], index: &[u16], row: usize) -> Step
     requires { ⌜ (patchRow ≤ row) × (slots ≤ length (now index)) ⌝ }
     ensures { λ r. ⌜ r ≡ appendStep (now (nodes .entry)) row (now (index .entry)) ⌝ }

@@ -108,7 +108,7 @@ module _ (room list : ℕ) (merged : Value.Value) where
   unfolding mergedIn
   merged-many h = rw (lt-leb (nodes merged) maxNodes h)
 
--- depth never passes that of the deeper of the two
+-- the depth is at most that of the deeper of the two
 merged-shallow : {w : Table} {v : Value.Value} {p : Plain.Value} → BothBearing w v p → depth (mergePatch v p) ≤ maxDepth
 merged-shallow {w} {v} {p} b =
     omega (arith, ap Plain.depth (forget-mergePatch v p), merging .no-deeper (forget v) p, b .both .document .shallow, b .both .shallow)
@@ -195,7 +195,7 @@ module _ (D P : Bytes) (lent : Lending Lent) where
       merge-applied {v} e f =
           merge-read ∙ ap (λ q. onMergeDocument (lent .call .output) (lent .list) q P) e ∙ ap (onMergePatch (lent .call .output) (lent .list) v) f
 
--- only that the work area suffices, and the rooms, make a difference
+-- only whether the work area suffices, and the rooms, make a difference
 pub merge-same : (D P : Bytes) (lent lent' : Lending Lent) → workSuffices (lent .call) ≡ workSuffices (lent' .call)
     → lent .call .output ≡ lent' .call .output → lent .list ≡ lent' .list → mergeAnswer D P lent ≡ mergeAnswer D P lent'
 unfolding mergeAnswer

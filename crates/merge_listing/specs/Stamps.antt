@@ -9,7 +9,7 @@ use Rattle.origin.specs.Value.{painted}
 use Rattle.changes.specs.Site.{table}
 use Rattle.merge.specs.Trees.{Both, BothBearing}
 
--- Of whatever document and patch the table holds: they are held still, with these origins.
+-- Whatever document and patch the table holds, it holds them still, with these origins.
 abbrev pub StampBothIs : List Row → List Row → ℕ → Type 0
 StampBothIs nodes nodes' used =
     (T : Texts) (v p : Plain.Value) (both : Both (table T nodes) v p) → both .used ≡ used → BothBearing (table T nodes') (painted 0 v) p

@@ -1,4 +1,5 @@
-// The stages of the call: those of the merge, with the nodes stamped before the trees are merged, and listed behind.
+// The stages of the call: those of the merge, with the nodes stamped before the trees are merged, and listed
+// afterwards.
 use crate::stamps::stamp_both;
 use json_patch::Answer;
 use json_patch::refused;
@@ -52,8 +53,8 @@ fn write_listed<'a>(
     success(length)
 }
 
-// The patch, which is read, is merged with the document, which has `used` rows. What is no object replaces the whole:
-// it is written as it stands.
+// The patch, read before, is merged with the document, which has `used` rows. A patch that is no object replaces the
+// whole: it is written as it stands.
 fn run_listed<'a>(
     texts: Texts<'a>,
     output: &mut [u8],
@@ -79,7 +80,7 @@ fn run_listed<'a>(
     write_listed(texts, output, origins, nodes, layout::SCRATCH, count)
 }
 
-// All of it, where the work area has its stated length.
+// All stages, where the work area has its stated length.
 pub fn checked_listed<'a>(
     texts: Texts<'a>,
     output: &mut [u8],

@@ -19,12 +19,12 @@ use Rattle.spec.proofs.NameLaws.{has-cons}
 use Rattle.merging.specs.MergePatch.{without, memberOf}
 use Rattle.merging.specs.Parts.{get}
 
--- it is another; or it is put last
+-- the member so named has another value; where there is none, it is put last
 unfoldable pub set : Text → Value.Value → Members → Members
 set n x Forest.none = tree (record { name = n; label = x .label }) (x .kids) Forest.none
 set n x (tree e kids rest) = if sameText (e .name) n then tree (record { name = e .name; label = x .label }) (x .kids) rest else tree e kids (set n x rest)
 
--- it is gone
+-- the member so named is gone
 unfoldable pub drop : Text → Members → Members
 drop n Forest.none = Forest.none
 drop n (tree e kids rest) = if sameText (e .name) n then rest else tree e kids (drop n rest)

@@ -118,7 +118,7 @@ pair-merged (tree e kids rest) t n x (one-member alone s) h z =
         ap (λ m. some (mergePatch (memberOf m t) (valueIn e kids))) name ∙ ap (λ v. some (mergePatch (memberOf n t) v)) value
     go false q h ih = ih h ∙ ap (λ m. some (mergePatch m x)) (member-kept t (stepped e kids t) n (step-other e kids t n q))
 
--- Nothing is nulled: a patch merged into members that it does not name is put behind them
+-- Without nulls: a patch merged into members that it does not name is put behind them
 
 data Fresh (f : Members) : Members → Type 0 where
   no-more : Fresh f Forest.none
@@ -157,7 +157,7 @@ unfolding get
 fresh-empty Forest.none = no-more
 fresh-empty (tree e kids rest) = one-more refl (fresh-empty rest)
 
--- a value that is no null and has none, merged with no object: itself
+-- a value that is no null and has none, merged with what is no object: itself
 unchanged : (e : Entry) (kids rest : Members) → WithoutNulls (tree e kids rest) →
     (e .label ≡ Label.object → WithoutNulls kids → mergeMembers kids (leaf Label.object) ≡ record { label = Label.object; kids = kids }) →
     (isNull (e .label) ≡ false) × (mergePatch (leaf Label.null-literal) (valueIn e kids) ≡ valueIn e kids)

@@ -94,7 +94,7 @@ module _ (e : Entry) (kids rest : Members) where
             kept-others more absent ∙ rw (kept-null d ds q)
         go false q ih = ap₂ _⧺_ (kept-other d ds q) ih
 
-  -- else: the member so named is merged, or it is put last
+  -- "else": the member so named is merged, or it is put last
   module _ (some-value : isNull (e .label) ≡ false) (alone : get (e .name) rest ≡ none) where
     kept-here : (n : Text) (v : Value.Value) → sameText n (e .name) ≡ true → keptBy n v (get n rest) ≡ single (named n v)
     unfolding keptBy
@@ -140,7 +140,7 @@ module _ (e : Entry) (kids rest : Members) where
         set-later : sameText (d .name) (e .name) ≡ false → set (e .name) x (tree d ds more) ≡ tree d ds (set (e .name) x more)
         set-later q = rw q
 
--- ---- what is appended, where the target has the same names but for one that the patch's rest does not have
+-- ---- what is appended is the same for two targets that differ only in a name which the rest of the patch does not have
 appended-others : (n : Text) (f g : Members) → ((m : Text) → sameText n m ≡ false → get m f ≡ get m g) → (rest : Members) → get n rest ≡ none →
     gather (appended f) rest ≡ gather (appended g) rest
 unfolding gather appended

@@ -38,5 +38,5 @@ pub record MergeStatement : Type 0 where
       walk (n ∷ []) (mergePatch t p) ≡ ok (mergePatch (memberOf n (asObject t)) x)
   -- "Existing members keep their position, new ones go last"
   pub positions : (t p : Value.Value) → Proper t → Proper p → p .label ≡ Label.object → mergePatch t p .kids ≡ mergedMembers (asObject t .kids) (p .kids)
-  -- depth never passes that of the deeper of the two
+  -- the depth is at most that of the deeper of the two
   pub no-deeper : (t p : Value.Value) → depth (mergePatch t p) ≤ max (depth t) (depth p)

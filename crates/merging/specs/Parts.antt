@@ -1,5 +1,5 @@
 -- What a merge makes of the members, position by position. Document 02, T-02: "Existing members keep their position, new ones go last." First stand the
--- target's members, each by itself, by its merge, or not at all; then those of the patch that the target does not have.
+-- target's members, each as it was, merged, or not at all; then those of the patch that the target does not have.
 use mathlib.Core.Option.{Option, none, some}
 use Rattle.spec.specs.Outcome.{if_then_else_}
 use Rattle.spec.specs.Bytes.{Text}
@@ -14,7 +14,7 @@ unfoldable pub get : Text → Members → Option Value.Value
 get n Forest.none = none
 get n (tree e kids rest) = if sameText (e .name) n then some (record { label = e .label; kids = kids }) else get n rest
 
--- each member replaced by some, or by none
+-- each member replaced by any number of members
 unfoldable pub gather : (Entry → Members → Members) → Members → Members
 gather one Forest.none = Forest.none
 gather one (tree e kids rest) = one e kids ⧺ gather one rest

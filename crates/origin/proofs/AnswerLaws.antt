@@ -66,7 +66,7 @@ fitting-lists room list v few = go (leb (length (write (forget v))) room)
     go true = record { origins = origins v; is = refl; few = λ _. rw (length-origins v) few }
     go false = refusal-lists list (refusal output-too-short 0 0 0)
 
--- the operations on a value of so few nodes
+-- the operations on a value within the limit on nodes
 run-lists : (room list : ℕ) (os : List Operation) (v : Value.Value) → nodes v ≤ maxNodes →
     Lists list (PlainAnswer.answerOf room (PlainPatch.run PlainOperation.limited 1 os (forget v))) (answerOf room list (run limited 1 os v))
 unfolding answerOf PlainAnswer.answerOf forgottenRun
@@ -76,7 +76,7 @@ run-lists room list os v few = rw (← forget-run 1 os v) (go (run limited 1 os 
     go (finished w) h = fitting-lists room list w (run-few 1 os v w few h)
     go (stopped s) h = refusal-lists list (failure s)
 
--- that a shape gives, on a document that was read
+-- the operations that a shape gives, on a document that was read
 pub applied-lists : (room list : ℕ) (document : Plain.Value) (shaped : Run (List Operation)) → Plain.nodes document ≤ maxNodes →
     Lists list (PlainAnswer.answerOf room (onFinish shaped λ operations. PlainPatch.run PlainOperation.limited 1 operations document))
     (applied room list document shaped)

@@ -1,4 +1,4 @@
--- What holds of each origin of a value, an operation and a merge keep, where it holds of what is put in.
+-- What holds of each origin of a value still holds after an operation or a merge, where it holds of what is put in.
 use mathlib.Core.Path.{_≡_, refl, ap, ap₂, sym, subst, _∙_}
 use mathlib.Core.Bool.{Bool, true, false}
 use mathlib.Core.List.{List, [], _∷_, _++_}

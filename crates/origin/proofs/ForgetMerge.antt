@@ -1,4 +1,4 @@
--- Origins forgotten, the merge patch is the plain one.
+-- With origins forgotten, the merge patch is the plain one.
 use mathlib.Core.Path.{_≡_, refl, ap, _∙_}
 use mathlib.Core.Bool.{Bool, true, false}
 use Rattle.spec.specs.Outcome.{if_then_else_}

@@ -1,4 +1,4 @@
--- Origins forgotten, everything is the plain definition: specs/Forgetting.
+-- With origins forgotten, everything is the plain definition: specs/Forgetting.
 use Rattle.origin.specs.Forgetting.{ForgettingStatement}
 use Rattle.origin.proofs.ForgetLaws.{forget-painted, forget-walk, forget-perform, forget-limited}
 use Rattle.origin.proofs.ForgetMerge.{forget-mergePatch}

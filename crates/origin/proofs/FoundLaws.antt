@@ -54,7 +54,7 @@ unfolding walk farther
 walk-inserted u n x v k low h =
     walk-on u [] (withKids v (insertAt k (named n x) (v .kids))) k h ∙ ap (λ c. ok (valueOf c)) (child-inserted n x v k low)
 
--- the children of what is left of it without origins
+-- the children with a value put in, without origins
 kids-inserted : (n : Text) (x v : Value.Value) (k : ℕ) →
     forgetMembers (insertAt k (named n x) (v .kids)) ≡ before k (forgetMembers (v .kids)) ⧺ Effects.node n (forget x) (from k (forgetMembers (v .kids)))
 unfolding insertAt _⧺_

@@ -27,12 +27,12 @@ unfoldable pub get : Text → Members → Option Value.Value
 get n Forest.none = none
 get n (tree e kids rest) = if sameText (e .name) n then some (valueIn e kids) else get n rest
 
--- it is another; or it is put last
+-- the member so named has another value; where there is none, it is put last
 unfoldable pub set : Text → Value.Value → Members → Members
 set n x Forest.none = tree (named n x .root) (x .kids) Forest.none
 set n x (tree e kids rest) = if sameText (e .name) n then tree (named (e .name) x .root) (x .kids) rest else tree e kids (set n x rest)
 
--- it is gone
+-- the member so named is gone
 unfoldable pub drop : Text → Members → Members
 drop n Forest.none = Forest.none
 drop n (tree e kids rest) = if sameText (e .name) n then rest else tree e kids (drop n rest)

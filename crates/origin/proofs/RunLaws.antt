@@ -1,4 +1,4 @@
--- Runs: of one operation more, and origins forgotten.
+-- Runs: with one operation more, and with origins forgotten.
 use mathlib.Core.Path.{_≡_, refl, ap, _∙_}
 use mathlib.Core.List.{List, [], _∷_}
 use Prim.Native.Nat.{ℕ, _+_, _≤_}

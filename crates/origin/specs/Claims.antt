@@ -32,7 +32,7 @@ pub data Each (P : ℕ → Type 0) : List ℕ → Type 0 where
   nothing : Each P []
   another : {k : ℕ} {ks : List ℕ} → P k → Each P ks → Each P (k ∷ ks)
 
--- one stretch of a list in another's place, and nothing else changed
+-- one stretch of a list replaced by another, and nothing else changed
 pub record Exchanged (old new before after : List ℕ) : Type 0 where
   pub left : List ℕ
   pub right : List ℕ
@@ -43,7 +43,7 @@ pub record Exchanged (old new before after : List ℕ) : Type 0 where
 pub data Stands (path : Tokens) (v : Value.Value) : List ℕ → Type 0 where
   value : {y : Value.Value} → walk path v ≡ ok y → Stands path v (origins y)
 
--- of what a value put in there replaces: nothing, or what stands there
+-- the origins of what a value put in there replaces: nothing, or what stands there
 pub data Replaced (path : Tokens) (v : Value.Value) : List ℕ → Type 0 where
   nothing : Replaced path v []
   value : {y : Value.Value} → walk path v ≡ ok y → Replaced path v (origins y)
@@ -54,7 +54,7 @@ pub record PutIn (path : Tokens) (v w : Value.Value) (new : List ℕ) : Type 0 w
   pub replaced : Replaced path v old
   pub exchanged : Exchanged old new (origins v) (origins w)
 
--- and put in for what stands there
+-- origins put in for what stands there
 pub record PutFor (path : Tokens) (v w : Value.Value) (new : List ℕ) : Type 0 where
   pub old : List ℕ
   pub stood : Stands path v old
@@ -77,7 +77,7 @@ pub record OneOperation (k : ℕ) (o : Operation) (v w : Value.Value) : Type 0 w
   pub move-root : o .kind ≡ Kind.move → o .from ≡ [] → w ≡ v
   pub test : o .kind ≡ Kind.test → w ≡ v
 
--- and where the value is found that it put in; a last `-` stands for the index of the array's end
+-- and where the value that it put in is found; a last `-` stands for the index of the array's end
 pub record FoundAgain (k : ℕ) (o : Operation) (v w : Value.Value) : Type 0 where
   pub added : (us : Tokens) → o .kind ≡ Kind.add → FoundAt (o .path) (forget v) us → walk us w ≡ ok (painted k (o .value))
   pub replaced : o .kind ≡ Kind.replace → walk (o .path) w ≡ ok (painted k (o .value))

@@ -39,7 +39,7 @@ patches =
     "{\"a\":{\"c\":[]},\"b\":2}" (0 ∷ 2 ∷ 2 ∷ 0 ∷ []) ∷
     gives "[1,2]" "[{\"op\":\"replace\",\"path\":\"/1\",\"value\":2}]" "[1,2]" (0 ∷ 0 ∷ 1 ∷ []) ∷
     gives "[1,2]" "[{\"op\":\"replace\",\"path\":\"\",\"value\":[1,2]}]" "[1,2]" (1 ∷ 1 ∷ 1 ∷ []) ∷
-    -- remove and test put in nothing; an empty patch neither; operations after one another
+    -- remove and test put in nothing, nor does an empty patch; operations after one another
     gives "{\"a\":[1],\"b\":[2,3]}" "[{\"op\":\"remove\",\"path\":\"/b/0\"},{\"op\":\"test\",\"path\":\"/a\",\"value\":[1]}]"
     "{\"a\":[1],\"b\":[3]}" (0 ∷ 0 ∷ 0 ∷ 0 ∷ 0 ∷ []) ∷
     gives "[[],{\"a\":null}]" "[]" "[[],{\"a\":null}]" (0 ∷ 0 ∷ 0 ∷ 0 ∷ []) ∷

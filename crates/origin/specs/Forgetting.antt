@@ -1,5 +1,5 @@
--- Origins forgotten, each definition of this crate is the plain one, results and refusals alike. So what is proved of the plain calls stands as it
--- is: document 02, T-11, "Demand 3 speaks of texts and not of origins."
+-- With origins forgotten, each definition of this crate is the plain one, results and refusals alike. So what is proved of the plain calls stands as it is:
+-- document 02, T-11, "Demand 3 speaks of texts and not of origins."
 use mathlib.Core.Path.{_≡_}
 use Prim.Native.Nat.{ℕ, _≤_}
 use mathlib.Core.List.{List}
@@ -61,7 +61,7 @@ pub record ForgettingStatement : Type 0 where
       Lists (lent .list) (PlainAnswer.answer document patch (lent .call)) (answer document patch lent)
   pub merge-answers : (document patch : Bytes) (lent : Lending Lent) →
       Lists (lent .list) (PlainMerge.mergeAnswer document patch (lent .call)) (mergeAnswer document patch lent)
-  -- so with a list of as many entries as a document has values at most, each is the plain call's answer
+  -- so with a list of at least as many entries as a document may have values, each is the plain call's answer
   pub same-answer : (document patch : Bytes) (lent : Lending Lent) → maxNodes ≤ lent .list →
       answer document patch lent .answer ≡ PlainAnswer.answer document patch (lent .call)
   pub same-merge : (document patch : Bytes) (lent : Lending Lent) → maxNodes ≤ lent .list →

@@ -1,4 +1,4 @@
--- The value that a pointer leads to, with its origins. Which child a token names is told by the plain value.
+-- The value that a pointer leads to, with its origins. The plain value tells which child a token names.
 use Prim.Native.Nat.{ℕ}
 use mathlib.Core.List.{[], _∷_}
 use Rattle.spec.specs.Outcome.{Outcome, ok, _>>=_}

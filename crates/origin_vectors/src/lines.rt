@@ -12,7 +12,7 @@ use report::report;
 use tape::fields::long;
 use tape::layout::Node;
 
-// The answer's line. It is laid down in the output, which has the text in front.
+// The answer's line. It is laid down in the output, which begins with the text.
 pub fn print_answer(answer: Answer, output: &mut [u8]) {
     let n = report(answer, output);
     say(front(output, n));
@@ -56,8 +56,8 @@ fn listed(origins: &[u16]) -> usize {
     i
 }
 
-// Whether the work area is all zero and the output unchanged behind the text, and the list behind its origins, of which
-// a refusal has none; a line says it where not.
+// Whether the work area is all zero, the output unchanged behind the text, and the list unchanged behind its origins. A
+// refusal lists none. Where something is not so, a line says it.
 pub fn left_well(
     answer: Answer,
     output: &[u8],
@@ -93,8 +93,8 @@ pub fn print_listed(name: &[u8], answer: Answer, output: &mut [u8], origins: &[u
     }
 }
 
-// The line of a call with a work area that is too short, which no case can say: 1, before anything else, and the output
-// and the list untouched.
+// The line of a call with a work area that is too short. No case can say this. The answer is 1, before anything else,
+// and the output and the list are untouched.
 pub fn print_short(call: &[u8], what: &[u8], answer: Answer, output: &mut [u8], origins: &[u16]) {
     say(call);
     say(what);

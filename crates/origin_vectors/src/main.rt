@@ -1,7 +1,7 @@
-// Every committed case of the calls that list origins, run through the library. For each a line: its name, and what the
-// patch tool would print of its answer, with as many bytes of output lent as the case says. Where the patch is applied
-// there are more: the undo, where the call has one, and the origins listed. The stored output is what the second
-// program answers, so that each run holds the two to each other.
+// Every committed case of the calls that list origins, run through the library. It prints a line for each: its name,
+// and what the patch tool would print of its answer, with as many bytes of output lent as the case says. Where the
+// patch is applied, there are more lines: the undo, where the call has one, and the origins listed. The stored output
+// is what the second program answers, so that each run compares the two.
 //
 // A case begins with the name of its call, has the rooms of the output, of the undo and of the list, and three texts:
 // document, patch and region. What its call does not take is 0 or empty.
@@ -65,7 +65,7 @@ fn run_call(call: &[u8], file: &[u8], c: Case, rubbish: u16)
     say(b"no such call\n");
 }
 
-// The case's lines, with another text in them where there is not as much room.
+// The case's lines, with another text in them where there is less room than the case asks for.
 fn run_case(call: &[u8], file: &[u8], c: Case, rubbish: u16) {
     let lent = c.rooms;
     say(bytes_of(file, c.name));

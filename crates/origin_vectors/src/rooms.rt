@@ -1,5 +1,5 @@
-// How much is lent: the first bytes of the output and of the undo's, and the first entries of the list. Behind them
-// each has at least one more, which no call may change.
+// How much is lent: the first bytes of the output and of the undo's output, and the first entries of the list. Behind
+// them each has at least one more, which no call may change.
 
 pub const OUTPUT: usize = 65_536;
 
@@ -7,7 +7,7 @@ pub const UNDO: usize = 32_768;
 
 pub const LIST: usize = 2_048;
 
-// As many, and one more: in the output that is for the newline.
+// Each of them, and one more: in the output that is for the newline.
 pub const LINE: usize = 65_537;
 
 pub const UNDO_LINE: usize = 32_769;

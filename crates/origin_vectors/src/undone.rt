@@ -56,7 +56,7 @@ fn lend_undone<'a>(
     )
 }
 
-// Whether the buffer is all zero and the undo's output unchanged behind the undo; a line says it where not.
+// Whether the buffer is all zero and the undo's output unchanged behind the undo. Where not, a line says it.
 fn undo_left_well(r: UndoAnswer, undo: &[u8], work: &[u8]) -> bool {
     if !all_bytes(work, 0, 0) {
         say(b"the work area is not all zero\n");

@@ -16,7 +16,7 @@ use Rattle.origin_within.specs.Answer.{answerWithin}
 pub record WithinStatement : Type 0 where
   pub answers : (document patch region : Bytes) (lent : Lending Lent) →
       Lists (lent .list) (Plain.answerWithin document patch region (lent .call)) (answerWithin document patch region lent)
-  -- with a list of as many entries as a document has values at most
+  -- with a list of at least as many entries as a document may have values
   pub same-answer : (document patch region : Bytes) (lent : Lending Lent) → maxNodes ≤ lent .list →
       answerWithin document patch region lent .answer ≡ Plain.answerWithin document patch region (lent .call)
   -- nothing is listed on a refusal

@@ -35,7 +35,7 @@ pub record Room (t : Tally) : Type 0 where
 abbrev pub Adds : Spec.Tally → Tally → Tally → Type 0
 Adds more t r = tallyIn r ≡ both (tallyIn t) more
 
--- a file more: what it is, no contract of the system's calls says
+-- one more file: no contract of the system's calls says what it is
 pub record Visits (t r : Tally) : Type 0 where
   pub file : File
   pub adds : Adds (one (resultOf file)) t r

@@ -26,7 +26,7 @@ fn read_all(fd: i32, buf: &mut [u8]) -> Contents
     if n == buf.len() {
         return Contents::Bytes(n);
     }
-    // where the file has ended another read answers 0, and where it cannot be read it fails
+    // another read answers 0 where the file has ended, and fails where it cannot be read
     let mut more = [0u8; 1];
     if libc::read(fd, &mut more) < 0 {
         return Contents::Unreadable;
@@ -47,7 +47,7 @@ fn read_file(name: &[u8], buf: &mut [u8]) -> Contents
     r
 }
 
-// The file of these bytes is counted.
+// A file of these bytes is counted.
 fn count_text<'a>(
     text: &'a [u8],
     nodes: &mut [Node; layout::ROWS],

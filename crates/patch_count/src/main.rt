@@ -2,7 +2,7 @@
 // line, or `too long` where there are more than 1,000,000 names.
 //
 // What is proved: the line is that of the definition `printed` (specs/Line), of the files that were visited, and no
-// sum wraps. Which files those are no contract of the system's calls says.
+// sum wraps. No contract of the system's calls says which files those are.
 mod files; // a file by its name
 mod line; // the line that is printed
 mod names; // names from standard input
@@ -25,7 +25,7 @@ use tape::layout;
 use tape::layout::Node;
 ghost use Rattle.patch_count.specs.Sums.{Sums, FedIs};
 
-// How far it is, on standard error where that is a terminal.
+// The progress so far, on standard error where that is a terminal.
 fn progress(terminal: bool, t: Tally) {
     if !terminal {
         return;
@@ -34,7 +34,7 @@ fn progress(terminal: bool, t: Tally) {
     io::print_decimal(STDERR_FILENO, t.patches as u64);
 }
 
-// All names but one that the input ends in. `chunk` has room for a part of the input.
+// All names except an unfinished one at the end of the input. `chunk` has room for a part of the input.
 fn read_names(
     chunk: &mut [u8],
     name: &mut [u8],

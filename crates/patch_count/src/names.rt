@@ -1,5 +1,5 @@
-// Names from standard input, one a line. Only a part of the input stands in memory: a name that a part ends in goes
-// on in the next.
+// Names from standard input, one a line. Only a part of the input stands in memory: a name that is cut at the end of a
+// part goes on in the next.
 use crate::files::count_file;
 use crate::tally::Tally;
 use crate::tally::one_refused;
@@ -17,7 +17,7 @@ const LONGER: usize = 4_097;
 // More names are too many. Empty lines are no names.
 const MAX_NAMES: usize = 1_000_000;
 
-// How many bytes there are of the name that is not at its end yet, and the sums over the names before it.
+// How many bytes there are of the name that is not complete yet, and the sums over the names before it.
 pub struct State {
     pub pending: usize,
     pub tally: Tally,
@@ -61,7 +61,7 @@ fn append(name: &mut [u8], pending: usize, chunk: &[u8], start: usize, end: usiz
     n
 }
 
-// The name of `pending` bytes is at its end.
+// The name of `pending` bytes is complete.
 pub fn finish(
     name: &[u8],
     pending: usize,

@@ -49,7 +49,7 @@ fn sums(c: Counts, d: Counts) -> Counts
     }
 }
 
-// A file more, refused or unreadable.
+// One more file, refused or unreadable.
 pub fn one_refused(t: Tally) -> Tally
     requires { ⌜ Room t ⌝ }
     ensures { λ r. ⌜ Adds (record { patches = 1; refused = 1; counts = noCounts }) t r ⌝ }
@@ -77,7 +77,7 @@ pub fn one_accepted(t: Tally, c: Counts) -> Tally
     }
 }
 
-// A file more, by what its patch came to.
+// One more file, by what its patch came to.
 pub fn one_inspected(t: Tally, answer: Answer) -> Tally
     requires { ⌜ Room t ⌝ }
     requires { ⌜ total (countsIn (answer .counts)) ≤ maxOperations ⌝ }

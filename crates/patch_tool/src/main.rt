@@ -41,7 +41,7 @@ fn read_all(fd: i32, buf: &mut [u8]) -> Contents
     if n == buf.len() {
         return Contents::Bytes(n);
     }
-    // where the file has ended another read answers 0, and where it cannot be read it fails
+    // another read answers 0 where the file has ended, and fails where it cannot be read
     let mut more = [0u8; 1];
     if libc::read(fd, &mut more) < 0 {
         return Contents::Unreadable;

@@ -1,4 +1,4 @@
--- A pointer is well formed if each `~` behind its first slash stands before a `0` or a `1`: which is seen character by character.
+-- A pointer is well formed if each `~` behind its first slash stands before a `0` or a `1`, as is seen character by character.
 use mathlib.Core.Path.{_≡_, refl, sym, ap, _∙_}
 use mathlib.Core.Bool.{Bool, true, false, _&&_}
 use mathlib.Core.List.{List, [], _∷_}

@@ -112,7 +112,7 @@ both-behind a s b t m i n j r e f p = rw (behind-next a s m i e, behind-next b t
 
 -- ---- where the tokens begin
 
--- a malformed text has no tokens, and the root none
+-- neither a malformed text nor the root has tokens
 module _ (s : Bytes) (f : First) (right : FirstOf s f) (others : Outcome Tokens) where
   pub of-root : f ≡ First.Root → PrefixOf others (tokens (decode s)) false
   of-root e = record { right = λ ts us h k. sym (ap (properPrefix ts) (first-root s f right us e k) ∙ nothing-shorter ts) }

@@ -83,7 +83,7 @@ byte-continues s at h =
     (ne-eqb b (code "\"") (λ e. omega arith), not-true (eqb b (code "\\")) (both .1), between-within 0x20 0x7F b (omega arith) (bounds .1)) in
     record { reads = read; no-slash = λ e. omega arith; inside = omega (arith, in-past s at read) }
 
--- the same of the byte that the code looked at, and of its answer
+-- the same for the byte that the code looked at, and for its answer
 pub continued : (s : Bytes) (at : ℕ) {b : ℕ} {r : Bool} → b ≡ byte s at → r ≡ continues b → r ≡ true → Continues s at
 continued s at p e t = byte-continues s at (ap continues (sym p) ∙ sym e ∙ t)
 

@@ -38,7 +38,7 @@ module _ (s : Bytes) (f : First) (right : FirstOf s f) where
 
 -- ---- one token off the tokens from a place on
 
--- the tokens ts, of which the first is t, and those from the place next on are the rest
+-- the first of the tokens ts is t, and the others are the rest
 pub record Unfolds (t : Text) (others : Outcome Tokens) (ts : Tokens) : Type 0 where
   pub rest : Tokens
   pub is : ts ≡ t ∷ rest

@@ -10,7 +10,7 @@ use Rattle.spec.specs.Pointer.{isIndex, isDash, allDigits}
 use Rattle.pointer.specs.declared.answers.Index.{Index}
 use Rattle.pointer.specs.declared.answers.Index.the-variants as Index
 
--- An index below this limit is told by its number. No array has as many elements.
+-- An index below this limit is given by its number. No array has that many elements.
 abbrev pub indexLimit : ℕ
 indexLimit = 65_536
 
@@ -22,14 +22,14 @@ indexOf t =
     if isDash t then Index.Dash else
     if isIndex t then indexAt (decimal 0 t) else Index.Not
 
--- The element of an array that is named, given how many it has, which is at most the limit: `elementBelow` of Pointer.
+-- The element of an array that is named, given how many elements it has, at most the limit: `elementBelow` of Pointer.
 unfoldable pub elementAt : ℕ → Index → Outcome ℕ
 elementAt elements Index.Dash = refused location-missing 0
 elementAt elements (Index.At n) = if ltb n elements then ok n else refused location-missing 0
 elementAt elements Index.Beyond = refused location-missing 0
 elementAt elements Index.Not = refused no-index 0
 
--- Where an element is added to an array, given how many it has, which is below the limit.
+-- Where an element is added to an array, given how many elements it has, fewer than the limit.
 unfoldable pub insertionAt : ℕ → Index → Outcome ℕ
 insertionAt elements Index.Dash = ok elements
 insertionAt elements (Index.At n) = elementAt (suc elements) (Index.At n)
@@ -42,11 +42,11 @@ insertionAt elements Index.Not = refused no-index 0
 unfoldable pub digitsAfter : ℕ → Text → Index
 digitsAfter n t = if allDigits t then indexAt (decimal n t) else Index.Not
 
--- a number, and the limit where it is beyond
+-- a number, or the limit where the number is beyond it
 unfoldable pub capped : ℕ → ℕ
 capped n = if ltb n indexLimit then n else indexLimit
 
--- an answer if no character follows
+-- this answer if no character follows; otherwise it is no index
 unfoldable pub ifLast : Text → Index → Index
 ifLast [] i = i
 ifLast (c ∷ t) i = Index.Not

@@ -22,7 +22,7 @@ unfoldable pub accepted : {A : Type 0} → Outcome A → Bool
 accepted (ok a) = true
 accepted (refused number place) = false
 
--- the tokens from a place on, which stands after a slash
+-- the tokens from a place after a slash on
 unfoldable pub tokensFrom : Bytes → ℕ → Outcome Tokens
 tokensFrom s at = unescapeAll (segments (decodeFrom s at))
 
@@ -37,7 +37,7 @@ Inside s First.Root = Unit {0}
 Inside s (First.At at) = at ≤ length s
 Inside s First.Malformed = Unit {0}
 
--- what is right of where the tokens begin
+-- what holds of an answer that says where the tokens begin
 pub record FirstOf (s : Bytes) (f : First) : Type 0 where
   pub gives : tokens (decode s) ≡ tokensAfter s f
   pub inside : Inside s f
@@ -55,12 +55,12 @@ unfoldable pub segmentsAfter : Bytes → Token → List Text
 segmentsAfter s (Token.Last end) = []
 segmentsAfter s (Token.Next end next) = segments (decodeFrom s next)
 
--- the order of the places: a part is left only from a place past its end
+-- the order of the places: from a place within the part, none of them is past its end
 unfoldable pub InOrder : Bytes → ℕ → Token → Type 0
 InOrder s at (Token.Last end) = (at ≤ end) × (at ≤ length s → end ≤ length s)
 InOrder s at (Token.Next end next) = (at ≤ end) × (end < next) × (next ≤ length s)
 
--- what is right of the answer at a place
+-- what holds of the answer for the token at a place
 pub record TokenAt (s : Bytes) (at : ℕ) (t : Token) : Type 0 where
   pub splits : segments (decodeFrom s at) ≡ decode (tokenBytes s at t) ∷ segmentsAfter s t
   pub in-order : InOrder s at t

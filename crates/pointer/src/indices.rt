@@ -7,7 +7,7 @@ use crate::answers::Index;
 use lexer::Character;
 use text::letter;
 
-// An index below this limit is told by its number. No array has as many elements.
+// An index below this limit is given by its number. No array has that many elements.
 pub const INDEX_LIMIT: usize = 65_536;
 
 fn index_at(n: usize) -> Index
@@ -19,7 +19,7 @@ fn index_at(n: usize) -> Index
     Index::Beyond
 }
 
-// A number with one more digit, and from the limit on the limit, so that no index is so long that it wraps.
+// A number with one more digit, or the limit where that is not below it, so that no index wraps, however long.
 fn with_digit(n: usize, c: u32) -> usize
     requires { ⌜ (n ≤ 65_536) × (0x30 ≤ c) × (c ≤ 0x39) ⌝ }
     ensures { λ r. ⌜ r ≡ capped (n * 10 + (c - 0x30)) ⌝ }
@@ -53,7 +53,7 @@ fn digits(part: &[u8], start: usize, n: usize) -> Index
     }
 }
 
-// An answer if the token ends at a place.
+// This answer if the token ends at a place; otherwise it is no index.
 fn if_last(part: &[u8], at: usize, answer: Index) -> Index
     ensures { λ r. ⌜ r ≡ ifLast (textFrom 3 (now (part .entry)) at) answer ⌝ }
 {

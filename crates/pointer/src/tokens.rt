@@ -11,7 +11,7 @@ use lexer::Character;
 use lexer::peek;
 use text::letter;
 
-// The character of a part at a place: the pointer's own, before `~0` and `~1` are told from others.
+// The character of a part at a place: the pointer's own, with `~0` and `~1` not yet unescaped.
 fn character_in(part: &[u8], at: usize) -> Character
     ensures { λ r. ⌜ characterOutcome r ≡ characterIn (now (part .entry)) at ⌝ }
 {

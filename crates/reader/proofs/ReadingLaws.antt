@@ -95,7 +95,7 @@ module _ (source : ℕ) (s : Bytes) (start levels kind base row : ℕ) where
   abbrev object : Bool
   object = eqb kind objectKind
 
-  -- the container's items by the definition, from the place after its opening bracket on; and what is left of them, with so much fuel, behind those so far
+  -- the container's items by the definition, from the place after its opening bracket on; and what is left of them behind those so far, with this much fuel
   abbrev pub allItems : Outcome (Members × ℕ)
   allItems = contents (value (levels - 1) s) object s (row - base + 1) start
 
@@ -184,7 +184,7 @@ module _ {source : ℕ} {s : Bytes} {start levels kind base row : ℕ} {w w' : W
         g .same ∙ rest-step (value (levels - 1) s) is-object s (row - base + 1) (g .fuel) (g .so-far) next
         ∙ ap (λ o. o >>= behind source s start levels kind base row (g .fuel) (g .so-far)) e
 
-    -- so many values have begun before the next
+    -- how many values have begun before the next
     from-base : base ≤ row
     from-base = g .opened .begun .from-base
 

@@ -1,4 +1,4 @@
--- What the spellings say that are read of a text: each names the bytes that were read.
+-- What the spellings that are read of a text say: each names the bytes that were read.
 use Prim.Native.Nat.{ℕ, _+_, _-_, _≤_, _<_}
 use mathlib.Core.Path.{_≡_, refl, sym, _∙_, ap, ap₂}
 use mathlib.Core.Bool.{Bool, true, false}
@@ -78,7 +78,7 @@ name-untold s at place e t = go (string s at) (ap nameOutcome (sym t) ∙ e)
     go (ok v) f = absurd (refused≢ok f)
     go (refused n p) f = let a : n ≡ not-json = cc in let b : p ≡ place = cc in ap₂ refused a b
 
--- the same of a string that no hash was kept of
+-- the same for a string whose hash was not kept
 pub as-name : {s : Bytes} {at next : ℕ} {plain : Bool} (q : QuotedRead s at next plain) → NameRead s at next (hash (q .text)) plain
 as-name q = record { text = q .text; reads = q .reads; hash-is = refl; plain-is = q .written }
 

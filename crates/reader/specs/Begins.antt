@@ -28,8 +28,8 @@ beginning b =
     if eqb b (code "t") then trueKind else
     if eqb b (code "f") then falseKind else noKind
 
--- the number of a refusal at a value's first byte, and 0 for none: of a value, given how many have begun before; of one of a kind, with the
--- levels that are left. On one byte the order is 3, 5, 6.
+-- the number of the refusal at a value's first byte, or 0 for none: for any value, given how many have begun before; for one of a kind, with the levels
+-- that are left. On one byte the order is 3, 5, 6.
 unfoldable pub roomRefusal : ℕ → ℕ
 roomRefusal nodes = if ltb nodes maxNodes then 0 else too-many-nodes
 

@@ -1,4 +1,4 @@
--- Which rows of the node table change, what those say that were stored, and where the index leads.
+-- Which rows of the node table change, what the stored ones say, and where the index leads.
 use Prim.Native.Nat.{ℕ, _+_, _-_}
 use mathlib.Core.Path.{_≡_}
 use mathlib.Core.List.{List}
@@ -18,7 +18,7 @@ use Rattle.index.specs.Bits.{streamFor}
 use Rattle.index.specs.Ways.{Meets, Kept}
 use Rattle.reader.specs.Words.{InText}
 
--- only rows from one up to another change
+-- only rows from `start` up to `end` change
 pub record Between (start end : ℕ) (nodes nodes' : List Row) : Type 0 where
   pub before : take start nodes' ≡ take start nodes
   pub behind : drop end nodes' ≡ drop end nodes
@@ -32,7 +32,7 @@ pub record Noted (base low : ℕ) (xs ys : List ℕ) : Type 0 where
   pub kept : Kept (low - base) xs ys
   pub beyond : SameBeyond xs ys
 
--- the rows from one up to another are those of a sound forest that means these members, whatever the other text is
+-- the rows from `start` up to `end` are those of a sound forest that means these members, whatever the other text is
 pub record Filled (source : ℕ) (s : Bytes) (start end : ℕ) (all : Members) (nodes : List Row) : Type 0 where
   pub cells : Forest Cell
   pub ends : start + size cells ≡ end

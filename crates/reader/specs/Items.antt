@@ -38,13 +38,13 @@ nextName object s so-far at = afterComma s (eqb (count so-far) 0) at >>= nameFor
 unfoldable pub begun : Text × ℕ → Outcome Next
 begun (name, at) = ok (begins name at)
 
--- from the place after the opening bracket, or after a value, on
+-- what comes next, from the place after the opening bracket or after a value
 unfoldable pub nextItem : Bool → Bytes → Members → ℕ → Outcome Next
 nextItem object s so-far at =
     let place = blanks s at in
     if eqb (byte s place) (closingBracket object) then ok (closed (place + 1)) else (nextName object s so-far place >>= begun)
 
--- the code's answer of a name, as one of an item
+-- the code's answer for a name, as one for an item
 unfoldable pub itemOf : Named → Item
 itemOf (Named.Read first name) = Begins first name
 itemOf (Named.Refused number place) = Refused number place
@@ -56,7 +56,7 @@ pub data ItemIs (s : Bytes) (k : Container) (ys : List ℕ) (o : Outcome Next) :
   item-closed : (next : Cursor) → o ≡ ok (closed (next .at)) → ItemIs s k ys o (Closed next)
   item-refused : (number place : ℕ) → o ≡ refused number place → ItemIs s k ys o (Refused number place)
 
--- its answer of the next name, and of the next item, given the items so far; and the index afterwards
+-- its answer for the next name, and for the next item, given the items so far; and the index afterwards
 abbrev pub NextNameIs : Bytes → Container → Work → List ℕ → ℕ → Named → Type 0
 NextNameIs s k w ys at r = NamedIs s k w ys (λ all. nextName (k .object) s all at) r
 

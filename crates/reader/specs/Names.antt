@@ -58,7 +58,7 @@ pub record RepeatedIs (s : Bytes) (k : Container) (w : Work) (ys : List ℕ) (na
   pub reached : (text : Text) → Titles (k .source) s text name → LeadsNext k ys text
   pub noted : Noted (k .base) (k .end) (w .index) ys
 
--- what a reader answers of the name of the next item; the index then leads to a member
+-- what a reader answers for the name of the next item; the index then leads to a member
 pub data NameIs (s : Bytes) (k : Container) (ys : List ℕ) (o : Outcome (Text × ℕ)) : Named → Type 0 where
   name-read : (text : Text) (next : Cursor) (name : Name) → o ≡ ok (text, next .at) → Titles (k .source) s text name
       → (k .object ≡ true → LeadsNext k ys text) → NameIs s k ys o (Read next name)

@@ -43,8 +43,8 @@ pub record Ahead (s : Bytes) (at next row end limit : ℕ) : Type 0 where
   pub grows : row < end
   pub room : end ≤ limit
 
--- Of a value that is to be stored from a row on, in rows below the limit, under a name of which the text is given. After a value the index still
--- leads to the rows up to this one. After a refusal the rows from this one up to the limit, and the index, are left free.
+-- What reading comes to, for a value that is to be stored from a row on, in rows below the limit, under a name whose text is given. After a value the index
+-- still leads to the rows up to this one. After a refusal the rows from this one up to the limit, and the index, are left free.
 pub data Taken (source : ℕ) (s : Bytes) (at : ℕ) (text : Text) (base row limit : ℕ) (w w' : Work) (o : Outcome (Value.Value × ℕ)) : Declared.Read
     → Type 0 where
   taken : (v : Value.Value) (next : Cursor) (end : ℕ) → o ≡ ok (v, next .at) → Ahead s at (next .at) row end limit
@@ -62,7 +62,7 @@ abbrev pub ValueTaken : ℕ → Bytes → ℕ → ℕ → Name → ℕ → ℕ �
 ValueTaken source s at levels name base row w w' r =
     ForTitle source s name λ text. Taken source s at text base row (base + maxNodes) w w' (value levels s at (row - base)) r
 
--- the same of a scalar: it needs no level, and leaves the index alone
+-- the same for a scalar: it needs no level, and leaves the index alone
 abbrev pub ScalarTaken : ℕ → Bytes → ℕ → Name → ℕ → ℕ → List Row → List Row → Declared.Read → Type 0
 ScalarTaken source s at name base row nodes nodes' r =
     (levels : ℕ) (xs : List ℕ) → ValueTaken source s at levels name base row (record { nodes = nodes; index = xs }) (record { nodes = nodes'; index = xs }) r

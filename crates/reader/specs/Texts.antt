@@ -26,7 +26,7 @@ use Rattle.reader.specs.Filled.{Between, SameBeyond}
 use Rattle.reader.specs.declared.values.Read as Declared
 use Rattle.reader.specs.declared.values.Read.the-variants as Read
 
--- the number of a refusal that comes before reading, and 0 for none: the table or the index is too short, or the text is too long
+-- the number of the refusal that comes before reading, or 0 for none: the table or the index is too short, or the text is too long
 unfoldable pub refusalBefore : Work → Bytes → ℕ
 refusalBefore w s =
     if ltb (length (w .nodes)) rows then work-too-short else
@@ -58,7 +58,7 @@ pub data TextRead (T : Texts) (s : Bytes) (base : ℕ) (nodes nodes' : List Row)
   text-refused : (number place : ℕ) → o ≡ refused number place → Between base (base + maxNodes) nodes nodes'
       → TextRead T s base nodes nodes' o (Read.Refused number place)
 
--- what reading a text comes to that no refusal comes before, whatever the other text is
+-- what reading a text comes to, where no refusal comes before, whatever the other text is
 pub record ReadIs (source : ℕ) (s : Bytes) (base : ℕ) (w w' : Work) (r : Declared.Read) : Type 0 where
   pub text : InText source s (λ T. TextRead T s base (w .nodes) (w' .nodes) (read s) r)
   pub beyond : SameBeyond (w .index) (w' .index)

@@ -42,7 +42,7 @@ nameless = record { text = noSpelling; hash = 0 }
 abbrev pub numberSpelling : ℕ → ℕ → ℕ → Spelling
 numberSpelling source at next = record { form = numeral; source = source; start = at; length = next - at }
 
--- of a string whose characters begin at `start` and end before its closing quotation mark, behind which is `next`; by whether it has no escapes
+-- of a string, by whether it has no escapes: its characters begin at `start` and end before the closing quotation mark; `next` is behind that
 unfoldable pub stringForm : Bool → ℕ
 stringForm plain = if plain then plainString else escapedString
 

@@ -26,8 +26,8 @@ pub fn beginning(b: u8) -> u16
     }
 }
 
-// The number of a refusal at a value's first byte, and 0 for none: of a value that is to begin in `row`, where the
-// text's rows begin at `base`.
+// The number of the refusal at a value's first byte, or 0 for none. The value is to begin in `row`; the text's rows
+// begin at `base`.
 pub fn room_refusal(base: usize, row: usize) -> u8
     requires { ⌜ base ≤ row ⌝ }
     ensures { λ r. ⌜ r ≡ roomRefusal (row - base) ⌝ }
@@ -38,7 +38,7 @@ pub fn room_refusal(base: usize, row: usize) -> u8
     refusal::TOO_MANY_NODES
 }
 
-// The same of a value of a kind, with `levels` levels left. On one byte the order is 3, 5, 6.
+// The same for a value of a kind, with `levels` levels left. On one byte the order is 3, 5, 6.
 pub fn refusal_at(kind: u16, levels: u32, base: usize, row: usize) -> u8
     requires { ⌜ base ≤ row ⌝ }
     ensures { λ r. ⌜ r ≡ refusalFor kind levels (row - base) ⌝ }

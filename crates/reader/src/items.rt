@@ -80,7 +80,7 @@ fn item_of(name: Named) -> Item
     }
 }
 
-// The next item of a container, from after its opening bracket, or after a value, on.
+// The next item of a container, from the place after its opening bracket or after a value.
 pub fn next_item(
     s: &[u8],
     nodes: &[Node],

@@ -62,7 +62,7 @@ fn read(s: &[u8], nodes: &mut [Node], index: &mut [u16], source: u16, base: usiz
     Read::Refused(refusal::NOT_JSON, last.at)
 }
 
-// The same, with an index of its own.
+// The same. The index is made empty before, unless the text is short.
 fn read_anew(s: &[u8], nodes: &mut [Node], index: &mut [u16], source: u16, base: usize) -> Read
     requires { ⌜ Lent source (now s) (record { nodes = now nodes; index = now index }) ⌝ }
     requires { ⌜ base + maxNodes ≤ scratchRow ⌝ }
@@ -72,7 +72,7 @@ fn read_anew(s: &[u8], nodes: &mut [Node], index: &mut [u16], source: u16, base:
     read(s, nodes, index, source, base)
 }
 
-// The number of the refusal before a text is read, and 0 for none: the table or the index too short, or the text too
+// The number of the refusal before a text is read, or 0 for none: the table or the index too short, or the text too
 // long.
 fn refusal_before(s: &[u8], nodes: &[Node], index: &[u16]) -> u8
     ensures { λ r. ⌜ r ≡ refusalBefore (workBefore nodes index) (now (s .entry)) ⌝ }
@@ -102,7 +102,7 @@ pub fn read_document<'a>(texts: Texts<'a>, nodes: &mut [Node], index: &mut [u16]
     read_anew(s, nodes, index, layout::IN_DOCUMENT, layout::DOCUMENT)
 }
 
-// The same of the patch, which is read into the rows from PATCH on.
+// The same for the patch, which is read into the rows from PATCH on.
 pub fn read_patch<'a>(texts: Texts<'a>, nodes: &mut [Node], index: &mut [u16]) -> Read
     ensures { λ r. ⌜ PatchIs (lent texts) (workBefore nodes index) (workAfter nodes index) r ⌝ }
 {

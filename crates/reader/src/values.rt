@@ -73,8 +73,8 @@ fn close(nodes: &mut [Node], row: usize, kind: u16, name: Name, next: Cursor, en
     Read::Value(next, end)
 }
 
-// A scalar of a kind is stored in a row, under a name. The text's rows begin at `base`: as many values have begun
-// before as there are rows from there.
+// A scalar of a kind is stored in a row, under a name. The text's rows begin at `base`: a value has begun for each row
+// from there up to this one.
 fn scalar_value(
     s: &[u8],
     nodes: &mut [Node],
@@ -113,7 +113,7 @@ fn scalar_value(
     Read::Value(next, row + 1)
 }
 
-// The same of what is no scalar: a container is stored from `row` on. Its scalars are read in the loop, so that only
+// The same for what is no scalar: a container is stored from `row` on. Its scalars are read in the loop, so that only
 // containers take a level of the stack.
 fn container(
     s: &[u8],

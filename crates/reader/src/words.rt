@@ -22,7 +22,7 @@ pub enum Spelled {
     Refused(u8, usize),
 }
 
-// The same of a name.
+// The same for a name.
 pub enum Named {
     Read(Cursor, fields::Name),
     Refused(u8, usize),
@@ -60,8 +60,8 @@ fn string_form(plain: bool) -> u16
     }
 }
 
-// The spelling of a string whose characters begin at `start` and end before its closing quotation mark, behind which
-// is `next`.
+// The spelling of a string. Its characters begin at `start` and end before the closing quotation mark; `next` is behind
+// that.
 pub fn spell_string(plain: bool, source: u16, start: usize, next: usize) -> Spelling
     requires { ⌜ (start < next) × (next < values) ⌝ }
     ensures { λ r. ⌜ r ≡ stringSpelling plain source start next ⌝ }

@@ -53,7 +53,7 @@ module _ {s t : Bytes} (same : SameTo s t (length s)) where
       (gives-if (within 0xF4 0xF4 b) _ _ _ _ (tail-gives 3 (at + 1) 0x80 0x8F (b - 0xF0) (omega arith))
       (λ r e. e))))))))
 
--- it is read in the same way of a region and of a part
+-- it is read in the same way from a region and from a part
 module _ (s : Bytes) (at : ℕ) (h : 0x80 ≤ byte s at) where
   at-multibyte : characterAt s at ≡ multibyte s at (byte s at)
   unfolding characterAt

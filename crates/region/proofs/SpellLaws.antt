@@ -174,7 +174,7 @@ record Both (s : Text) : Type 0 where
 spelled-as : {escaped : Bool} {s t : Text} {rest us : Tokens} → us ≡ t ∷ rest → Spells escaped s t rest → Spelled escaped s us
 spelled-as {t = t} {rest} e p = record { first = t; rest = rest; is = e; spells = p }
 
--- of tokens that are known, a spelling of them
+-- a spelling of tokens that are known
 spelled-of : {escaped : Bool} {s u : Text} {rest : Tokens} → Spelled escaped s (u ∷ rest) → Spells escaped s u rest
 spelled-of {escaped} {s} {u} {rest} g =
     let one : g .first ≡ u = cc in

@@ -117,7 +117,7 @@ module _ {w : Table} {row : ℕ} {region : Bytes} {path : Spelled} (is : StringI
 
 -- ---- one element, each way out of `element_number`
 
--- a refusal of an operation is one of a maker's
+-- a refusal of an operation is one of a maker's operation
 within-wrong : (R : Tokens) (op : ℕ) (v : Value.Value) {n : ℕ} → Answers (operation v) n → (n ≡ 0 → ⊥) → Answers (operationWithin R op v) n
 within-wrong R op v {n} a d = let (e, h) = answers-refused a d in rw (within-refused R op v e) (Shapes.wrong n h)
 
@@ -199,7 +199,7 @@ module _ (T : Texts) (R : Tokens) (op : ℕ) (c : Cell) (kids rest : Forest Cell
   unfolding operationsWithin mapForest atOp onFinish
   first-right e = rw e
 
--- ---- the loop: `op` trees are passed, and what is answered of those that are left is the answer
+-- ---- the loop: `op` trees are passed, and the answer for those that are left is the answer for all
 pub record Left (w : Table) (end row op : ℕ) (R : Tokens) (f : Forest Cell) : Type 0 where
   pub left : Forest Cell
   pub rows : RowsHeld w row end left

@@ -54,7 +54,7 @@ pub record IsPatchWithin (region : Tokens) (v : Value.Value) (os : List Operatio
   pub patch : IsPatch v os
   pub rule : KeepsRule region os
 
--- the first element at fault, where the first of them all is op: its refusal, and its own op
+-- the first element at fault, its refusal and its op; the elements are counted from op on
 pub data FirstFault (region : Tokens) : ℕ → Members → ℕ → ℕ → Type 0 where
   -- 8, 10 and 14
   no-operation : {op n : ℕ} {e : Entry} {kids rest : Members} → Wrong (elementOf e kids) n → FirstFault region op (tree e kids rest) n op
@@ -77,7 +77,7 @@ pub record ShapeWithinStatement : Type 0 where
   pub wrong : (region : Tokens) (v : Value.Value) (s : Stop) → shapeWithin region v ≡ stopped s ↔
       (NoPatchWithin region v (s .number) (s .op) × (s .place ≡ 0) × (s .pointer ≡ 0))
 
--- 17 comes of the rule alone. The first operation that breaks it, where all before it are operations and keep it, and the first of them all is op:
+-- 17 comes from the rule alone. The first operation that breaks it, where all before it are operations and keep it; they are counted from op on:
 pub data FirstBreak (region : Tokens) : ℕ → Members → ℕ → Type 0 where
   here : {op : ℕ} {e : Entry} {kids rest : Members} (o : Operation) → IsOperation (elementOf e kids) o → (Permitted region op o → ⊥) →
       FirstBreak region op (tree e kids rest) op

@@ -1,5 +1,5 @@
--- What the code answers of a maker's patch, by the definitions of Rule. As with any patch, which of the numbers is answered of a table that holds no
--- tree is free; so is it in a region that is none.
+-- What the code answers for a maker's patch, by the definitions of Rule. As with any patch, it is free which of the numbers is answered for a table that
+-- holds no tree; the same holds for a region that is none.
 use Prim.Native.Nat.{ℕ}
 use mathlib.Core.Path.{_≡_}
 use mathlib.Core.List.{[]}
@@ -23,7 +23,7 @@ use Rattle.shape.specs.declared.patch.Shape.the-variants as Shape
 use Rattle.region.specs.Rule.{operationWithin, operationsWithin, shapeWithin}
 use Rattle.region.specs.Answer.{regionTokens}
 
--- whatever the table holds, no other number is answered of an element: those of an operation, and 17
+-- whatever the table holds, the number answered for an element is one of those for an operation, or 17
 pub data ElementNumber : ℕ → Type 0 where
   shape : {number : ℕ} → OperationNumber number → ElementNumber number
   rule : ElementNumber not-permitted

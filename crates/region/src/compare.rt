@@ -44,7 +44,7 @@ fn character_at(s: &[u8], at: usize) -> Character
     (Cursor { at }).character(s)
 }
 
-// Whether a byte of ASCII has to be escaped in a JSON string; of all other bytes this says no.
+// Whether a byte of ASCII has to be escaped in a JSON string; for all other bytes the answer is no.
 fn is_escaped(b: u8) -> bool
     ensures { λ r. ⌜ (r ≡ false → b < 0x80 → standsForItself b ≡ true) ⌝ }
 {
@@ -90,8 +90,8 @@ fn begins_raw(region: &[u8], raw: bool, part: &[u8]) -> bool
     true
 }
 
-// Whether a region and a part go on with the same byte, a character by itself. Where they do not, they can have one
-// character all the same, in more bytes.
+// Whether a region and a part go on with the same byte, which is a character by itself. Where they do not, they may
+// still go on with the same character, written in more bytes.
 fn same_byte(region: &[u8], i: usize, part: &[u8], j: usize) -> bool
     requires { ⌜ i < length (now region) ⌝ }
     ensures { λ r. ⌜ (r ≡ true → SameByte (now (region .entry)) i (now (part .entry)) j) ⌝ }
@@ -146,10 +146,10 @@ fn is_inside_spelled(region: &[u8], part: &[u8]) -> bool
     slash_at(part, j)
 }
 
-// Whether the tokens of a path, a pointer in a JSON string of which `part` stands between the quotation marks, begin
-// with those of a region and have one more at least. Both are compared as texts, and a slash must follow: a token is
-// written in one way only, so nothing need be unescaped. `raw` tells whether the region can stand in a JSON string as
-// it is.
+// Whether the tokens of a path begin with those of a region, and there is at least one more. The path is a pointer in a
+// JSON string; `part` is what stands between the quotation marks. Both are compared as texts, and a slash must follow:
+// a token is written in one way only, so nothing need be unescaped. `raw` tells whether the region can stand in a JSON
+// string as it is.
 pub fn is_inside(region: &[u8], raw: bool, part: &[u8]) -> bool
     requires { ⌜ (raw ≡ true → Raw (now region)) ⌝ }
     ensures { λ r. ⌜ PrefixOf (regionTokens (now (region .entry))) (tokens (decode (now (part .entry)))) r ⌝ }

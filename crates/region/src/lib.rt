@@ -2,8 +2,8 @@
 // call, and no JSON string.
 //
 // What is proved: the rule for makers' patches and the answer of a call with a region are definitions, and
-// specs/Claims says what they come to. `is_region` judges a region, and `shape_within` answers of a patch that the
-// table holds as the definitions do. Nothing is copied.
+// specs/Claims says what they come to. `is_region` judges a region, and for a patch that the table holds `shape_within`
+// answers as the definitions do. Nothing is copied.
 
 mod compare; // a region and the paths of operations
 pub mod within; // the shape of a patch with the rule for makers

@@ -64,8 +64,8 @@ fn kind_permitted(op: usize, kind: Kind) -> bool
     is_makers(kind)
 }
 
-// Refused where the element in a row, which is operation `op`, is malformed, and then where it breaks the rule; 0
-// where it is neither. `raw` tells whether the region can stand in a JSON string as it is.
+// The number of the refusal of the element in a row, which is operation `op`: where it is malformed, and then where it
+// breaks the rule. 0 where neither holds. `raw` tells whether the region can stand in a JSON string as it is.
 fn element_number<'a>(
     texts: Texts<'a>,
     nodes: &[Node],
@@ -125,7 +125,7 @@ fn elements_within<'a>(
     Shape::Right
 }
 
-// The patch in a row, in a region.
+// The shape of the patch in a row, within a region.
 pub fn shape_within<'a>(texts: Texts<'a>, nodes: &[Node], row: usize, region: &[u8]) -> Shape
     ensures { λ r. ⌜ PatchWithinIs (before texts nodes) row (now (region .entry)) r ⌝ }
 {

@@ -68,7 +68,7 @@ module _ {w : Table} {region : Bytes} {s : Shape} (shaped : PatchWithinIs w patc
   shape-told : {R : Tokens} {p : Value.Value} → regionTokens region ≡ ok R → PatchHeld w p → ShapeIs (shapeWithin R p) s
   shape-told {R} q held = subst (λ u. ShapeIs (shapeWithin R u) s) (held .means) (shaped .held R q (held .c) (held .kids) (held .held))
 
-  -- the region is one
+  -- the text given as the region is one
   module _ (one : accepted (regionTokens region) ≡ true) {out : Bytes} {used : ℕ} {r : Answer} where
     within-tokens : {out' : Bytes} → ((R : Tokens) → regionTokens region ≡ ok R → (v p : Value.Value) → Document w used v → PatchHeld w p → Short (w .texts)
         → Answered (answerOf (length out) (onFinish (shapeWithin R p) (λ os. run limited 1 os v))) out out' r) → RunWithinIs w region out out' used r
@@ -139,7 +139,7 @@ module _ (D P region : Bytes) (lent : Lent) where
         unfolding answerWithin
         within-read j = rw (enough, le-ltb maxBytes (length D) h, le-ltb maxBytes (length P) i, le-ltb maxBytes (length region) j)
 
--- only that the work area suffices, and the room for the text, make a difference
+-- only whether the work area suffices, and the room for the text, make a difference
 pub within-same : (D P region : Bytes) (lent lent' : Lent) → workSuffices lent ≡ workSuffices lent' → lent .output ≡ lent' .output
     → answerWithin D P region lent ≡ answerWithin D P region lent'
 unfolding answerWithin

@@ -43,7 +43,7 @@ fn write_out<'a>(texts: Texts<'a>, output: &mut [u8], nodes: &[Node]) -> Answer
     success(length)
 }
 
-// The patch, which is read, is applied within the region to the document, which has `used` rows.
+// The patch, read before, is applied within the region to the document, which has `used` rows.
 fn run_within<'a>(
     texts: Texts<'a>,
     region: &[u8],
@@ -69,7 +69,7 @@ fn run_within<'a>(
     write_out(texts, output, nodes)
 }
 
-// All of it, where the work area is long enough.
+// All stages, where the work area is long enough.
 pub fn checked_within<'a>(
     texts: Texts<'a>,
     region: &[u8],

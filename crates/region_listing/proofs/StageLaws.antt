@@ -57,7 +57,7 @@ module _ {w : Table} {region : Bytes} {s : Shape} (shaped : PatchWithinIs w patc
   shape-told : {R : Tokens} {p : Plain.Value} → regionTokens region ≡ ok R → PatchHeld w p → ShapeIs (shapeWithin R p) s
   shape-told {R} q held = subst (λ u. ShapeIs (shapeWithin R u) s) (held .means) (shaped .held R q (held .c) (held .kids) (held .held))
 
-  -- the region is one
+  -- the text given as the region is one
   module _ (one : accepted (regionTokens region) ≡ true) {o : Outputs} {used : ℕ} {r : Answer} where
     within-tokens : {o' : Outputs} → ((R : Tokens) → regionTokens region ≡ ok R → (v p : Plain.Value) → Document w used v → PatchHeld w p
         → Short (w .texts) → ListedIs (applied (length (o .output)) (length (o .list)) v (shapeWithin R p)) o o' r) → RunWithinIs w region o o' used r
@@ -128,7 +128,7 @@ module _ (D P region : Bytes) (lent : Lending Lent) where
               within-read ∙ ap (λ q. onDocumentWithin (lent .call .output) (lent .list) q P region) e
               ∙ ap (λ q. onPatchWithin (lent .call .output) (lent .list) v q region) f
 
--- only that the work area suffices, and the rooms, make a difference
+-- only whether the work area suffices, and the rooms, make a difference
 pub within-same : (D P region : Bytes) (lent lent' : Lending Lent) → workSuffices (lent .call) ≡ workSuffices (lent' .call)
     → lent .call .output ≡ lent' .call .output → lent .list ≡ lent' .list → answerWithin D P region lent ≡ answerWithin D P region lent'
 unfolding answerWithin

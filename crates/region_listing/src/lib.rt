@@ -2,7 +2,7 @@
 // `apply_within_listing` is the whole library.
 //
 // What is proved: on every input the answer and the list are those of the definition `answerWithin` of crate
-// `origin_within`. Of the output, the list and the work area it holds what holds of the call without a region.
+// `origin_within`. What holds of the output, the list and the work area in the call without a region holds here too.
 
 mod call; // the call
 mod exports; // the call for C

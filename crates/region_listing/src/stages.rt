@@ -20,7 +20,7 @@ ghost use Rattle.tape.specs.Lent.{lent, before};
 ghost use Rattle.listing.specs.Call.{outputsBefore, outputsAfter, listBefore};
 ghost use Rattle.region_listing.specs.Stages.{RunWithinIs, CheckedWithinIs};
 
-// The patch, which is read, is applied within the region to the document, which has `used` rows.
+// The patch, read before, is applied within the region to the document, which has `used` rows.
 fn run_within<'a>(
     texts: Texts<'a>,
     region: &[u8],
@@ -43,7 +43,7 @@ fn run_within<'a>(
     run_listed(texts, output, origins, nodes, index, used)
 }
 
-// All of it, where the work area is long enough.
+// All stages, where the work area is long enough.
 pub fn checked_within<'a>(
     texts: Texts<'a>,
     region: &[u8],

@@ -23,7 +23,7 @@ refusalOf a = refusalLine (a .number) (a .text) (a .op) (a .place) (a .pointer)
 unfoldable pub ending : Answer → Bytes
 ending a = if eqb (a .number) done then newline else refusalOf a
 
--- a line has room for as many bytes of output as it has beside its newline
+-- what the call is lent: all of the line but one byte, for the newline, as output; and the work area
 abbrev pub lentTo : Memory → Lent
 lentTo m = record { output = length (m .output) - 1; nodes = length (m .nodes); index = length (m .index) }
 
@@ -35,7 +35,7 @@ lineLimit = 84
 pub record RunIs (T : Texts) (m m' : Memory) (r : ℕ) : Type 0 where
   -- the line is laid down, as much as there is room for, and the buffer is otherwise unchanged
   pub placed : Placed (lineOf (answer (T .document) (T .patch) (lentTo m))) 0 (m .output) (m' .output) r
-  -- where there are as many bytes as the longest refusal takes, that is all of it
+  -- where there is room for the longest refusal's line, that is all of it
   pub whole : lineLimit ≤ length (m .output) → take r (m' .output) ≡ lineOf (answer (T .document) (T .patch) (lentTo m))
   -- the work area, as the call leaves it
   pub nodes-after : m' .nodes ≡ wiped (workSuffices (lentTo m)) workNodes noNode (m .nodes)

@@ -1,5 +1,5 @@
--- Values that differ in the order of members and, by a relation on labels, in their labels. By equal labels that is to be reordered, and by
--- labels that test the same it is to be equal: what holds of any such relation is proved once.
+-- Values that differ in the order of members and, by a relation on labels, in their labels. Where labels are equal, the values are reordered; where labels
+-- test the same, the values are equal. What holds of any such relation is proved once.
 use mathlib.Core.Path.{_≡_, refl, ap, sym, _∙_}
 use mathlib.Core.Bool.{Bool, true, false}
 use Prim.Native.Nat.{ℕ, suc, _+_, max}
@@ -74,7 +74,7 @@ module _ {L : Label → Label → Type 0} (laws : Labels L) where
   like-refl true (tree e kids f) = member refl (laws .whole _) (like-refl _ kids) here (like-refl true f)
   like-refl false (tree e kids f) = element refl (laws .whole _) (like-refl _ kids) (like-refl false f)
 
-  -- what is put in on the left has one that it is like on the right
+  -- what is put in on the left has a counterpart on the right, which it is like
   pub record Counterpart (e : Entry) (kids f h : Members) : Type 0 where
     pub entry : Entry
     pub below : Members
@@ -141,7 +141,7 @@ module _ {L : Label → Label → Type 0} (laws : Labels L) where
   unfolding depth
   depth-like a = rw (like-depths (a .kids), levels-like _ (a .labels))
 
--- By labels that test the same it is the relation that `equal` tests.
+-- With labels that test the same, it is the relation that `equal` tests.
 pub same-labels : Labels SameLabels
 same-labels = record { whole = same-refl; both = same-trans; tags = λ h. h .tags }
 
@@ -164,7 +164,7 @@ alike-like (Alike.member n s k i a) (Proper.member _ _ _ inside p) q =
     let (below, rest) = inserted-proper i q in
     member n s (alike-like k inside (rw (← isObject-same s) at below)) i (alike-like a p rest)
 
--- By equal labels it is to be reordered.
+-- With equal labels, it is to be reordered.
 pub equal-labels : Labels _≡_
 equal-labels = record { whole = λ l. refl; both = λ p q. p ∙ q; tags = ap tag }
 

@@ -30,7 +30,7 @@ module _ (document patch : Bytes) (lent : UndoLent) where
   unfolding undoAnswer
   buffer-short h = rw (lt-leb maxBytes (lent .work) (omega arith))
 
-  -- the plain call refuses; `Numbered` has that its number is not 0
+  -- the plain call refuses; `Numbered` proves that its number is not 0
   pub patch-refused : maxBytes ≤ lent .work → (n text op place : ℕ) → eqb n 0 ≡ false → answer document patch (lent .patch) ≡ refusal n text op place →
       undoAnswer document patch lent ≡ undoRefusal (refusal n text op place)
   unfolding undoAnswer afterPatch

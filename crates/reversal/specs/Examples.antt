@@ -1,5 +1,5 @@
--- Undos, each with the document that the patch leaves and that which the undo gives back: whole answers. proofs/ExamplesTheorem proves them
--- by computation.
+-- Undos, each with the document that the patch leaves and the one that the undo gives back: whole answers. proofs/ExamplesTheorem proves them by
+-- computation.
 use mathlib.Core.Path.{_≡_}
 use Prim.Native.Nat.{ℕ, zero, suc}
 use Prim.Native.String.{String}
@@ -21,8 +21,8 @@ lending output undo work = record { patch = record { output = output; nodes = wo
 abbrev pub lent : UndoLent
 lent = lending 65_536 32_768 32_768
 
--- A document and a patch with the text that is written, the undo beside it, and the text that the undo gives back; or, with what is lent, the
--- number of the refusal, text, op and place, or of an operation's refusal op, place and pointer.
+-- A document and a patch with the text that is written, the undo beside it, and the text that the undo gives back; or, with what is lent, a refusal: its
+-- number, text, op and place, or, for the refusal of an operation, its number, op, place and pointer.
 pub data Example : Type 0 where
   gives : String → String → String → String → String → Example
   refuses : UndoLent → String → String → ℕ → ℕ → ℕ → ℕ → Example
@@ -93,7 +93,7 @@ Witness =
     Situation (ascii "{\"a\":1,\"b\":[2]}") (ascii "[{\"op\":\"move\",\"from\":\"/a\",\"path\":\"/b/-\"}]") (ascii "{\"b\":[2,1]}")
     (ascii "[{\"op\":\"remove\",\"path\":\"/b/1\"},{\"op\":\"add\",\"path\":\"/a\",\"value\":1}]") lent (lent .patch)
 
--- Values that pass limits, for the order in which an undo is refused
+-- Values that exceed limits, for the order in which an undo is refused
 
 -- a value n times, as an array's elements
 unfoldable pub times : ℕ → Value.Value → Members
@@ -116,7 +116,7 @@ letters (suc n) = 97 ∷ letters n
 abbrev pub RefusedWith : Value.Value → ℕ → Type 0
 RefusedWith u number = undoWritten 0 [] u ≡ undoRefusal (refusal number 2 0 0)
 
--- "9, 5, 6, 2": each of these passes all the limits from its own on
+-- "9, 5, 6, 2": each of these exceeds all the limits from its own on
 pub record Order : Type 0 where
   pub operations : RefusedWith (listOf 257 (nested 32 (listOf 8 (leaf (Label.string (letters 128)))))) 9
   pub levels : RefusedWith (listOf 256 (nested 31 (listOf 8 (leaf (Label.string (letters 128)))))) 5

@@ -14,7 +14,7 @@ use Rattle.spec.specs.Operation.{Kind, add, remove, replace, move, copy, test, 
 use Rattle.spec.specs.Patch.{properPrefix}
 use Rattle.claims.specs.Operations.{adding, removing, replacing}
 
--- The result of a step, and another value where it is refused. An operation that succeeded needs no other.
+-- The result of a step, or another value where it is refused. An operation that succeeded never needs the other.
 unfoldable pub resultOr : Value.Value → Outcome Value.Value → Value.Value
 resultOr other (ok v) = v
 resultOr other (refused number place) = other
@@ -57,7 +57,7 @@ mendedIn parent t v =
     if isArray (v .label) then removing (parent ++ (elementToken t (v .kids) ∷ [])) else
     if has t (v .kids) then replacing (parent ++ (t ∷ [])) (valueAt (t ∷ []) v) else removing (parent ++ (t ∷ []))
 
--- the same of a value put in at `path`, by the document before; at the root it replaced the document
+-- the same for a value put in at `path`, by the document before; at the root it replaced the document
 unfoldable pub mended : Tokens → Value.Value → Operation
 mended [] v = replacing [] v
 mended (t ∷ ts) v = mendedIn (parentTokens t ts) (lastToken t ts) (valueAt (parentTokens t ts) v)

@@ -36,7 +36,7 @@ undoSuccess text undo = record { answer = success text; undo = undo }
 abbrev pub undoRefusal : Answer → UndoAnswer
 undoRefusal a = record { answer = a; undo = [] }
 
--- the undo of the operations that a patch has; none of a patch that is not well formed
+-- the undo of the operations that a patch has; none for a patch that is not well formed
 unfoldable pub undoShaped : Value.Value → Run (List Operation) → List Operation
 undoShaped document (finished os) = undoRun os document
 undoShaped document (stopped s) = []

@@ -105,7 +105,7 @@ layout-derived {vs = vs} (Layouts.filled w w' rest all h i l) n =
 
 -- The limits.
 
--- values that fit below an array, with so many nodes in all
+-- values that fit below an array, with this many nodes in all
 data Fit : List Value.Value → ℕ → Type 0 where
   no-value : Fit [] 0
   value : {v : Value.Value} {vs : List Value.Value} {n : ℕ} → depth v ≤ 31 → Fits (v .label) (v .kids) → Everywhere (v .kids) → Fit vs n →

@@ -136,7 +136,7 @@ standing t v k h = go (names t v k h)
           place = count-before k (v .kids) (omega arith);
         }
 
--- what is so of a child that stands there
+-- what holds of a child that stands there
 kids-are : {t name : Text} {v x : Value.Value} {earlier later : Members} → Child t v name x earlier later → v .kids ≡ earlier ⧺ node name x later
 kids-are (member l is w) = is
 kids-are (element l is i) = is
@@ -168,7 +168,7 @@ child-at {t} {name} {v} {x} {earlier} {later} (element l is i) =
     let (index, value, no-dash) = is-index i in
     rw (l, no-dash, index, value, lt-ltb (count earlier) (count (v .kids)) (child-counted c))
 
--- so of the child at the place that a token names
+-- the same for the child at the place that a token names
 module _ {t : Text} {v : Value.Value} {k : ℕ} (s : Standing t v k) where
   pub value-there : valueOf (child k v) ≡ s .value
   value-there = ap (λ k. valueOf (child k v)) (sym (s .place)) ∙ ap valueOf (child-is (s .stands))

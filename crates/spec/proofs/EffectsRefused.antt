@@ -32,7 +32,7 @@ pub data Out {A : Type 0} (No : ℕ → ℕ → Type 0) : Outcome A → Type 0 w
   fine : (a : A) → Out No (ok a)
   bad : {n k : ℕ} → No n k → Out No (refused n k)
 
--- of a kind that has no place
+-- a refusal of a kind that has no place
 pub data Flat (No : ℕ → Type 0) : ℕ → ℕ → Type 0 where
   flat : {n : ℕ} → No n → Flat No n 0
 
@@ -323,7 +323,7 @@ nowhere-to-add (no-parent q) = no-child-located q
 nowhere-to-add (deeper c q) = nowhere-to-add q
 
 module _ (o : Operation) (v : Value.Value) where
-  -- 11 and 12 are told with the pointer that failed
+  -- 11 and 12 come with the pointer that failed
   located : {n : ℕ} → Located n → whichPointer o v n ≡ (if usesFrom (o .kind) && isRefused (walk (o .from) v) then 2 else 1)
   unfolding whichPointer
   located missing = refl

@@ -55,7 +55,7 @@ begin-cut e b rest h =
         ap (take (q - p)) (drop-append-le p e (b ∷ rest) (omega arith))
         ∙ take-append-le (q - p) (drop p e) (b ∷ rest) (omega (arith, length-drop p e)) ∙ ap (λ x. take (q - p) (drop x e)) (sym (zero-add p))
 
--- a value read at a place where a text begins that is a value alone: it ends with that text
+-- a value read where a text begins, and that text is a value alone: the value ends where the text does
 ends-together : {at m low next : ℕ} {s x : Bytes} {v w : Value.Value} {low' : ℕ} (e : Bytes) (r : Tracked true at m pair low (v, next) (value 32 s 0 0))
     → r .q < m →
     Tracked false 0 (suc (length e)) pair low' (w, length e) (value 32 x 0 0) → s ≡ x → next ≡ at + length e

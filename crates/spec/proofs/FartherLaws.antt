@@ -1,4 +1,4 @@
--- Outcomes behind tokens that were walked: a result is the same, and a refusal is told farther on.
+-- Outcomes behind tokens that were walked: a result is the same, and a refusal's place counts those tokens too.
 use mathlib.Core.Path.{_≡_, refl}
 use mathlib.Core.List.{[], _∷_}
 use Rattle.spec.specs.Outcome.{Outcome, ok, refused, _>>=_}

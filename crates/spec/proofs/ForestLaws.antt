@@ -52,7 +52,7 @@ module _ {A : Type 0} where
   replaceAt-nth z zero (tree a kids rest) h = refl
   replaceAt-nth z (suc k) (tree a kids rest) h = ap (tree a kids) (replaceAt-nth z k rest (omega arith))
 
--- a tree in another's place that has the other's name leaves every name where it stood
+-- a tree in another's place, with the other's name, leaves every name where it stood
 pub find-replaceAt : (z : Tree Entry) (n : Text) (x : Value.Value) (k : ℕ) (f : Members) → k < count f →
     find n (replaceAt k (named (nth z k f .root .name) x) f) ≡ find n f
 unfolding count replaceAt before from _⧺_ nth find
@@ -73,7 +73,7 @@ name-find z n (tree e kids rest) h = go (sameText (e .name) n) refl h (name-find
     go true q h ih = q
     go false q h ih = ih (omega arith)
 
--- How deep: with a bound on the trees as they are, a tree in another's place keeps it exactly where it keeps it itself.
+-- How deep: with a tree in another's place, the trees are at least as deep as that tree, and at most as deep as that tree or as before.
 pub depths-nth : (z : Tree Entry) (k : ℕ) (f : Members) → k < count f → depth (valueOf (nth z k f)) ≤ depths f
 unfolding count nth depths depth
 depths-nth z k none h = absurd (omega arith)

@@ -14,7 +14,7 @@ use Rattle.spec.specs.Operation.{Operation, notTooLarge, limited}
 use Rattle.spec.specs.Patch.{stop, Run, stopped, atOp, onFinish, whichPointer, run}
 use Rattle.spec.specs.Region.{bare, firstTooLarge}
 
--- a run that stops with 6 at an operation, if there is such a one
+-- a run, stopped with 6 at an operation if one is given
 unfoldable pub largeAt : {A : Type 0} → Option ℕ → Run A → Run A
 largeAt none r = r
 largeAt (some op) r = stopped (stop too-many-nodes op 0 0)

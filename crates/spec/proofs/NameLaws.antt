@@ -24,7 +24,7 @@ has-cons n e kids f = go (sameText (e .name) n)
     go true = lt-ltb 0 (suc (count f)) (omega arith)
     go false = leb·suc-suc (suc (find n f)) (count f)
 
--- no member has a name: in one member more, and in one less
+-- no member has a name: with one member more, and with one less
 pub absent-cons : (n : Text) (e : Entry) (kids f : Members) → (e .name ≡ n → ⊥) → has n f ≡ false → has n (tree e kids f) ≡ false
 absent-cons n e kids f apart absent = rw (has-cons n e kids f, sameText-apart (e .name) n apart) absent
 
@@ -64,7 +64,7 @@ pub found-name : {n : Text} {p : Entry} {below g : Members} → Found n p below 
 found-name (first q) = q
 found-name (later a f) = found-name f
 
--- who is found is there, and nobody who is absent
+-- a name that is found is there, and no absent name is found
 pub found-absent : {n : Text} {p : Entry} {below g : Members} → Found n p below g → has n g ≡ false → ⊥
 found-absent (first {rest} q) h = absent-parts _ _ _ _ h .0 q
 found-absent (later a f) h = found-absent f (absent-parts _ _ _ _ h .1)

@@ -202,7 +202,7 @@ leb-same a b n f g = go (leb a n) (leb b n) refl refl
     go false true h i = absurd (omega (arith, leb-false a n h, g (leb-true b n i)))
     go false false h i = refl
 
--- 5 where what stands so many tokens down is too deep
+-- 5 where what stands that many tokens down is too deep
 unfoldable pub notTooDeepAt : ℕ → Value.Value → Outcome Value.Value
 notTooDeepAt n w = (if (leb (n + depth w) 32) then ok w else refused 5 0)
 
@@ -234,7 +234,7 @@ deep-inside R change v d = go (walk R v) refl
 pub record Local (R : List Text) (o : Operation) : Type 0 where
   pub change : Value.Value → Outcome Value.Value
   pub is : (v : Value.Value) → depth v ≤ 32 → bare o v ≡ atRegion R change v
-  -- which pointer fails is told by what stands there, too
+  -- what stands there also tells which pointer fails
   pub pointer : (v w : Value.Value) (n : ℕ) → walk R v ≡ walk R w → whichPointer o v n ≡ whichPointer o w n
 
 which-inside : (R : List Text) (o : Operation) → strictlyInside R o ≡ true → (v w : Value.Value) (n : ℕ) → walk R v ≡ walk R w →

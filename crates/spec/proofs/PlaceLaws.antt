@@ -111,7 +111,7 @@ plant-plant (t ∷ ts) x y v = go (childAt t v) refl (plant-plant ts x y)
     go (ok k) q ih = rw (plant-on t ts v x k q, plant-put t ts _ v k q, ih, plant-on t ts v y k q)
     go (refused n p) q ih = rw (plant-off t ts v x n p q)
 
--- the first step after a child was replaced that it does not lead to
+-- the first step, after another child than the one it leads to was replaced
 module _ (t u : Text) (us : List Text) (x v : Value.Value) (k : ℕ) (h : childAt t v ≡ ok k) (n : t ≡ u → ⊥) where
   child-beside : (l : ℕ) → childAt u v ≡ ok l → child l (put k x v) ≡ child l v
   child-beside l i = child-put-other k x v (child-there t v k h) l (λ e. n (child-apart t u v k h (rw e i)))

@@ -24,7 +24,7 @@ use Rattle.spec.proofs.OutcomeLaws.{refused≢ok}
 use Rattle.spec.proofs.Tracking.{Cut, refuses, ended-at, before, past-place, gives-equal, gives-same, At, on, Tracks, place, pair, none, result, later}
 use Rattle.spec.proofs.Tracking.{under, split, choose, stop, andThen, andMore, step, check, from-place, chosen, past-end, same-byte, same, fails}
 
--- places that are moved by the same stay in order
+-- places that are moved by the same number stay in order
 ltb-moved : (k a b c d : ℕ) → a ≡ k + c → b ≡ k + d → ltb c d ≡ ltb a b
 ltb-moved k a b c d e f = go (ltb a b) refl
   where

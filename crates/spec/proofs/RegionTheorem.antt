@@ -1,6 +1,6 @@
 -- The region statement of document 01, proved: specs/Region, `RegionStatement`, for every `Situation`.
--- From texts to operations: a shuffle of elements' bytes is one of the values that they are, and so of the operations that they mean. The
--- runs of operations are RunTheorem's, the limit on nodes is LimitTheorem's, and here they are put together for the whole call.
+-- From texts to operations: a shuffle of elements' bytes is a shuffle of the values that they are, and so of the operations that they mean. The runs of
+-- operations are RunTheorem's, the limit on nodes is LimitTheorem's, and here they are put together for the whole call.
 use mathlib.Core.Path.{_≡_, refl, ap, sym, _∙_}
 use mathlib.Core.Bool.{Bool, true, false}
 use mathlib.Core.List.{List, [], _∷_}
@@ -77,7 +77,7 @@ pub elements-unique : {P : Bytes} {os : List Operation} {es : List Bytes} → We
 elements-unique {os = os} w e =
     slices-unique {vs = e .values} (w .reads) (shaped (w .patch) os (w .shaped) .array) record { layout = e .layout; alone = e .alone }
 
--- texts that are values alone are no other values
+-- texts that are values alone have no other values
 same-values : {es : List Bytes} {us vs : List Value.Value} → Each Alone es us → Each Alone es vs → us ≡ vs
 same-values nothing nothing = refl
 same-values (one {y = u} {ys = us} a m) (one {y = v} {ys = vs} b n) =
@@ -96,7 +96,7 @@ elements-read {os = os} w e =
 pub elements-meaning : {P : Bytes} {os : List Operation} {es : List Bytes} → WellFormed P os → (e : ElementsOf P es) → Meaning (e .values) os
 elements-meaning {os = os} w e = rw (elements-read w e) (shaped (w .patch) os (w .shaped) .meaning)
 
--- A shuffle of elements' bytes is one of their operations, in which each patch has the same turns.
+-- A shuffle of elements' bytes is a shuffle of their operations, in which each patch has the same turns.
 record OperationsShuffled {es fs gs : List Bytes} (s : Shuffle es fs gs) (xs ys zs : List Operation) : Type 0 where
   order : Shuffle xs ys zs
   same-turns : (i j : ℕ) → turns order i j ≡ turns s i j

@@ -152,7 +152,7 @@ data Result (R : Tokens) {xs ys zs : List Operation} (s : Shuffle xs ys zs) (op 
   completed : (x y : Value.Value) → run bare i xs a ≡ finished x → run bare j ys b ≡ finished y → run bare op zs v ≡ finished (graft R x y) →
       Result R s op i j v a b
 
--- from the next operation on to this one
+-- a result from the next operation on, carried back to this one
 carry : {R : Tokens} {xs ys zs xs' ys' zs' : List Operation} {s : Shuffle xs ys zs} {s' : Shuffle xs' ys' zs'} {op i j op' i' j' : ℕ}
     {v a b v' a' b' : Value.Value} →
     run bare op zs v ≡ run bare op' zs' v' → run bare i xs a ≡ run bare i' xs' a' → run bare j ys b ≡ run bare j' ys' b' →

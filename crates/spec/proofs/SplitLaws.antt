@@ -50,7 +50,7 @@ module _ {A : Type 0} where
   nth-split z none a kids g = refl
   nth-split z (tree c below rest) a kids g = nth-split z rest a kids g
 
-  -- so for what is put in, taken out and replaced there
+  -- the same for what is put in, taken out and replaced there
   pub insert-split : (b g : Forest A) (t : Tree A) → insertAt (count b) t (b ⧺ g) ≡ b ⧺ tree (t .root) (t .kids) g
   unfolding insertAt _⧺_
   insert-split b g t = rw (before-split b g, from-split b g)

@@ -1,7 +1,7 @@
 -- A reading that stays inside a part of a text does the same on the part alone. What is said of a reader is put together from what is said of
--- the readers that it calls, by the rules below, one for each way of putting readers together. It is said in two ways: strictly, of a text and
--- a part of it, where the part has the result if the text has it; and else of a text and one that goes on after it, where the longer one may be
--- refused by a limit, and has no other result.
+-- the readers that it calls, by the rules below, one for each way of putting readers together. It is said in two ways. Strictly, of a text and a part of
+-- it: the part has the result if the text has it. Otherwise of a text and one that goes on after it: the longer one may be refused by a limit, and has no
+-- other result.
 use mathlib.Core.Path.{_≡_, refl, ap, sym, _∙_}
 use mathlib.Core.Bool.{Bool, true, false, _||_}
 use Prim.Native.Nat.{ℕ, suc, _+_, _-_, _<_, _≤_}
@@ -40,7 +40,7 @@ pub record At (k p at : ℕ) : Type 0 where
 pub on : {k p at : ℕ} → At k p at → (d : ℕ) → At k (p + d) (at + d)
 on e d = let h = e .is in record { is = omega arith }
 
--- an outcome is this result; or, where it need not be strict, is it if it is one
+-- an outcome is this result; or, where it need not be strict, it is this one if it is a result
 abbrev pub Gives : {X : Type 0} → Bool → Outcome X → X → Type 0
 Gives true o x = o ≡ ok x
 Gives {X} false o x = (y : X) → o ≡ ok y → y ≡ x

@@ -50,7 +50,7 @@ workSuffices lent = leb workNodes (lent .nodes) && leb workEntries (lent .index)
 unfoldable pub fitting : ℕ → Bytes → Answer
 fitting room t = if leb (length t) room then success t else refusal output-too-short 0 0 0
 
--- what a run comes to, with so much room for its text
+-- what a run comes to, with this much room for its text
 unfoldable pub answerOf : ℕ → Run Value.Value → Answer
 answerOf room (finished v) = fitting room (write v)
 answerOf room (stopped s) = failure s

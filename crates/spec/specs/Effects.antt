@@ -146,7 +146,7 @@ pub data LeadsNowhere : Tokens → Value.Value → ℕ → ℕ → Type 0 where
   later : {t name : Text} {ts : Tokens} {v x : Value.Value} {before after : Members} {n k : ℕ} → Child t v name x before after →
       LeadsNowhere ts x n k → LeadsNowhere (t ∷ ts) v n (suc k)
 
--- a change refused where a pointer's last token applies, or no parent; with the same count
+-- a change refused where a pointer's last token applies, or a parent that is missing; with the same count
 pub data Fails (Refused : Text → Value.Value → ℕ → Type 0) : Tokens → Value.Value → ℕ → ℕ → Type 0 where
   there : {t : Text} {v : Value.Value} {n : ℕ} → Refused t v n → Fails Refused (t ∷ []) v n 0
   no-parent : {t u : Text} {ts : Tokens} {v : Value.Value} {n : ℕ} → NoChild t v n → Fails Refused (t ∷ u ∷ ts) v n 0

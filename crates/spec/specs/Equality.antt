@@ -40,14 +40,14 @@ abbrev pub sameValue : Label → Members → Label → Members → Bool → Bool
 sameValue l kids m below inside = sameLabel l m && (eqb (count kids) (count below) && inside)
 
 unfoldable mutual
-  -- "Arrays in order": of two arrays of one length
+  -- "Arrays in order": of two arrays of the same length
   pub sameElements : Members → Members → Bool
   sameElements none g = true
   sameElements (tree e kids f) none = false
   sameElements (tree e kids f) (tree p below g) =
       sameValue (e .label) kids (p .label) below (if isObject (e .label) then sameMembers kids below else sameElements kids below) && sameElements f g
 
-  -- "objects by names with equal values, in any order": of two objects with as many members
+  -- "objects by names with equal values, in any order": of two objects with the same number of members
   pub sameMembers : Members → Members → Bool
   sameMembers none g = true
   sameMembers (tree e kids f) g =

@@ -130,7 +130,7 @@ unfoldable pub atOp : {A : Type 0} → ℕ → (ℕ → ℕ) → Outcome A → R
 atOp op pointer (ok a) = finished a
 atOp op pointer (refused number place) = stopped (stop number op place (pointer number))
 
--- of the shape no pointer is told
+-- a refusal of the shape names no pointer
 unfoldable pub noPointer : ℕ → ℕ
 noPointer number = 0
 

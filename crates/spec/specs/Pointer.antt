@@ -53,7 +53,7 @@ unescapeAll (t ∷ ts) = do
   us ← unescapeAll ts
   ok (u ∷ us)
 
--- "A pointer is empty or begins with `/`. After `/` come tokens, an empty token included." Else 10.
+-- "A pointer is empty or begins with `/`. After `/` come tokens, an empty token included." Otherwise 10.
 unfoldable pub tokens : Text → Outcome Tokens
 tokens [] = ok []
 tokens (c ∷ s) = if eqb c (code "/") then unescapeAll (segments s) else refused malformed-pointer 0
@@ -92,7 +92,7 @@ childAt t v =
 unfoldable pub child : ℕ → Value.Value → Tree Entry
 child k v = nth (named [] (leaf Label.null-literal)) k (v .kids)
 
--- Document 02, T-01: "place is the count of tokens walked before the one that failed". This is an outcome behind one token more.
+-- Document 02, T-01: "place is the count of tokens walked before the one that failed". This is an outcome with one more token walked before it.
 unfoldable pub farther : {A : Type 0} → Outcome A → Outcome A
 farther (ok a) = ok a
 farther (refused number walked) = refused number (suc walked)

@@ -96,7 +96,7 @@ unfoldable pub succeeds : {A : Type 0} → Run A → Bool
 succeeds (finished a) = true
 succeeds (stopped s) = false
 
--- where a run stops, if it is at its operation op
+-- where a run stops, if that is at its operation op
 unfoldable pub endsAt : {A : Type 0} → ℕ → Run A → Option Stop
 endsAt op (finished a) = none
 endsAt op (stopped s) = if eqb op (s .op) then some s else none
@@ -117,7 +117,7 @@ turns done i j = []
 turns (left s) i j = of-first i ∷ turns s (i + 1) j
 turns (right s) i j = of-second j ∷ turns s i (j + 1)
 
--- where an operation's own patch ends alone, if it is at that operation, by what the two patches come to alone
+-- where an operation's own patch ends alone, if that is at this operation, by what the two patches come to alone
 unfoldable pub endsAlone : {A : Type 0} → Run A → Run A → Turn → Option Stop
 endsAlone p q (of-first i) = endsAt i p
 endsAlone p q (of-second j) = endsAt j q

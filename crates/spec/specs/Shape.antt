@@ -103,7 +103,7 @@ pub record IsPatch (v : Value.Value) (os : List Operation) : Type 0 where
   pub few : count (v .kids) ≤ maxOperations
   pub elements : AreOperations (v .kids) os
 
--- the first element that is no operation, where the first of them all is op: its refusal, and its own op
+-- the first element that is no operation, its refusal and its op; the elements are counted from op on
 pub data FirstWrong : ℕ → Members → ℕ → ℕ → Type 0 where
   here : {op n : ℕ} {e : Entry} {kids rest : Members} → Wrong (elementOf e kids) n → FirstWrong op (tree e kids rest) n op
   later : {op n end : ℕ} {e : Entry} {kids rest : Members} (o : Operation) → IsOperation (elementOf e kids) o → FirstWrong (op + 1) rest n end →

@@ -9,7 +9,7 @@ use Rattle.spec.specs.Outcome.{Outcome, ok, refused, _>>=_, if_then_else
 use Rattle.spec.specs.Refusal.{not-json}
 use Rattle.spec.specs.Bytes.{Bytes, Text, byte, within, byteIn}
 
--- the value of a hexadecimal digit of either case, and 16 of any other byte
+-- the value of a hexadecimal digit of either case, and 16 for any other byte
 unfoldable pub hexValue : ℕ → ℕ
 hexValue b =
     if within (code "0") (code "9") b then b - code "0" else

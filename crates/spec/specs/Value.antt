@@ -93,7 +93,7 @@ sameText [] (b ∷ t) = false
 sameText (a ∷ s) [] = false
 sameText (a ∷ s) (b ∷ t) = eqb a b && sameText s t
 
--- the position of the member so named, and the number of members where there is none
+-- the position of the member so named, or the number of members where there is none
 unfoldable pub find : Text → Members → ℕ
 find n none = 0
 find n (tree e kids rest) = if sameText (e .name) n then 0 else suc (find n rest)

@@ -70,7 +70,7 @@ writeName object name = if object then writeString name ++ ascii ":" else []
 unfoldable pub comma : Bool → Bytes
 comma first = if first then [] else ascii ","
 
--- the values of a container from one on, which is or is not its first
+-- the values of a container from one on; the second argument says whether that one is the first
 unfoldable pub writeItems : Bool → Bool → Members → Bytes
 writeItems object first none = []
 writeItems object first (tree e kids rest) =

@@ -1,4 +1,4 @@
--- A text has no more characters than the part has bytes that says it, so that a longer one is another.
+-- A text has no more characters than its part has bytes, so that a longer text is another one.
 use Prim.Native.Nat.{ℕ, zero, suc, _≤_, _<_}
 use Prim.Native.Char.{code}
 use native.Mathlib.Omega.{arith}
@@ -50,7 +50,7 @@ text-short form s = go (eqb form 1) (eqb form 2) (eqb form 3) (decodeLoop (lengt
     go false false true t h = omega (arith, unescape-short t)
     go false false false t h = omega arith
 
--- what a spelling says has at most so many characters as the spelling has bytes
+-- what a spelling says has at most as many characters as the spelling has bytes
 spelled-short : (T : Texts) (w : Spelling) → length (spelled T w) ≤ w .length
 unfolding spelled partOf
 spelled-short T w = omega (arith, text-short (w .form) (partOf T w), length-take (w .length) (drop (w .start) (sourceText T (w .source))))

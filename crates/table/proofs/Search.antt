@@ -172,7 +172,7 @@ module _ (nodes : List Row) (row : ℕ) where
   unfolding rowBehind
   behind-later = omega arith
 
--- what is sought from a row on is sought from an earlier one, between which all names are others
+-- what a search from `row` on finds, one from `start` on finds: all names that are passed between are others
 abbrev pub Passed : List Row → ℕ → (Name → Bool) → ℕ → ℕ → Type 0
 Passed nodes stop test start row = (r : Member) → Sought nodes stop test row r → Sought nodes stop test start r
 

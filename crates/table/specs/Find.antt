@@ -52,7 +52,7 @@ pub record Quiet (nodes : List Row) (hash row : ℕ) : Type 0 where
   pub leaf : spanOf (getD nodes row []) ≡ 0
   pub other : hashOf (getD nodes row []) ≡ hash → ⊥
 
--- so are n rows from a row on
+-- n rows from a row on are such rows
 abbrev pub AllQuiet : List Row → ℕ → ℕ → ℕ → Type 0
 AllQuiet nodes hash row n = (i : ℕ) → i < n → Quiet nodes hash (row + i)
 

@@ -52,7 +52,7 @@ members texts f = mapForest (entryOf texts) f
 abbrev pub meant : Texts → Cell → Forest Cell → Value.Value
 meant texts c kids = record { label = labelOf texts (c .kind) (c .value); kids = members texts kids }
 
--- the 16 bits of a hash that a node has room for: the lowest, for the last character changes them
+-- the 16 bits of a hash that a node has room for: the lowest, since the last character changes them
 unfoldable pub shortHash : ℕ → ℕ
 shortHash h = h % 65_536
 

@@ -1,4 +1,4 @@
--- What the words of the node table are beside a tree: each name has its hash, each number is within the limits, and each string stands between
+-- What the words of the node table satisfy besides forming a tree: each name has its hash, each number is within the limits, and each string stands between
 -- quotation marks in one of the two texts. The reader lays down no other words, and every operation keeps them so.
 use Prim.Native.Nat.{ℕ, _+_, _≤_}
 use mathlib.Core.Path.{_≡_}
@@ -41,18 +41,18 @@ pub record CellFits (texts : Texts) (c : Cell) : Type 0 where
   pub name : NameFits texts (c .name)
   pub label : LabelFits texts (c .kind) (c .value)
 
--- so is every node of a forest
+-- every node of a forest fits
 abbrev pub Sound : Texts → Forest Cell → Type 0
 Sound texts f = All (CellFits texts) f
 
--- the table holds a node in a row, and it is so with the nodes below it; its own name is free
+-- the table holds a node in a row; it fits, and so do the nodes below it; its own name is free
 pub record NodeHeld (w : Table) (row : ℕ) (c : Cell) (kids : Forest Cell) : Type 0 where
   pub rest : Forest Cell
   pub held : Held (w .nodes) row (tree c kids rest)
   pub label : LabelFits (w .texts) (c .kind) (c .value)
   pub sound : Sound (w .texts) kids
 
--- the table holds a forest in the rows from one up to another, and it is so with all its nodes
+-- the table holds a forest in the rows from one up to another, and all its nodes fit
 pub record RowsHeld (w : Table) (row end : ℕ) (f : Forest Cell) : Type 0 where
   pub held : Held (w .nodes) row f
   pub ends : row + size f ≡ end

@@ -109,7 +109,7 @@ fn hash_ascii(name: &[u8]) -> u32
     h
 }
 
-// The 16 bits of a hash that a node has room for: the lowest, for the last character changes them.
+// The 16 bits of a hash that a node has room for: the lowest, since the last character changes them.
 pub fn short(hash: u32) -> u16
     ensures { λ r. ⌜ r ≡ shortHash hash ⌝ }
 {
@@ -126,7 +126,7 @@ fn is_named<'a>(texts: Texts<'a>, own: Name, h: u16, name: &[u8]) -> bool
     spells(texts, own.text, name)
 }
 
-// The same, of a name that is given by its bytes, each of which is a character.
+// The same for a name that is given by its bytes, each of which is a character.
 pub fn find_ascii<'a>(
     texts: Texts<'a>,
     nodes: &[Node],

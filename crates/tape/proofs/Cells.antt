@@ -1,4 +1,4 @@
--- Laws of cells: what a node's row tells, and of which forests the rows tell all.
+-- Laws of cells: what a node's row tells, and which forests the rows describe in full.
 use Prim.Native.Nat.{ℕ, zero, suc, _%_, _≤_, _<_}
 use native.Mathlib.Omega.{arith}
 use mathlib.Core.Path.{_≡_, refl, ap, _∙_, subst}
@@ -41,7 +41,7 @@ module _ {c : Cell} {kids : Forest Cell} (fit : Fit c kids) where
   unfolding rowOf
   kind-row = kind-tagged (c .kind) (c .value .form) (c .value .source) (c .name .text .form) (c .name .text .source) (omega (arith, fit .kind))
 
-  -- the row tells the cell whole
+  -- the row describes the cell in full
   pub cell-row : cellOf (rowOf c kids) ≡ c
   unfolding rowOf
   cell-row =

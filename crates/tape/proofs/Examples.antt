@@ -1,4 +1,4 @@
--- The contracts suppose nothing that cannot be: a column that holds the array [1, [2], 3] behind another word, and what the definitions say of it.
+-- The contracts suppose nothing impossible: a column that holds the array [1, [2], 3] behind another word, and what the definitions say of it.
 use Prim.Native.Nat.{ℕ, _<_}
 use native.Mathlib.Omega.{arith}
 use mathlib.Core.Path.{_≡_, refl}

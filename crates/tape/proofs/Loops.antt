@@ -26,7 +26,7 @@ module _ {W : Type 0} (xs : List W) (to start : ℕ) where
   unfolding copied
   copied-one z h k = rw (drop-cons xs start z k) (replaced-one xs to (getD xs start z) h)
 
-  -- four words stored that were all loaded before
+  -- four words stored, all of them loaded before
   pub copied-four : (z : W) → to + 4 ≤ length xs → start + 4 ≤ length xs
       → set (set (set (set xs to (getD xs start z)) (to + 1) (getD xs (start + 1) z)) (to + 2) (getD xs (start + 2) z)) (to + 3) (getD xs (start + 3) z)
       ≡ copied xs to start 4

@@ -1,4 +1,4 @@
--- Laws of nodes by their rows: what a node's row tells in its row, and where its children stand.
+-- Laws of nodes by their rows: what a node's row tells, and where its children stand.
 use Prim.Native.Nat.{ℕ, zero, suc, _+_, _≤_, _<_}
 use native.Mathlib.Nat.{add-zero}
 use native.Mathlib.Numerals.{add-one}

@@ -1,4 +1,4 @@
--- Cells in the table: the row of a node, and which forests the rows tell whole.
+-- Cells in the table: the row of a node, and which forests the rows describe in full.
 use Prim.Native.Nat.{ℕ, suc, _<_, _≤_, max}
 use mathlib.Core.Path.{_≡_}
 use mathlib.Core.List.{List}
@@ -20,7 +20,7 @@ pub record Told (s : Spelling) : Type 0 where
   pub form : s .form < forms
   pub source : s .source < sources
 
--- a node that its row tells whole; a scalar has no children
+-- a node that its row describes in full; a scalar has no children
 pub record Fit (c : Cell) (kids : Forest Cell) : Type 0 where
   pub kind : c .kind ≤ objectKind
   pub small : size kids < values

@@ -35,7 +35,7 @@ module _ {W : Type 0} where
   spliceFits xs used at removed source n =
       leb (at + removed) used && (leb (max used (usedAfter used removed n)) source && inside xs source n)
 
-  -- those replaced by these
+  -- the former replaced by the latter
   unfoldable pub spliced : List W → ℕ → ℕ → ℕ → ℕ → ℕ → List W
   spliced xs used at removed source n =
       if spliceFits xs used at removed source n then

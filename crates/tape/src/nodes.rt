@@ -61,8 +61,8 @@ pub fn set_span(nodes: &mut [Node], row: usize, span: usize)
 // How many rows are looked at together.
 pub const BLOCK: usize = 16;
 
-// Whether the row is a multiple of BLOCK, and the nodes in the BLOCK rows from it on have no children and are at most
-// `most`. No row waits for what another one holds, so that several are looked at at a time.
+// Whether the row is a multiple of BLOCK, BLOCK is at most `most`, and the BLOCK rows from it on are before `end` and
+// hold nodes without children. No row waits for what another one holds, so that several are looked at together.
 fn leaves(nodes: &[Node], row: usize, end: usize, most: usize) -> bool
     requires { ⌜ (row ≤ end) × (end ≤ length (now nodes)) ⌝ }
     ensures { λ r. ⌜ LeavesIs (now (nodes .entry)) row end most r ⌝ }

@@ -55,7 +55,7 @@ pub shorter : {s t u : Text} {c : ℕ} → s ≡ [] → t ≡ c ∷ u → sameTe
 unfolding sameText
 shorter e f = rw (e, f)
 
--- an ended text is what is left of another exactly if nothing is
+-- an ended text is what is left of another exactly if nothing is left
 pub ended-same : {s : Text} (t : Text) {r whole : Bool} → s ≡ [] → r ≡ sameText [] t → sameText s t ≡ whole → r ≡ whole
 ended-same t e f h = f ∙ ap (λ s. sameText s t) (sym e) ∙ h
 
@@ -102,7 +102,7 @@ common-texts none = refl
 common-texts {form} {other} {a = a} {b} (more {i} r n e) =
     sym (heads-same (plain-text form a i refl n) (plain-text other b i refl (λ z. n (e ∙ z))) e) ∙ common-texts r
 
--- the same of a word that is given by its bytes
+-- the same for a word that is given by its bytes
 pub common-word : {form n : ℕ} {a l : Bytes} → Common form a 1 l n → (n ≤ length l) × (sameText (textFrom form a n) (drop n l) ≡ sameText (textOf form a) l)
 unfolding textOf byte
 common-word none = (omega arith, refl)

@@ -24,7 +24,7 @@ in-same s at c next e k =
     let n = in-past s at e in
     result (rw f at (character-same s at (omega arith) q k))
 
--- the first byte of a part without a backslash is none
+-- the first byte of a part without a backslash is no backslash
 no-backslash-first : (s : Bytes) (at to : ℕ) → at < length s → at < to → noBackslash (part s at to) ≡ true → eqb (byte s at) (code "\\") ≡ false
 unfolding noBackslash
 no-backslash-first s at to h l p = go (eqb (byte s at) (code "\\")) (rw (part-cons s at to h l) at p)

@@ -32,7 +32,7 @@ sets-out l i (a ∷ vs) h = ap (λ m. sets m (suc i) vs) (set-out l i a h) ∙ s
 pub laid-down : (vs out : Bytes) → length vs ≤ length out → sets out 0 vs ≡ vs ++ drop (length vs) out
 laid-down vs out h = sets-eq vs out 0 (omega arith) ∙ ap (λ n. vs ++ drop n out) (zero-add (length vs))
 
--- bytes that were stored, said of what they are
+-- bytes that were stored, said of equal bytes
 pub stored : {bytes : Bytes} (vs : Bytes) {at next : ℕ} {before after : Bytes} → bytes ≡ vs
     → after ≡ sets before at vs → next ≡ at + length vs → Stored bytes at before after next
 stored vs {at} {before = before} e f g = record { next-is = g ∙ ap (λ b. at + length b) (sym e); after-is = f ∙ ap (sets before at) (sym e) }

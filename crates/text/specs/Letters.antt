@@ -41,7 +41,7 @@ isLetter b = ltb b (code "~") && standsForItself b
 unfoldable pub plainAt : ℕ → Bytes → ℕ → ℕ
 plainAt form s at = if isLetter (byte s at) then (if within 1 3 form then byte s at else 0) else 0
 
--- as many letters from the first on are the same in both parts, each of them a byte that is one by itself
+-- this many letters from the first on are the same in both parts, each of them a byte that is a letter by itself
 pub data Common (form : ℕ) (a : Bytes) (other : ℕ) (b : Bytes) : ℕ → Type 0 where
   none : Common form a other b 0
   more : {i : ℕ} → Common form a other b i → (plainAt form a i ≡ 0 → ⊥) → plainAt form a i ≡ plainAt other b i → Common form a other b (i + 1)

@@ -38,7 +38,7 @@ fn ended(form: u64, s: &[u8], at: usize) -> bool
     true
 }
 
-// How many bytes two parts begin with that are the same and letters by themselves. Passed at once, they need one test
+// How many bytes at the front of two parts are the same, each a letter by itself. Passed at once, they need one test
 // each, and not two.
 fn common(form: u64, a: &[u8], other: u64, b: &[u8]) -> usize
     ensures { λ r. ⌜ Common form (now (a .entry)) other (now (b .entry)) r ⌝ }
@@ -111,7 +111,7 @@ pub fn same_text(form: u64, a: &[u8], other: u64, b: &[u8]) -> bool
     same_letters(form, a, other, b)
 }
 
-// Whether a part says a text whose code points are the bytes of `constant`: a word of ASCII, as `op`. Read as a
+// Whether a part says a text whose code points are the bytes of `constant`: a word of ASCII, such as `op`. Read as a
 // string without escapes, `constant` has each letter where the word has it.
 pub fn same_ascii(form: u64, a: &[u8], constant: &[u8]) -> bool
     ensures { λ r. ⌜ r ≡ sameText (textOf form (now (a .entry))) (now (constant .entry)) ⌝ }

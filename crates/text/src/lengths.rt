@@ -54,8 +54,8 @@ fn text_length(form: u64, s: &[u8]) -> usize
     }
 }
 
-// The same of a string's text: a run of characters that are written as they are read, then one that may not be, and
-// so on.
+// The same for a string's text: a run of characters that are written as they are read, then one that may not be, and so
+// on.
 fn string_length(s: &[u8]) -> usize
     ensures { λ r. ⌜ r ≡ length (writeCharacters (textOf 2 (now (s .entry)))) ⌝ }
 {

@@ -99,7 +99,7 @@ pub fn any_letter(form: u64, s: &[u8], at: usize) -> Character
     }
 }
 
-// The same, with the tests first that tell quickest: a byte that is a letter by itself, and the part's end.
+// The same, with the quickest tests first: a byte that is a letter by itself, and the part's end.
 pub fn letter(form: u64, s: &[u8], at: usize) -> Character
     ensures { λ r. ⌜ characterOutcome r ≡ letterAt form (now (s .entry)) at ⌝ }
 {

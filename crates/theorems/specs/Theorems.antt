@@ -69,7 +69,7 @@ pub record Demands : Type 2 where
   -- crates/json_patch/specs/Call: on every input the call returns, answers what `answer` defines (crates/spec/specs/Answer), and leaves all lent
   -- memory as it says. It asks nothing of the caller.
   pub total-and-exact : {M : Type 1} → Apply.statement M
-  -- the same of the export for C
+  -- the same for the export for C
   pub for-c : {M : Type 1} → ApplyForC.statement M
   -- shuffles of two patches in regions of their own don't matter: of the definition, with an example that meets the premises,
   pub shuffles : Demand3
@@ -119,7 +119,7 @@ pub record Requests : Type 0 where
   pub merging : MergeStatement
   pub merging-appendix : Merging.All Merging.appendix
   pub merging-positions : Merging.All Merging.positions
-  -- T-03: by the classes of bytes a string is read as the standard says, and the class of other ASCII is the bytes that stand for themselves
+  -- T-03: a string is read by the classes of bytes as the standard says, and the class of other ASCII is the bytes that stand for themselves
   pub characters-by-class : CharactersByClass
   pub itself-by-class : ItselfByClass
   -- T-05: a maker's patch is refused exactly where the rule says, its paths are strictly inside its region, and what passes gives the answer of a
@@ -146,12 +146,12 @@ pub record Requests : Type 0 where
   -- T-09: the undo takes a patch back, with examples that meet the premises
   pub undo : UndoStatement
   pub undo-examples : Undo.Witness
-  -- T-10: the count's verdict is equality's, and the count is at most a times b; so it is with the answer on two texts
+  -- T-10: the count's verdict is equality's, and the count is at most a times b; the same holds of the answer on two texts
   pub comparison : ComparisonStatement
   pub comparison-examples : Counting.All Counting.examples
   pub comparison-call : Comparing.CallStatement
-  -- T-11: origins forgotten, all is as it was; whose origin each value has, of operations, merges and undos; in which order they are listed; and
-  -- in a region; with examples
+  -- T-11: with origins forgotten, all is as it was; which origin each value has, in operations, merges and undos; in which order they are listed; and in a
+  -- region; with examples
   pub origins-forgotten : ForgettingStatement
   pub origins : OriginStatement
   pub origins-in-order : OrderStatement

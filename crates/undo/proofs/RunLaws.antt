@@ -40,7 +40,7 @@ use Rattle.undo.specs.Run.{LoggedTo, ElementsLoggedIs, LoggedIs}
 use Rattle.undo.specs.declared.moving.Stepped.{Stepped}
 use Rattle.undo.specs.declared.runs.Logged.{Logged}
 
--- ---- the loop: the undo of the operations that are passed is noted, and with that of those that are left it is the whole
+-- ---- the loop: the undo of the operations that are passed is noted, and with the undo of those that are left it is the whole undo
 pub record Logging (w : Table) (used row end op : ℕ) (log : Log) (work : Bytes) (whole : Run Value.Value) (undo : List Operation) : Type 0 where
   pub going : Going w used row end op whole
   pub earlier : List Operation

@@ -17,7 +17,7 @@ use Rattle.reversal.specs.UndoAnswer as Spec
 use Rattle.reversal.specs.UndoAnswer.{UndoLent, undoAnswer}
 use Rattle.undo.specs.declared.answer.UndoAnswer.{UndoAnswer}
 
--- ---- what a call is lent beside its two texts: what the plain call is, an output for the undo, and a buffer in which its text is made
+-- ---- what a call is lent beside its two texts: what the plain call is lent, an output for the undo, and a buffer in which its text is made
 pub record UndoMemory : Type 0 where
   pub patch : Memory
   pub undo : Bytes
@@ -49,7 +49,7 @@ pub record Outputs : Type 0 where
 abbrev pub outputsOf : UndoMemory → Outputs
 outputsOf m = record { document = m .patch .output; undo = m .undo }
 
--- the call's answer is this one, and each output, as it was before and as it is after, has its text in front
+-- the call's answer is this one, and each output has its text in front afterwards, and is otherwise as it was before
 pub record UndoAnswered (a : Spec.UndoAnswer) (before after : Outputs) (r : UndoAnswer) : Type 0 where
   pub answered : Answered (a .answer) (before .document) (after .document) (r .answer)
   pub undo-length : r .undo ≡ length (a .undo)

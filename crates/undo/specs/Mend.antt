@@ -37,7 +37,7 @@ pub record Cuts (s : Bytes) (t : Text) (ts : Tokens) (r : Cut) : Type 0 where
   pub order : r .end ≤ r .next
   pub inside : r .next ≤ length s
 
--- of a text that is no pointer, or the empty one, the answer is free
+-- for a text that is no pointer, or the empty one, the answer is free
 abbrev pub CutIs : Bytes → Cut → Type 0
 CutIs s r = (t : Text) (ts : Tokens) → tokens (decode s) ≡ ok (t ∷ ts) → Cuts s t ts r
 
@@ -45,7 +45,7 @@ CutIs s r = (t : Text) (ts : Tokens) → tokens (decode s) ≡ ok (t ∷ ts) →
 abbrev pub shortened : Spelling → ℕ → Spelling
 shortened path n = record { form = path .form; source = path .source; start = path .start; length = n % values }
 
--- ---- a step of the undo is noted: of a document, at a path with these tokens, under what is said of it, this operation
+-- ---- a step of the undo is noted: the operation `o ts v`, where the table holds the document v, the path has the tokens ts, and P holds of both
 abbrev pub Notes : (Tokens → Value.Value → Type 0) → (Tokens → Value.Value → Operation) → Table → Log → Spelling → Bytes → Bytes → Log → Type 0
 Notes P o w log path before after r =
     (used : ℕ) (v : Value.Value) → Document w used v → Short (w .texts) → (ts : Tokens) → PathIs (w .texts) path ts → P ts v

@@ -28,8 +28,8 @@ pub record LoggedTo (T : Texts) (nodes' : List Row) (o : Run Value.Value) (undo 
   pub ran : RanTo T nodes' o (r .ran)
   pub noted : (v : Value.Value) → o ≡ finished v → Noted (r .log) work' undo
 
--- Of the operations that are elements in the rows from one to another: they are run as without an undo, with their origins, and the patch's rows are
--- as they were. Where a document and operations are held, and what was noted before is a log, their undo is noted.
+-- The operations that are elements in the rows from one to another are run as without an undo, with their origins, and the patch's rows are as they were.
+-- Where a document and operations are held, and what was noted before is a log, their undo is noted.
 pub record ElementsLoggedIs (w : Table) (nodes' : List Row) (work work' : Bytes) (used start end : ℕ) (log : Log) (r : Logged) : Type 0 where
   pub runs : ElementsRunIs w nodes' used start end (r .ran)
   pub held : (v : Value.Value) → Document w used v → Short (w .texts) → (f : Forest Cell) → RowsHeld w start end f → patchRow ≤ start → end ≤ scratchRow
@@ -37,7 +37,7 @@ pub record ElementsLoggedIs (w : Table) (nodes' : List Row) (work work' : Bytes)
       → (earlier : List Operation) → Noted log work earlier
       → LoggedTo (w .texts) nodes' (run limited 1 os v) (undoRun os v ++ earlier) work' r
 
--- Of the patch. Otherwise the log and the buffer are free.
+-- The same for the patch. Otherwise the log and the buffer are free.
 pub record LoggedIs (w : Table) (nodes' : List Row) (work work' : Bytes) (used : ℕ) (log : Log) (r : Logged) : Type 0 where
   pub runs : RunIs w nodes' used (r .ran)
   pub held : (v : Value.Value) → Document w used v → Short (w .texts) → (c : Cell) (kids : Forest Cell) → NodeHeld w patchRow c kids

@@ -120,7 +120,7 @@ pub record MoveStepIs (w : Table) (nodes' : List Row) (work work' : Bytes) (used
       → PathIs (w .texts) path (o .path) → (os : List Operation) → Noted log work os
       → StepsTo (w .texts) nodes' (limited o v) (whichPointer o v) (undoOf o v ++ os) work' r
 
--- any
+-- any operation
 pub record StepIs (w : Table) (nodes' : List Row) (work work' : Bytes) (used row op : ℕ) (log : Log) (r : Stepped) : Type 0 where
   pub performs : PerformIs w nodes' used row op (r .outcome)
   pub held : (v : Value.Value) → Document w used v → Short (w .texts) → (o : Operation) → Listed w row o → (os : List Operation) → Noted log work os

@@ -14,8 +14,8 @@ ghost use Rattle.json_patch.specs.Call.{given, memoryBefore, memoryAfter};
 ghost use Rattle.undo.specs.Call.{withBefore, withAfter, UndoIs};
 
 // As the plain call: the patch is applied to the document and the result written to `output`. Beside it the patch
-// that takes it back is written to `undo`. `work` is a buffer of at least MAX_BYTES bytes in which that is made; it
-// may hold anything, and as many bytes are all zero afterwards. A refusal leaves both outputs unchanged.
+// that takes it back is written to `undo`. `work` is a buffer of at least MAX_BYTES bytes in which that is made; it may
+// hold anything, and its first MAX_BYTES bytes are all zero afterwards. A refusal leaves both outputs unchanged.
 pub fn apply_with_undo<'a>(
     document: &'a [u8],
     patch: &'a [u8],

@@ -130,7 +130,7 @@ fn mend_member<'a>(
     )
 }
 
-// By the last token and the parent, which is in a row.
+// By the last token and the parent in a row.
 fn mend_child<'a>(
     texts: Texts<'a>,
     nodes: &[Node],
@@ -169,7 +169,7 @@ fn mend_below<'a>(
     mend_child(texts, nodes, log, path, cut.next, parent, name, work)
 }
 
-// Of a value that is put in at `path`, before it is.
+// The undo of a value that is put in at `path`, noted before it is put in.
 pub fn mend<'a>(texts: Texts<'a>, nodes: &[Node], log: Log, path: Spelling, work: &mut [u8]) -> Log
     ensures { λ r. ⌜ MendIs (before texts nodes) log path (now (work .entry)) (now (work .exit)) r ⌝ }
 {

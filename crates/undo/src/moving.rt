@@ -48,7 +48,7 @@ fn in_object<'a>(texts: Texts<'a>, nodes: &[Node], path: Spelling) -> bool
     kind(nodes, parent) == layout::OBJECT
 }
 
-// Whether a value is replaced at `path` that holds `from`: at the root, or a member.
+// Whether a value that holds `from` is replaced at `path`: the root, or a member.
 fn holds<'a>(texts: Texts<'a>, nodes: &[Node], path: Spelling, from: Spelling) -> bool
     ensures { λ r. ⌜ HoldsIs (before texts nodes) path from r ⌝ }
 {
@@ -93,7 +93,7 @@ fn move_apart<'a>(
     }
 }
 
-// The operation in a row of the patch, by its number, as it is, with what is noted.
+// The operation in a row of the patch, by its number, performed as it is; nothing more is noted.
 pub fn plain<'a>(
     texts: Texts<'a>,
     nodes: &mut [Node],

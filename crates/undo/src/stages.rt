@@ -68,7 +68,7 @@ fn write_both<'a>(
     }
 }
 
-// The patch, which is read, is applied to the document, which has `used` rows.
+// The patch, read before, is applied to the document, which has `used` rows.
 fn run_patch<'a>(
     texts: Texts<'a>,
     output: &mut [u8],
@@ -95,7 +95,7 @@ fn run_patch<'a>(
     write_both(texts, output, undo, nodes, logged.log, work)
 }
 
-// All of it, where the work area and the buffer are long enough.
+// All stages, where the work area and the buffer are long enough.
 pub fn checked<'a>(
     texts: Texts<'a>,
     output: &mut [u8],

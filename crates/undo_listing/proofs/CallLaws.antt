@@ -102,7 +102,7 @@ undo-same D P l l' e out o list h i =
     (answer-same D P (record { call = l .call .patch; list = l .list }) (record { call = l' .call .patch; list = l' .list }) e out list)
     ∙ sym (buffer-enough D P l' i)
 
--- a memory, and that of which the call lends its stages the stated lengths
+-- a memory by its parts
 abbrev memoryOf : Bytes → Bytes → List ℕ → List Row → List ℕ → Bytes → UndoListMemory
 memoryOf out undo list ns xs ws =
     record { call = record { patch = record { output = out; nodes = ns; index = xs }; undo = undo; work = ws }; list = list }

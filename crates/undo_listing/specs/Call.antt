@@ -18,7 +18,7 @@ use Rattle.undo.specs.Call as Undo
 use Rattle.undo.specs.Call.{UndoMemory, undoLentOf, undoSuffices, UndoAnswered}
 use Rattle.undo.specs.declared.answer.UndoAnswer.{UndoAnswer}
 
--- ---- what a call is lent beside its two texts: what the call with an undo is, and the list
+-- ---- what a call is lent beside its two texts: what the call with an undo is lent, and the list
 pub record UndoListMemory : Type 0 where
   pub call : UndoMemory
   pub list : List ℕ

@@ -2,8 +2,8 @@
 // document 02, T-09 and T-11. `apply_with_undo_listing` is the whole library.
 //
 // What is proved: on every input the answer and the list are those of the definition `undoAnswer` of crate `origin`.
-// The two outputs and the list afterwards begin with what is written and are otherwise unchanged. Of the work area and
-// the buffer it holds what holds of the call with an undo.
+// The two outputs and the list afterwards begin with what is written and are otherwise unchanged. What holds of the
+// work area and the buffer in the call with an undo holds here too.
 
 mod call; // the call
 mod exports; // the call for C

@@ -1,4 +1,4 @@
-// The stages of the call: those of the call with an undo, with the nodes stamped before the run and listed behind it.
+// The stages of the call: those of the call with an undo, with the nodes stamped before the run and listed after it.
 use json_patch::misshapen;
 use json_patch::refused;
 use json_patch::stopped;
@@ -75,7 +75,7 @@ fn write_all<'a>(
     }
 }
 
-// The patch, which is read, is applied to the document, which has `used` rows.
+// The patch, read before, is applied to the document, which has `used` rows.
 fn run_patch<'a>(
     texts: Texts<'a>,
     output: &mut [u8],
@@ -103,7 +103,7 @@ fn run_patch<'a>(
     write_all(texts, output, undo, origins, nodes, rows, logged.log, work)
 }
 
-// All of it, where the work area and the buffer are long enough.
+// All stages, where the work area and the buffer are long enough.
 pub fn checked<'a>(
     texts: Texts<'a>,
     output: &mut [u8],

@@ -1,4 +1,4 @@
--- The digits of a position: the last one behind those of a tenth of it, and how many they are.
+-- The digits of a position: the last one behind those of a tenth of it, and how many there are.
 use Prim.Native.Nat.{ℕ, zero, suc, _+_, _/_, _%_, _≤_, _<_}
 use native.Mathlib.Omega.{arith}
 use mathlib.Core.Path.{_≡_, refl, sym, ap, _∙_}
@@ -57,7 +57,7 @@ index-large n h =
     more-digits n n [] (le-ltb n 10 h) ∙ digits-after n (n / 10) (d ∷ [])
     ∙ ap (λ t. t ++ (d ∷ [])) (same-digits n (suc (n / 10)) (n / 10) [] (omega arith) (omega arith))
 
--- ---- how many they are
+-- ---- how many there are
 pub small-length : (n : ℕ) → n < 10 → length (indexToken n) ≡ 1
 small-length n h = ap length (index-small n h)
 

@@ -1,4 +1,4 @@
--- Laws of the undo's log: what no operation noted is, what the log says of the undo's value, and where its text stands.
+-- Laws of the undo's log: what it is with no operation noted, what it says of the undo's value, and where its text stands.
 use Prim.Native.Nat.{ℕ, zero, suc, _+_, _-_, _≤_, _<_}
 use native.Mathlib.Omega.{arith}
 use mathlib.Core.Path.{_≡_, refl, sym, ap, _∙_}

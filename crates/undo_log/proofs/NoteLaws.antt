@@ -80,7 +80,7 @@ laid-from before start {text} {part} p room =
     ∙ ap (λ l. part ++ l) rest ∙ append-nil part ∙ there
     ∙ ap (λ l. text ++ l) (ap (drop (length text)) whole ∙ drop-drop (length text) start before)
 
--- so many bytes before the end of the buffer
+-- this many bytes before the end of the buffer
 pub lay-down-is : (before : Bytes) (bytes : ℕ) {text part : Bytes} {next : ℕ} → Placed text 0 (lentPart before (length before - bytes)) part next
     → (start : ℕ) → start + bytes ≡ length before → length text ≤ bytes
     → drop start (back before (length before - bytes) part) ≡ text ++ drop (start + length text) before

@@ -53,7 +53,7 @@ unfoldable pub targetText : Texts → Target → Text
 targetText T (At path) = decode (partOf T path)
 targetText T (Appended path index) = decode (partOf T path) ++ indexToken index
 
--- the table holds a value in a row, which is within the limit of levels
+-- the table holds a value in a row, and the value is within the limit of levels
 pub record ValueHeld (w : Table) (row : ℕ) (v : Value.Value) : Type 0 where
   pub c : Cell
   pub kids : Forest Cell

@@ -31,7 +31,7 @@ Carries w Remove o = o .kind ≡ Kind.remove
 Carries w (Replace row) o = (o .kind ≡ Kind.replace) × ValueHeld w row (o .value)
 
 -- ---- the pieces
--- what stands before the path: the comma that parts the operation from what comes before it, and its `op`
+-- what stands before the path: the comma that separates the operation from what comes before it, and its `op`
 unfoldable pub headBytes : Action → Bytes
 headBytes (Add row) = ascii ",{\"op\":\"add\",\"path\":"
 headBytes Remove = ascii ",{\"op\":\"remove\",\"path\":"

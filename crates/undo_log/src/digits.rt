@@ -25,7 +25,7 @@ pub fn put_digits(n: usize, out: &mut [u8]) -> usize
     put + last
 }
 
-// How many they are.
+// How many there are.
 pub fn digits_length(n: usize) -> usize
     ensures { λ r. ⌜ r ≡ length (indexToken n) ⌝ }
 {

@@ -2,7 +2,7 @@
 // buffer towards its front, so that the last operation's stands first. Counts go on where the buffer is full.
 //
 // What is proved: where the log is that of some operations (`Noted` of specs/Log), it is that of one more after
-// `note`, and what it says in the end is right of the undo's value: whether it could be read back, and its text.
+// `note`, and what it says in the end is true of the undo's value: whether it could be read back, and its text.
 //
 // What a caller should know: every public function is total. Where no operations are noted, the log and the buffer
 // are free.

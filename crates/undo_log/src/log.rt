@@ -32,7 +32,7 @@ pub fn begin(work: &mut [u8]) -> Log
     }
 }
 
-// The number with which an undo is refused that could not be read back, and 0 for one that could.
+// The number with which an undo that could not be read back is refused, or 0 for one that could.
 pub fn verdict(log: Log) -> u8
     ensures { λ r. ⌜ VerdictIs log r ⌝ }
 {
@@ -51,7 +51,7 @@ pub fn verdict(log: Log) -> u8
     refusal::DONE
 }
 
-// The length of the undo's text, which is within its limit. That of no operation is `[]`.
+// The length of the undo's text, where it is within its limit. The text of no operation is `[]`.
 pub fn text_length(log: Log) -> usize
     ensures { λ r. ⌜ LengthIs log r ⌝ }
 {

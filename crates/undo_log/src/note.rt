@@ -44,7 +44,7 @@ fn still_shallow(nodes: &[Node], shallow: bool, action: Action) -> bool
     }
 }
 
-// Four values: the operation's object, its `op`, its `path` and a value, to which come those below it.
+// Four values: the operation's object, its `op`, its `path` and its value, and those below the value.
 fn with_value(nodes: &[Node], count: usize, row: usize) -> usize
     ensures { λ r. ⌜ WithValueIs (now (nodes .entry)) count row r ⌝ }
 {

@@ -50,7 +50,7 @@ fn put_target<'a>(texts: Texts<'a>, target: Target, out: &mut [u8]) -> usize
     }
 }
 
-// It is put between quotation marks.
+// A target between quotation marks.
 fn put_path<'a>(texts: Texts<'a>, target: Target, out: &mut [u8]) -> usize
     ensures { λ r. ⌜ Placed (pathBytes (lent texts) target) 0 (now (out .entry)) (now (out .exit)) r ⌝ }
 {

@@ -1,7 +1,7 @@
-// Every committed case of undos, run through the library. For each a line: its name, and what the patch tool would
-// print of the patched document if it lent as many bytes as the case says. Where the patch is applied two more: the
-// undo, and what the patch tool would print of the undo on the patched text. The stored output is what the second
-// program answers, so that each run holds the two to each other.
+// Every committed case of undos, run through the library. It prints a line for each: its name, and what the patch tool
+// would print of the patched document if it lent as many bytes as the case says. Where the patch is applied, there are
+// two more lines: the undo, and what the patch tool would print of the undo on the patched text. The stored output is
+// what the second program answers, so that each run compares the two.
 use cases::Case;
 use cases::Contents;
 use cases::Found;
@@ -30,7 +30,7 @@ ghost use lib.ListN.{length};
 
 const OUTPUT: usize = 65_536;
 
-// As many bytes, and the newline.
+// The output, and the newline.
 const LINE: usize = 65_537;
 
 // The longest undo.
@@ -42,7 +42,7 @@ const SHORT_BYTES: usize = 32_767;
 // What the outputs hold before a call: a byte that no text has.
 const UNWRITTEN: u8 = 255;
 
-// The answer's line. It is laid down in the output, which has the text in front.
+// The answer's line. It is laid down in the output, which begins with the text.
 fn print_answer(answer: Answer, output: &mut [u8]) {
     let n = report(answer, output);
     say(front(output, n));
@@ -165,7 +165,7 @@ fn run_case<'a>(name: &'a [u8], rooms: Three, document: &'a [u8], patch: &'a [u8
     }
 }
 
-// The same where there is as much room.
+// The case's lines, with another text where there is less room than the case asks for.
 fn run_with<'a>(name: &'a [u8], rooms: Three, document: &'a [u8], patch: &'a [u8], rubbish: u16) {
     say(name);
     say(b": ");
@@ -180,7 +180,7 @@ fn run_with<'a>(name: &'a [u8], rooms: Three, document: &'a [u8], patch: &'a [u8
     run_case(name, rooms, document, patch, rubbish);
 }
 
-// The case that was found. Its rooms are those of the output and of the undo's.
+// The case that was found. Its rooms are those of the output and of the undo's output.
 fn run_found(file: &[u8], c: Case, rubbish: u16) {
     let texts = c.texts;
     let document = bytes_of(file, texts.first);
@@ -201,8 +201,8 @@ fn run_all(file: &[u8]) {
     }
 }
 
-// The call with a buffer that is a byte too short, which no case can say: 1, before anything else, and both outputs
-// untouched.
+// The call with a buffer that is a byte too short. No case can say this. The answer is 1, before anything else, and
+// both outputs are untouched.
 fn run_short() {
     let mut output = [UNWRITTEN; 80];
     let mut undo = [UNWRITTEN; 80];

@@ -180,7 +180,7 @@ module _ {w : Table} {start span : ℕ} {walked row : ℕ} {o : Outcome Value.Va
 -- ---- the loop: its state, of whatever node the table holds in the row where it began
 pub record Walking (w : Table) (start : ℕ) (path : Spelling) (first at row walked : ℕ) : Type 0 where
   pub so-far : (r : Reached) → WalkRows w path at row r → WalkRows w path first start (reachedBehind walked r)
-  -- a token walked is a slash at least
+  -- each token walked took at least a slash
   pub counted : walked ≤ at
   pub inside : first ≤ length (partOf (w .texts) path) → at ≤ length (partOf (w .texts) path)
   pub on : (ts : Tokens) → Short (w .texts) → first ≤ length (partOf (w .texts) path) → TokensFrom (w .texts) path first ts
@@ -243,7 +243,7 @@ module _ {w : Table} {start : ℕ} {path : Spelling} {first at row walked : ℕ}
           on = λ ts short i from c kids n. rw (behind-next (partOf (w .texts) path) t end next f) at (onward ts short i from c kids n);
         }
 
-    -- the count is no number too great: what is behind it is a place
+    -- the count is not too large: it is at most a place of the pointer
     pub walking-count : (end next : ℕ) → t ≡ Token.Next end next → walked + 1 ≤ next
     walking-count end next f = let o = next-order pointer at t is end next f in omega (arith, g .counted, o .0, o .1)
 

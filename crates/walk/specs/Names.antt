@@ -53,7 +53,7 @@ nameAt path at bytes =
       hash = shortHash (hash (textOf Layout.token bytes));
     }
 
--- of the token that begins at a place of the pointer that a path spells; behind the pointer's end no token begins
+-- the name of the token that begins at a place of the pointer that a path spells; behind the pointer's end no token begins
 unfoldable pub tokenName : Texts → Spelling → ℕ → Token → Name
 tokenName T path at t = if ltb (length (partOf T path)) at then noName else nameAt path at (tokenBytes (partOf T path) at t)
 

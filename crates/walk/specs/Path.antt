@@ -45,7 +45,7 @@ reachedBehind n (At row) = At row
 reachedBehind n (Lost number walked) = Lost number (n + walked)
 
 -- The outcome of a walk from a node with `span` nodes below it: the row of a node that is the value reached, and that lies in the tree where
--- the walk began; or the refusal's number, and the count of tokens walked before the one that failed. What a node is, is told with its origins or
+-- the walk began; or the refusal's number, and the count of tokens walked before the one that failed. What a node is may be said with its origins or
 -- without them.
 pub data WalkedBy {A : Type 0} (is : Texts → Cell → Forest Cell → A) (w : Table) (row span : ℕ) (o : Outcome A) : Reached → Type 0 where
   reached : {at : ℕ} {c : Cell} {kids : Forest Cell} → o ≡ ok (is (w .texts) c kids) → NodeHeld w at c kids → row ≤ at

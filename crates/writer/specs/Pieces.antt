@@ -1,5 +1,5 @@
--- The pieces that a value's text is put together from, by the fields of the nodes. Of strings that are verbatim they are those of the
--- definitions (proofs/PieceLaws).
+-- The pieces that a value's text is put together from, by the fields of the nodes. For strings that are verbatim they are those of the definitions
+-- (proofs/PieceLaws).
 use Prim.Native.Nat.{ℕ}
 use Prim.Native.Char.{code}
 use mathlib.Core.Bool.{Bool}

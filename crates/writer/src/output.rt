@@ -35,7 +35,7 @@ pub fn put_part(form: u16, s: &[u8], out: &mut [u8]) -> usize
     least(count, out.len())
 }
 
-// Bytes between quotation marks, where there is room for all of it: one loop in the place of three calls.
+// Bytes between quotation marks, where there is room for all of it: one loop instead of three calls.
 pub fn put_quoted(s: &[u8], out: &mut [u8]) -> usize
     requires { ⌜ length (now s) + 2 ≤ length (now out) ⌝ }
     ensures { λ r. ⌜ Placed ((0x22 ∷ []) ++ now (s .entry) ++ (0x22 ∷ [])) 0 (now (out .entry)) (now (out .exit)) r ⌝ }

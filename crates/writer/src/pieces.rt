@@ -14,7 +14,7 @@ ghost use Rattle.writer.specs.Pieces.{stringBytes, literalBytes, scalarB
 ghost use Rattle.writer.specs.Pieces.{nameBytes, prefixBytes};
 ghost use Rattle.writer.specs.Writing.{Placed};
 
-// A string between its quotation marks, each of its three pieces for itself.
+// A string between its quotation marks, each of its three pieces on its own.
 fn write_pieces<'a>(texts: Texts<'a>, spelling: Spelling, out: &mut [u8]) -> usize
     ensures { λ r. ⌜ Placed (stringBytes (lent texts) spelling) 0 (now (out .entry)) (now (out .exit)) r ⌝ }
 {

@@ -1,4 +1,4 @@
--- `partner` meets its contract: by the index, by the search path of the name, and else by a search.
+-- `partner` meets its contract: by the index, by the search path of the name, and otherwise by a search.
 use native.Mathlib.Omega.{arith}
 use mathlib.Core.Path.{refl}
 use borrow.Author.Tests.{not-true}

@@ -1,4 +1,4 @@
--- `prefix_from`: an answer that is right of the tokens that are left is right of all.
+-- `prefix_from`: an answer that is right for the tokens that are left is right for all.
 use Prim.Native.Nat.{_-_}
 use mathlib.Core.Bool.{Bool}
 use native.Mathlib.Omega.{arith}

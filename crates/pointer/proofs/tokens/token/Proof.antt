@@ -1,4 +1,4 @@
--- `token`: what is right of the rest of the token is right of all of it.
+-- `token`: an answer that is right for the rest of the token is right for all of it.
 use Prim.Native.Nat.{_-_}
 use native.Mathlib.Omega.{arith}
 use lib.ListN.{length}

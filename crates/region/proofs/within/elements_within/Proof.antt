@@ -1,4 +1,4 @@
--- `elements_within` meets its contract: what is answered of the elements that are left is the answer, and the measure is the rows that are left.
+-- `elements_within` meets its contract: the answer for the elements that are left is the answer for all, and the measure is the rows that are left.
 use Prim.Native.Nat.{_≤_, _-_}
 use native.Mathlib.Omega.{arith}
 use borrow.Author.Needs.{needs}

@@ -1,5 +1,5 @@
--- `elements` meets its contract: what the run of the operations that are left gives is what the whole run gives, and so with the undo; the measure
--- is the rows that are left.
+-- `elements` meets its contract: what the run of the operations that are left gives is what the whole run gives, and so for the undo; the measure is the
+-- rows that are left.
 use Prim.Native.Nat.{_≤_, _-_}
 use native.Mathlib.Omega.{arith}
 use mathlib.Core.Path.{_≡_, refl}

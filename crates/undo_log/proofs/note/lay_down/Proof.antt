@@ -1,4 +1,4 @@
--- `lay_down` meets its contract: the text stands so many bytes before the end. Assumes nothing.
+-- `lay_down` meets its contract: the text begins `bytes` bytes before the end. Assumes nothing.
 use native.Mathlib.Omega.{arith}
 use borrow.Author.Needs.{needs}
 use Rattle.undo_log.proofs.NoteLaws.{lay-down-is}

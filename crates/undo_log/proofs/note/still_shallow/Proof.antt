@@ -1,4 +1,4 @@
--- `still_shallow` meets its contract: a value may have two levels less than the undo. Assumes nothing.
+-- `still_shallow` meets its contract: a value may have two levels fewer than the undo. Assumes nothing.
 use borrow.Author.Needs.{needs}
 use mathlib.Core.Path.{refl}
 use borrow.Author.Tests.{not-true, not-false}

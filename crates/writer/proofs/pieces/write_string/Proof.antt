@@ -1,4 +1,4 @@
--- `write_string` meets its contract: the pieces do, and one piece that is the same bytes.
+-- `write_string` meets its contract: the pieces do, and so does one piece of the same bytes.
 use native.Mathlib.Omega.{arith}
 use borrow.Author.Needs.{needs}
 use Rattle.writer.proofs.PlacedLaws.{placed-as}
