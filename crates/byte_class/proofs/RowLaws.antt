@@ -21,7 +21,7 @@ entry-at rows i j h =
     let column : (16 * i + j) % 16 ≡ j = omega arith in
     rw (row, column)
 
--- as many, counted otherwise
+-- the same count, written in another way
 pub filled-as : {rows : List (List ℕ)} {n m : ℕ} {table : List ℕ} → n ≡ m → Filled rows n table → Filled rows m table
 filled-as {rows} {table = table} e f = subst (λ (k : ℕ). Filled rows k table) e f
 

@@ -20,7 +20,7 @@ pub data Class : Type 0 where
   first-of-four : Class
   never : Class
 
--- a byte's class: control is below 20 hex, never are C0, C1 and all from F5 on
+-- a byte's class: `control` is every byte below 20 hex; `never` is C0, C1 and every byte from F5 on
 unfoldable pub classOf : ℕ → Class
 classOf b =
     if eqb b (code "\"") then quote else

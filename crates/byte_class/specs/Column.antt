@@ -1,5 +1,5 @@
--- What needs more than a class, where a string is read byte by byte, from state to state, by a table of steps: each byte's column in that
--- table. It is the symbol of the byte's class but for what is named here.
+-- What needs more than a class: each byte's column in the table of steps, by which a string is read byte by byte, from state to state. The column is
+-- the symbol of the byte's class, except for the bytes named here.
 use Prim.Native.Nat.{ℕ}
 use Prim.Native.Char.{code}
 use mathlib.Core.List.{List}
@@ -8,7 +8,7 @@ use Rattle.spec.specs.Outcome.{if_then_else_}
 use Rattle.spec.specs.Bytes.{within}
 use Rattle.byte_class.specs.Class.{classOf, symbol, Follows}
 
--- the columns that are no class's
+-- the columns that belong to no class
 abbrev pub from-80 : ℕ
 from-80 = 6
 
@@ -30,15 +30,15 @@ first-F4 = 12
 abbrev pub kept-escape : ℕ
 kept-escape = 15
 
--- RFC 3629, section 4: the second byte is A0 to BF after E0, 80 to 9F after ED, 90 to BF after F0 and 80 to 8F after F4. So continuation
--- bytes are told apart, where A0 to BF keep the column of their class;
+-- RFC 3629, section 4: the second byte is A0 to BF after E0, 80 to 9F after ED, 90 to BF after F0 and 80 to 8F after F4. So the continuation bytes 80
+-- to 8F and 90 to 9F have columns of their own; A0 to BF keep the column of their class.
 unfoldable pub continued : ℕ → ℕ
 continued b =
     if within 0x90 0x9F b then from-90 else
     if within 0x80 0x8F b then from-80 else symbol (classOf b)
 
--- so are the letters of the escapes that are written as they are read: RFC 8259, section 7, but for the slash and u, and for the quotation
--- mark and the backslash, which are classes;
+-- The letters of the escapes that are written as they are read have a column of their own: those of RFC 8259, section 7, except the slash and u. The
+-- quotation mark and the backslash are classes already.
 unfoldable pub lettered : ℕ → ℕ
 lettered b =
     if eqb b (code "t") then kept-escape else
@@ -47,7 +47,7 @@ lettered b =
     if eqb b (code "f") then kept-escape else
     if eqb b (code "b") then kept-escape else continued b
 
--- and so are those four first bytes.
+-- The four first bytes E0, ED, F0 and F4 have columns of their own.
 unfoldable pub columnOf : ℕ → ℕ
 columnOf b =
     if eqb b 0xF4 then first-F4 else

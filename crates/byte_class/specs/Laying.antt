@@ -13,7 +13,7 @@ pub record Filled (rows : List (List ℕ)) (n : ℕ) (table : List ℕ) : Type 0
   pub counted : length table ≡ 256
   pub filled : (b : ℕ) → b < n → getD table b 0 ≡ entry rows b
 
--- A value is laid down from one place to before another, and nothing else changes.
+-- The entries from `low` to before `high` are `v`, and nothing else changes.
 pub record Laid (low high v : ℕ) (before after : List ℕ) : Type 0 where
   pub counted : length after ≡ length before
   pub under : (b : ℕ) → b < low → getD after b 0 ≡ getD before b 0

@@ -62,8 +62,8 @@ fn flat(rows: &[[u8; 16]; 16]) -> [u8; 256]
     table
 }
 
-// The symbol of each byte's class. The compiler knows the rows and lays the result down at once, on the stack: so
-// whoever loops over bytes calls this before the loop, and never in it.
+// The symbol of each byte's class. The compiler knows the rows and stores the result directly on the stack. So call
+// this before a loop over bytes, never inside it.
 pub fn classes() -> [u8; 256]
     ensures { λ r. ⌜ ClassRule r ⌝ }
 {

@@ -1,7 +1,7 @@
-// What needs more than a class, in one place. A string is passed byte by byte by a table of steps (crate `lexer`,
-// STEPS), in which each byte has a column. That is its class, but for three things that no class says: which second
-// bytes follow E0, ED, F0 and F4; which bytes these four are; which letters make an escape that is written as it is
-// read.
+// What needs more than a class, in one place. A string is read byte by byte with a table of steps (crate `lexer`,
+// STEPS), in which each byte has a column. The column is the byte's class, except for three things that no class says:
+// which second bytes follow E0, ED, F0 and F4; which bytes these four are; which letters make an escape that is written
+// as it is read.
 ghost use Prim.Native.Nat.{_≤_};
 ghost use mathlib.Core.Path.{_≡_};
 ghost use lib.ListN.{length};
@@ -9,7 +9,7 @@ ghost use Rattle.byte_class.specs.Column.{ColumnRule};
 ghost use Rattle.byte_class.specs.Laying.{Laid};
 use crate::class_table::classes;
 
-// The columns that are no class's: numbers that are the last four bits of no symbol.
+// The columns that belong to no class: numbers that are not the last four bits of any symbol.
 const FROM_80: u8 = 6;
 
 const FROM_90: u8 = 7;
@@ -24,7 +24,7 @@ const FIRST_F4: u8 = 12;
 
 const KEPT_ESCAPE: u8 = 15;
 
-// A value laid down from one place to before another.
+// `v` laid down in the entries from `low` to before `high`.
 fn lay(table: &mut [u8; 256], low: usize, high: usize, v: u8)
     requires { ⌜ (low ≤ high) × (high ≤ 256) × (length (now table) ≡ 256) ⌝ }
     ensures { λ r. ⌜ Laid low high v (now (table .entry)) (now (table .exit)) ⌝ }

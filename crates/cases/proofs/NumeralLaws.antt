@@ -1,4 +1,4 @@
--- What digits say, a digit after another.
+-- What digits say, digit by digit.
 use Prim.Native.Nat.{ℕ, _+_, _-_, _*_, _≤_, _<_}
 use mathlib.Core.Path.{_≡_, refl}
 use mathlib.Core.List.{List, [], _∷_}

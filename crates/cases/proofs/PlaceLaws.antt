@@ -28,7 +28,7 @@ use Rattle.cases.specs.declared.reading.Case.{Case}
 use Rattle.cases.specs.declared.reading.Found.{Found}
 use Rattle.cases.specs.declared.reading.Found.the-variants.{Here}
 
--- ---- what holds of both ways on, and of all that may be handed on, holds of the whole
+-- ---- what holds of both branches, and of every result that may be passed on, holds of the whole
 both : {A : Type 0} (P : A → Type 0) (t : Bool) {a b : A} → (t ≡ true → P a) → (t ≡ false → P b) → P (if t then a else b)
 both P true on off = on refl
 both P false on off = off refl

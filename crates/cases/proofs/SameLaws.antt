@@ -13,7 +13,7 @@ module _ {A : Type 0} (test : A → Bool) (xs : List A) (z : A) (i : ℕ) where
   from-here : i < length xs → drop i xs ≡ getD xs i z ∷ drop (i + 1) xs
   from-here h = rw (add-one, drop-cons xs i z)
 
-  -- one that passes: it is for the rest to say
+  -- one that passes: the rest decides
   pub every-next : i < length xs → test (getD xs i z) ≡ true → every test (drop i xs) ≡ every test (drop (i + 1) xs)
   unfolding every
   every-next h e = rw (from-here h, e)

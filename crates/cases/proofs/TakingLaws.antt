@@ -1,4 +1,4 @@
--- Words and parts of a file, a byte after another.
+-- Words and parts of a file, byte by byte.
 use Prim.Native.Nat.{ℕ, _+_, _-_, _≤_, _<_}
 use mathlib.Core.Path.{_≡_, refl, sym, _∙_}
 use mathlib.Core.Bool.{Bool, true, false, true≢false}
@@ -26,7 +26,7 @@ module _ (s : List ℕ) (i byte : ℕ) where
   unfolding found before placed
   found-here h e = rw (drop-cons s i 0 h, eq-eqb _ _ e, add-zero, lt-ltb _ _ h)
 
-  -- it does not, and the rest is to say
+  -- it does not: the rest decides
   pub found-next : i < length s → (getD s i 0 ≡ byte → ⊥) → found s i byte ≡ found s (i + 1) byte
   unfolding found before placed
   found-next h d = rw (drop-cons s i 0 h, ne-eqb _ _ d, add-suc, add-one, suc-add)
@@ -36,7 +36,7 @@ module _ (s : List ℕ) (i byte : ℕ) where
   unfolding found before placed
   found-none h = rw (drop-of-length-le s h, add-zero, le-ltb _ _ h)
 
--- ---- a part that the file has, and one that it has not
+-- ---- a part that the file has, and one that it does not have
 module _ (s : List ℕ) (p : Part) where
   pub cut-there : p .start ≤ p .end → p .end ≤ length s → cut s p ≡ take (p .end - p .start) (drop (p .start) s)
   unfolding cut
@@ -55,7 +55,7 @@ module _ (s : List ℕ) (p : Part) where
       go false = refl
 
 module _ (s : List ℕ) (at count : ℕ) where
-  -- too few bytes, another byte than a newline behind them, and neither
+  -- too few bytes; a byte behind them that is not a newline; neither
   pub bytes-none : length s ≤ at + count → bytesAt s at count ≡ Missing
   unfolding bytesAt
   bytes-none h = rw (le-ltb _ _ h)
@@ -75,7 +75,7 @@ module _ (s : List ℕ) (at count : ℕ) where
   unfolding bytesAt
   bytes-some h e = rw (lt-ltb _ _ h, eq-eqb _ _ e)
 
--- ---- what a function of the code answered, of what it ensures
+-- ---- what the definition gives, from what a function ensures and what it answered
 pub told : {A : Type 0} {r d v : A} → r ≡ d → r ≡ v → d ≡ v
 told e t = sym e ∙ t
 

@@ -20,12 +20,12 @@ nameAt s at word =
     onTaken (wordAt s at 32) (λ first a. if sameText (cut s first) word then wordAt s a 32 else Taken.the-variants.Missing)
     Taken.the-variants.Missing
 
--- of `count` texts the one with i before it, and an empty part where there is none
+-- the text with i before it, of `count` texts; an empty part if there is none
 unfoldable pub textAt : List ℕ → ℕ → ℕ → ℕ → ℕ → Taken.Taken
 textAt s at i count length =
     if leb count i then Taken.the-variants.Is (record { start = at; end = at }) at else bytesAt s at length
 
--- as many texts, one after another, and the place behind them
+-- `count` texts, up to three, one after another, and the place behind them
 unfoldable pub textsAt : List ℕ → ℕ → Three → ℕ → Standing.Standing
 textsAt s at lengths count =
     onTaken (textAt s at 0 count (lengths .first))
@@ -44,7 +44,7 @@ onStanding Standing.the-variants.Missing next none = none
 abbrev pub caseWord : List ℕ
 caseWord = 99 ∷ 97 ∷ 115 ∷ 101 ∷ []
 
--- the case that begins at a place with a word, and has `rooms` numbers and `texts` texts
+-- the case that begins with `word` at the place `at` and has `rooms` numbers and `texts` texts, up to three of each
 unfoldable pub caseAt : List ℕ → ℕ → List ℕ → ℕ → ℕ → Found
 caseAt s at word rooms texts =
     onTaken (nameAt s at word)

@@ -10,7 +10,7 @@ use Rattle.cases.specs.declared.numbers.Number as Number
 use Rattle.cases.specs.declared.numbers.Three.{Three}
 use Rattle.cases.specs.declared.numbers.Numbers as Numbers
 
--- what digits say behind others that say n: decimal, and read while the number is at most 99,999,999
+-- the decimal number that digits say behind others that say n; another digit is read only while the number is at most 99,999,999
 unfoldable pub worthFrom : ℕ → List ℕ → Digits
 worthFrom n [] = Say n
 worthFrom n (d ∷ ds) =
@@ -40,13 +40,13 @@ numberAt s at end =
     onTaken (wordAt s at end) (λ p next. onDigits (worth (cut s p)) (λ n. Number.the-variants.Is n next) Number.the-variants.Missing)
     Number.the-variants.Missing
 
--- of `count` numbers the one with i before it, and 0 where there is none; a blank ends each but the last
+-- the number with i before it, of `count` numbers; 0 if there is none; a blank ends each but the last
 unfoldable pub counted : List ℕ → ℕ → ℕ → ℕ → ℕ → Number.Number
 counted s at i count end =
     if leb count i then Number.the-variants.Is 0 at else
     (if eqb (count - i) 1 then numberAt s at end else numberAt s at 32)
 
--- as many numbers, one after another, and the place behind them
+-- `count` numbers, up to three, one after another, and the place behind them
 unfoldable pub threeAt : List ℕ → ℕ → ℕ → ℕ → Numbers.Numbers
 threeAt s at count end =
     onNumber (counted s at 0 count end)

@@ -17,7 +17,7 @@ abbrev pub Met : ℕ → ℕ → Place → Type 0
 Met n at (At i) = (at ≤ i) × (i < n)
 Met n at Nowhere = Unit {0}
 
--- a place behind `at`, the file's end at most
+-- a place behind `at`, at most the file's end
 abbrev pub Behind : ℕ → ℕ → ℕ → Type 0
 Behind n at next = (at < next) × (next ≤ n)
 

@@ -1,4 +1,4 @@
--- A buffer that holds one and the same everywhere.
+-- A buffer that holds the same value everywhere.
 use Prim.Native.Nat.{ℕ}
 use mathlib.Core.Bool.{Bool, true, false}
 use mathlib.Core.List.{List, [], _∷_}

@@ -1,4 +1,4 @@
-// Whether a buffer holds one and the same everywhere.
+// Whether a buffer holds the same value everywhere.
 use tape::layout::Node;
 ghost use mathlib.Core.Path.{_≡_};
 ghost use lib.ListN.{drop};

@@ -16,7 +16,7 @@ fn read_all(fd: i32, buf: &mut [u8]) -> Contents
     ensures { λ r. ⌜ Within (length (now (buf .exit))) r ⌝ }
 {
     let n = io::read_full(fd, buf);
-    // where the file has ended, and only there, another read answers 0
+    // another read answers 0 at the end of the file, and only there
     let mut more = [0u8; 1];
     if libc::read(fd, &mut more) != 0 {
         return Contents::Unreadable;

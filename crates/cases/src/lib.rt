@@ -1,10 +1,10 @@
-// Committed cases: a file of them read, and one case after another taken from it; whether lent memory is as it must be
-// after a call; what is printed. The programs that run cases put each to a call of their own.
+// Committed cases: a file of them is read, and one case after another is taken from it; lent memory is checked after a
+// call; lines are printed. Each program that runs cases puts them to a call of its own.
 //
-// What is proved: on every input a case is that of the definition `caseAt` (specs/CaseFile), a part of the file that of
-// `cut`, and a look through a buffer answers by `every` (specs/Same). A case ends behind its beginning, and its parts
-// lie in the file (proofs/PlaceLaws). No contract speaks of what is read from the file or of what is printed.
-mod checks; // whether a buffer holds one and the same everywhere
+// What is proved: on every input, a case is what the definition `caseAt` (specs/CaseFile) gives, a part of the file is
+// what `cut` gives, and a check of a buffer answers as `every` does (specs/Same). A case ends behind its beginning, and
+// its parts lie in the file (proofs/PlaceLaws). No contract speaks of what is read from the file or of what is printed.
+mod checks; // whether a buffer holds the same value everywhere
 mod file; // the file of cases
 mod lines; // what is printed
 mod numbers; // the numbers of a header

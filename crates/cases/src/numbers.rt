@@ -5,7 +5,7 @@ use crate::words::word_at;
 ghost use mathlib.Core.Path.{_≡_};
 ghost use Rattle.cases.specs.Numerals.{worth, numberAt, counted, threeAt};
 
-// Digits are read while the number is no more than this, so that none overflows.
+// Another digit is read only while the number is at most this, so that none overflows.
 const LARGEST: usize = 99_999_999;
 
 pub enum Digits {
@@ -13,7 +13,7 @@ pub enum Digits {
     Unclear,
 }
 
-// What digits say, one at least.
+// The number that digits say. At least one digit is needed.
 fn worth(text: &[u8]) -> Digits
     ensures { λ r. ⌜ r ≡ worth (now (text .entry)) ⌝ }
 {
@@ -57,7 +57,7 @@ fn number_at(file: &[u8], at: usize, end: u8) -> Number
     Number::Is(n, next)
 }
 
-// Of `count` numbers the one with `i` before it; 0, and no byte of the file, where there is none. A blank ends each
+// The number with `i` before it, of `count` numbers; 0, without a byte read, if there is none. A blank ends each number
 // but the last.
 fn counted(file: &[u8], at: usize, i: usize, count: usize, end: u8) -> Number
     ensures { λ r. ⌜ r ≡ counted (now (file .entry)) at i count end ⌝ }
@@ -83,7 +83,7 @@ pub enum Numbers {
     Missing,
 }
 
-// As many numbers, the last ended by `end`, and the place behind them.
+// `count` numbers, up to three, the last ended by `end`, and the place behind them.
 pub fn three_at(file: &[u8], at: usize, count: usize, end: u8) -> Numbers
     ensures { λ r. ⌜ r ≡ threeAt (now (file .entry)) at count end ⌝ }
 {

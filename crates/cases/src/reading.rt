@@ -12,7 +12,7 @@ use check::same;
 ghost use mathlib.Core.Path.{_≡_};
 ghost use Rattle.cases.specs.CaseFile.{nameAt, textAt, textsAt, caseWord, caseAt};
 
-// The name of the case that begins at a place with a word.
+// The name of the case that begins with `word` at the place `at`.
 fn name_at(file: &[u8], at: usize, word: &[u8]) -> Taken
     ensures { λ r. ⌜ r ≡ nameAt (now (file .entry)) at (now (word .entry)) ⌝ }
 {
@@ -25,7 +25,7 @@ fn name_at(file: &[u8], at: usize, word: &[u8]) -> Taken
     word_at(file, a, b' ')
 }
 
-// Of `count` texts the one with `i` before it; an empty part, where there is none.
+// The text with `i` before it, of `count` texts; an empty part if there is none.
 fn text_at(file: &[u8], at: usize, i: usize, count: usize, length: usize) -> Taken
     ensures { λ r. ⌜ r ≡ textAt (now (file .entry)) at i count length ⌝ }
 {
@@ -82,7 +82,7 @@ pub enum Found {
     Nothing,
 }
 
-// The case that begins at a place with a word, and has `rooms` numbers and `texts` texts, up to three of each.
+// The case that begins with `word` at the place `at` and has `rooms` numbers and `texts` texts, up to three of each.
 pub fn case_of(file: &[u8], at: usize, word: &[u8], rooms: usize, texts: usize) -> Found
     ensures { λ r. ⌜ r ≡ caseAt (now (file .entry)) at (now (word .entry)) rooms texts ⌝ }
 {
@@ -106,7 +106,7 @@ pub fn case_of(file: &[u8], at: usize, word: &[u8], rooms: usize, texts: usize) 
     })
 }
 
-// The same with the word that most files have.
+// The same with the word `case`, which most files use.
 pub fn case_at(file: &[u8], at: usize, rooms: usize, texts: usize) -> Found
     ensures { λ r. ⌜ r ≡ caseAt (now (file .entry)) at caseWord rooms texts ⌝ }
 {

@@ -28,7 +28,7 @@ pub struct Part {
     pub end: usize,
 }
 
-// Its bytes; none, where the file has no such part.
+// A part's bytes; none if the file has no such part.
 pub fn bytes_of<'a>(file: &'a [u8], p: Part) -> &'a [u8]
     ensures { λ r. ⌜ now r ≡ cut (now (file .entry)) p ⌝ }
 {
@@ -43,7 +43,7 @@ pub fn bytes_of<'a>(file: &'a [u8], p: Part) -> &'a [u8]
     &file[start..end]
 }
 
-// The first `n` bytes; all, where there are no more.
+// The first `n` bytes, or all if there are fewer.
 pub fn front<'a>(bytes: &'a [u8], n: usize) -> &'a [u8]
     ensures { λ r. ⌜ now r ≡ take n (now (bytes .entry)) ⌝ }
 {

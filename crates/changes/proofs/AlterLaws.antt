@@ -99,7 +99,7 @@ alter-scalar {w} z e f t ts makes short inside from =
           level-container (z .c) (deep (z .kids)) (omega arith),
         ))
 
--- ---- a parent outside the rows in use is none
+-- ---- a parent outside the rows in use is no site
 pub alter-outside : {w : Table} {p : Parent} {path : Spelling} {at place : ℕ} {change : Change} → p .used ≤ p .row
     → AlterIs w (w .nodes) p path at change (Refused location-missing place)
 alter-outside h = record { frame = unchanged refl; held = λ z f t ts makes short inside from. absurd (omega (arith, site-inside z)) }
@@ -341,7 +341,7 @@ module _ {w : Table} {p : Parent} {path : Spelling} {at : ℕ} {name : Name} {en
       → ChangeAnswers z nodes' (o >>= λ x. ok (put k x (borne (w .texts) (z .c) (z .kids)))) (Refused number told)
   back-refused z k n o answer = up-refused z (nameText (w .texts) name) k below (ap suc one-less) (n .0) (n .1) inner (n .2) answer
 
-  -- a child that nests no container has none of its own
+  -- a child that nests no container has no children
   pub alter-flat : below ≡ 0 → (place : ℕ) → place ≡ walkedTo p → AlterIs w (w .nodes) p path at change (Refused location-missing (place + 1))
   alter-flat none place walked =
       record {

@@ -43,7 +43,7 @@ no-name-told = record { form = omega arith; source = omega arith }
 pub token-fits : {T : Texts} {name : Name} → IsToken T name → NameFits T name
 token-fits t = record { hashed = t .hashed; verbatim = record { is = λ plain. absurd (omega (arith, t .form)) } }
 
--- ---- what looks at no origin
+-- ---- what does not look at origins
 pub members-borne : (T : Texts) (kids : Forest Cell) → forgetMembers (borneMembers T kids) ≡ members T kids
 members-borne T kids = map-map forgetEntry (bearing T) kids
 

@@ -67,7 +67,7 @@ module _ {w : Table} {used row levels : ℕ} {z : Site w used row levels} {nodes
   pub same-answers : {o p : Outcome Value.Value} {r : Altered} → o ≡ p → ChangeAnswers z nodes' p r → ChangeAnswers z nodes' o r
   same-answers {r = r} e a = subst (λ o. ChangeAnswers z nodes' o r) (sym e) a
 
-  -- what the definitions refuse is refused, with the tokens that were walked before
+  -- what the definitions refuse is refused; the place is the number of tokens walked before
   pub answers-refused : {o : Outcome Value.Value} {number walked place : ℕ} → o ≡ refused number 0 → place ≡ walked
       → ChangeAnswers z nodes' (fartherBy walked o) (Refused number place)
   unfolding fartherBy
@@ -341,7 +341,7 @@ module _ {w : Table} {row : ℕ} {token : Name} (s : Child) (is : StepIs w row t
   abbrev plain-child : Outcome ℕ
   plain-child = Plain.childAt (nameText (w .texts) token) (meant (w .texts) (z .c) (z .kids))
 
-  -- where the token names no child, neither has one
+  -- where the token names no child, the definitions find none
   pub no-child : {number : ℕ} → s ≡ Child.Refused number → child-of ≡ refused number 0
   no-child {number} e = go (is .held t (z .c) (z .kids) (site-held z)) e
     where

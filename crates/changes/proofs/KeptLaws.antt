@@ -1,4 +1,4 @@
--- Laws of what a change keeps: a forest stands in its rows as long as they are the same, whatever becomes of others.
+-- Laws of what a change keeps: a forest stands in its rows as long as they are the same, whatever becomes of the others.
 use Prim.Native.Nat.{ℕ, _+_, _-_, _≤_, _<_}
 use native.Mathlib.Omega.{arith}
 use native.Mathlib.Decide.{decLt}
@@ -40,7 +40,7 @@ pub held-alone : {nodes : List Row} {row : ℕ} {c : Cell} {kids rest : Forest C
 held-alone {rest = rest} h = record { after = tape rowOf rest ++ h .after; rows = holds-alone (h .rows); formed = formed-alone (h .formed) }
 
 -- ---- a forest in rows that are the same
--- a list, and the same with other rows than n from a row on
+-- two lists with the same n rows from a row on
 pub record SameRows (xs ys : List Row) (row n : ℕ) : Type 0 where
   pub is : take n (drop row ys) ≡ take n (drop row xs)
 
@@ -54,7 +54,7 @@ held-same {nodes} {nodes'} {row} {f} same h =
       formed = h .formed;
     }
 
--- of the first rows some
+-- some of the first rows
 pub same-first : {xs ys : List Row} {n m : ℕ} → take m ys ≡ take m xs → n ≤ m → SameRows xs ys 0 n
 same-first {xs} {ys} {n} {m} e h = record { is = sym (take-take n m ys h) ∙ ap (take n) e ∙ take-take n m xs h }
 
@@ -91,7 +91,7 @@ module _ {xs : List Row} where
         let place : patchRow + (row - patchRow) ≡ row = omega arith in
         record { is = rw (← place, ← drop-drop (row - patchRow) patchRow ys, ← drop-drop (row - patchRow) patchRow xs, b .is) }
 
--- what is offered there is offered still
+-- what is offered there is still offered
 pub offered-behind : {w : Table} {nodes' : List Row} {source : ℕ} {c : Cell} {kids : Forest Cell} → SameBehind (w .nodes) nodes' → Offered w source c kids
     → Offered (table (w .texts) nodes') source c kids
 offered-behind same o =
@@ -116,7 +116,7 @@ module _ {nodes nodes' : List Row} where
   frame-refused e (framed few same) = absurd (let z : _≡_ {A = ℕ} 0 1 = cc in omega arith)
   frame-refused e (unchanged f) = f
 
-  -- rows behind the document's are those in any case
+  -- the rows behind the document's are the same in any case
   pub frame-behind : {r : Altered} → Frame nodes nodes' r → SameBehind nodes nodes'
   frame-behind (framed few same) = same
   frame-behind (unchanged e) = record { is = ap (drop patchRow) e }

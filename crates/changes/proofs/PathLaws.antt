@@ -166,7 +166,7 @@ below-root {w = w} (replaces-bearing source x kids offered) t ts v then-it =
     then-it (replaceChild (borne (w .texts) x kids)) (replaces source x kids offered) refl
 
 -- ---- a change at a location
--- a table with more rows in use than a document may have holds none
+-- a table with more rows in use than a document may have holds no document
 pub change-too-many : {w : Table} {used : ℕ} {path : Spelling} {change : Change} → maxNodes < used
     → ChangeAtIs w (w .nodes) used path change (Refused too-many-nodes 0)
 change-too-many h = change-at-is (unchanged refl) (λ v d short ts p f makes. absurd (omega (arith, d .document .few)))

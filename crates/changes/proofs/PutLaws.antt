@@ -74,7 +74,7 @@ module _ {nodes : List Row} (p : Parent) (low : Low p) (at removed source count 
       (framed few
       (behind-set (p .row) _ (omega (arith, low .0, low .1)) (behind-spliced (p .used) at removed source count (omega (arith, low .0)) (omega arith))))
 
--- ---- other trees in the place of some children, which the node's row then tells
+-- ---- other trees in the place of some children, and the node's row changed to match
 module _ {w : Table} {used row levels : ℕ} (z : Site w used row levels) {at removed : ℕ} {left right : Forest Cell} (container : arrayKind ≤ z .c .kind)
     (cut : Cut row (z .kids) at removed left right) where
   pub in-use : at + removed ≤ used

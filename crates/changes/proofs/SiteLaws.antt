@@ -73,7 +73,7 @@ withName-row {c} {kids} name fit told =
     ap (λ (d : Cell). rowWith (renamed name d kids .root) (spanOf (rowOf c kids) % values)) (cell-row fit)
     ∙ made-row (renamed-fit name fit told) (spanOf (rowOf c kids)) (span-row c kids)
 
--- the name of a tree among others stored anew
+-- a new name stored for a tree among others
 pub laid-rename : {xs : List Row} {used : ℕ} {front back : List Row} (left : Forest Cell) (c : Cell) (kids right : Forest Cell) (name : Name) (at : ℕ)
     → Fit c kids → Told (name .text) → at ≡ length front + size left
     → Laid rowOf xs used front (left ⧺ single (record { root = c; kids = kids }) ⧺ right) back

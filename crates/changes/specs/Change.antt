@@ -40,8 +40,8 @@ use Rattle.changes.specs.declared.answers.Altered.the-variants.{Done, Re
 abbrev pub ByToken : Type 0
 ByToken = Text → Value.Value → Outcome Value.Value
 
--- The outcome of a change of the children of the node at a site, given what it is by the definitions before the limits are judged. Where it is done
--- the node has other children in their place, and nothing around it has changed.
+-- The outcome of changing the children of the node at a site, given the outcome by the definitions before the limits are judged. Where the change is
+-- done, the node has other children in their place, and nothing around it has changed.
 pub data ChangeAnswers {w : Table} {used row levels : ℕ} (z : Site w used row levels) (nodes' : List Row) (o : Outcome Value.Value) : Altered → Type 0 where
   done : {now : ℕ} {kids : Forest Cell} → limitedTo levels (z .room) o ≡ ok (borne (w .texts) (z .c) kids)
       → Standing (w .texts) nodes' now row (z .around) (z .c) kids → ChangeAnswers z nodes' o (Done now)
@@ -51,8 +51,8 @@ pub data ChangeAnswers {w : Table} {used row levels : ℕ} (z : Site w used row 
 abbrev pub SiteOf : Table → Parent → Type 0
 SiteOf w p = Site w (p .used) (p .row) (suc (p .below))
 
--- ---- Each contract says what holds whatever the table holds, and what holds where the parent stands in it. Where it does not, the answer and the
--- document's rows are free within that frame.
+-- ---- Each contract says what holds of every table, and what holds of one in which the parent stands. Of any other, the answer and the document's rows
+-- are free within that frame.
 -- a tree put among the children of a container
 pub record PutIs (nodes nodes' : List Row) (p : Parent) (at removed source : ℕ) (name : Name) (r : Altered) : Type 0 where
   pub rows : PutRows nodes nodes' p at removed source name r
@@ -69,12 +69,12 @@ pub record TakeOutIs (nodes nodes' : List Row) (p : Parent) (at : ℕ) (r : Alte
       → ChangeAnswers z nodes' (ok (borne T (z .c) (removeAt k (z .kids)))) r
 
 -- ---- a child changed by its token
--- the row where a child is to stand among the children of the node in a row, at a position up to their number, or the refusal's number
+-- where a child is to stand among the children of the node in a row: the row of a position up to their number, or the refusal's number
 pub data ChildPlaced (row : ℕ) (kids : Forest Cell) (o : Outcome ℕ) : Child → Type 0 where
   placed : (k at : ℕ) → o ≡ ok k → k ≤ count kids → at ≡ childRow row k kids → ChildPlaced row kids o (Child.At at)
   unplaced : (number : ℕ) → o ≡ refused number 0 → ChildPlaced row kids o (Child.Refused number)
 
--- an element's, by what its token is to an array
+-- the same of an element, by its token as an index
 abbrev pub InsertionIs : List Row → ℕ → Index → Child → Type 0
 InsertionIs nodes row i r = ForNode nodes row (λ c kids. ChildPlaced row kids (insertionAt (count kids) i) r)
 
@@ -88,7 +88,7 @@ pub record ReplaceTreeIs (nodes nodes' : List Row) (p : Parent) (at source : ℕ
   pub frame : Frame nodes nodes' r
   pub held : (T : Texts) → Replaced (table T nodes) nodes' p at source r
 
--- what the definitions say of a change by a token, on the value of the node, behind the tokens that lead to it
+-- what a change by a token does to the value of the node, by the definitions, after the tokens that lead to it
 abbrev pub Changed : Table → List Row → Parent → Name → ByToken → Altered → Type 0
 Changed w nodes' p token f r =
     (z : SiteOf w p) → IsToken (w .texts) token

@@ -5,7 +5,7 @@ use Rattle.spec.specs.Forest.{Forest, Tree, size, _⧺_}
 use Rattle.tape.specs.declared.fields.Name.{Name}
 use Rattle.tape.specs.declared.fields.Cell.{Cell}
 
--- of the node in a row: some children, those in `removed` rows from the row `at` on, and others
+-- the children of the node in a row, in three parts: some, those in the `removed` rows from the row `at` on, and the others
 pub record Cut (row : ℕ) (kids : Forest Cell) (at removed : ℕ) (left right : Forest Cell) : Type 0 where
   pub middle : Forest Cell
   pub parts : kids ≡ left ⧺ middle ⧺ right

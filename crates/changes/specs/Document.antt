@@ -45,8 +45,8 @@ pub record Document (w : Table) (used : ℕ) (v : Value.Value) : Type 0 where
 abbrev pub judged : Outcome Value.Value → Outcome Value.Value
 judged o = o >>= notTooDeep >>= notTooLarge
 
--- The outcome of a change of the document, given what it is by the definitions: the document is then the result; or the refusal's number
--- and its place. What the document is, is told with its origins or without them.
+-- The outcome of changing the document, given the outcome by the definitions: the document is then the result, or the answer is the refusal's number
+-- and its place. `Is` says what the document is, with its origins or without them.
 pub data ResultsBy {A : Type 0} (Is : ℕ → A → Type 0) (o : Outcome A) : Altered → Type 0 where
   results : {used : ℕ} {v : A} → o ≡ ok v → Is used v → ResultsBy Is o (Done used)
   refusal : {number place : ℕ} → o ≡ refused number place → ResultsBy Is o (Refused number place)
@@ -88,8 +88,8 @@ pub data MakesBearing (w : Table) : Change → AtLocationBearing → Type 0 wher
   replaces-bearing : (source : ℕ) (x : Cell) (kids : Forest Cell) → Offered w source x kids
       → MakesBearing w (Replace source) (λ ts v. Origins.replaceAtPath ts (borne (w .texts) x kids) v)
 
--- ---- Each contract says what holds whatever the table holds, and what holds where it holds a document. Where it holds none, the answer and the
--- document's rows are free within that frame; so they are where the path spells no pointer, or no tree is offered in the row of a new value.
+-- ---- Each contract says what holds of every table, and what holds of one that holds a document. Of any other, the answer and the document's rows are
+-- free within that frame; so they are where the path spells no pointer, or where no tree is offered in the row of a new value.
 -- the tree in a row behind the document's becomes the document
 pub record ReplaceDocumentIs (nodes nodes' : List Row) (used source : ℕ) (r : Altered) : Type 0 where
   pub frame : Frame nodes nodes' r
@@ -101,7 +101,7 @@ pub record ChangeDocumentIs (nodes nodes' : List Row) (used : ℕ) (change : Cha
   pub bearing : (T : Texts) (v : Origin.Value) → Bearing (table T nodes) used v → (f : AtLocationBearing) → MakesBearing (table T nodes) change f
       → ResultsBearing T nodes' (judgedBearing (f [] v)) r
 
--- the field `bearing` speaks of values with their origins, and `held` of the same without
+-- the field `bearing` speaks of values with their origins, and `held` of the same values without them
 pub record ChangeAtIs (w : Table) (nodes' : List Row) (used : ℕ) (path : Spelling) (change : Change) (r : Altered) : Type 0 where
   pub frame : Frame (w .nodes) nodes' r
   pub held : (v : Value.Value) → Document w used v → Short (w .texts) → (ts : Tokens) → PathIs (w .texts) path ts

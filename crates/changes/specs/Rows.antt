@@ -21,11 +21,11 @@ pub data Frame (nodes nodes' : List Row) : Altered → Type 0 where
   framed : {now : ℕ} → now ≤ maxNodes → SameBehind nodes nodes' → Frame nodes nodes' (Done now)
   unchanged : {number place : ℕ} → nodes' ≡ nodes → Frame nodes nodes' (Refused number place)
 
--- a node among the document's rows, which are no more than it may have, and no deeper than one may be
+-- a node among the document's rows, no deeper than a node may be; the document has no more rows than it may have
 abbrev pub Low : Parent → Type 0
 Low p = (p .used ≤ maxNodes) × (p .row < p .used) × (p .below < maxDepth)
 
--- the number of tokens that lead to it from the document: with each a child may nest one container less
+-- the number of tokens that lead to it from the document; with each token, a child may nest one container fewer
 abbrev pub walkedTo : Parent → ℕ
 walkedTo p = maxDepth - 1 - p .below
 
@@ -37,7 +37,7 @@ withName r name = rowWith (record { kind = kindOf r; value = valueOf r; name = n
 abbrev pub renamedAt : List Row → ℕ → Name → List Row
 renamedAt nodes row name = set nodes row (withName (getD nodes row noNode) name)
 
--- its span changed as the number of rows in use was
+-- its span changed by as much as the number of rows in use
 abbrev pub resized : List Row → ℕ → ℕ → ℕ → List Row
 resized nodes row used now = set nodes row (withSpan (getD nodes row []) ((spanOf (getD nodes row []) + now - used) % values))
 

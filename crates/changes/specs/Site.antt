@@ -15,13 +15,13 @@ use Rattle.tape.specs.Lent.{Texts, Table}
 use Rattle.table.specs.Meaning.{meant}
 use Rattle.table.specs.Sound.{LabelFits, Sound, NodeHeld}
 
--- what stands around a node: the trees behind it, the rows before it, and those behind these trees
+-- what stands around a node: the trees behind it, the rows before it, and the rows behind those trees
 pub record Surroundings : Type 0 where
   pub rest : Forest Cell
   pub front : List Row
   pub back : List Row
 
--- in the first `used` rows a node stands in a row, with the nodes below it, and around it what is said
+-- a node stands in `row`, within the first `used` rows, with the nodes below it and with these surroundings
 pub record Standing (T : Texts) (nodes : List Row) (used row : ℕ) (around : Surroundings) (c : Cell) (kids : Forest Cell) : Type 0 where
   pub laid : Laid rowOf nodes used (around .front) (tree c kids (around .rest)) (around .back)
   pub place : row ≡ length (around .front)
@@ -30,7 +30,7 @@ pub record Standing (T : Texts) (nodes : List Row) (used row : ℕ) (around : Su
   pub sound : Sound T kids
 
 -- A node that stands among at most as many rows as a document may have, in a table of the work area's length; its value nests at most `levels`
--- containers. It may have as many nodes as leave the rows in use within that limit: `room`.
+-- containers. `room` is how many nodes it may have so that the rows in use stay within that limit.
 pub record Site (w : Table) (used row levels : ℕ) : Type 0 where
   pub around : Surroundings
   pub c : Cell

@@ -19,7 +19,7 @@ ghost use Prim.Native.Nat.{_≤_, _<_};
 ghost use Rattle.tape.specs.Lent.{before};
 ghost use Rattle.changes.specs.Change.{AlterIs};
 
-// Along the tokens from a place of the pointer on: from the parent down to the child that each token but the last
+// Follows the tokens from a place of the pointer on: down from the parent to the child that each token but the last
 // names, and up again with each node's span brought up to date.
 pub fn alter<'a>(
     texts: Texts<'a>,

@@ -8,7 +8,7 @@ pub enum Change {
 }
 
 pub enum Altered {
-    // the document's rows from now on
+    // how many rows the document has from now on
     Done(usize),
     // the number of the refusal, and its place; nothing has changed
     Refused(u8, usize),

@@ -82,7 +82,7 @@ fn replace_child(nodes: &mut [Node], parent: Parent, at: usize, source: usize) -
     trees::put(nodes, parent, at, removed, source, name)
 }
 
-// A member is added to an object; where there is one of the name, it is replaced.
+// A member is added to an object; one of the same name is replaced.
 fn add_member<'a>(
     texts: Texts<'a>,
     nodes: &mut [Node],

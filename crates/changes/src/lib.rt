@@ -1,7 +1,7 @@
 // The document in the node table changed at a location: a value added, removed or replaced where a pointer names a
 // place. The document is the first `used` rows of the table, no more and no less than its nodes.
 //
-// What is proved: of a document that the table holds (`Document` of specs), of a pointer and of a change, `change_at`
+// What is proved: given a document that the table holds (`Document` of specs), a pointer and a change, `change_at`
 // answers as the definitions of the change do, with the limits judged. Then the document is the result, or the answer
 // is the refusal's number with its place. Whatever the table holds, no row from the patch's first on changes, and a
 // refusal changes nothing.

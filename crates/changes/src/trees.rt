@@ -27,7 +27,7 @@ pub struct Parent {
     pub below: u32,
 }
 
-// How many tokens lead from the document to the parent: with each a child may nest one container less.
+// How many tokens lead from the document to the parent. With each token, a child may nest one container fewer.
 pub fn walked(parent: Parent) -> usize
     requires { ⌜ parent .below < 32 ⌝ }
     ensures { λ r. ⌜ r ≡ walkedTo parent ⌝ }
@@ -78,7 +78,7 @@ fn rename(nodes: &mut [Node], row: usize, name: Name)
     moves::store(nodes, row, node_of(new, wide(node[layout::SPAN])));
 }
 
-// The span of the node in `row` is changed as the number of the document's rows was. No document has more than 2,048.
+// The span of the node in `row` changes by as much as the document's rows do. No document has more than 2,048.
 pub fn resize(nodes: &mut [Node], row: usize, used: usize, then: usize)
     requires { ⌜ then ≤ 2048 ⌝ }
     ensures { λ _. ⌜ now (nodes .exit) ≡ resized (now (nodes .entry)) row used then ⌝ }
@@ -87,8 +87,8 @@ pub fn resize(nodes: &mut [Node], row: usize, used: usize, then: usize)
     nodes::set_span(nodes, row, new);
 }
 
-// Among the parent's children, those in `removed` rows at `at` are replaced by the tree in the row `source`, under a
-// name. The limits are judged before anything moves.
+// Among the parent's children, those in the `removed` rows from `at` on are replaced by the tree in the row `source`,
+// under `name`. The limits are judged before anything moves.
 pub fn put(
     nodes: &mut [Node],
     parent: Parent,

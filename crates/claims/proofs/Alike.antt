@@ -1,5 +1,5 @@
--- Equality of values as a relation: values of a container one by one, an object's after some order of theirs. It is an equivalence, with
--- repeated names or without.
+-- Equality of values as a relation: the values of a container are alike one by one, those of an object in some order. It is an equivalence, with or
+-- without repeated names.
 use mathlib.Core.Path.{_≡_, refl, sym, _∙_}
 use mathlib.Core.Bool.{Bool, true, false}
 use Rattle.spec.specs.Forest.{Forest, none, tree}
@@ -48,7 +48,7 @@ exchange (there i) (there j) =
     let x = exchange i j in
     record { between = _; first = there (x .first); second = there (x .second) }
 
--- what is put in on the left has one that it is like on the right
+-- what is put in on the left has a counterpart on the right that it is like
 record Counterpart (e : Entry) (kids f h : Members) : Type 0 where
   entry : Entry
   below : Members

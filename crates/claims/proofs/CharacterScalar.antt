@@ -1,4 +1,4 @@
--- What a string is read as are Unicode scalar values.
+-- A string is read as Unicode scalar values.
 use mathlib.Core.Path.{_≡_, refl, sym, subst}
 use mathlib.Core.Bool.{Bool, true, false}
 use Prim.Native.Nat.{ℕ, zero, suc, _+_, _-_, _*_, _≤_, _<_}

@@ -37,7 +37,7 @@ repeats-inserted (there {b} {below} {f} i) absent inside (member a k r) =
     let p = absent-parts _ b below f absent in
     member (absent-inserted (b .name) i (λ h. p .0 (sym h)) a) k (repeats-inserted i (p .1) inside r)
 
--- who is found, without another one
+-- the member that is found is found without another one too
 pub found-out : {n : Text} {q e : Entry} {kids below f g : Members} → (e .name ≡ n → ⊥) → Inserted e kids f g → Found n q below g → Found n q below f
 found-out apart here (first h) = absurd (apart h)
 found-out apart here (later a h) = h

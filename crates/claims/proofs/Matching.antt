@@ -74,7 +74,7 @@ true-matches (by-name {e} {p} {kids} {below} {f} {g} n s c i o) =
     ap (λ m. elim m [ none ↦ false | tree p below after ↦ step (e .label) kids (p .label) below (matches true f g) ]) (x .1) ∙
     true-steps (record { labels = s; counts = c; inside = true-matches i; after = true-matches o })
 
--- where no name is repeated, that is to be alike
+-- where no name is repeated, to match is to be alike
 pub without : {e : Entry} {kids f g g' : Members} → has (e .name) f ≡ false → Inserted e kids g' g → Matches true f g → Matches true f g'
 without a i no-more = no-more
 without a i (by-name n s c k o) =
@@ -115,7 +115,7 @@ alike-matches (member n s k i a) r =
     by-name (rw (← n) at (inserted-found i r)) s (alike-count k) (alike-matches k (rw (← isObject-same s) at (q .1)))
     (with-another i r (alike-matches a (q .0)))
 
--- Alike values have their names repeated, or not, together.
+-- Of alike values, both repeat a name or neither does.
 alike-absent : (n : Text) {f g : Members} → Alike true f g → has n f ≡ false → has n g ≡ false
 alike-absent n nothing h = h
 alike-absent n (member q s k i a) h =

@@ -110,7 +110,7 @@ decimal-zeros n (suc k) = decimal-zeros (n * 10 + (48 - 48)) k ∙ rw (pow-succ'
     shift : (n p : ℕ) → (n * 10 + 0) * p ≡ n * (10 * p)
     shift n p = omega arith
 
--- Zeros dropped at the beginning: zeros, and then nothing or a byte that is none
+-- Zeros dropped at the beginning: zeros, and then nothing or a byte that is not a zero
 
 record Dropped (t : Bytes) : Type 0 where
   many : ℕ
@@ -242,7 +242,7 @@ normal ds x f h = rw (decimal-dropZeros ds) (go (dropZeros ds) (first ds) (digit
 
 -- Two normal forms are equal exactly where the numbers are.
 
--- digits of which the last is not 0 write no zero
+-- digits whose last is not 0 do not write zero
 positive : (n t k : ℕ) → (t % 10 ≡ 0 → ⊥) → n ≡ t * 10 ^ k → 0 < n
 positive n t k l v = rw v (mul-pos (go t l) (ten-positive k))
   where
@@ -250,7 +250,7 @@ positive n t k l v = rw v (mul-pos (go t l) (ten-positive k))
     go zero l = absurd (l refl)
     go (suc t) l = omega arith
 
--- no zero is equal to what is none, however both are scaled
+-- zero does not equal a number that is not zero, however both are scaled
 not-zero : (m n t k x y : ℕ) → m ≡ 0 → (t % 10 ≡ 0 → ⊥) → n ≡ t * 10 ^ k → m * 10 ^ x ≡ n * 10 ^ y → ⊥
 not-zero m n t k x y g l v h =
     let z : m * 10 ^ x ≡ 0 = rw g (zero-mul (10 ^ x)) in
@@ -269,7 +269,7 @@ empty-index s i h = let l = ap length h in omega (arith, index-some s i)
 scaled-both : (m n s t j k a b : ℕ) → m ≡ s * 10 ^ j → n ≡ t * 10 ^ k → (m * 10 ^ a ≡ n * 10 ^ b) ↔ (s * 10 ^ (j + a) ≡ t * 10 ^ (k + b))
 scaled-both m n s t j k a b v w = rw (v, w, scale-twice s j a, scale-twice t k b) Iff·rfl
 
--- a power over a base, and so much more
+-- a power over a base, raised further
 more-over : (g e p : ℤ) (a j : ℕ) → e ≡ g +ℤ pos a → p ≡ e +ℤ pos j → p ≡ g +ℤ pos (j + a)
 more-over g e p a j h w =
     let sum : a + j ≡ j + a = omega arith in

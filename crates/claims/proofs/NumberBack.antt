@@ -35,7 +35,7 @@ ltb-shift a m n = go (ltb m n) refl
     go true q = let l = ltb-true m n q in lt-ltb (a + m) (a + n) (omega arith)
     go false q = let l = ltb-false m n q in le-ltb (a + m) (a + n) (omega arith)
 
--- the one outcome moves with the place
+-- the second outcome is the first, moved by the place
 record Moves (at n : ℕ) (o o' : Outcome ℕ) : Type 0 where
   moves : (q : ℕ) → o ≡ ok q → (o' ≡ ok (at + q)) × (q ≤ n)
 

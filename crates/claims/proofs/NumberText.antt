@@ -29,7 +29,7 @@ use Rattle.claims.proofs.NumberRead.{number-spans}
 use Rattle.claims.proofs.NumberBack.{number-first, number-some, number-back}
 use Rattle.claims.proofs.CharacterScalar.{if-ok}
 
--- A number that is read is the number that its own bytes are.
+-- A number that is read in a text is also read from its own bytes alone.
 
 text-cut : (s t r : Bytes) (at : ℕ) → drop at s ≡ t ++ r → Cut s t at (length t)
 unfolding byte
@@ -134,7 +134,7 @@ number-text t n =
       eq-eqb (length t) (length t) refl,
     )
 
--- And a value that is read has the text of one number where it is a number.
+-- A value that is read and is a number has the text of one number.
 
 abbrev Numeral : Label → Type 0
 Numeral Label.null-literal = Unit {0}

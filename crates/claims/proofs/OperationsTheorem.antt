@@ -128,7 +128,7 @@ run-stops (e ∷ earlier) later o op v w number place h i = go (limited e v) h (
         ih u h i ∙ ap (λ k. stopped (stop number k place (whichPointer o w number))) count
     go (refused n p) h ih = cc
 
--- no text beside a refusal: so of each step that makes an answer
+-- a refusal has no text; shown for each step that makes an answer
 record Silent (a : Answer) : Type 0 where
   silent : (a .number ≡ 0 → ⊥) → a .written ≡ []
 

@@ -147,7 +147,7 @@ if-finishes : {A C : Type 0} (test : Bool) {x y : Run A} {a : A} → (if test th
 if-finishes true h f g = f h
 if-finishes false h f g = g h
 
--- what a run comes to where it finishes: each step did
+-- a run that finishes: each of its steps did
 finishes : {A B : Type 0} (r : Run A) (next : A → Run B) (b : B) → onFinish r next ≡ finished b → (a : A) × (r ≡ finished a) × (next a ≡ finished b)
 unfolding onFinish
 finishes (finished a) next b h = (a, refl, h)

@@ -40,7 +40,7 @@ element-name z k none p h = absurd (omega arith)
 element-name z zero (tree e kids rest) (element n l i p) h = n
 element-name z (suc k) (tree e kids rest) (element n l i p) h = element-name z k rest p (omega arith)
 
--- an element's place, in an array with one less and room for one more
+-- an element's place, in an array with one element fewer and room for one more
 element-again : (n m : ℕ) (t : Text) (k : ℕ) → suc m ≡ n → elementBelow n t ≡ ok k →
     (isDash t ≡ false) × (elementBelow (suc m) t ≡ ok k)
 unfolding elementBelow
@@ -84,7 +84,7 @@ module _ (x : Value.Value) (t : Text) (kids : Members) (k : ℕ) where
       let name : nth z k kids .root .name ≡ t = rw place (sameText-true _ _ (name-find z t kids there)) in
       rw (absent, insert-last (named t x) (removeAt k kids), name) (record { label = refl; kids = replaced-last k (named t x) kids (m .1) })
 
--- what a child is replaced by, and what is removed and added in its stead
+-- what a child is replaced by, and what is removed and added in its place
 module _ (x : Value.Value) (t : Text) (kids : Members) where
   in-array : ProperItems false kids → replaceChild x t (arrayOf kids) ≡ removeChild t (arrayOf kids) >>= insertChild x t
   unfolding replaceChild removeChild insertChild childAt isArray tag _>>=_

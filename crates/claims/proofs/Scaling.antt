@@ -21,7 +21,7 @@ natural-sub a (suc b) = go (ltb a (suc b)) refl
     go true q = let h = ltb-true a (suc b) q in omega arith
     go false q = refl
 
--- a base in front of both is nothing to their difference
+-- a common base does not change a difference
 cancel-base : (g m n : ℤ) → (g +ℤ m) -ℤ (g +ℤ n) ≡ m -ℤ n
 cancel-base g m n =
     ap (λ z. (g +ℤ m) +ℤ z) (negℤ-+ℤ g n) ∙ ap (λ z. z +ℤ (negℤ g +ℤ negℤ n)) (+ℤ-comm g m) ∙ +ℤ-assoc m g (negℤ g +ℤ negℤ n) ∙
@@ -37,7 +37,7 @@ base-injective g a b h =
     let other = sym (above-base g b a) ∙ ap (above (g +ℤ pos b)) h ∙ above-base g b b in
     omega arith
 
--- two powers as so much more than one base
+-- two powers, each as a common base plus a natural number
 pub record Over (e f : ℤ) : Type 0 where
   pub base : ℤ
   pub first : ℕ
@@ -68,7 +68,7 @@ scale m n zero (suc b) = rw (zero-sub (suc b), sub-zero (suc b)) Iff·rfl
 scale m n (suc a) zero = rw (zero-sub (suc a), sub-zero (suc a)) Iff·rfl
 scale m n (suc a) (suc b) = rw (suc-sub-suc a b, suc-sub-suc b a) (Iff·trans (ten-cancel m n a b) (scale m n a b))
 
--- Integers that are no multiples of ten have their powers in common, where they are equal.
+-- Two integers that are not multiples of ten, each times a power of ten: if the products are equal, the integers and the powers are.
 pub unscaled : (m n a b : ℕ) → (m % 10 ≡ 0 → ⊥) → (n % 10 ≡ 0 → ⊥) → m * 10 ^ a ≡ n * 10 ^ b → (m ≡ n) × (a ≡ b)
 unscaled m n zero zero p q h = (omega arith, refl)
 unscaled m n zero (suc b) p q h = absurd (p (multiple m n (10 ^ b) (rw pow-succ' at h)))
@@ -93,7 +93,7 @@ ten-add (suc a) b = rw (suc-add a b, pow-succ' 10 (a + b), pow-succ' 10 a, ten-a
 pub scale-twice : (m a b : ℕ) → m * 10 ^ a * 10 ^ b ≡ m * 10 ^ (a + b)
 scale-twice m a b = rw (ten-add a b) (mul-assoc m (10 ^ a) (10 ^ b))
 
--- Two integers times powers are equal exactly where they are equal over one base.
+-- Two integers times powers of ten are equal exactly where they are equal over a common base.
 pub over-one-base : (m n : ℕ) (e f : ℤ) (o : Over e f) →
     (m * 10 ^ above e f ≡ n * 10 ^ above f e) ↔ (m * 10 ^ o .first ≡ n * 10 ^ o .second)
 over-one-base m n e f o =

@@ -1,5 +1,5 @@
--- A number by its parts, each with what it means, and that this is the grammar with the statement's values: the form in which the readers of
--- numbers and the worth are held against it.
+-- A number by its parts, each with what it means, and that this is the grammar with the statement's values. In this form the readers of numbers and the
+-- worth are compared with the grammar.
 use mathlib.Core.Path.{_≡_, refl, ap₂, sym, subst}
 use mathlib.Core.Bool.{Bool, true, false}
 use mathlib.Core.List.{[], _∷_, _++_}

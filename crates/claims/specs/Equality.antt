@@ -32,7 +32,7 @@ pub data Has (p : Entry) (below : Members) : Members → Type 0 where
   here : {rest : Members} → Has p below (tree p below rest)
   there : {e : Entry} {kids rest : Members} → Has p below rest → Has p below (tree e kids rest)
 
--- The values of two arrays (false) or two objects (true) that have as many.
+-- The values of two arrays (false) or two objects (true) that have equally many.
 pub data EqualItems : Bool → Members → Members → Type 0 where
   -- arrays: "if each value can be considered equal to the value at the corresponding position in the other array"
   no-elements : EqualItems false none none

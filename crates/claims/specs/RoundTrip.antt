@@ -13,7 +13,7 @@ use Rattle.spec.specs.Answer.{Lent, answer, success}
 use Rattle.spec.specs.Region.{Accepted, WellFormed}
 use Rattle.spec.specs.Proper.{ScalarValues, Readable}
 
--- a text that is the document patched: the operations run from the one to the other, and the text is read as what they end with
+-- a text that is the document patched: the operations run from the document's value to another, and the text is read as that one
 pub record Patched (document patch text : Bytes) : Type 0 where
   pub before : Value.Value
   pub after : Value.Value

@@ -11,9 +11,9 @@ ghost use Rattle.reader.specs.Work.{workBefore, workAfter};
 ghost use Rattle.json_patch.specs.Call.{given};
 ghost use Rattle.compare.specs.Call.{CompareIs};
 
-// Both texts are read and their values compared, or the call is refused. The first is the target, whose members lead.
-// `nodes` and `index` are the work area, as `json_patch::apply` takes it: at least ROWS records and SLOTS entries,
-// which may hold anything. As many of each are all zero afterwards.
+// Both texts are read and their values compared, or the call is refused. The first is the target: its members are taken
+// in order. `nodes` and `index` are the work area, as `json_patch::apply` takes it: at least ROWS records and SLOTS
+// entries, which may hold anything. That many of each are all zero afterwards.
 pub fn compare<'a>(
     first: &'a [u8],
     second: &'a [u8],

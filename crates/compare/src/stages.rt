@@ -19,8 +19,8 @@ ghost use Rattle.tape.specs.Lent.{lent, before};
 ghost use Rattle.reader.specs.Work.{workBefore};
 ghost use Rattle.compare.specs.Stages.{ComparedIs, CheckedIs};
 
-// The two values, which are read. The places of the second one's members are noted, and its members indexed, so that
-// each is found without a search and counted without one.
+// The two values, both read. The places of the second one's members are noted, and its members indexed, so that each is
+// found and counted without a search.
 fn compared<'a>(texts: Texts<'a>, nodes: &mut [Node], index: &mut [u16]) -> Answer
     ensures { λ r. ⌜ ComparedIs (lent texts) (workBefore nodes index) r ⌝ }
 {

@@ -1,6 +1,5 @@
-// Every committed case of two texts, compared by the library. For each a line: its name, and the verdict with the count
-// of names, or the refusal. The stored output is what the second program answers, so that each run holds the two to
-// each other.
+// Every committed case of two texts, compared by the library. Each prints a line: its name, and the verdict with the
+// count of names, or the refusal. The stored output is what the second program answers, so each run compares the two.
 use cases::Case;
 use cases::Contents;
 use cases::Found;
@@ -19,7 +18,7 @@ use index;
 use tape::fields::narrow;
 use tape::layout;
 
-// A record less than the work area has.
+// One record fewer than the work area has.
 const SHORT_ROWS: usize = 6_143;
 
 // The refusal's line, as the patch tool prints it.
@@ -48,8 +47,8 @@ fn print_answer(answer: Answer) {
     say(b"\n");
 }
 
-// The case's line, with another text in it where the call has not left the memory as it must. Before the call the work
-// area holds rubbish, which the case's number tells.
+// The case's line, with another text in it where the call has not left the memory as it must. Before the call, the work
+// area holds the case's number everywhere, as rubbish.
 fn run_case(file: &[u8], c: Case) {
     let texts = c.texts;
     let target = bytes_of(file, texts.first);
@@ -81,7 +80,7 @@ fn run_all(file: &[u8]) {
     }
 }
 
-// The call with a node table that is a record too short, which no case can say: 1, before anything else.
+// The call with a node table one record too short, which no case can express: the answer is 1, before anything else.
 fn run_short() {
     let node = [1u16; 8];
     let mut nodes = [node; SHORT_ROWS];

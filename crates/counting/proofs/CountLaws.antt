@@ -1,4 +1,4 @@
--- Each way out of `alike` and of `counted`, of whatever values the table holds in the two rows.
+-- Each way out of `alike` and of `counted`, for whatever values the table holds in the two rows.
 use Prim.Native.Nat.{ℕ, suc, _+_, _-_, _%_, _^_, _≤_, _<_}
 use native.Mathlib.Nat.{zero-add, add-zero, add-assoc}
 use native.Mathlib.Omega.{arith}
@@ -129,8 +129,8 @@ module _ {w : Table} {at levels : ℕ} {c : Cell} {kids : Forest Cell} (x : Node
       let same : (d : Cell) → d .kind ≤ 6 → tag (entryOf (w .texts) d .label) ≡ d .kind = λ d h. tag-label (w .texts) (d .kind) (d .value) h in
       omega (arith, depths-map (entryOf (w .texts)) same (formed-kids (x .held .formed)), level-kids (value-node x) shallow-level)
 
--- ---- at the head of the loop: what the two containers come to, of which the second has the trees `all`. So many names were compared so far, and
--- the rest is what is left of both.
+-- ---- at the head of the loop: what the two containers come to, where the second has the trees `all`. `names` is the count so far, and the rest is
+-- what is left of both.
 pub record Pending (w : Table) (o : Bool) (other row end next stop levels : ℕ) (all : Forest Cell) (whole : Compared) (names : ℕ) : Type 0 where
   pub rest : Forest Cell
   pub beside : Forest Cell

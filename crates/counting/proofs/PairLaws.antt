@@ -35,8 +35,8 @@ use Rattle.counting.proofs.ComparedLaws.{lookups-find, lookups-missing,
 abbrev pub among : Table → Bool → Forest Cell → Forest Cell → Members
 among w o all left = if o then members (w .texts) all else members (w .texts) left
 
--- ---- a turn: the first tree that is left of one, and what `partner` answers for it. Of the other, whose trees are `all` and have their places, so
--- many are passed, and a tree is left too.
+-- ---- a turn: the first tree that is left of one, and what `partner` answers for it. Of the other, whose trees are `all` and have their places, some
+-- are passed, and a tree is left too.
 module _ {w : Table} {other row end next stop : ℕ} {all : Forest Cell} (second : Children w other stop all)
     {c : Cell} {ks rest : Forest Cell} (x : Siblings w row end (tree c ks rest))
     {d : Cell} {ds after : Forest Cell} (y : Siblings w next stop (tree d ds after)) where
@@ -59,7 +59,7 @@ module _ {w : Table} {other row end next stop : ℕ} {all : Forest Cell} (second
   unmatched false q element e = absurd (let z : _≡_ {A = ℕ} 0 1 = cc in omega arith)
 
   module _ (placed : HavePlaces (placeAt (w .nodes)) (other + 1) 1 all) (passed : ℕ) (here : from passed all ≡ tree d ds after) (pair : ℕ) where
-    -- what was found: its tree, that it is the partner, and that so many names were compared for it as its place says
+    -- what was found: its tree, that it is the partner, and that its place is the number of names compared for it
     pub record Match (o : Bool) : Type 0 where
       pub k : ℕ
       pub p : Cell

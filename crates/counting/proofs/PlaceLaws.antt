@@ -79,7 +79,7 @@ module _ {xs ys : List Row} (s : Scratched xs ys) where
   unfolding size
   held-still {row} {c} {kids} h low = held-same (same-rows row (size (tree c kids none)) (omega arith)) (held-alone h)
 
-  -- a tree before the scratch rows stands there still
+  -- a tree before the scratch rows still stands there
   pub node-still : {row : ℕ} {c : Cell} {kids : Forest Cell} → Node xs row c kids → row + 1 + size kids ≤ scratchRow → Node ys row c kids
   node-still n low = record { rest = none; held = held-still (n .held) low }
 

@@ -23,19 +23,19 @@ use Rattle.counting.specs.declared.values.Comparison.{Comparison}
 unfoldable pub namesFor : Bool → List Row → ℕ → ℕ
 namesFor object nodes row = if object then placeAt nodes row else 0
 
--- whether two values have the same label and as many children, where the table holds them; only rows of the table are alike
+-- whether two values have the same label and equally many children, where the table holds them; only rows of the table are alike
 pub record AlikeIs (w : Table) (at other : ℕ) (r : Bool) : Type 0 where
   pub inside : r ≡ true → (at < length (w .nodes)) × (other < length (w .nodes))
   pub held : (c : Cell) (kids : Forest Cell) (e : Cell) (below : Forest Cell) → NodeHeld w at c kids → NodeHeld w other e below
       → r ≡ sameLabel (labelOf (w .texts) (c .kind) (c .value)) (labelOf (w .texts) (e .kind) (e .value)) && eqb (count kids) (count below)
 
--- the verdict, and the count as far as it has room; `compared` bounds the count, so that of values in texts it is the count
+-- the verdict, and the count modulo 2^64; the count is bounded, so for values read from texts it is exact
 pub record Tells (a : Compared) (r : Comparison) : Type 0 where
   pub verdict : r .same ≡ a .same
   pub counts : r .names ≡ a .names % 2 ^ 64
 
--- of the values that the table holds in two rows, whatever they are, if the first nests at most `levels` containers, no object of the second has two
--- members of one name, and the places below it are noted; otherwise the answer is free
+-- what is told of the values that the table holds in two rows, if the first nests at most `levels` containers, no object of the second has two members
+-- of one name, and the places below the second are noted; otherwise the answer is free
 abbrev pub CountedIs : Table → ℕ → ℕ → ℕ → Comparison → Type 0
 CountedIs w at other levels r =
     (c : Cell) (kids : Forest Cell) (e : Cell) (below : Forest Cell)

@@ -32,8 +32,8 @@ fn note(nodes: &mut [Node], row: usize, place: usize)
     store(nodes, row, [0, 0, 0, 0, narrow(place), 0, 0, 0]);
 }
 
-// The places of all nodes below the one in the row `at`, which nests at most `levels` containers, are noted. Of a row
-// outside the second text nothing is.
+// The places of all nodes below the one in the row `at`, which nests at most `levels` containers, are noted. For a row
+// outside the second text, nothing is noted.
 pub fn note_places(nodes: &mut [Node], at: usize, levels: u32)
     ensures { λ _. ⌜ NotedIs (now (nodes .entry)) (now (nodes .exit)) at levels ⌝ }
 {

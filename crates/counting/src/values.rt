@@ -16,7 +16,7 @@ ghost use Rattle.tape.specs.Lent.{before};
 ghost use Rattle.equality.specs.Compare.{Hints};
 ghost use Rattle.counting.specs.Values.{namesFor, AlikeIs, CountedIs};
 
-// Whether two values are equal, and how many names were compared to tell it.
+// Whether two values are equal, and how many names were compared to tell.
 pub struct Comparison {
     pub same: bool,
     pub names: u64,
@@ -38,7 +38,7 @@ fn names_for(nodes: &[Node], object: bool, found: usize) -> u64
     0
 }
 
-// Whether the values in the rows `at` and `other` have the same label, and as many children. T-10: "Unequal member
+// Whether the values in the rows `at` and `other` have the same label and equally many children. T-10: "Unequal member
 // counts or array lengths differ without a comparison": so these are counted first.
 fn alike<'a>(texts: Texts<'a>, nodes: &[Node], at: usize, other: usize) -> bool
     ensures { λ r. ⌜ AlikeIs (before texts nodes) at other r ⌝ }
@@ -55,9 +55,9 @@ fn alike<'a>(texts: Texts<'a>, nodes: &[Node], at: usize, other: usize) -> bool
     arity(nodes, at) == arity(nodes, other)
 }
 
-// The values in the rows `at` and `other`, of which the first nests at most `levels` containers, no object of the
+// The values in the rows `at` and `other`, compared. The first nests at most `levels` containers, no object of the
 // second has two members of one name, and the places below the second are noted. `top` is the row of an indexed tree
-// that the second is part of, or 0. Where no level is left there is no container, so that alike is equal.
+// that the second is part of, or 0. Where no level is left there is no container, so alike values are equal.
 pub fn counted<'a>(
     texts: Texts<'a>,
     nodes: &[Node],

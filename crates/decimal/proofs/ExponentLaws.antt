@@ -1,4 +1,4 @@
--- Laws of a number's exponent, for the loops that go over its text a byte a turn.
+-- Laws of a number's exponent, for the loops that go over its text byte by byte.
 use Prim.Native.Nat.{ℕ, _+_, _-_, _*_, _≤_, _<_, min}
 use Prim.Native.Char.{code}
 use mathlib.Core.Path.{_≡_, refl, sym, _∙_, ap}

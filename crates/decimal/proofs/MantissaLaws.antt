@@ -1,4 +1,4 @@
--- Laws of a number's digits, for the loops that go over its text a byte a turn.
+-- Laws of a number's digits, for the loops that go over its text byte by byte.
 use Prim.Native.Nat.{ℕ, suc, _+_, _-_, _≤_, _<_}
 use Prim.Native.Char.{code}
 use mathlib.Core.Path.{_≡_, refl, sym, _∙_, ap}
@@ -17,7 +17,7 @@ use Rattle.spec.specs.Worth.{mantissa, fractionDigits, dropZeros, trimmed}
 use Rattle.spec.specs.Value.{sameText}
 use Rattle.decimal.specs.Normal.{isNonzeroDigit, firstDigit}
 
--- what a function of the code answered, of what it ensures
+-- what the definition gives, from what a function ensures and what it answered
 pub told : {A : Type 0} {r d v : A} → r ≡ d → r ≡ v → d ≡ v
 told e t = sym e ∙ t
 
@@ -102,7 +102,7 @@ pub trimmed-digit : (d : Bytes) (b : ℕ) → (b ≡ code "0" → ⊥) → trimm
 unfolding trimmed dropZeros
 trimmed-digit d b z = rw (reverse-append d (b ∷ []), ne-eqb _ _ z) (rw (← reverse-append d (b ∷ [])) (reverse-reverse (d ++ (b ∷ []))))
 
--- Of the digits `all`, those but the rest were seen, and `kept` of them have no zero after them.
+-- Of the digits `all`, those before `rest` were seen, and `kept` of them are left without the zeros at their end.
 pub record Seen (all rest : Bytes) (seen kept : ℕ) : Type 0 where
   pub front : Bytes
   pub splits : front ++ rest ≡ all
@@ -162,7 +162,7 @@ digits-later t i h d = go (isE (getD t i 0)) refl
     go true e = let z : length (mantissa (drop i t)) ≡ 0 = ap length (mantissa-ends t i (digits-inside t i h) e) in absurd (omega arith)
     go false e = mantissa-other t i (digits-inside t i h) e d
 
--- So many digits of each text are left to compare from a place of each on, and what they come to.
+-- `left` digits of each text are still to be compared, from a place of each on; `answer` is what they come to.
 pub record Comparing (a : Bytes) (i : ℕ) (b : Bytes) (j left : ℕ) (answer : Bool) : Type 0 where
   pub enough : left ≤ length (mantissa (drop i a))
   pub enough-other : left ≤ length (mantissa (drop j b))

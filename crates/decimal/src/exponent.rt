@@ -62,7 +62,7 @@ fn integer(t: &[u8], at: usize) -> usize
     n
 }
 
-// What a digit counts, and 0 for a byte before the digits.
+// A digit's value, and 0 for a byte below the digits.
 fn digit_value(b: u8) -> usize
     ensures { λ r. ⌜ r ≡ b - 48 ⌝ }
 {

@@ -26,12 +26,12 @@ ghost use Rattle.spec.specs.Value.{sameText};
 ghost use Rattle.spec.specs.Equality.{sameBool, sameInteger, sameWorth};
 ghost use Rattle.decimal.specs.Normal.{normalForm, normalized, sameNumber};
 
-// The size of a number's written exponent: `limits::MAX_EXPONENT`, as a count of bytes is held.
+// The limit on the size of a number's written exponent: `limits::MAX_EXPONENT`, in the type of a count of bytes.
 const MAX_EXPONENT: usize = 9_999;
 
-// A number's text in normal form: whether it is below zero; where its significant digits begin, and how many they
-// are, without zeros at either end and with the point between them not counted; and the power of ten of the last of
-// them. A zero has no significant digits, the power 0 and no sign.
+// A number's text in normal form: whether it is below zero; where its significant digits begin, and how many there are,
+// without zeros at either end and not counting the point between them; and the power of ten of the last of them. A zero
+// has no significant digits, the power 0 and no sign.
 pub struct Normal {
     pub negative: bool,
     pub first: usize,
@@ -160,8 +160,8 @@ fn same_power(a: i32, b: i32) -> bool
     a == b
 }
 
-// Whether two texts have the same `count` digits, from a place of each on. Neither text ends before that, so no index
-// is tested.
+// Whether two texts have the same `count` digits, from a place of each on. Neither text ends before those digits do, so
+// no index is tested.
 fn same_digits(a: &[u8], first: usize, b: &[u8], other: usize, count: usize) -> bool
     requires { ⌜ (count ≤ length (mantissaOf (drop first (now a))))
         × (count ≤ length (mantissaOf (drop other (now b)))) ⌝ }

@@ -1,4 +1,4 @@
--- Each way out of `equal`, of whatever values the columns hold in the two rows.
+-- Each way out of `equal`, for whatever values the table holds in the two rows.
 use Prim.Native.Nat.{ℕ, suc, _+_, _-_, _≤_, _<_}
 use native.Mathlib.Omega.{arith}
 use mathlib.Core.Path.{_≡_, refl, sym, ap, ap₂, _∙_, subst}
@@ -39,7 +39,7 @@ depth-container v h = rw h
 abbrev pub labelled : Texts → Cell → Label
 labelled T c = labelOf T (c .kind) (c .value)
 
--- ---- a value of the kind k, as its word tells it
+-- ---- a value of the kind k, as its row tells it
 module _ {w : Table} {at : ℕ} {c : Cell} {kids : Forest Cell} (x : NodeHeld w at c kids)
     (k : ℕ) (told : k ≡ kindOf (getD (w .nodes) at [])) where
   kind-is : c .kind ≡ k

@@ -1,5 +1,5 @@
--- The contract supposes nothing that cannot be: the table holds {"a":100,"b":[]} of a document and {"b":[],"a":1e2} of a patch, and the only
--- answer that the contract leaves is that they are equal.
+-- The contract's premises can be met: the table holds {"a":100,"b":[]} of a document and {"b":[],"a":1e2} of a patch, and the only answer that the
+-- contract allows is that they are equal.
 use Prim.Native.Nat.{ℕ, _≤_, _<_}
 use Prim.Native.Char.{code}
 use native.Mathlib.Omega.{arith}

@@ -31,7 +31,7 @@ partner-find n (tree e kids rest) = go (sameText (e .name) n) (partner-find n re
     go true ih = refl
     go false ih = ih
 
--- ---- a tree among others where no name is repeated: no name is repeated in it, and of a member's name there is no member before it
+-- ---- a tree among others where no name is repeated: no name is repeated in it, and no member before it has its name
 first-inside : {o : Bool} {e : Entry} {kids rest : Members} → NoRepeats o (tree e kids rest) → NoRepeats (isObject (e .label)) kids
 first-inside (element i r) = i
 first-inside (member a i r) = i
@@ -64,8 +64,8 @@ module _ (e : Entry) (kids f : Members) where
   unfolding matches
   matches-alone o g h = rw (h, matches)
 
--- ---- What is left of a comparison of two containers, when trees of both are passed in step: f is left of one and g of the other, all of whose
--- trees are `all`. There are as many, and each of f equals its partner.
+-- ---- What is left of a comparison of two containers, when trees of both are passed in step: f is left of one and g of the other, all of whose trees
+-- are `all`. The two agree where they have equally many trees and each of f equals its partner.
 unfoldable pub agree : Bool → Members → Members → Members → Bool
 agree object all f g = eqb (count f) (count g) && matches object f (if object then all else g)
 

@@ -29,7 +29,7 @@ use Rattle.equality.proofs.SiblingLaws.{Siblings, siblings-value, sibli
 use Rattle.equality.proofs.SiblingLaws.{Children, children-child, member-found, member-missing}
 use Rattle.tape.specs.Lent.{Texts, Table}
 
--- the name in a row, whatever is said to stand behind the table
+-- the name in a row, whichever row stands for those behind the table
 pub name-loaded : (nodes : List Row) (row : ℕ) → nameOf (getD nodes row noNode) ≡ nameOf (getD nodes row [])
 name-loaded nodes row = sym (List·getD-map nameOf nodes row noNode) ∙ List·getD-map nameOf nodes row []
 
@@ -79,8 +79,8 @@ same-names {w} x y same =
     ∙ sameText-true _ _ (sym (named-hashed (w .texts) _ _ _ (siblings-hashed x) (siblings-hashed y .is)) ∙ same)
     ∙ ap (nameText (w .texts)) (siblings-name y)
 
--- ---- a turn: the first tree that is left of one, and what `partner` answers for it. Of the other, whose trees are `all`, so many are passed, and a
--- tree is left too.
+-- ---- a turn: the first tree that is left of one, and what `partner` answers for it. Of the other, whose trees are `all`, some are passed, and a tree
+-- is left too.
 module _ {w : Table} {other row end next stop : ℕ} {all : Forest Cell} (second : Children w other stop all)
     {c : Cell} {ks rest : Forest Cell} (x : Siblings w row end (tree c ks rest))
     {d : Cell} {ds after : Forest Cell} (y : Siblings w next stop (tree d ds after)) where

@@ -1,4 +1,4 @@
--- Two containers in the columns, compared tree by tree: what is left to compare, and what a turn of the loop makes of it.
+-- Two containers in the table, compared tree by tree: what is left to compare, and what a turn of the loop makes of it.
 use Prim.Native.Nat.{ℕ, suc, _≤_, _<_}
 use native.Mathlib.Omega.{arith}
 use mathlib.Core.Path.{_≡_, refl, sym, ap, ap₂, _∙_, subst}
@@ -31,8 +31,8 @@ module _ (T : Texts) (c : Cell) (kids rest : Forest Cell) where
   unfolding depths mapForest
   depth-rest = omega arith
 
--- ---- at the head of the loop: the verdict on two containers, the second of which has the trees `all` and repeats no name, is whether what is left
--- agrees; so many trees of each are passed
+-- ---- at the head of the loop: the verdict on two containers is whether what is left of them agrees; the second has the trees `all`, of which `passed`
+-- are passed, and repeats no name
 pub record Pending (w : Table) (o : Bool) (row end next stop levels : ℕ) (all : Forest Cell) (verdict : Bool) : Type 0 where
   pub rest : Forest Cell
   pub beside : Forest Cell

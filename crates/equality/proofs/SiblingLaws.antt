@@ -1,4 +1,4 @@
--- Trees that the columns hold in the rows from one to another, ready to be compared.
+-- Trees that the table holds in the rows from one to another, ready to be compared.
 use Prim.Native.Nat.{ℕ, suc, _+_, _≤_, _<_}
 use native.Mathlib.Omega.{arith}
 use mathlib.Core.Path.{_≡_, sym, ap, _∙_, subst}

@@ -34,7 +34,7 @@ abbrev pub SameLabelIs : Texts → Row → Row → Bool → Type 0
 SameLabelIs T a b r = Labelled T a → Labelled T b → r ≡ sameLabel (rowLabel T a) (rowLabel T b)
 
 -- ---- the child that is compared with the one in a row
--- of the tree in the row `top` each parent that the index notes is one; 0 stands for no tree
+-- each parent that the index notes for a node of the tree in the row `top` is its parent; 0 stands for no tree
 pub record Hints (nodes : List Row) (index : List ℕ) (top : ℕ) : Type 0 where
   pub right : 0 < top → Parents top nodes index
 
@@ -53,8 +53,8 @@ abbrev pub PartnerOf : Table → Pair → ℕ → ℕ → Member → Type 0
 PartnerOf w pair row next r = PartnerIs w (pair .other) (pair .end) row next (pair .object) r
 
 -- ---- two values
--- whether the values are equal that the table holds in two rows, whatever they are, if the first nests at most `levels` containers and no object
--- of the second has two members of one name; otherwise the answer is free
+-- whether the values that the table holds in two rows are equal, if the first nests at most `levels` containers and no object of the second has two
+-- members of one name; otherwise the answer is free
 abbrev pub EqualIs : Table → ℕ → ℕ → ℕ → Bool → Type 0
 EqualIs w at other levels r =
     (c : Cell) (kids : Forest Cell) (e : Cell) (below : Forest Cell)

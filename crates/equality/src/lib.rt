@@ -1,4 +1,4 @@
-// Equality of two values of the node table: SPECIFICATION 7. Types are told apart first; strings are compared by their
+// Equality of two values of the node table: SPECIFICATION 7. Types are compared first; strings are compared by their
 // unescaped text, numbers by exact value, arrays in order, and objects by name in any order.
 use decimal::same_number;
 use index::SLOTS;
@@ -39,7 +39,8 @@ pub fn same_label<'a>(texts: Texts<'a>, a: Node, b: Node) -> bool
 }
 
 // The member of a name among the children of the node in the row `other`, which end before the row `end`. Where the
-// index of the tree in the row `top` has it, nothing is searched; 0 stands for no index. Behind the table is no member.
+// index of the tree in the row `top` has it, nothing is searched; 0 stands for no index. No member stands behind the
+// table.
 fn sought<'a>(
     texts: Texts<'a>,
     nodes: &[Node],
@@ -64,8 +65,7 @@ fn sought<'a>(
     Member::At(pair)
 }
 
-// Two containers: the first one's children stand in step with the second's, which is in the row `other` and ends
-// before the row `end`.
+// Two containers whose children are compared in step. The second is in the row `other` and ends before the row `end`.
 pub struct Pair {
     pub top: usize,
     pub object: bool,
@@ -98,9 +98,9 @@ pub fn partner<'a>(
 }
 
 // Whether the values in the rows `at` and `other` are equal. The first nests at most `levels` containers, and no object
-// of the second has two members of one name. The children of both are passed in step, those of an
-// object too: two containers have as many children if both end together. `top` is the row of an indexed tree that the
-// second is part of, or 0.
+// of the second has two members of one name. The children of both are passed in step, those of an object too: two
+// containers have equally many children if both end together. `top` is the row of an indexed tree that the second is
+// part of, or 0.
 fn equal<'a>(
     texts: Texts<'a>,
     nodes: &[Node],

@@ -39,7 +39,7 @@ pub kept-set : KeptSet
 unfolding isKept isPchar isSubDelim isUnreserved oneOf ascii
 kept-set b = simp or-assoc
 
--- a percent sign is none of it
+-- a percent sign is not in it
 no-percent : (b : ℕ) → isKept b ≡ true → b ≡ code "%" → ⊥
 unfolding isKept isPchar isSubDelim isUnreserved isAlpha isDigit within oneOf ascii
 no-percent b k e = true≢false (sym k ∙ ap isKept e)

@@ -87,7 +87,7 @@ tailed-before {s} {at} {a} h l e (whole {next = next} i j k f g) =
     syntax-more y s at h ∙ ap (λ x. syntax x (drop (at + 1) s)) (stays (byte s at) l t) ∙ g y t
 
 module _ (s : Bytes) where
-  -- the next byte is none that may follow
+  -- the next byte is not one that may follow
   cut-here : (more at low high : ℕ) {number place : ℕ} → within low high (byte s at) ≡ false →
       Tailed s at (awaiting (suc more) low high) (refused number place)
   cut-here more at low high e =
@@ -100,7 +100,7 @@ module _ (s : Bytes) where
           let z : _≡_ {A = ℕ} 1 0 = sym (ap (λ x. x .more) f) ∙ q in omega arith
       go a m n (no h) q = let z : a .more ≡ 0 = sym (ap (λ x. x .more) (awaited-end a s at (omega arith))) ∙ q in omega arith
 
-  -- the next byte is, or is not
+  -- the next byte is one that may follow, or is not
   tails-step : (more at low high bits : ℕ) →
       (within low high (byte s at) ≡ true → Tailed s at (awaiting (suc more) low high) (tail more s (at + 1) 0x80 0xBF (bits * 64 + (byte s at - 0x80)))) →
       Tailed s at (awaiting (suc more) low high) (tail (suc more) s at low high bits)

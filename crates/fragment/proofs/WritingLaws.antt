@@ -73,7 +73,7 @@ link-laid p before s = record { count-is = omega (arith, s .next-is); after-is =
 
 -- ---- the octets of a fragment
 
--- where all octets from the start on are t, those from the place on are left
+-- where all octets from the start on are t, those from the place on are still to be put
 pub record Putting (s : Bytes) (start : ℕ) (before out : Bytes) (end at : ℕ) : Type 0 where
   pub in-text : at ≤ length s
   pub few : end ≤ at

@@ -9,7 +9,7 @@ use Rattle.fragment.specs.Answer as Spec
 use Rattle.fragment.specs.Answer.{fitting, writeAnswer, octetsAnswer, readAnswer}
 use Rattle.fragment.specs.declared.answer.Answer.{Answer}
 
--- the call's answer is this one, and the output, as it was before and as it is after, has the written text in front
+-- the call's answer is this one, and the output afterwards is the written text, then the rest of the output as it was
 pub record Answered (a : Spec.Answer) (before after : Bytes) (r : Answer) : Type 0 where
   pub number : r .number ≡ a .number
   pub written : r .length ≡ length (a .written)

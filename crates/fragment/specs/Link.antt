@@ -80,7 +80,7 @@ charactersFrom (suc fuel) s at =
       ok (c ∷ cs))
     else ok []
 
--- the text whose UTF-8 the bytes are, or a refusal where they are none
+-- the text that the bytes encode in UTF-8, or a refusal where they are not UTF-8
 unfoldable pub characters : Bytes → Outcome Text
 characters s = charactersFrom (length s) s 0
 

@@ -24,7 +24,7 @@ use Rattle.fragment.specs.declared.octets.Fragment.the-variants as Fragm
 
 -- ---- the table of kept bytes
 
--- a kept byte stands in its own place, and in that of any other byte stands another
+-- a kept byte stands in its own place, and a different byte stands in the place of any other
 pub record KeptTable (table : List ℕ) : Type 0 where
   pub rule : (b : ℕ) → b < 256 → eqb (getD table b 0) b ≡ isKept b
 
@@ -40,7 +40,7 @@ between = awaiting 0 0x80 0xBF
 abbrev pub broken : Awaited
 broken = awaiting 1 1 0
 
--- The bounds of a character's second byte, given the first: table 3-7 of the Unicode standard. They are 80 and BF but after E0, ED, F0 and F4.
+-- The bounds of a character's second byte, given the first: table 3-7 of the Unicode standard. They are 80 and BF except after E0, ED, F0 and F4.
 unfoldable pub lowest : ℕ → ℕ
 lowest b =
     if eqb b 0xE0 then 0xA0 else
@@ -102,7 +102,7 @@ verdict s = if isUtf8 s then (if isPointer s then Verdict.Pointer else Verdict.M
 
 -- ---- the octets of a fragment
 
--- from a place on, given the answer there: what they are, and that the place after the first lies behind it and in the text
+-- the octets from a place on, given the answer there; and that the place after the first octet lies behind it and within the text
 unfoldable pub octetsAfter : Bytes → Octet → Outcome Bytes
 octetsAfter s (Octet.Is b next) = precede b (octets nothing (drop next s))
 octetsAfter s Octet.Bad = refused bad-link 0
@@ -120,13 +120,13 @@ pub record PercentAt (s : Bytes) (at : ℕ) (r : Octet) : Type 0 where
   pub gives : octets Pending.percent (drop at s) ≡ octetsAfter s r
   pub onward : Onward s at r
 
--- as many octets, with this verdict
+-- what n octets with this verdict are
 unfoldable pub counted : ℕ → Verdict → Fragment
 counted n Verdict.Pointer = Fragment.Pointer n
 counted n Verdict.NotUtf8 = Fragment.Bad
 counted n Verdict.Malformed = Fragment.Malformed
 
--- what a fragment is, of its octets
+-- what a fragment is, by its octets
 unfoldable pub fragmentOf : Outcome Bytes → Fragment
 fragmentOf (ok t) = counted (length t) (verdict t)
 fragmentOf (refused number place) = Fragment.Bad

@@ -3,7 +3,7 @@ ghost use mathlib.Core.Path.{_≡_};
 ghost use Rattle.fragment.specs.Kept.{isKept};
 ghost use Rattle.fragment.specs.Scan.{KeptTable};
 
-// Sixteen to a row. A kept byte stands in its own place. In that of any other stands a point, which is kept itself.
+// Sixteen to a row. A kept byte stands in its own place. A point, itself a kept byte, stands in the place of any other.
 pub const KEPT: [u8; 256] = *b"\
     ................\
     ................\
@@ -22,7 +22,7 @@ pub const KEPT: [u8; 256] = *b"\
     ................\
     ................";
 
-// Whether a byte is kept, by the table, which is lent.
+// Whether a byte is kept, by the lent table.
 pub fn is_kept(b: u8, kept: &[u8; 256]) -> bool
     requires { ⌜ KeptTable (now kept) ⌝ }
     ensures { λ r. ⌜ r ≡ isKept b ⌝ }

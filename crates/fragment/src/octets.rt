@@ -14,13 +14,13 @@ use crate::scan::next_byte;
 use crate::scan::next_syntax;
 use lexer::peek;
 
-// The octet at a place of a fragment and the place after it, or what no fragment has there.
+// The octet at a place of a fragment and the place after it; `Bad` where no fragment has what stands there.
 pub enum Octet {
     Is(u8, usize),
     Bad,
 }
 
-// The value of a hexadecimal digit of either case, and 16 of any other byte.
+// The value of a hexadecimal digit of either case, and 16 for any other byte.
 fn hex_value(b: u8) -> u8
     ensures { λ r. ⌜ r ≡ hexValue b ⌝ }
 {

@@ -1,10 +1,10 @@
-// Octets looked at one after another. Nothing is kept of them but what of a character is to come and how far a
-// pointer has been read, so that a pointer can be judged octet by octet as it stands in a link.
+// Octets looked at one after another. Only two things are kept of them: what is to come of a character, and how far a
+// pointer has been read. So a pointer can be judged octet by octet as it stands in a link.
 ghost use mathlib.Core.Path.{_≡_};
 ghost use Rattle.fragment.specs.Scan.{lowest, highest, firstByte, nextByte, nextSyntax, mayEnd, judge, verdict};
 
 // What is to come of a character in UTF-8: how many bytes, and the bounds of the next one. After a byte that no
-// character has there, the bounds are those of no byte.
+// character has there, the bounds admit no byte.
 pub struct Awaited {
     pub more: u8,
     pub low: u8,

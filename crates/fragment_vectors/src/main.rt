@@ -1,6 +1,6 @@
-// Every committed case of links, run through the library: a text, taken for a pointer and written as a link, and
-// taken for a link and read. For each a line: its name, and the text, or the number of the refusal. The stored output
-// is what the second program answers, so that each run holds the two to each other.
+// Every committed case of links, run through the library: a text is taken as a pointer and written as a link, and taken
+// as a link and read. Each of the two prints a line: the case's name, and the text, or the number of the refusal. The
+// stored output is what the second program answers, so each run compares the two.
 use cases::Case;
 use cases::Contents;
 use cases::Found;

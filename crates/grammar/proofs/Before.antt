@@ -1,4 +1,4 @@
--- Laws of the bytes before a value: an item more in an open container, and what JSON text they begin.
+-- Laws of the bytes before a value: one more item in an open container, and what JSON text they begin.
 use Prim.Native.Nat.{ℕ, _+_}
 use Prim.Native.Char.{code}
 use mathlib.Core.Path.{_≡_, refl, ap, subst, sym, _∙_}
@@ -34,7 +34,7 @@ snoc : {isObject : Bool} (is : Bytes) {c n w : Bytes} {name : Text} (f : Members
 snoc is f b c nameless d = elements-snoc b c d
 snoc is f b c (under q h) d = members-snoc b c (pair q h d)
 
--- The bytes before an item of an open container, before which so many levels and values are, and the items before it.
+-- The bytes before an item of an open container, with the numbers of levels and values before that container, and the items before this one.
 pub data BeforeItem (isObject : Bool) : Bytes → ℕ → ℕ → Members → Type 0 where
   first-item : {w b : Bytes} {levels values : ℕ} → BeforeValue w levels values → structural (openingBracket isObject) b →
       BeforeItem isObject (w ++ b) levels values Forest.none
@@ -42,7 +42,7 @@ pub data BeforeItem (isObject : Bool) : Bytes → ℕ → ℕ → Members → Ty
       structural (openingBracket isObject) b → Between isObject is f → value-separator c →
       BeforeItem isObject (w ++ (b ++ (is ++ c))) levels values f
 
--- the same bytes in another grouping, and as many values
+-- the same bytes in another grouping, and the same number of values
 again : {w w' : Bytes} {levels values values' : ℕ} → w ≡ w' → values ≡ values' → BeforeValue w levels values → BeforeValue w' levels values'
 again e same h = rw (← e, ← same) h
 

@@ -5,7 +5,7 @@ use native.Mathlib.Omega.{arith}
 use Rattle.spec.specs.Outcome.{Outcome, ok, refused, _>>=_}
 use Rattle.spec.specs.Refusal.{not-json}
 
--- An outcome is the result x, or a refusal that is none by 3, and then what is asked does not hold.
+-- An outcome is the result x, or a refusal by a number other than 3; then what is asked does not hold.
 pub data Reads {X : Type 0} (x : X) (asked : Type 0) : Outcome X → Type 0 where
   reads : Reads x asked (ok x)
   exceeds : {number p : ℕ} → (number ≡ not-json → ⊥) → (asked → ⊥) → Reads x asked (refused number p)

@@ -1,4 +1,4 @@
--- Where nothing is refused before, the byte that 4, 5, 6 or 7 is said of is refused by that number.
+-- Where nothing is refused before, the byte of which 4, 5, 6 or 7 is said is refused by that number.
 use Prim.Native.Nat.{ℕ, zero, suc, _+_, _-_, _<_, _≤_}
 use Prim.Native.Char.{code}
 use mathlib.Core.Path.{_≡_, refl, ap, subst, sym, _∙_}
@@ -248,7 +248,7 @@ module _ (c s : Bytes) (never : (number q : ℕ) → read c ≡ refused number q
       (room-there c s never values start start
       (same c s never (number-value (r .left) c start values b) (number-value (r .left) s start values b') (r .arrived)))
 
-  -- a number that begins with the bytes n, and the byte b after them, with which it is refused or before: in c it is not refused
+  -- a number that begins with the bytes n and is refused at the byte b after them, or before: in c it is not refused
   passing : {w n : Bytes} {start levels values : ℕ} (b : ℕ) (more after : Bytes) → BeforeValue w levels values → On c s never w 0 start →
       From c start n (length c) → 0 < length n → s ≡ c ++ (b ∷ after) → number (n ++ (b ∷ more)) → (r : Over (c ++ (b ∷ more)) start) →
       r .place ≤ length c → read s ≡ refused number-over-limit (length c)

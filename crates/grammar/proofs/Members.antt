@@ -64,7 +64,7 @@ module _ (e : Entry) (kids rest : Members) where
   named-twice (here {rest = others} i) (DistinctNames.one-more new d) = new (rw i (named-after others))
   named-twice (later m) (DistinctNames.one-more new d) = named-twice m d
 
-  -- where names differ, the members before one have not its name
+  -- where names differ, the members before one do not have its name
   pub fresh-name : (f : Members) → DistinctNames (f ⧺ tree e kids rest) → has (e .name) f ≡ false
   fresh-name f d = byCases (has (e .name) f) (λ h. absurd (named-twice (has-named (e .name) f h) d)) (λ h. h)
 

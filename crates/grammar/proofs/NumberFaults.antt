@@ -1,4 +1,4 @@
--- A number that is refused by 7: the bytes of it before that place, and the byte there, with which it passes a limit.
+-- A number that is refused by 7: its bytes before that place, and the byte there, with which it passes a limit.
 use Prim.Native.Nat.{ℕ, zero, suc, _+_, _-_, _*_, _<_, _≤_}
 use mathlib.Core.Path.{_≡_, refl, ap, subst, sym, _∙_}
 use mathlib.Core.Bool.{Bool, true, false, _||_}
@@ -73,7 +73,7 @@ module _ (s : Bytes) (start : ℕ) where
   abbrev Faults : Outcome ℕ → Type 0
   Faults o = Refusing (NumberFault s start) o
 
-  -- the bytes n of the number before the place `at`, which are no more than 128, and a byte there that goes on with them
+  -- the bytes n of the number before the place `at`, at most 128 of them, and a byte there that continues them
   record Reached (n : Bytes) (at : ℕ) : Type 0 where
     from : From s start n at
     short : at ≤ start + maxNumber
@@ -113,7 +113,7 @@ module _ (s : Bytes) (start : ℕ) where
       go true e = rest (next r g (ltb-true at (start + maxNumber) e))
       go false e = refusal (too-long r g (ltb-false at (start + maxNumber) e))
 
-  -- *DIGIT, where any digits from here on go on with the number
+  -- *DIGIT, where any digits from here on continue the number
   digits-faults : (fuel : ℕ) {n : Bytes} (at : ℕ) → Reached n at → ((ds : Bytes) → DIGIT (byte s at) → *DIGIT ds → Begun (n ++ (byte s at ∷ ds))) →
       Faults (digits fuel s start at)
   unfolding digits

@@ -1,4 +1,4 @@
--- The reader of numbers is complete: it reads a number that fits, up to a byte that does not go on with it.
+-- The reader of numbers is complete: it reads a number that fits, up to a byte that does not continue it.
 use Prim.Native.Nat.{ℕ, zero, suc, _+_, _-_, _*_, _<_, _≤_}
 use mathlib.Core.Path.{_≡_, refl, ap, subst, sym, _∙_}
 use mathlib.Core.Bool.{Bool, true, false, _||_}
@@ -22,7 +22,7 @@ use Rattle.grammar.proofs.Tests.{neither, in-range, below-range}
 use Rattle.grammar.proofs.Complete.{Reads, reads, exceeds, reads-ok, reads-then}
 use Rattle.grammar.proofs.StringsComplete.{byteIn-reads}
 
--- the bytes of numbers, and a byte that goes on with none
+-- the bytes of numbers, and a byte that continues none
 unfoldable pub inNumber : ℕ → Bool
 inNumber b = isDigit b || (isE b || (eqb b 0x2E || (eqb b 0x2B || eqb b 0x2D)))
 
@@ -220,7 +220,7 @@ unfolding exponent isE
 minus-exponent optional.absent t = refl
 minus-exponent (optional.present minus.minus-sign) t = refl
 
--- with what the parts of a number begin
+-- what the parts of a number begin with
 exp-begins : {s w : Bytes} {at next : ℕ} → optional exp w → From s at w next → Stops (byte s next) →
     (isDigit (byte s at) ≡ false) × (eqb (byte s at) 0x2E ≡ false)
 unfolding isDigit within

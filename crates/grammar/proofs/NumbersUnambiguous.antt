@@ -1,4 +1,4 @@
--- A number ends in one place: its bytes are such as stand in numbers, and what follows it is no such byte.
+-- A number ends in one place: its bytes are bytes that stand in numbers, and what follows it is no such byte.
 use Prim.Native.Nat.{ℕ, zero, _-_}
 use mathlib.Core.Path.{_≡_, refl, ap, sym, _∙_}
 use mathlib.Core.Bool.{true, true≢false}
@@ -61,7 +61,7 @@ minus-inside (optional.present minus.minus-sign) = more refl none
 number-inside : {w : Bytes} → number w → Inside w
 number-inside (number.parts m i f x) = join (minus-inside m) (join (int-inside i) (join (frac-inside f) (exp-inside x)))
 
--- such a run ends where it can go on no more
+-- such a run ends where it cannot continue
 runs-end : {s w w' : Bytes} {at next next' : ℕ} → Inside w → Inside w' → From s at w next → From s at w' next' → Stops (byte s next) →
     Stops (byte s next') → next ≡ next'
 runs-end none none f g h i = f .far ∙ sym (g .far)

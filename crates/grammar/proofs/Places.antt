@@ -19,7 +19,7 @@ pub past-end : (s : Bytes) {at : ℕ} → length s ≤ at → byte s at ≡ 0
 unfolding byte
 past-end s l = List·getD-eq-default s 0 l
 
--- no text has a byte 0 at its end: a byte that is not 0 stands in the text
+-- past the end of a text `byte` gives 0, so a byte that is not 0 stands in the text
 pub in-text : (s : Bytes) (at : ℕ) → 0 < byte s at → at < length s
 in-text s at h = go (decLt at (length s))
   where

@@ -36,7 +36,7 @@ use Rattle.grammar.proofs.Structural.{comma-marked, colon-marked}
 
 -- Scalars.
 
--- what is asked of a value where so many levels are left and so many values have begun before
+-- what is asked of a value, given how many levels are left and how many values have begun before
 pub record Asked (left before : ℕ) (v : Value.Value) : Type 0 where
   pub shallow : depth v ≤ left
   pub few : before + nodes v ≤ maxNodes

@@ -409,7 +409,7 @@ module _ {s t : Bytes} {m : ℕ} (agree : Agree s t m) where
       choose (test (λ b. eqb b (code "{"))) (λ e. container-local (Read.value left s) (Read.value left t) (value-local left) true at nodes) λ _.
       scalar-local at nodes
 
-  -- a value that is read has the whole text
+  -- a value that is read takes the whole text
   pub read-local : Local m (λ v. length s) 0 (read s) (read t)
   unfolding read
   read-local =

@@ -303,7 +303,7 @@ value-sound (suc left) s at nodes =
     choose (eqb (byte s at) (code "{")) (λ e. container-sound s (Read.value left s) (value-sound left s) true at nodes (eqb-true _ _ e)) λ _.
     scalar-sound s at nodes
 
--- a value that is read has the whole text
+-- a value that is read takes the whole text
 pub read-sound : (s : Bytes) → Sound s (λ v. length s) 0 JSON-text (read s)
 unfolding read
 read-sound s =

@@ -46,7 +46,7 @@ module _ {s : Bytes} {p : ℕ} where
   seven : Fault s number-over-limit p → NumberOverLimit s p
   seven (by-7 x) = x
 
--- The byte of a refusal by another number than 3, and those before it, begin some JSON text.
+-- The byte of a refusal by a number other than 3, and those before it, begin some JSON text.
 
 module _ {s : Bytes} {p : ℕ} where
   -- a text that begins with the bytes before, the byte, and more
@@ -103,7 +103,7 @@ by-number : {C : Type 0} (s : Bytes) (number p : ℕ) → read s ≡ refused num
 by-number s number p e f g =
     byCases (eqb number not-json) (λ h. f (e ∙ ap (λ n. refused n p) (eqb-true number not-json h))) (λ h. g (eqb-false number not-json h))
 
--- a 3 stands in the text or at its end, and the others in it
+-- the place of a 3 is in the text or at its end, and that of any other number in the text
 place-inside : (s : Bytes) (number p : ℕ) → read s ≡ refused number p → p ≤ length s
 place-inside s number p e = by-number s number p e (λ h. place-of-3 s p h .inside) (λ n. let l = fault-inside (fault s number p e) n in omega arith)
 
@@ -157,7 +157,7 @@ before-byte {w = w} {b = b} at = rw (at .place, at .text) (from-first w (b ∷ a
 byte-is : {s w : Bytes} {p b : ℕ} → ByteAt s p w b → byte s p ≡ b
 byte-is {w = w} {b = b} at = rw (at .place, at .text) (first (from-rest w (b ∷ at .after)) .0)
 
--- a text that is refused for nothing is refused by 3 at its end, and begins some JSON text
+-- where an unrefused text is refused, it is by 3 at its end, and the text begins some JSON text
 refused-at-end : {w : Bytes} → Unrefused w → (number q : ℕ) → read w ≡ refused number q → (number ≡ not-json) × (q ≡ length w)
 refused-at-end (read-whole e) number q e' = absurd (refused≢ok (sym e' ∙ e))
 refused-at-end {w} (cut-short e) number q e' =
@@ -185,7 +185,7 @@ module _ {s : Bytes} {p : ℕ} (u : Unrefused (take p s)) where
           let end = refused-at-end u number q again .1 in
           omega (arith, length-take-le p s inside)
 
-      -- a longer beginning there is not
+      -- no beginning is longer
       no-longer : p < length s → Begins (take (suc p) s) → ⊥
       no-longer l b = j .longest .longest (suc p) (omega arith) (omega arith) b
 

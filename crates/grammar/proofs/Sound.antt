@@ -56,7 +56,7 @@ module _ {X : Type 0} {s : Bytes} {place : X → ℕ} {at : ℕ} where
   pub exceeds : {P : Bytes → X → Type 0} {p : ℕ} (number : ℕ) → not-json < number → Sound s place at P (refused number p)
   exceeds number l = other {number = number} (λ e. omega arith)
 
-  -- a result of no byte
+  -- a result that takes no byte
   pub gives : {P : Bytes → X → Type 0} (x : X) → place x ≡ at → P [] x → Sound s place at P (ok x)
   gives x e d = finds {w = []} {x = x} (rw e (here at)) d
 
@@ -78,7 +78,7 @@ after {w = w} P f (stops {w = w'} g d) =
     stops (join f g) (record { text = d .text; meaning = d .meaning; derived = rw append-assoc (d .derived) })
 after P f (other h) = other h
 
--- one reader after another, where what the first derives can be gone on with
+-- one reader after another, where what the first derives can be continued
 pub andThen : {X Y : Type 0} {s : Bytes} {place : X → ℕ} {place' : Y → ℕ} {at : ℕ} {P : Bytes → X → Type 0} {R : Bytes → Y → Type 0} {o : Outcome X}
     (g : X → Outcome Y) → Sound s place at P o → ((w : Bytes) (x : X) → P w x → Some (λ w' y. R (w ++ w') y)) →
     ((w : Bytes) (x : X) → P w x → Sound s place' (place x) (λ w' y. R (w ++ w') y) (g x)) → Sound s place' at R (o >>= g)

@@ -27,7 +27,7 @@ blanks-fuel (suc fuel) zero s at l m = rw (nothing-blank s {at = at} (omega arit
 blanks-fuel (suc fuel) (suc more) s at l m =
     byCases (isBlank (byte s at)) (λ e. rw e (blanks-fuel fuel more s (at + 1) (omega arith) (omega arith))) (λ e. rw e)
 
--- a byte that is no blank stays
+-- at a byte that is no blank, the place stays
 pub blanks-stay : (s : Bytes) (at : ℕ) → isBlank (byte s at) ≡ false → blanks s at ≡ at
 unfolding blanks blanksFrom
 blanks-stay s at e = go (length s)

@@ -20,7 +20,7 @@ use Rattle.grammar.specs.Grammar.{members, JSON-text}
 use Rattle.grammar.specs.Limits.{Named}
 use Rattle.grammar.specs.Theorems.{Begins, LongestBeginning}
 
--- a text that is read, or refused for nothing but that it ends too soon
+-- a text that is read, or that is refused only because it ends too soon
 pub data Unrefused (w : Bytes) : Type 0 where
   read-whole : {v : Value.Value} → read w ≡ ok v → Unrefused w
   cut-short : read w ≡ refused not-json (length w) → Unrefused w
@@ -34,8 +34,8 @@ pub record FirstCause (s : Bytes) (number p : ℕ) : Type 0 where
 abbrev pub LeftToRight : Type 0
 LeftToRight = (s : Bytes) (number p : ℕ) → read s ≡ refused number p → FirstCause s number p
 
--- A number is given at a place exactly where it is said to be and nothing is refused before. `Unrefused` speaks of the text before that place
--- alone. So with `Exactness` the five below leave no choice for `read`, as long as it refuses by no other number: text by text, by their length.
+-- A number is given at a place exactly where it is said to be and nothing is refused before. `Unrefused` speaks only of the text before that place. So
+-- with `Exactness` the five below leave `read` no choice, as long as it refuses by no other number: by induction on the length of the text.
 abbrev pub GivenAt : ℕ → (Bytes → ℕ → Type 0) → Type 0
 GivenAt number said = (s : Bytes) (p : ℕ) → (read s ≡ refused number p) ↔ (Unrefused (take p s) × said s p)
 
@@ -87,7 +87,7 @@ pub data OpensLevel33 (s : Bytes) (p : ℕ) : Type 0 where
 abbrev pub Given5 : Type 0
 Given5 = GivenAt too-deep OpensLevel33
 
--- SPECIFICATION 3.5: "The place of a 6 is the first byte of value 2,049." The blanks before a bracket are none of a value's bytes. It is no
+-- SPECIFICATION 3.5: "The place of a 6 is the first byte of value 2,049." The blanks before a bracket are not bytes of a value. The byte is no
 -- bracket that opens level 33: on one byte "the order is 3, 5, 6, 7", SPECIFICATION 3.2.
 pub data BeginsValue2049 (s : Bytes) (p : ℕ) : Type 0 where
   first-byte : {w more : Bytes} {b levels : ℕ} {v : Value.Value} → BeforeValue w levels maxNodes → value (b ∷ more) v → ¬ ws (b ∷ []) →
@@ -110,7 +110,7 @@ pub data NumberOverLimit (s : Bytes) (p : ℕ) : Type 0 where
 abbrev pub Given7 : Type 0
 Given7 = GivenAt number-over-limit NumberOverLimit
 
--- On one byte "the order is 3, 5, 6, 7", SPECIFICATION 3.2: where another number than 3 is given, that byte and those before it begin some JSON
+-- On one byte "the order is 3, 5, 6, 7", SPECIFICATION 3.2: where a number other than 3 is given, that byte and those before it begin some JSON
 -- text.
 abbrev pub After3 : Type 0
 After3 = (s : Bytes) (number p : ℕ) → read s ≡ refused number p → ¬ (number ≡ not-json) → Begins (take (suc p) s)

@@ -24,7 +24,7 @@ Completeness = (s : Bytes) (v : Value.Value) → JSON-text s v → WithinLimits 
 abbrev pub Exactness : Type 0
 Exactness = (s : Bytes) (v : Value.Value) → (read s ≡ ok v) ↔ (JSON-text s v × WithinLimits v)
 
--- The grammar is unambiguous in the value: a text means one at most.
+-- The grammar is unambiguous in the value: a text means at most one.
 abbrev pub Unambiguity : Type 0
 Unambiguity = (s : Bytes) (v w : Value.Value) → JSON-text s v → JSON-text s w → v ≡ w
 

@@ -98,7 +98,7 @@ line-within t e =
     let p : ending t (2 * count t + 11) < 3 = parts t e .ended in
     (omega arith, ending-room t (2 * count t + 11) room p)
 
--- ---- the lines that are none
+-- ---- lines that are no records
 
 not-so : (b : Bool) → (b ≡ true → ⊥) → b ≡ false
 not-so true h = absurd (h refl)

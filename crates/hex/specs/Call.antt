@@ -10,7 +10,7 @@ use Rattle.hex.specs.Reading.{readText}
 use Rattle.hex.specs.Steps.{textOf}
 use Rattle.hex.specs.declared.answer.Answer.{Answer}
 
--- the call's answer is this one, and the output, as it was before and as it is after, has the written text in front
+-- the call's answer is this one, and the output afterwards is the written text, then the rest of the output as it was
 pub record Answered (a : Spec.Answer) (before after : Bytes) (r : Answer) : Type 0 where
   pub number : r .number ≡ a .number
   pub place : r .place ≡ a .place

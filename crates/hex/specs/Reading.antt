@@ -43,7 +43,7 @@ unfoldable pub allHex : ℕ → Bytes → ℕ → Bool
 allHex zero t k = true
 allHex (suc n) t k = isHexByte t k && allHex n t (k + 2)
 
--- ---- the fields of a line: a colon; the bytes of data and how many they are; the address, the type; five bytes beside the data
+-- ---- the fields of a line: a colon; the bytes of data and how many there are; the address, the type; five bytes beside the data
 
 unfoldable pub count : Bytes → ℕ
 count t = hexByte t 1

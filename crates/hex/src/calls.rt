@@ -13,7 +13,7 @@ use crate::reading::put_text;
 use crate::writing::hex_length;
 use crate::writing::put_hex;
 
-// Bytes of a text that is written.
+// The most bytes of a text that is written.
 const MAX_TEXT: usize = 65_536;
 
 // A text is written as Intel HEX to the output, or the call is refused: 2 for a text over 65,536 bytes, then 16.

@@ -17,7 +17,7 @@ pub fn hex_digit(n: u8) -> u8
     b'A' + (n - 10)
 }
 
-// The value of a digit of either case, and 16 of any other byte.
+// The value of a digit of either case, and 16 for any other byte.
 pub fn hex_value(b: u8) -> u8
     ensures { λ r. ⌜ r ≡ hexValue b ⌝ }
 {
@@ -35,7 +35,7 @@ fn wide(b: u8) -> usize
     b as usize
 }
 
-// The byte of the two digits at a place; above 255 where they are none.
+// The byte of the two digits at a place; above 255 where they are not digits.
 pub fn hex_byte(t: &[u8], k: usize) -> usize
     requires { ⌜ k + 1 < length (now t) ⌝ }
     ensures { λ r. ⌜ (r ≡ hexByte (now (t .entry)) k) × (r < 5_000) ⌝ }

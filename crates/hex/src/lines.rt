@@ -11,10 +11,10 @@ use crate::digits::hex_value;
 use lexer::peek;
 use std::num::wrapping_add_u8;
 
-// Bytes of a text.
+// The most bytes of a text.
 const MAX_TEXT: usize = 65_536;
 
-// The sum of bytes that stand in digits, modulo 256, or what is no digit.
+// The sum, modulo 256, of bytes written in digits; `Bad` where something is no digit.
 pub enum Scanned {
     Sum(u8),
     Bad,

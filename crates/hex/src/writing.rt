@@ -9,7 +9,7 @@ use crate::digits::hex_digit;
 use std::num::wrapping_add_u8;
 use std::num::wrapping_sub_u8;
 
-// Bytes of data in a record.
+// The most bytes of data in a record that is written.
 const RECORD_BYTES: usize = 16;
 
 // The sum of bytes, and of what came before them, modulo 256.

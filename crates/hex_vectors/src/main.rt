@@ -1,6 +1,6 @@
-// Every committed case of Intel HEX, run through the library: a text, written as Intel HEX, and taken for Intel HEX
-// and read. For each a line: its name, and the text, or the number of the refusal and its place. The stored output is
-// what the second program answers, so that each run holds the two to each other.
+// Every committed case of Intel HEX, run through the library: a text is written as Intel HEX, and taken as Intel HEX
+// and read. Each of the two prints a line: the case's name, and the text, or the number of the refusal and its place.
+// The stored output is what the second program answers, so each run compares the two.
 use cases::Case;
 use cases::Contents;
 use cases::Found;

@@ -64,7 +64,7 @@ module _ {nodes : List Row} {top object row : ℕ} (xs ys : List ℕ) (stored : 
         beyond = ap (drop slots) stored ∙ slot-behind xs (parentSlot (row - top)) (object - top + 1) slots (omega arith);
       }
 
--- ---- the members of one object: so far only their parents are noted, and what follows here follows the object's first member
+-- ---- the members of one object: so far only their parents are noted, and every child from `row` on is a child from the object's first member on
 pub record Indexing (nodes : List Row) (top object : ℕ) (xs ys : List ℕ) (row : ℕ) : Type 0 where
   pub indexed : Indexed top nodes xs ys
   pub above : object < row

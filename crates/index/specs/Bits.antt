@@ -31,7 +31,7 @@ unfoldable pub otherHash : Text → ℕ
 otherHash cs = otherHashFrom 0 cs
 
 -- ---- the bits of a name
--- first come those of its hash that did not choose the first slot, the lowest one first, below a one that ends them
+-- first come those of its hash that did not choose the first slot, the lowest first, with a 1 above them that marks their end
 abbrev pub upperHashes : ℕ
 upperHashes = 0x20
 
@@ -47,7 +47,7 @@ unfoldable pub onward : Text → Stream
 onward [] = (1, [])
 onward (c ∷ cs) = (otherHashes + otherHash (c ∷ cs) % otherHashes, cs)
 
--- with one bit at least; behind the last character there are ones
+-- with at least one bit; behind the last character there are ones
 unfoldable pub refill : Stream → Stream
 refill q = if ltb 1 (q .0) then q else onward (q .1)
 

@@ -23,7 +23,7 @@ pub record Child (nodes : List Row) (parent row : ℕ) : Type 0 where
   pub low : row < scratchRow
   pub among : Among nodes (parent + 1 + spanOf (getD nodes parent [])) row (parent + 1)
 
--- Each parent that is noted is one: of the row `top + r` it is noted, if at all, how many rows its parent is behind `top`, and one more.
+-- Each parent that is noted is one: what is noted for the row `top + r`, if anything, is how many rows its parent is behind `top`, plus one.
 pub record Parents (top : ℕ) (nodes : List Row) (xs : List ℕ) : Type 0 where
   pub child : (r o : ℕ) → r < room → slotAt xs (parentSlot r) ≡ suc o → Child nodes (top + o) (top + r)
 
@@ -44,8 +44,8 @@ pub record NotedIs (w : Table) (xs : List ℕ) (top object : ℕ) (name : Name) 
   pub parent : slotAt xs (parentSlot row) ≡ suc (object - top)
   pub named : sameName (w .texts) (nameOf (getD (w .nodes) (top + row) noNode)) name ≡ true
 
--- What is found has the name, and this parent is noted of it. Where nothing is found there may be such a member all the same: `Missing` says
--- nothing, and one that always answered so would do.
+-- What is found has the name, and this parent is noted for it. Where nothing is found, there may still be such a member: `Missing` says nothing, and a
+-- lookup that always answered so would do.
 pub data LookupIs (w : Table) (xs : List ℕ) (top object : ℕ) (name : Name) : Member → Type 0 where
   noted : (x row : ℕ) → row ≡ top + x → x < room → top ≤ object → NotedIs w xs top object name x → LookupIs w xs top object name (At row)
   not-found : LookupIs w xs top object name Missing

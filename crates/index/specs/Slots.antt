@@ -1,4 +1,4 @@
--- The index: numbers of 16 bits in lent memory of their own, in four parts, each of as many slots as a text has nodes, or twice as many.
+-- The index: numbers of 16 bits in lent memory of their own, in three parts, each of as many slots as a text has nodes, or twice as many.
 use Prim.Native.Nat.{ℕ, _+_, _*_, _%_}
 use mathlib.Core.List.{List}
 use lib.ListN.{getD, set}
@@ -9,7 +9,7 @@ use Rattle.tape.specs.Columns.{filled}
 abbrev pub room : ℕ
 room = 2_048
 
--- the slots from 0 on begin search paths; those from here on are branches of rows, two of each; and those from here on their parents
+-- the slots from 0 on begin search paths; those from `branches` on are branches of rows, two of each; those from `parents` on are their parents
 abbrev pub branches : ℕ
 branches = 2_048
 

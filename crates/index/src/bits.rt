@@ -1,5 +1,5 @@
-// The bits of a name, one after another: those of its hash; those of another hash of its characters, of those from
-// the second on, and so on; and ones behind the last.
+// The bits of a name, one after another: those of its hash; then those of another hash of all its characters, of those
+// from the second on, and so on; and ones behind the last character.
 ghost use mathlib.Core.Path.{_≡_};
 ghost use Rattle.tape.specs.Lent.{lent};
 ghost use Rattle.index.specs.Bits.{otherMix, otherHash, hashBits, refill, streamOf};
@@ -13,7 +13,7 @@ use tape::fields::wide;
 use tape::layout::Texts;
 use text::letter;
 
-// The bits that are left of a hash, below a one that ends them, and the place of the next character.
+// The bits that are left of a hash, with a 1 above them that marks their end, and the place of the next character.
 pub struct Bits {
     pub left: u32,
     pub next: usize,
@@ -54,7 +54,7 @@ fn other_hash(form: u64, s: &[u8], start: usize) -> u32
 // How many values the upper bits of a name's hash have.
 const UPPER_HASHES: usize = 0x20;
 
-// The bits of a hash that do not choose the first slot, below a one that ends them.
+// The bits of a hash that do not choose the first slot, with a 1 above them that marks their end.
 pub fn hash_bits(hash: u16) -> u32
     ensures { λ r. ⌜ r ≡ hashBits hash ⌝ }
 {

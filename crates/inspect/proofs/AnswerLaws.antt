@@ -28,7 +28,7 @@ one-small (refused number place) = omega arith
 pub one-as : {kind : Kind} {r : Counts} → countsIn r ≡ oneFor (kindOutcome kind) → OneIs kind r
 one-as {kind} {r} e = record { is = e; small = rw e (one-small (kindOutcome kind)) }
 
--- ---- a refusal, whose counts are none
+-- ---- a refusal, whose counts are all 0
 pub refusal-told : (number text op place : ℕ) {c : Counts} → countsIn c ≡ noCounts
     → _≡_ {A = Inspection} (record { number = number; text = text; op = op; place = place; counts = countsIn c }) (refusal number text op place)
 refusal-told number text op place e = ap (λ d. record { number = number; text = text; op = op; place = place; counts = d }) e

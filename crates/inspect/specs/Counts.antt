@@ -13,7 +13,7 @@ abbrev pub countsIn : Counts → Spec.Counts
 countsIn c =
     record { add = c .adds; remove = c .removes; replace = c .replaces; move = c .moves; copy = c .copies; test = c .tests }
 
--- one operation of a kind that is known, and nothing of another
+-- one operation of a known kind, and none of an unknown one
 unfoldable pub oneFor : Outcome Operation.Kind → Spec.Counts
 oneFor (ok k) = oneOf k
 oneFor (refused number place) = noCounts

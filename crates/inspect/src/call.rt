@@ -11,7 +11,7 @@ ghost use Rattle.reader.specs.Work.{workBefore, workAfter};
 ghost use Rattle.inspect.specs.Call.{InspectIs};
 
 // The patch is read and shaped, and its operations counted, or the call is refused. `nodes` and `index` are the work
-// area, as `json_patch::apply` takes it: at least ROWS records and SLOTS entries, which may hold anything. As many of
+// area, as `json_patch::apply` takes it: at least ROWS records and SLOTS entries, which may hold anything. That many of
 // each are all zero afterwards.
 pub fn inspect<'a>(patch: &'a [u8], nodes: &mut [Node], index: &mut [u16]) -> Answer
     ensures { λ r. ⌜ InspectIs (now (patch .entry)) (workBefore nodes index) (workAfter nodes index) r ⌝ }

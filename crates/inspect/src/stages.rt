@@ -41,7 +41,7 @@ fn counted<'a>(texts: Texts<'a>, nodes: &[Node], start: usize, end: usize) -> Co
     counts
 }
 
-// The patch, which is read.
+// The patch, already read.
 fn shaped<'a>(texts: Texts<'a>, nodes: &[Node]) -> Answer
     ensures { λ r. ⌜ ShapedIs (before texts nodes) r ⌝ }
 {

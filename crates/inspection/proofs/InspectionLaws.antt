@@ -1,4 +1,4 @@
--- Laws of one patch: what is counted are its operations, and the plain call refuses alike.
+-- Laws of one patch: its operations are what is counted, and the plain call refuses alike.
 use Prim.Native.Nat.{ℕ, _+_, _≤_, _<_}
 use native.Mathlib.Omega.{arith}
 use native.Mathlib.Decide.{decLt}

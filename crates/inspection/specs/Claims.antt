@@ -27,7 +27,7 @@ RefusedAlike =
     → (inspection P .number ≡ done → ⊥)
     → answer D P lent ≡ Answer.refusal (inspection P .number) (inspection P .text) (inspection P .op) (inspection P .place)
 
--- A patch that is accepted here is well formed, and what is counted are its operations.
+-- A patch that is accepted here is well formed, and its operations are what is counted.
 pub record WellFormed (P : Bytes) : Type 0 where
   pub short : length P ≤ maxBytes
   pub patch : Value.Value

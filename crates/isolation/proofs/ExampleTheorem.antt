@@ -16,7 +16,7 @@ use Rattle.isolation.specs.Example.{document, other, ExampleStatement}
 abbrev cell : Value.Value
 cell = got (read (ascii "{\"mAh\":3000}"))
 
--- 0 is none of 6, 1 and 16
+-- 0 is not 6, 1 or 16
 unfoldable first : Call document patch region tokens lent
 unfolding compute-region
 first =

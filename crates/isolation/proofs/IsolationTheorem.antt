@@ -74,7 +74,7 @@ module _ {D patch region : Bytes} {lent : Lent} (p : Passes region patch) (c : C
   holding : Holding (p .tokens) (c .held) (c .before)
   holding = record { there = c .exists; shallow = readable .shallow }
 
--- an answer that is a refusal is none that writes
+-- an answer that is a refusal is no success
 refused-not-written : {s : Stop} {text : Bytes} {A : Type 0} → 1 ≤ s .op → failure s ≡ success text → A
 refused-not-written {s} l h = let op : s .op ≡ 0 = ap (λ a. a .op) h in absurd (omega arith)
 

@@ -1,4 +1,4 @@
--- A value within another that a text can be: it is one that a text can be, too.
+-- A value within a readable value is readable.
 use mathlib.Core.Path.{_≡_, refl, sym, subst, _∙_}
 use mathlib.Core.List.{[], _∷_}
 use Prim.Native.Nat.{ℕ, zero, suc, _<_, _≤_}

@@ -1,4 +1,4 @@
--- Operations strictly inside a region, on two documents that have one value there: the runs go step by step alike, and leave all outside it.
+-- Operations strictly inside a region, on two documents that have one value there: the runs go alike, step by step, and leave all outside it unchanged.
 use mathlib.Core.Path.{_≡_, refl, ap, sym, subst, _∙_}
 use mathlib.Core.Bool.{Bool, true, false, _&&_}
 use mathlib.Core.List.{List, [], _∷_}

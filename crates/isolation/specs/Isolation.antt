@@ -44,7 +44,7 @@ pub record SameFields (a b : Answer) : Type 0 where
   pub place : a .place ≡ b .place
   pub pointer : a .pointer ≡ b .pointer
 
--- These bytes stand in front of a region and behind it: they do so around the value that it holds, and around every other that replaces it.
+-- These bytes stand in front of a region and behind it, around the value that it holds and around every other that replaces it.
 pub record Around (region : Tokens) (v : Value.Value) (front back : Bytes) : Type 0 where
   pub itself : (held : Value.Value) → walk region v ≡ ok held → write v ≡ front ++ (write held ++ back)
   pub others : (x w : Value.Value) → replaceAtPath region x v ≡ ok w → write w ≡ front ++ (write x ++ back)

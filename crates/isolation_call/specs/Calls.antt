@@ -50,7 +50,7 @@ pub record SameAnswer (a b : Answer) : Type 0 where
   pub place : a .place ≡ b .place
   pub pointer : a .pointer ≡ b .pointer
 
--- the call is refused so, and its output is as it was
+-- the call is refused as the run stops, and its output is as it was
 abbrev pub RefusesCall : {document patch region : Bytes} {tokens : Tokens} → Stop → Called document patch region tokens → Type 0
 RefusesCall s call = Refuses s (call .lent .output) (call .left .output) (call .answer)
 
@@ -77,7 +77,7 @@ pub record IsolatedCalls {D E patch region : Bytes} (c : Calls D E patch region)
 abbrev pub IsolatedCallsStatement : Type 0
 IsolatedCallsStatement = (D E patch region : Bytes) (c : Calls D E patch region) → IsolatedCalls c
 
--- The premises can be met: memory of the lengths of any situation of the definition has two such calls.
+-- The premises can be met: with memory of the lengths of any situation of the definition, there are two such calls.
 abbrev pub CallsMetStatement : Type 0
 CallsMetStatement =
     (D E patch region : Bytes) (m m' : Memory) → Situation D E patch region (lentOf m) (lentOf m') → Calls D E patch region

@@ -74,7 +74,7 @@ module _ (D P : Bytes) (lent : Lent) where
     unfolding answer answerIn
     answer-read h i = rw (enough, le-ltb maxBytes (length D) h, le-ltb maxBytes (length P) i)
 
--- only that the work area suffices, and the room for the text, make a difference
+-- the answer depends only on whether the work area suffices, and on the room for the text
 pub answer-same : (D P : Bytes) (lent lent' : Lent) → workSuffices lent ≡ workSuffices lent' → lent .output ≡ lent' .output → answer D P lent ≡ answer D P lent'
 unfolding answer
 answer-same D P lent lent' e o = rw (e, o)

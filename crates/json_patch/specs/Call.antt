@@ -44,7 +44,7 @@ abbrev pub lentOf : Memory → Lent
 lentOf m = record { output = length (m .output); nodes = length (m .nodes); index = length (m .index) }
 
 -- ---- the answer, and the output
--- the call's answer is this one, and the output, as it was before and as it is after, has the written text in front
+-- the call's answer is this one, and the output afterwards is the written text, then the rest of the output as it was
 pub record Answered (a : Spec.Answer) (before after : Bytes) (r : Answer) : Type 0 where
   pub number : r .number ≡ a .number
   pub text : r .text ≡ a .text

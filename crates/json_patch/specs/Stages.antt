@@ -35,7 +35,7 @@ MisshapenIs shape r = (number op : ℕ) → shape ≡ Shape.Refused number op �
 abbrev pub StoppedIs : Ran → Answer → Type 0
 StoppedIs ran r = (number op place pointer : ℕ) → ran ≡ Ran.Refused number op place pointer → FailureIs number op place pointer r
 
--- ---- the patch is a value as texts are read: its tree begins in the first row of the patch's part, and ends in it
+-- ---- the patch is a proper value: its tree begins in the first row of the patch's part, and ends within that part
 pub record PatchHeld (w : Table) (p : Value.Value) : Type 0 where
   pub c : Cell
   pub kids : Forest Cell

@@ -9,9 +9,9 @@ use tape::layout::Node;
 use tape::moves::wipe;
 ghost use Rattle.json_patch.specs.Call.{given, memoryBefore, memoryAfter, ApplyIs};
 
-// The patch is applied to the document and the result written to `output`, or the call is refused. `nodes` and
-// `index` are the work area: at least ROWS records and SLOTS entries, which may hold anything. As many of each are
-// all zero afterwards.
+// The patch is applied to the document and the result written to `output`, or the call is refused. `nodes` and `index`
+// are the work area: at least ROWS records and SLOTS entries, which may hold anything. That many of each are all zero
+// afterwards.
 pub fn apply<'a>(
     document: &'a [u8],
     patch: &'a [u8],

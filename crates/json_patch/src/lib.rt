@@ -2,7 +2,7 @@
 //
 // What is proved: on every input the answer is that of the definition `answer` of crate `spec`. The output afterwards
 // begins with the written text and is otherwise unchanged. The work area is all zero for its stated length and
-// otherwise unchanged, or untouched where it was too short. Of two makers' patches in regions of their own,
+// otherwise unchanged, or untouched where it was too short. For two makers' patches in regions of their own,
 // specs/Region says what the call answers on a shuffle of them.
 
 mod answer; // what the call answers

@@ -41,7 +41,7 @@ fn write_out<'a>(texts: Texts<'a>, output: &mut [u8], nodes: &[Node]) -> Answer
     success(length)
 }
 
-// The patch, which is read, is applied to the document, which has `used` rows.
+// The patch, already read, is applied to the document, which has `used` rows.
 fn run_patch<'a>(
     texts: Texts<'a>,
     output: &mut [u8],

@@ -76,7 +76,7 @@ step-refused d f number place r e t = e ∙ rw (scan-refused number place e t)
 
 pub ruleset steps = (step-within, step-outside, step-to, step-refused)
 
--- a test that was passed, of what was answered
+-- the answer is a result, so the test was passed
 pub passed : (t : Bool) (x n k p : ℕ) → (if t then ok x else refused k p) ≡ ok n → (t ≡ true) × (x ≡ n)
 passed true x n k p e = (refl, cc)
 passed false x n k p e = let z : _≡_ {A = ℕ} 0 1 = cc in absurd (omega arith)

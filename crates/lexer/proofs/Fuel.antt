@@ -1,6 +1,6 @@
--- A loop of the definitions has fuel, which falls by one a turn and starts at the text's length. `Runs F s at v`: the loop F, from a place on
--- and with fuel for every byte that is left, gives v. A turn that goes on keeps that, and one that ends the loop gives v, so that no law of a
--- loop speaks of its fuel.
+-- A loop of the definitions has fuel, which falls by one each turn and starts at the text's length. `Runs F s at v`: the loop F, from a place on and
+-- with fuel for every byte that is left, gives v. A turn that goes on keeps that, and one that ends the loop gives v, so that no law of a loop speaks
+-- of its fuel.
 use Prim.Native.Nat.{ℕ, zero, suc, _+_, _≤_, _<_}
 use mathlib.Core.Path.{_≡_, refl, sym, _∙_}
 use native.Mathlib.Omega.{arith}

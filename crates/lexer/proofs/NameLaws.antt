@@ -130,7 +130,7 @@ kept-from : (s : Bytes) (start : ℕ) (o : Outcome (Text × ℕ)) → keptFrom 0
 unfolding keptFrom keptOf kept hash _>>=_
 kept-from s start o = refl
 
--- In the midst of a string that begins at start: whether it is plain before a place.
+-- In the middle of a string that begins at start: whether it is plain before a place.
 pub record Spanned (s : Bytes) (start at : ℕ) (plain : Bool) : Type 0 where
   pub from : start ≤ at
   pub so-far : plain ≡ noBackslash (part s start at)
@@ -163,7 +163,7 @@ still s at plain n = rw (ne-eqb (byte s at) (code "\\") n) (sym (and-true plain)
 pub no-more : (s : Bytes) (at : ℕ) (plain : Bool) → byte s at ≡ code "\\" → false ≡ (plain && not (eqb (byte s at) (code "\\")))
 no-more s at plain b = rw (eq-eqb (byte s at) (code "\\") b) (sym (and-false plain))
 
--- In the midst of a string: what is left of it from a place on gives v.
+-- In the middle of a string: what is left of it from a place on gives v.
 pub record Passing (s : Bytes) (start at : ℕ) (plain : Bool) (v : Outcome (ℕ × Bool)) : Type 0 where
   pub span : Spanned s start at plain
   pub left : Runs (λ fuel k. plainOf s start (characters fuel s k)) s at v
@@ -203,7 +203,7 @@ passing-verbatim {plain = plain} {s} (short {at} p t b r) f k =
     let n : byte s at ≡ code "\"" → ⊥ = λ q. omega arith in
     passing-more _ n (short-read s at b r) (rw (f t)) (passing-verbatim p f k)
 
--- In the midst of a name: the hash is that of the characters before a place, and what is left of it from there on gives v.
+-- In the middle of a name: the hash is that of the characters before a place, and what is left of it from there on gives v.
 pub record Keeping (s : Bytes) (start at h : ℕ) (plain : Bool) (v : Outcome (ℕ × ℕ × Bool)) : Type 0 where
   pub span : Spanned s start at plain
   pub left : Runs (λ fuel k. keptFrom h s start (characters fuel s k)) s at v

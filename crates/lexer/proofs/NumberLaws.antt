@@ -94,7 +94,7 @@ module _ (s : Bytes) (start : ℕ) where
       either (isE (byte s at)) (λ e. later (omega arith) (over isE not-e at e (signedDigits s start) signed-digits-from)) (λ _.
       gives at (omega arith))
 
-  -- an integer has a digit at least
+  -- an integer has at least one digit
   digits-past : (fuel at : ℕ) → 1 ≤ fuel → isDigit (byte s at) ≡ true → Always (From s (at + 1)) (digits fuel s start at)
   unfolding digits
   digits-past zero at h e = absurd (omega arith)

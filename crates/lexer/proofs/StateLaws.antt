@@ -61,7 +61,7 @@ row s at b =
     (case 0xF1 0xF3 _ (omega arith) three
     (case 0xF4 0xF4 _ (omega arith) after-F4 no-row)))))))
 
--- ---- a byte more: the states go on below the limit, and the characters end at it
+-- ---- one more byte: the states go on below the limit, and the characters end at it
 
 data Stepped (escapes : Bool) (s : Bytes) (start end at : ℕ) : ℕ → Type 0 where
   on : {state : ℕ} → state < limit escapes → Going escapes s start (if eqb state 0 then at + 1 else end) (at + 1) state → Stepped escapes s start end at state
@@ -101,12 +101,12 @@ awaits-within after-ED = record { below = omega arith; few = omega arith; amid =
 awaits-within after-F0 = record { below = omega arith; few = omega arith; amid = refl }
 awaits-within after-F4 = record { below = omega arith; few = omega arith; amid = refl }
 
--- a quotation mark begins none of two to four bytes
+-- no character of two to four bytes begins with a quotation mark
 mark-ends : (b : ℕ) → b ≡ code "\"" → first b ≡ 63
 unfolding first within
 mark-ends b e = rw e
 
--- a character of two to four bytes is read as one where its first byte is none of ASCII
+-- a character of two to four bytes is read as one where its first byte is not ASCII
 long : (s : Bytes) (at : ℕ) → (byte s at ≡ code "\"" → ⊥) → (byte s at ≡ code "\\" → ⊥) → standsForItself (byte s at) ≡ false →
     character s at ≡ multibyte s at (byte s at)
 unfolding character standsForItself

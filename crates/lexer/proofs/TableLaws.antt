@@ -1,5 +1,5 @@
--- The tables by which characters are passed: the columns follow their rule, and of that rule the steps are right at every byte, by one test
--- that is computed.
+-- The tables by which characters are passed: the columns follow their rule, and by that rule the steps are right at every byte. One computed test shows
+-- the latter.
 use mathlib.Core.Path.{_≡_, refl}
 use mathlib.Core.Bool.{Bool, true, _&&_}
 use mathlib.Core.List.{List, [], _∷_}

@@ -7,11 +7,11 @@ use borrow.Author.Tests.{eq-eqb, ne-eqb, le-leb, lt-leb, lt-ltb, le-ltb, leb-tru
 use lib.Dec.{leb, eqb}
 use Rattle.spec.specs.Bytes.{within}
 
--- what a function of the code answered, of what it ensures
+-- what the definition gives, from what a function ensures and what it answered
 pub told : {A : Type 0} {r d v : A} → r ≡ d → r ≡ v → d ≡ v
 told e t = sym e ∙ t
 
--- an order with a numeral, from one with another numeral: the test of the two numerals computes
+-- a comparison with a numeral, from one with another numeral: the test of the two numerals computes
 pub lt-lt : (a m c : ℕ) → a < m → leb m c ≡ true → a < c
 lt-lt a m c h t = omega (arith, leb-true m c t)
 

@@ -37,7 +37,7 @@ unfoldable pub characterOutcome : Character → Outcome (ℕ × ℕ)
 characterOutcome (Character.Scalar c next) = ok (c, next .at)
 characterOutcome (Character.Refused place) = refused not-json place
 
--- the place of a refused character, and 0 of one that was read
+-- the place of a refused character, and 0 for one that was read
 unfoldable pub refusedAt : Character → ℕ
 refusedAt (Character.Scalar c next) = 0
 refusedAt (Character.Refused place) = place

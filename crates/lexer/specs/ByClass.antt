@@ -1,4 +1,4 @@
--- What a character is by the class of its first byte. Beside the class only the bounds of a second byte are needed.
+-- What a character is by the class of its first byte. Besides the class, only the bounds of a second byte are needed.
 use Prim.Native.Nat.{ℕ, _+_, _-_}
 use mathlib.Core.Path.{_≡_}
 use lib.Dec.{eqb}
@@ -17,7 +17,7 @@ secondLeast b = if eqb b 0xE0 then 0xA0 else if eqb b 0xF0 then 0x90 else 0x80
 unfoldable pub secondMost : ℕ → ℕ
 secondMost b = if eqb b 0xED then 0x9F else if eqb b 0xF4 then 0x8F else 0xBF
 
--- the character that begins with a byte of a class; a quotation mark is one where nobody looked for it first
+-- the character that begins with a byte of a class; a quotation mark is one too, unless the caller looked for it first
 unfoldable pub byClass : Bytes → ℕ → ℕ → Class → Outcome (ℕ × ℕ)
 byClass s at b quote = ok (b, at + 1)
 byClass s at b backslash = escape s (at + 1)

@@ -11,6 +11,6 @@ unfoldable pub hashFrom : ℕ → Text → ℕ
 hashFrom h [] = h
 hashFrom h (c ∷ cs) = hashFrom (mix h c) cs
 
--- The code points are the digits of a number to the base 165,904,091, near 2 ^ 28 over the golden ratio, modulo 2 ^ 28.
+-- The code points are the digits of a number in base 165,904,091, near 2 ^ 28 over the golden ratio. The hash is that number modulo 2 ^ 28.
 unfoldable pub hash : Text → ℕ
 hash cs = hashFrom 0 cs

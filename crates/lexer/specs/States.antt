@@ -13,7 +13,7 @@ use Rattle.spec.specs.Bytes.{within}
 use Rattle.lexer.specs.Names.{standsForItself}
 use Rattle.lexer.specs.Verbatim.{keptEscape}
 
--- of each state within a character: how many bytes are to come after the next, and the next one's bounds
+-- for each state within a character: how many bytes are to come after the next, and the next one's bounds
 pub data Awaits : ℕ → ℕ → ℕ → ℕ → Type 0 where
   one : Awaits 6 0 0x80 0xBF
   two : Awaits 12 1 0x80 0xBF
@@ -53,8 +53,7 @@ escaped b = if keptEscape b then 0 else 63
 unfoldable pub limit : Bool → ℕ
 limit escapes = if escapes then 63 else 48
 
--- What two tables say that the state after a byte is: the first gives the byte's column, and the second, of that column, six bits for each
--- state.
+-- The state after a byte, by two tables: the first gives the byte's column, and the second gives, for that column, six bits for each state.
 unfoldable pub look : List ℕ → List ℕ → ℕ → ℕ → ℕ
 look columns steps state b = getD steps (getD columns b 0 % 16) 0 / 2 ^ state % 64
 

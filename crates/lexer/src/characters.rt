@@ -15,7 +15,7 @@ pub enum Character {
 
 impl Cursor {
     // The character at the cursor. A quotation mark is read as any other character: the caller looks for it first.
-    // What it is by the class of its first byte: `CharactersByClass`, specs/ByClass.
+    // `CharactersByClass` (specs/ByClass) says what the character is by the class of its first byte.
     pub fn character(self, s: &[u8]) -> Character
         ensures { λ r. ⌜ characterOutcome r ≡ character (now (s .entry)) (self .at) ⌝ }
     {

@@ -11,7 +11,7 @@ use crate::cursor::Cursor;
 use crate::cursor::byte_in;
 use crate::cursor::peek;
 
-// The value of a hexadecimal digit, and 16 of any other byte.
+// The value of a hexadecimal digit, and 16 for any other byte.
 fn hex_value(b: u8) -> u8
     ensures { λ r. ⌜ r ≡ hexValue b ⌝ }
 {
@@ -44,7 +44,7 @@ fn hex_number(a: u8, b: u8, c: u8, d: u8) -> u32
     (a as u32) * 0x1000 + (b as u32) * 0x100 + (c as u32) * 0x10 + d as u32
 }
 
-// The code point of a surrogate pair, of the high surrogate and the last three digits of the low one.
+// The code point of a surrogate pair, from the high surrogate and the last three digits of the low one.
 fn pair(high: u32, b: u8, c: u8, d: u8) -> u32
     requires { ⌜ (0xD800 ≤ high) × (high ≤ 0xDBFF) × (0xC ≤ b) ⌝ }
     ensures { λ r. ⌜ r ≡ 0x1_0000 + (high - 0xD800) * 0x400 + ((b - 0xC) * 0x100 + c * 0x10 + d) ⌝ }

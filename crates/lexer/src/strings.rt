@@ -1,5 +1,5 @@
-// Strings: RFC 8259, section 7. A name is read as any other string is, and what makes two names quick to compare is
-// kept on the way.
+// Strings: RFC 8259, section 7. A name is read like any other string, and what makes two names quick to compare is kept
+// on the way.
 ghost use mathlib.Core.Path.{_≡_};
 ghost use Prim.Native.Nat.{_+_};
 ghost use mathlib.Core.Bool.{false, _&&_, not};
@@ -35,12 +35,12 @@ pub enum Quoted {
 }
 
 // Whether a byte is a whole character of its string, as most bytes of most strings are. Asking this first keeps a loop
-// over them quick. These are the bytes of the class of other ASCII (`ItselfByClass`, specs/ByClass), found by their
-// bounds: the table of classes would be laid out on the stack for each of them.
+// over them quick. These are the bytes of the class of other ASCII (`ItselfByClass`, specs/ByClass). They are found by
+// their bounds, since the table of classes would be laid out on the stack for each of them.
 pub fn stands_for_itself(b: u8) -> bool
     ensures { λ r. ⌜ r ≡ standsForItself b ⌝ }
 {
-    // the small letters first
+    // the lower-case letters first
     if b'\\' < b {
         if 0x7F < b {
             return false;
@@ -56,7 +56,7 @@ pub fn stands_for_itself(b: u8) -> bool
     b != b'\\'
 }
 
-// The place of a refused character, and 0 of one that was read.
+// The place of a refused character, and 0 for one that was read.
 fn refused_at(read: Character) -> usize
     ensures { λ r. ⌜ r ≡ refusedAt read ⌝ }
 {

@@ -8,7 +8,7 @@ ghost use Rattle.lexer.specs.Verbatim.{VerbatimTo};
 ghost use Rattle.lexer.specs.States.{look, Tables, limit};
 use byte_class::columns;
 
-// Where a byte leads is a state, and its number how far a word of STEPS is shifted. 0 is between characters; 6, 12
+// A state says where a byte has led. Its number is how far a word of STEPS is shifted. 0 is between characters; 6, 12
 // and 18 have one, two and three bytes of a character to come; 24, 30, 36 and 42 stand after E0, ED, F0 and F4; 48
 // after a backslash; 63 is the end.
 const BETWEEN: u64 = 0;
@@ -17,8 +17,9 @@ const ESCAPE: u64 = 48;
 
 const END: u64 = 63;
 
-// For each column, by its last four bits, the next state of each state, of two octal digits: from the right those of
-// 0, 6, 12 and so on. The columns are the classes of crate `byte_class`, with seven more that need more than a class.
+// For each column, by its last four bits, the next state from each state, in two octal digits: from the right, those
+// from 0, 6, 12 and so on. The columns are the classes of crate `byte_class`, with seven more that need more than a
+// class.
 const STEPS: [u64; 16] = [
     0o77_77_77_77_77_77_77_77_77, // control
     0o00_77_77_77_77_77_77_77_77, // quote
@@ -61,8 +62,8 @@ fn limit(escapes: bool) -> u64
     if escapes { END } else { ESCAPE }
 }
 
-// The end of the characters from a place on that are written as they stand, with or without escapes among them, by
-// tables that are lent.
+// The end of the characters from a place on that are written as they stand, with or without escapes among them, by lent
+// tables.
 fn passed_end(
     s: &[u8],
     start: usize,
@@ -89,8 +90,8 @@ fn passed_end(
 }
 
 // The end of the characters from a place on that are written byte for byte as they are read, with or without escapes
-// among them. The tables are constants, and laid out on the stack wherever they are used: here alone, and in no
-// function that calls itself.
+// among them. The tables are constants, and are laid out on the stack wherever they are used. So they are used only
+// here, and in no function that calls itself.
 pub fn verbatim_end(s: &[u8], start: usize, escapes: bool) -> usize
     ensures { λ r. ⌜ VerbatimTo escapes (now (s .entry)) start r ⌝ }
 {

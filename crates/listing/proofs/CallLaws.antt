@@ -21,7 +21,7 @@ use Rattle.json_patch.proofs.CallLaws.{part-wiped}
 use Rattle.listing.specs.Call.{ListMemory, ListedIs, CalledIs}
 use Rattle.listing.proofs.StageLaws.{listed-refusal, listed-as}
 
--- a memory, and that of which a call lends its stages the stated lengths
+-- the memory of a call, and the part of it that the call lends its stages: the stated lengths
 abbrev pub memoryOf : Bytes → List ℕ → List Row → List ℕ → ListMemory
 memoryOf out list ns xs = record { call = record { output = out; nodes = ns; index = xs }; list = list }
 
@@ -37,7 +37,7 @@ module _ {a : Listed Spec.Answer} {r : Answer} where
   call-short e short is = record { listed = listed-as short (listed-refusal is); nodes-after = rw e; index-after = rw e }
 
   -- SPECIFICATION 2.4: after any other answer the work area is all zero; where a work buffer is longer than stated, the part beyond is unchanged.
-  -- The stages answer b, of the part of the work area that they are lent.
+  -- The stages answer b, on the part of the work area that they are lent.
   pub call-done : {b : Listed Spec.Answer} {out out' : Bytes} {list list' : List ℕ} {ns ns' : List Row} {xs xs' : List ℕ}
       → workNodes ≤ length ns → workEntries ≤ length xs
       → (workSuffices (lentOf (memoryOf out list ns xs .call)) ≡ workSuffices (lentOf (partOf out list ns xs .call)) → a ≡ b)

@@ -32,7 +32,7 @@ pub list-all : (rs : List Row) (xs : List ℕ) → entriesFrom 0 rs xs ≡ entri
 unfolding entriesFrom
 list-all rs xs = refl
 
--- an entry more
+-- one more entry
 list-suc : (rs : List Row) (xs : List ℕ) (i : ℕ) → i < length rs → i < length xs
     → entriesFrom (suc i) rs (set xs i (originOf (getD rs i []))) ≡ entriesFrom i rs xs
 unfolding entriesFrom entries

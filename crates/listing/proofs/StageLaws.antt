@@ -187,7 +187,7 @@ module _ (D P : Bytes) (lent : Lending Lent) where
       answer-applied {v} e f =
           answer-read h i ∙ ap (λ q. onDocument (lent .call .output) (lent .list) q P) e ∙ ap (onPatch (lent .call .output) (lent .list) v) f
 
--- only that the work area suffices, and the rooms, make a difference
+-- the answer depends only on whether the work area suffices, and on the rooms
 pub answer-same : (D P : Bytes) (lent lent' : Lending Lent) → workSuffices (lent .call) ≡ workSuffices (lent' .call)
     → lent .call .output ≡ lent' .call .output → lent .list ≡ lent' .list → answer D P lent ≡ answer D P lent'
 unfolding answer

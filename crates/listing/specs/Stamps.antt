@@ -31,7 +31,7 @@ unfoldable pub numbered : ℕ → Forest Cell → Forest Cell
 numbered k none = none
 numbered k (tree c kids rest) = tree (numberedCell k c) (mapForest (numberedCell k) kids) (numbered (k + 1) rest)
 
--- Of whatever forest the table holds from a row up to another: its trees bear 1, 2 and so on, and all other rows are as they were.
+-- For whatever forest the table holds from a row up to another: its trees bear 1, 2 and so on, and all other rows are as they were.
 abbrev pub StampElementsIs : List Row → List Row → ℕ → ℕ → Type 0
 StampElementsIs nodes nodes' start end =
     (f : Forest Cell) (after : List Row) → Holds rowOf nodes start f after → Formed f → start + size f ≡ end → start ≤ length nodes → end ≤ scratchRow
@@ -42,7 +42,7 @@ pub record PatchNumbered (w : Table) (p : Plain.Value) : Type 0 where
   pub patch : PatchHeld w p
   pub numbers : (os : List Operation) → shape p ≡ finished os → Numbered 1 (valued (borneMembers (w .texts) (patch .kids)) os) os
 
--- Of whatever document and patch the table holds: they are held still, with these origins.
+-- For whatever document and patch the table holds: they are still held, with these origins.
 pub record TextsStamped (w : Table) (used : ℕ) (v p : Plain.Value) : Type 0 where
   pub document : Bearing w used (painted 0 v)
   pub patch : PatchNumbered w p

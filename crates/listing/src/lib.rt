@@ -2,8 +2,8 @@
 // is the whole library; the other public functions serve the other calls that list origins.
 //
 // What is proved: on every input the answer and the list are those of the definition `answer` of crate `origin`. The
-// output and the list afterwards begin with what is written and are otherwise unchanged. Of the work area it holds
-// what holds of the plain call.
+// output and the list afterwards begin with what is written and are otherwise unchanged. The work area is left as the
+// plain call leaves it.
 
 mod call; // the call
 mod exports; // the call for C

@@ -1,4 +1,4 @@
-// The stages of the call: those of the plain call, with the nodes stamped before the run and listed behind it.
+// The stages of the call: those of the plain call, with the nodes stamped before the run and listed after it.
 use crate::lists::list_origins;
 use crate::stamps::stamp_texts;
 use json_patch::Answer;
@@ -25,7 +25,7 @@ ghost use Rattle.tape.specs.Lent.{lent, before};
 ghost use Rattle.listing.specs.Call.{outputsBefore, outputsAfter, listBefore};
 ghost use Rattle.listing.specs.Stages.{WriteListedIs, RunListedIs, RunPatchIs, CheckedIs};
 
-// The document, which has `used` rows, is written and its origins listed, where there is room for all of both.
+// The document, which has `used` rows, is written and its origins listed, if there is room for all of both.
 fn write_listed<'a>(
     texts: Texts<'a>,
     output: &mut [u8],
@@ -53,7 +53,7 @@ fn write_listed<'a>(
     success(length)
 }
 
-// The patch, which is read and of the right shape, is applied to the document, which has `used` rows.
+// The patch, already read and of the right shape, is applied to the document, which has `used` rows.
 pub fn run_listed<'a>(
     texts: Texts<'a>,
     output: &mut [u8],
@@ -73,7 +73,7 @@ pub fn run_listed<'a>(
     write_listed(texts, output, origins, nodes, rows)
 }
 
-// The patch, which is read, is applied.
+// The patch, already read, is applied.
 fn run_patch<'a>(
     texts: Texts<'a>,
     output: &mut [u8],

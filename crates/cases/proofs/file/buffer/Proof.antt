@@ -1,4 +1,4 @@
--- `buffer` meets its contract. So long a list is not computed: the law on its length is cited.
+-- `buffer` meets its contract. The list is too long to compute, so the law on its length is cited.
 use Rattle.cases.proofs.TakingLaws.{zeros-counted}
 use Rattle.cases.proofs.file.buffer.Statement.{statement}
 use Rattle.cases.proofs.file.buffer.Tie as tie

@@ -1,4 +1,4 @@
--- `three_at` meets its contract: a number after another.
+-- `three_at` meets its contract: one number after another.
 use borrow.Author.Needs.{needs}
 use Rattle.cases.specs.Numerals.{threeAt}
 use Rattle.cases.proofs.TakingLaws.{told}

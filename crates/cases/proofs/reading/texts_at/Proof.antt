@@ -1,4 +1,4 @@
--- `texts_at` meets its contract: a text after another.
+-- `texts_at` meets its contract: one text after another.
 use borrow.Author.Needs.{needs}
 use Rattle.cases.specs.CaseFile.{textsAt}
 use Rattle.cases.proofs.TakingLaws.{told}

@@ -1,4 +1,4 @@
--- `find` meets its contract: from each place on the first byte is the same one.
+-- `find` meets its contract: the first such byte is the same from each place on.
 use Prim.Native.Nat.{_-_}
 use mathlib.Core.Path.{_≡_, sym, _∙_}
 use borrow.Author.Needs.{needs}

@@ -1,4 +1,4 @@
--- `decimal::mantissa::first_digit` meets its contract: what was passed, and the way that is left, end there. Assumes nothing.
+-- `decimal::mantissa::first_digit` meets its contract: the bytes passed and those still to pass end there. Assumes nothing.
 use Prim.Native.Nat.{ℕ, _+_, _-_}
 use mathlib.Core.Path.{_≡_}
 use native.Mathlib.Omega.{arith}

@@ -1,4 +1,4 @@
--- `descend` meets its contract: rows grow along a way, so it ends.
+-- `descend` meets its contract: rows grow along a path, so it ends.
 use Prim.Native.Nat.{_-_}
 use mathlib.Core.Path.{refl, ap, _∙_}
 use native.Mathlib.Omega.{arith}

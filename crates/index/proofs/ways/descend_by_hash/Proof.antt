@@ -1,4 +1,4 @@
--- `descend_by_hash` meets its contract: rows grow along a way, and names whose hashes differ are different.
+-- `descend_by_hash` meets its contract: rows grow along a path, and names whose hashes differ are different.
 use Prim.Native.Nat.{_-_, _<_}
 use mathlib.Core.Path.{refl, ap, _∙_}
 use native.Mathlib.Omega.{arith}

@@ -1,4 +1,4 @@
--- `enter_by_hash` meets its contract: the row is put where the way of its name ends, if the hash leads there.
+-- `enter_by_hash` meets its contract: the row is put where the path of its name ends, if the hash leads there.
 use mathlib.Core.Path.{refl}
 use native.Mathlib.Omega.{arith}
 use borrow.Author.Needs.{needs}

@@ -1,4 +1,4 @@
--- `refused` meets its contract: its counts are none.
+-- `refused` meets its contract: its counts are all 0.
 use borrow.Author.Needs.{needs}
 use Rattle.inspect.proofs.AnswerLaws.{refusal-told}
 use Rattle.inspect.proofs.answer.refused.Statement.{statement}

@@ -1,4 +1,4 @@
--- `write_listed` meets its contract, by whether the text fits and the list.
+-- `write_listed` meets its contract, by whether the text and the list fit.
 use native.Mathlib.Omega.{arith}
 use borrow.Author.Needs.{needs}
 use borrow.Author.Tests.{not-true, not-false}

@@ -1,4 +1,4 @@
--- `stamp_elements` meets its contract: what is left of the elements, and the measure is the rows that are left.
+-- `stamp_elements` meets its contract: the invariant speaks of the elements that are left, and the measure is the rows that are left.
 use Prim.Native.Nat.{_-_, _≤_}
 use mathlib.Core.Path.{_≡_, refl}
 use native.Mathlib.Omega.{arith}
