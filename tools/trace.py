@@ -1,13 +1,20 @@
 #!/usr/bin/env python3
-"""Checks docs/TRACE.md: every name and every file in its right-hand columns exists.
+"""Checks docs/TRACE.md: every name and every file in its right-hand columns exists. Checks crates/ and docs/: every
+section of docs/SPECIFICATION.md that is cited exists.
 
-    tools/trace.py            docs/TRACE.md
-    tools/trace.py FILE..     other pages of tables
+    tools/trace.py            docs/TRACE.md, and the sections
+    tools/trace.py FILE..     other pages of tables, and the sections
 
 A name is `name`, `File.name`, `Record.field`, `crate: File.name`, `proofs/File.name` or `crate::module::function`. It
 must be declared in a definition, a proof or the code; or be a crate, a must-fail edit or a committed case. `File.name`
 must be declared in a file of that name, or name a field of that record. A file is a path that begins with `crates/`,
-`docs/` or `second/`. The last line is the number of names; the status is 0 where all of them exist.
+`docs/` or `second/`.
+
+A section is cited as `SPECIFICATION 6` or `SPECIFICATION 6.2`, or several with `,`, `and` or `to` between them. It must
+be the number of a heading of docs/SPECIFICATION.md. Without a number the word in capitals is no citation but a mistake,
+unless it is the page's name.
+
+The last lines are the numbers of names and of sections; the status is 0 where all of them exist.
 """
 import glob
 import os
@@ -26,6 +33,8 @@ DECLARED = [
 KEYWORDS = {"requires", "ensures", "match"}
 NAME = re.compile(rf"(?:({WORD}): )?((?:proofs/)?{WORD}(?:(?:\.|::){WORD})*)(?: .*)?")
 PATH = re.compile(r"\b(?:crates|docs|second)/[\w/.-]*[\w/]")
+SECTION = r"\d+(?:\.\d+)?"
+CITED = re.compile(rf"\bSPECIFICATION\b(?!\.md)(?: ({SECTION}(?:(?:, | and | to ){SECTION})*))?")
 
 
 def read(path):
@@ -71,6 +80,24 @@ def exists(span, known, other):
     return parts[-1] in known.get(parts[0] if "::" in name else parts[-2], set())
 
 
+def sections():
+    """Each section that crates/ and docs/ cite, with its place: how many, and how many of them are no heading."""
+    headings = set(re.findall(rf"^##+ ({SECTION})[. ]", read(f"{ROOT}/docs/SPECIFICATION.md"), re.M))
+    checked = missing = 0
+    paths = [p for folder in ("crates", "docs") for p in glob.glob(f"{ROOT}/{folder}/**/*", recursive=True)]
+    for path in sorted(paths):
+        if not path.endswith((".antt", ".rt", ".edit", ".md")):
+            continue
+        for number, line in enumerate(read(path).split("\n"), 1):
+            for cited in CITED.findall(line):
+                for section in re.findall(SECTION, cited) or ["section after SPECIFICATION"]:
+                    checked += 1
+                    if section not in headings:
+                        missing += 1
+                        print(f"{os.path.relpath(path, ROOT)}:{number}: no {section}")
+    return checked, missing
+
+
 def main():
     pages = sys.argv[1:] or [f"{ROOT}/docs/TRACE.md"]
     known, other = declarations(), others()
@@ -89,7 +116,9 @@ def main():
                     missing += 1
                     print(f"{os.path.relpath(page, ROOT)}:{number}: no {span}")
     print(f"{checked} names, {missing} missing")
-    sys.exit(1 if missing or not checked else 0)
+    cited, unknown = sections()
+    print(f"{cited} sections, {unknown} missing")
+    sys.exit(1 if missing or unknown or not checked or not cited else 0)
 
 
 main()

@@ -1,4 +1,4 @@
--- What a change of a node's children answers. Values bear their origins: document 02, T-11.
+-- What a change of a node's children answers. Values bear their origins: SPECIFICATION 19.1, T-11.
 use Prim.Native.Nat.{ℕ, suc, _≤_, _<_}
 use mathlib.Core.Path.{_≡_}
 use mathlib.Core.List.{List, _∷_}

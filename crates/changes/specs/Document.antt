@@ -41,7 +41,7 @@ pub record Document (w : Table) (used : ℕ) (v : Value.Value) : Type 0 where
   pub shallow : depth v ≤ maxDepth
   pub long : rows ≤ length (w .nodes)
 
--- "After each operation, 5 if the result is too deep, then 6 if it has too many nodes."
+-- SPECIFICATION 6.8: after each operation, 5 if the result is too deep, then 6 if it has too many nodes.
 abbrev pub judged : Outcome Value.Value → Outcome Value.Value
 judged o = o >>= notTooDeep >>= notTooLarge
 
@@ -65,7 +65,7 @@ pub data MakesAt (w : Table) : Change → AtLocation → Type 0 where
   replaces-at : (source : ℕ) (x : Cell) (kids : Forest Cell) → Offered w source x kids
       → MakesAt w (Replace source) (λ ts v. replaceAtPath ts (meant (w .texts) x kids) v)
 
--- ---- The same with origins: document 02, T-11, "Every node shall carry its origin".
+-- ---- The same with origins: SPECIFICATION 19.1; T-11: "Every node shall carry its origin".
 -- the document's nodes bear the origins of a value
 pub record Bearing (w : Table) (used : ℕ) (v : Origin.Value) : Type 0 where
   pub document : Document w used (forget v)

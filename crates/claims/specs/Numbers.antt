@@ -1,6 +1,6 @@
--- What comparing two numbers by their worth means: document 01, "Numbers by exact value", and RFC 6902, section 4.6, "numbers: are
+-- What comparing two numbers by their worth means: SPECIFICATION 7.3, and RFC 6902, section 4.6, "numbers: are
 -- considered equal if their values are numerically equal". The exact value of a number's text is read off RFC 8259's grammar, with no
--- digit dropped and nothing rounded. No rule speaks of zero: an integer has one zero, so minus zero is zero (document 02, T-04).
+-- digit dropped and nothing rounded. No rule speaks of zero: an integer has one zero, so minus zero is zero (SPECIFICATION 7.4, T-04).
 use mathlib.Core.Path.{_≡_}
 use mathlib.Core.Logic.{_↔_}
 use Prim.Native.Nat.{ℕ, _+_, _-_, _*_, _^_}
@@ -79,8 +79,8 @@ pub record NumbersStatement : Type 0 where
   pub valued : (t : Bytes) → NumberText t → (x : Exact) × Writes t x
   -- and only one, however the text is cut
   pub one-value : (t : Bytes) (x y : Exact) → Writes t x → Writes t y → SameNumber x y
-  -- "Numbers by exact value", and by nothing else
+  -- by exact value, SPECIFICATION 7.3, and by nothing else
   pub by-value : (s t : Bytes) (x y : Exact) → Writes s x → Writes t y → sameWorth (worth s) (worth t) ≡ true ↔ SameNumber x y
-  -- document 02, T-04: "a zero of either sign, with any exponent, equals any other", and nothing else
+  -- T-04: "a zero of either sign, with any exponent, equals any other", and nothing else
   pub zeros : (s t : Bytes) (x y : Exact) → Writes s x → Writes t y → x .integer ≡ pos 0 →
       (sameWorth (worth s) (worth t) ≡ true) ↔ (y .integer ≡ pos 0)

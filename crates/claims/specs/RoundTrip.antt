@@ -1,4 +1,4 @@
--- What is written is read back: document 01, "Reading JSON" and "Writing".
+-- What is written is read back: SPECIFICATION 3 and 8.
 use mathlib.Core.Path.{_≡_}
 use mathlib.Core.List.{List}
 use Rattle.spec.specs.Outcome.{ok}

@@ -1,5 +1,5 @@
-// Two JSON texts compared: equal or different, by the equality of document 01, and how many names were compared for
-// it. Document 02, T-10.
+// Two JSON texts compared: equal or different, by the equality of SPECIFICATION 7, and how many names were compared
+// for it: SPECIFICATION 17, T-10.
 //
 // What is proved: on every input the answer is that of the definition `comparisonIn` of crate `comparison`. The work
 // area is all zero for its stated length and otherwise unchanged, or untouched where it was too short.

@@ -1,5 +1,5 @@
-// The stages of the call, in the order of document 01: both lengths, the whole first text read, the whole second text
-// read. Then the two values are compared.
+// The stages of the call, in the order of SPECIFICATION 17.1: both lengths, the whole first text read, the whole second
+// text read. Then the two values are compared.
 use crate::answer::Answer;
 use crate::answer::refused;
 use crate::answer::success;

@@ -1,4 +1,4 @@
--- The answer of the call that compares two texts. Document 02, T-10: "Demand 2 covers the count".
+-- The answer of the call that compares two texts: SPECIFICATION 17.1. T-10: "Demand 2 covers the count".
 use Prim.Native.Nat.{ℕ, _*_, _≤_}
 use mathlib.Core.Path.{_≡_}
 use mathlib.Core.Bool.{Bool, true, false, not}
@@ -15,8 +15,8 @@ use Rattle.spec.specs.Read.{read}
 use Rattle.spec.specs.Equality.{equal}
 use Rattle.comparison.specs.Comparison.{Compared, compared}
 
--- The number is 0 where both texts were read, and that of the refusal otherwise; `text` and `place` are those of document 01. `equal` and `names` are
--- the verdict and the count, and false and 0 after a refusal.
+-- The number is 0 where both texts were read, and that of the refusal otherwise; `text` and `place` are those of SPECIFICATION 2.1. `equal` and `names`
+-- are the verdict and the count, and false and 0 after a refusal.
 pub record Answer : Type 0 where
   pub number : ℕ
   pub text : ℕ
@@ -40,7 +40,7 @@ unfoldable pub onFirst : Outcome Value.Value → Bytes → Answer
 onFirst (ok v) t = onSecond v (read t)
 onFirst (refused number place) t = refusal number 1 place
 
--- in the order of document 01: "1, 2, the whole document read, the whole patch read"
+-- in the order of SPECIFICATION 17.1: both lengths, the whole first text read, the whole second text read
 unfoldable pub comparison : Bytes → Bytes → Answer
 comparison s t =
     if ltb maxBytes (length s) then refusal input-too-long 1 0 else
@@ -49,8 +49,8 @@ comparison s t =
 unfoldable pub comparisonIn : Bool → Bytes → Bytes → Answer
 comparisonIn enough s t = if not enough then refusal work-too-short 0 0 else comparison s t
 
--- ---- what the answer says of two texts that are read: the verdict is that of document 01, the count is at most that of document 02, and no count
--- passes 4,190,209
+-- ---- what the answer says of two texts that are read: the verdict is that of SPECIFICATION 7, the count is at most that of SPECIFICATION 17.2, and no
+-- count passes 4,190,209
 pub record Told (v w : Value.Value) (a : Answer) : Type 0 where
   pub number : a .number ≡ Refusal.done
   pub verdict : a .equal ≡ equal v w

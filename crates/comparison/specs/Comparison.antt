@@ -1,4 +1,4 @@
--- How many names equality compares: document 02, T-10. "Equality shall report its count of name comparisons".
+-- How many names equality compares: SPECIFICATION 17.2. T-10: "Equality shall report its count of name comparisons".
 use Prim.Native.Nat.{ℕ, _+_, _*_, _≤_}
 use mathlib.Core.Path.{_≡_}
 use mathlib.Core.Bool.{Bool, true, false}
@@ -62,7 +62,7 @@ compared v w =
     (if isObject (v .label) then comparedMembers (v .kids) (w .kids) else comparedElements (v .kids) (w .kids))
 
 pub record ComparisonStatement : Type 0 where
-  -- the verdict is that of document 01
+  -- the verdict is that of SPECIFICATION 7
   pub verdict : (v w : Value.Value) → compared v w .same ≡ equal v w
   -- "for values of a and b nodes it is at most a times b"
   pub bound : (v w : Value.Value) → compared v w .names ≤ nodes v * nodes w

@@ -1,4 +1,4 @@
--- The place of each node among its siblings, noted in the table: document 02, T-10, "from the first until one matches".
+-- The place of each node among its siblings, noted in the table: SPECIFICATION 17.2; T-10: "from the first until one matches".
 use Prim.Native.Nat.{ℕ, _+_, _≤_}
 use mathlib.Core.Path.{_≡_}
 use mathlib.Core.List.{List, [], _∷_}

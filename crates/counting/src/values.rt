@@ -38,8 +38,8 @@ fn names_for(nodes: &[Node], object: bool, found: usize) -> u64
     0
 }
 
-// Whether the values in the rows `at` and `other` have the same label and equally many children. "Unequal member counts
-// or array lengths differ without a comparison": so these are counted first.
+// Whether the values in the rows `at` and `other` have the same label and equally many children. T-10: "Unequal member
+// counts or array lengths differ without a comparison": so these are counted first.
 fn alike<'a>(texts: Texts<'a>, nodes: &[Node], at: usize, other: usize) -> bool
     ensures { λ r. ⌜ AlikeIs (before texts nodes) at other r ⌝ }
 {

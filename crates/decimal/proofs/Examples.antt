@@ -1,5 +1,5 @@
--- Numbers that are equal and numbers that are not, by computation: those of document 01, "Examples on each side", one for each rule, and the
--- zeros of document 02, T-04.
+-- Numbers that are equal and numbers that are not, by computation: those of SPECIFICATION 7.2 and 7.3, one for each rule, and the zeros of
+-- SPECIFICATION 7.4, T-04.
 use mathlib.Core.Path.{_≡_, refl}
 use mathlib.Core.List.{List, [], _∷_}
 use mathlib.Core.Bool.{true, false}

@@ -1,5 +1,5 @@
--- A number's normal form as the code holds it: document 01, "drop zeros on both ends of the digits and adjust a signed power of ten". No digit
--- is copied: the form says where in the text the significant digits begin, and how many they are.
+-- A number's normal form as the code holds it: SPECIFICATION 7.3, without the zeros on both ends of the digits, and with a signed power of
+-- ten. No digit is copied: the form says where in the text the significant digits begin, and how many they are.
 use Prim.Native.Nat.{ℕ, suc}
 use Prim.Native.Char.{code}
 use mathlib.Core.List.{[], _∷_}
@@ -25,7 +25,7 @@ unfoldable pub firstDigit : Bytes → ℕ
 firstDigit [] = 0
 firstDigit (b ∷ t) = if isE b then 0 else if isNonzeroDigit b then 0 else suc (firstDigit t)
 
--- Document 01's limits of a number: its length, and the size of its written exponent. Every number that the reader takes is within them
+-- The limits of a number, SPECIFICATION 1.3: its length, and the size of its written exponent. Every number that the reader takes is within them
 -- (proofs/Accepted).
 unfoldable pub withinLimits : Bytes → Bool
 withinLimits t = leb (length t) maxNumber && leb (natAbs (exponent t)) maxExponent

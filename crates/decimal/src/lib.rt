@@ -1,5 +1,5 @@
-// Equality of two JSON numbers by their exact value: document 01, "drop zeros on both ends of the digits and adjust a
-// signed power of ten". A zero of either sign is zero (document 02, T-04).
+// Equality of two JSON numbers by their exact value: SPECIFICATION 7.3. The zeros on both ends of the digits are
+// dropped, and a signed power of ten is adjusted. A zero of either sign is zero (SPECIFICATION 7.4, T-04).
 // Each function reads a number's text where it lies: no digit is copied, and no float is made.
 
 mod exponent; // exponent.rt: what is written after the letter e
@@ -99,8 +99,8 @@ fn minus_at(t: &[u8], at: usize) -> bool
     false
 }
 
-// Whether a number with `count` significant digits is below zero. Document 02, T-04: a zero is not, even with a
-// minus.
+// Whether a number with `count` significant digits is below zero. SPECIFICATION 7.4, T-04: a zero is not, even
+// with a minus.
 fn below_zero(minus: bool, count: usize) -> bool
     ensures { λ r. ⌜ r ≡ (minus && ltb 0 count) ⌝ }
 {

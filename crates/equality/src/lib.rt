@@ -1,6 +1,5 @@
-// Equality of two values of the node table: document 01, "Walking and the six operations". Types are compared first;
-// strings are compared by their unescaped text, numbers by exact value, arrays in order, and objects by name in any
-// order.
+// Equality of two values of the node table: SPECIFICATION 7. Types are compared first; strings are compared by their
+// unescaped text, numbers by exact value, arrays in order, and objects by name in any order.
 use decimal::same_number;
 use index::SLOTS;
 use index::index_tree;

@@ -1,4 +1,4 @@
--- The answers of the two calls: document 02, T-14. "Refusals, each leaving the output unchanged and the other fields 0."
+-- The answers of the two calls: SPECIFICATION 12.1. T-14: "Refusals, each leaving the output unchanged and the other fields 0."
 use Prim.Native.Nat.{ℕ}
 use mathlib.Core.List.{[]}
 use lib.ListN.{length}
@@ -28,7 +28,7 @@ fitting room t = if leb (length t) room then success t else refusal output-too-s
 unfoldable pub writeAnswer : Bytes → ℕ → Answer
 writeAnswer pointer room = if isPointer pointer then fitting room (link pointer) else refusal malformed-pointer
 
--- of the octets of a link: "22 for .. bytes that are not UTF-8; then 10; then 16"
+-- of the octets of a link: "22 for [..] bytes that are not UTF-8; then 10; then 16"
 unfoldable pub octetsAnswer : Outcome Bytes → ℕ → Answer
 octetsAnswer (ok pointer) room =
     if isUtf8 pointer then
@@ -36,6 +36,6 @@ octetsAnswer (ok pointer) room =
     else refusal bad-link
 octetsAnswer (refused number place) room = refusal bad-link
 
--- "when reading, 2 for a link over 32,768 bytes; 22 for no `#` in front, a bad byte, a bad percent .."
+-- "when reading, 2 for a link over 32,768 bytes; 22 for no `#` in front, a bad byte, a bad percent [..]"
 unfoldable pub readAnswer : Bytes → ℕ → Answer
 readAnswer text room = if leb (length text) maxBytes then octetsAnswer (octetsOf text) room else refusal input-too-long

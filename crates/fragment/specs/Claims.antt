@@ -13,7 +13,7 @@ use Rattle.fragment.specs.Kept.{isKept, isAlpha, oneOf}
 use Rattle.fragment.specs.Link.{isHex, isPointer}
 use Rattle.fragment.specs.Answer.{writeAnswer, readAnswer, success}
 
--- RFC 3986's set is document 02's: "ASCII letters, digits and `-._~!$&'()*+,;=:@/?`".
+-- RFC 3986's set is that of T-14: "ASCII letters, digits and `-._~!$&'()*+,;=:@/?`".
 abbrev pub KeptSet : Type 0
 KeptSet = (b : ℕ) → isKept b ≡ (isAlpha b || (isDigit b || oneOf (ascii "-._~!$&'()*+,;=:@/?") b))
 

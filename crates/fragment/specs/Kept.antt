@@ -1,4 +1,4 @@
--- The bytes that stand in a URI's fragment as they are: RFC 3986, by its productions. Document 02, T-14: "keeps ASCII letters, digits and
+-- The bytes that stand in a URI's fragment as they are: RFC 3986, by its productions. T-14: "keeps ASCII letters, digits and
 -- `-._~!$&'()*+,;=:@/?`", which is the same set (Claims).
 use Prim.Native.Nat.{ℕ}
 use Prim.Native.Char.{code}

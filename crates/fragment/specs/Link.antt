@@ -14,7 +14,7 @@ use Rattle.pointer.specs.Tokens.{accepted}
 use Rattle.text.specs.UpperHex.{upperHex}
 use Rattle.fragment.specs.Kept.{isKept}
 
--- "22 for no `#` in front, a bad byte, a bad percent or bytes that are not UTF-8"
+-- T-14: "22 for no `#` in front, a bad byte, a bad percent or bytes that are not UTF-8"
 abbrev pub bad-link : ℕ
 bad-link = 22
 
@@ -48,7 +48,7 @@ unfoldable pub precede : ℕ → Outcome Bytes → Outcome Bytes
 precede b o = o >>= λ t. ok (b ∷ t)
 
 -- The octets that a fragment stands for: "The reader takes that set and `%` with two hex digits of either case." RFC 3986, section 2.1:
--- pct-encoded = "%" HEXDIG HEXDIG. Each byte is looked at once: "percents are taken once".
+-- pct-encoded = "%" HEXDIG HEXDIG. Each byte is looked at once. SPECIFICATION 12.3: "Percents are undone once."
 unfoldable pub octets : Pending → Bytes → Outcome Bytes
 octets nothing [] = ok []
 octets percent [] = refused bad-link 0

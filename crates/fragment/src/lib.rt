@@ -1,5 +1,5 @@
-// A JSON Pointer as the fragment of a URI, written and read: RFC 6901, section 6; document 02, T-14. A link is `#`
-// and the fragment.
+// A JSON Pointer as the fragment of a URI, written and read: RFC 6901, section 6; SPECIFICATION 12, T-14. A link is
+// `#` and the fragment.
 //
 // What is proved: on every input the answer is that of the definitions `writeAnswer` and `readAnswer` in
 // specs/Answer, and the output afterwards begins with the written text and is otherwise unchanged. specs/Claims says

@@ -1,4 +1,4 @@
--- What `read` asks of a value besides the grammar: document 01, "Numbers that bound the work", and "4: a member name repeated in one object".
+-- What `read` asks of a value besides the grammar: the limits of SPECIFICATION 1.3, and no name repeated in one object, SPECIFICATION 3.4.
 use Prim.Native.Nat.{_≤_}
 use mathlib.Core.Path.{_≡_}
 use lib.ListN.{length}

@@ -1,4 +1,4 @@
--- Where a text is refused, and by which number: document 01, "Reading JSON", in the grammar's productions. Proved in proofs/RefusedAt.
+-- Where a text is refused, and by which number: SPECIFICATION 3, in the grammar's productions. Proved in proofs/RefusedAt.
 use Prim.Native.Nat.{ℕ, suc, _+_, _<_, _≤_}
 use Prim.Native.Char.{code}
 use mathlib.Core.Path.{_≡_}
@@ -25,8 +25,8 @@ pub data Unrefused (w : Bytes) : Type 0 where
   read-whole : {v : Value.Value} → read w ≡ ok v → Unrefused w
   cut-short : read w ≡ refused not-json (length w) → Unrefused w
 
--- "The reader goes left to right and refuses at the first byte that causes it": nothing is refused before that byte, and whatever follows it,
--- the refusal is the same.
+-- SPECIFICATION 3.2: "The reader goes from left to right and refuses at the first byte that causes a refusal." Nothing is refused before that
+-- byte, and whatever follows it, the refusal is the same.
 pub record FirstCause (s : Bytes) (number p : ℕ) : Type 0 where
   pub before : (n : ℕ) → n ≤ p → Unrefused (take n s)
   pub after : (rest : Bytes) → p < length s → read (take (suc p) s ++ rest) ≡ refused number p
@@ -39,7 +39,7 @@ LeftToRight = (s : Bytes) (number p : ℕ) → read s ≡ refused number p → F
 abbrev pub GivenAt : ℕ → (Bytes → ℕ → Type 0) → Type 0
 GivenAt number said = (s : Bytes) (p : ℕ) → (read s ≡ refused number p) ↔ (Unrefused (take p s) × said s p)
 
--- "3: the length of the longest prefix of the input that also begins some valid text; for a text cut short, its length."
+-- SPECIFICATION 3.3: "The place is the length of the longest prefix of the input that also begins some valid text."
 pub record NotJSON (s : Bytes) (p : ℕ) : Type 0 where
   pub longest : LongestBeginning s p
   pub no-text : (v : Value.Value) → ¬ JSON-text s v
@@ -66,7 +66,7 @@ pub record ByteAt (s : Bytes) (p : ℕ) (w : Bytes) (b : ℕ) : Type 0 where
   pub text : s ≡ w ++ (b ∷ after)
   pub place : p ≡ length w
 
--- "4: the closing quote of the second name. Names are compared after unescaping."
+-- SPECIFICATION 3.4: "The place is the closing quote of the second name. Names are compared after unescaping."
 pub data SecondName (s : Bytes) (p : ℕ) : Type 0 where
   closing-quote : {w b ms c cs : Bytes} {f : Members} {name : Text} {levels values : ℕ} → BeforeValue w levels values → begin-object b →
       members ms f → value-separator c → *char cs name → Named name f →
@@ -80,15 +80,15 @@ pub data Opening : ℕ → Type 0 where
   of-array : Opening (code "[")
   of-object : Opening (code "{")
 
--- "5: the bracket that opens level 33."
+-- SPECIFICATION 3.5: "The place of a 5 is the bracket that opens level 33."
 pub data OpensLevel33 (s : Bytes) (p : ℕ) : Type 0 where
   bracket : {w : Bytes} {b values : ℕ} → BeforeValue w maxDepth values → Opening b → ByteAt s p w b → OpensLevel33 s p
 
 abbrev pub Given5 : Type 0
 Given5 = GivenAt too-deep OpensLevel33
 
--- "6: the first byte of value 2,049." The blanks before a bracket are not bytes of a value. The byte is no bracket that opens level 33: "On the same
--- byte the order is 3, 5, 6, 7."
+-- SPECIFICATION 3.5: "The place of a 6 is the first byte of value 2,049." The blanks before a bracket are not bytes of a value. The byte is no
+-- bracket that opens level 33: on one byte "the order is 3, 5, 6, 7", SPECIFICATION 3.2.
 pub data BeginsValue2049 (s : Bytes) (p : ℕ) : Type 0 where
   first-byte : {w more : Bytes} {b levels : ℕ} {v : Value.Value} → BeforeValue w levels maxNodes → value (b ∷ more) v → ¬ ws (b ∷ []) →
       (levels ≡ maxDepth → ¬ Opening b) → ByteAt s p w b → BeginsValue2049 s p
@@ -102,7 +102,7 @@ pub data PassesLimit (n : Bytes) (b : ℕ) : Type 0 where
   exponent-digit : number n → natAbs (exponent n) ≤ maxExponent → number (n ++ (b ∷ [])) → maxExponent < natAbs (exponent (n ++ (b ∷ []))) →
       PassesLimit n b
 
--- "7: byte 129 of a number, or the exponent digit that passes 9,999."
+-- SPECIFICATION 3.6: "The place is byte 129 of a number, or the exponent digit with which the exponent passes 9,999."
 pub data NumberOverLimit (s : Bytes) (p : ℕ) : Type 0 where
   passing-byte : {w n : Bytes} {b levels values : ℕ} → BeforeValue w levels values → PassesLimit n b → ByteAt s p (w ++ n) b →
       NumberOverLimit s p
@@ -110,6 +110,7 @@ pub data NumberOverLimit (s : Bytes) (p : ℕ) : Type 0 where
 abbrev pub Given7 : Type 0
 Given7 = GivenAt number-over-limit NumberOverLimit
 
--- "On the same byte the order is 3, 5, 6, 7": where a number other than 3 is given, that byte and those before it begin some JSON text.
+-- On one byte "the order is 3, 5, 6, 7", SPECIFICATION 3.2: where a number other than 3 is given, that byte and those before it begin some JSON
+-- text.
 abbrev pub After3 : Type 0
 After3 = (s : Bytes) (number p : ℕ) → read s ≡ refused number p → ¬ (number ≡ not-json) → Begins (take (suc p) s)

@@ -44,8 +44,8 @@ pub record LongestBeginning (s : Bytes) (p : ℕ) : Type 0 where
   pub begins : Begins (take p s)
   pub longest : (n : ℕ) → p < n → n ≤ length s → ¬ Begins (take n s)
 
--- "3: the length of the longest prefix of the input that also begins some valid text; for a text cut short, its length. Limits play no part
--- here."
+-- SPECIFICATION 3.3: "The place is the length of the longest prefix of the input that also begins some valid text." The limits play no part in
+-- it, SPECIFICATION 3.1.
 abbrev pub PlaceOf3 : Type 0
 PlaceOf3 = (s : Bytes) (p : ℕ) → read s ≡ refused not-json p → LongestBeginning s p
 

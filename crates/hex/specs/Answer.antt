@@ -1,4 +1,4 @@
--- The answers of the two calls: document 02, T-07. "2 and 16 have place 0; text and op are always 0."
+-- The answers of the two calls: SPECIFICATION 13.1. T-07: "2 and 16 have place 0; text and op are always 0."
 use Prim.Native.Nat.{ℕ}
 use mathlib.Core.List.{[]}
 use lib.ListN.{length}

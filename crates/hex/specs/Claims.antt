@@ -14,7 +14,7 @@ pub data Octets : Bytes → Type 0 where
   none : Octets []
   more : {b : ℕ} {s : Bytes} → b < 256 → Octets s → Octets (b ∷ s)
 
--- "Reading what was written returns the text."
+-- T-07: "Reading what was written returns the text."
 abbrev pub RoundTrip : Type 0
 RoundTrip =
     (text written : Bytes) (room room' : ℕ) → Octets text → writeAnswer text room ≡ success written → length text ≤ room' →
@@ -49,7 +49,7 @@ pub record Line (t r behind : Bytes) : Type 0 where
   pub spells : Spells digits r
   pub ends : Ending ended behind
 
--- a text of records whose data begin at an address, with the data: "data records .. that follow on", then the end record, and nothing behind it
+-- a text of records whose data begin at an address, with the data: "data records [..] that follow on", then the end record, and nothing behind it
 pub data HexText : ℕ → Bytes → Bytes → Type 0 where
   last : {next : ℕ} {t : Bytes} → Line t (recordBytes end-type 0 []) [] → HexText next t []
   more : {next : ℕ} {t behind text : Bytes} (d : Bytes) → 1 ≤ length d → next + length d ≤ maxText → Line t (recordBytes data-type next d) behind →

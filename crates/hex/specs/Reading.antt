@@ -1,4 +1,4 @@
--- Intel HEX read, line by line: document 02, T-07. "Read back data records of 1 to 255 bytes that follow on from address 0, either case, line
+-- Intel HEX read, line by line: SPECIFICATION 13.4. T-07: "Read back data records of 1 to 255 bytes that follow on from address 0, either case, line
 -- feed or carriage return and line feed; the last line may lack its ending." Each definition is of what is left of the text, which begins with
 -- a line.
 use Prim.Native.Nat.{ℕ, zero, suc, _+_, _*_, _%_}

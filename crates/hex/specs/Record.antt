@@ -1,4 +1,4 @@
--- A record of Intel HEX, its line, and a text written as records: document 02, T-07.
+-- A record of Intel HEX, its line, and a text written as records: SPECIFICATION 13.2 and 13.3, T-07.
 use Prim.Native.Nat.{ℕ, zero, suc, _+_, _-_, _/_, _%_}
 use Prim.Native.Char.{code}
 use mathlib.Core.List.{[], _∷_, _++_}

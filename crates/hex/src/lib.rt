@@ -1,4 +1,4 @@
-// A text as Intel HEX, written and read: document 02, T-07.
+// A text as Intel HEX, written and read: SPECIFICATION 13, T-07.
 //
 // What is proved: on every input the answer is that of the definitions `writeAnswer` and `readAnswer` in
 // specs/Answer, and the output afterwards begins with the written text and is otherwise unchanged. specs/Claims says

@@ -1,5 +1,5 @@
-// A patch inspected: read and shaped as document 01 does, without a document, and its operations counted. Document
-// 02, T-12.
+// A patch inspected: read (SPECIFICATION 3) and shaped (SPECIFICATION 4) without a document, and its operations
+// counted: SPECIFICATION 14.1, T-12.
 //
 // What is proved: on every input the answer is that of the definition `inspectionIn` of crate `inspection`. The work
 // area is all zero for its stated length and otherwise unchanged, or untouched where it was too short.

@@ -1,5 +1,5 @@
-// The stages of the call, in the order of document 01: the patch's length, the whole patch read, the shape of every
-// operation. Then the operations are counted.
+// The stages of the call, in the order of SPECIFICATION 14.1: the patch's length, the whole patch read, the shape of
+// every operation. Then the operations are counted.
 use crate::answer::Answer;
 use crate::answer::accepted;
 use crate::answer::misshapen;

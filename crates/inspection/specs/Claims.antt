@@ -19,8 +19,8 @@ use Rattle.inspection.specs.Tally.{Result, File, results, isRefused, cou
 
 -- ---- one patch
 
--- "as 01 does": on an accepted document, and with a work area that suffices, the plain call refuses a patch that is refused here, with the same number,
--- text, op and place.
+-- SPECIFICATION 14.1: on an accepted document, and with a work area that suffices, the plain call refuses a patch that is refused here, with the same
+-- number, text, op and place.
 abbrev pub RefusedAlike : Type 0
 RefusedAlike =
     (D P : Bytes) (lent : Lent) (v : Value.Value) → workSuffices lent ≡ true → length D ≤ maxBytes → read D ≡ ok v
@@ -40,7 +40,7 @@ pub record WellFormed (P : Bytes) : Type 0 where
 abbrev pub AcceptedWhole : Type 0
 AcceptedWhole = (P : Bytes) → inspection P .number ≡ done → WellFormed P
 
--- No patch has more operations than document 01 allows, and a refused one adds none.
+-- No patch has more operations than SPECIFICATION 1.3 allows, and a refused one adds none.
 abbrev pub FewCounted : Type 0
 FewCounted = (P : Bytes) → total (inspection P .counts) ≤ maxOperations
 
@@ -56,7 +56,7 @@ pub data Permuted : List Result → List Result → Type 0 where
   swap : {q r : Result} {rs : List Result} → Permuted (q ∷ r ∷ rs) (r ∷ q ∷ rs)
   more : {rs qs ps : List Result} → Permuted rs qs → Permuted qs ps → Permuted rs ps
 
--- "The same files in another order give the same line"
+-- T-12: "The same files in another order give the same line"
 abbrev pub SameLine : Type 0
 SameLine = (rs qs : List Result) → Permuted rs qs → line rs ≡ line qs
 

@@ -1,4 +1,4 @@
--- What a patch comes to without a document: document 02, T-12, "reads and shapes each as 01 does, without a document".
+-- What a patch comes to without a document: SPECIFICATION 14.1. T-12: "reads and shapes each as 01 does, without a document".
 use Prim.Native.Nat.{ℕ, _+_}
 use mathlib.Core.List.{List, [], _∷_}
 use mathlib.Core.Bool.{Bool}
@@ -55,7 +55,7 @@ unfoldable pub countsOf : List Operation.Operation → Counts
 countsOf [] = noCounts
 countsOf (o ∷ os) = plus (oneOf (o .kind)) (countsOf os)
 
--- ---- what a patch comes to: the fields of a refusal as document 01 has them, and the counts, which are 0 on refusal
+-- ---- what a patch comes to: the fields of a refusal, SPECIFICATION 2.1, and the counts, which are 0 on refusal
 pub record Inspection : Type 0 where
   pub number : ℕ
   pub text : ℕ
@@ -80,7 +80,7 @@ unfoldable pub ofReading : Outcome Value.Value → Inspection
 ofReading (ok patch) = ofShape (shape patch)
 ofReading (refused number place) = refusal number 2 0 place
 
--- the refusals in document 01's order: 2, the reading, the shape
+-- the refusals in the order of SPECIFICATION 14.1: 2, the reading, the shape
 unfoldable pub inspection : Bytes → Inspection
 inspection patch = if ltb maxBytes (length patch) then refusal input-too-long 2 0 0 else ofReading (read patch)
 

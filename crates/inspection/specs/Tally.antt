@@ -1,4 +1,4 @@
--- The count over a list of patch files: document 02, T-12.
+-- The count over a list of patch files: SPECIFICATION 14.2 and 14.3, T-12.
 use Prim.Native.Nat.{ℕ, _+_, _-_}
 use mathlib.Core.List.{List, [], _∷_}
 use mathlib.Core.Bool.{Bool, true, not}

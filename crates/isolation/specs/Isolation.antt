@@ -1,4 +1,4 @@
--- Nobody else's shelf decides: document 02, T-06. "Take one such patch and two accepted documents in which its region exists and holds values
+-- Nobody else's shelf decides: T-06. "Take one such patch and two accepted documents in which its region exists and holds values
 -- that are written with equal bytes. If neither run meets 6 and the lent buffers suffice, both give the same number, op, place and pointer; on
 -- success the region is written alike, and all outside it is written as before in its own document."
 use mathlib.Core.Path.{_≡_}

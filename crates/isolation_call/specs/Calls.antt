@@ -1,4 +1,4 @@
--- Nobody else's shelf decides, said of the calls themselves: document 02, T-06. Crate `isolation` speaks of the definition `answerWithin`; this speaks
+-- Nobody else's shelf decides, said of the calls themselves: T-06. Crate `isolation` speaks of the definition `answerWithin`; this speaks
 -- of whatever two calls of `apply_within` answer, and of the outputs that they leave. Every call promises `ApplyWithinIs`.
 use mathlib.Core.Path.{_≡_}
 use Prim.Native.Nat.{_≤_}

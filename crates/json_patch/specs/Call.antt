@@ -54,8 +54,8 @@ pub record Answered (a : Spec.Answer) (before after : Bytes) (r : Answer) : Type
   pub written : r .length ≡ length (a .written)
   pub output : after ≡ a .written ++ drop (length (a .written)) before
 
--- ---- the work area afterwards: "After a 1, no buffer has changed. After any other answer the work area is all zero; where a work buffer is longer
--- than stated, the part beyond is unchanged." Document 02, T-08: "the zeroing rule then speaks of records with all fields zero".
+-- ---- the work area afterwards, SPECIFICATION 2.4: after a 1, no buffer has changed. After any other answer the work area is all zero; where a work
+-- buffer is longer than stated, the part beyond is unchanged. T-08: "the zeroing rule then speaks of records with all fields zero".
 unfoldable pub wiped : {A : Type 0} → Bool → ℕ → A → List A → List A
 wiped true n zero xs = replicate n zero ++ drop n xs
 wiped false n zero xs = xs

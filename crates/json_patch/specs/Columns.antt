@@ -1,4 +1,4 @@
--- Document 02, T-08: "For every input and lent output for which neither form gives 1, the answer and written text equal the old ones". The old form is
+-- T-08: "For every input and lent output for which neither form gives 1, the answer and written text equal the old ones". The old form is
 -- kept here as a definition: its work area was two lent columns of 6,144 words of 64 bits, `values` and `names`.
 use Prim.Native.Nat.{ℕ}
 use mathlib.Core.Path.{_≡_}

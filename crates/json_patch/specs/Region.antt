@@ -1,4 +1,4 @@
--- Demand 3, said of the call itself: document 01, "The region statement in detail". What crate `spec` states of the definition `answer` on a
+-- Demand 3, said of the call itself: SPECIFICATION 9.4. What crate `spec` states of the definition `answer` on a
 -- shuffle, this states of whatever the call answers on it, and of the output that it leaves.
 use Prim.Native.Nat.{ℕ}
 use mathlib.Core.Path.{_≡_}
@@ -29,14 +29,14 @@ pub record Writes (text before after : Bytes) (r : Answer) : Type 0 where
 -- of an answer of the call on a shuffle, with the output before and after
 pub record CallStatement {D P Q Z : Bytes} {lent : Lent} {R S : Tokens} {document : Value.Value} {xs ys zs : List Operation}
     (c : Situation D P Q Z lent R S document xs ys zs) (before after : Bytes) (r : Answer) : Type 0 where
-  -- the bare runs: "If both succeed alone, so does the shuffle's bare run, .. Otherwise it ends at the first operation in it at which ..": its
-  -- fields `both-succeed` and `otherwise`
+  -- the bare runs: "If both succeed alone, the shuffle's bare run succeeds. [..] Otherwise the shuffle's bare run ends at the first operation [..]":
+  -- its fields `both-succeed` and `otherwise`
   pub runs : RegionStatement c
   -- "If an operation of the shuffle's bare run leaves more than 2,048 nodes, the call on the shuffle answers 6 with the op of the first such one."
   pub too-large : (op : ℕ) → firstTooLarge 1 zs document ≡ some op → Refuses (stop too-many-nodes op 0 0) before after r
-  -- "Otherwise it answers the bare run's number and op,
+  -- "Otherwise the call answers the bare run's number, op, place and pointer,
   pub refused : (s : Stop) → firstTooLarge 1 zs document ≡ none → bareRun zs document ≡ stopped s → Refuses s before after r
-  -- or answers 0 and writes the run's text."
+  -- or it answers 0 and writes the run's text."
   pub succeeds : (text : Bytes) → firstTooLarge 1 zs document ≡ none → SucceedsWith (bareRun zs document) text → Writes text before after r
 
 -- of every call: `Situation` says that the two patches are strictly inside regions apart, that Z is a shuffle of them, and that the buffers that

@@ -1,4 +1,4 @@
-// What the call answers: document 01, "The answer".
+// What the call answers: SPECIFICATION 2.
 use operations::Ran;
 use reader::Read;
 use shape::Shape;

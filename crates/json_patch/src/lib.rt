@@ -1,4 +1,4 @@
-// A JSON Patch applied to a JSON document: RFC 6902, as document 01 reads it. `apply` is the whole library.
+// A JSON Patch applied to a JSON document: RFC 6902; SPECIFICATION 1 to 8. `apply` is the whole library.
 //
 // What is proved: on every input the answer is that of the definition `answer` of crate `spec`. The output afterwards
 // begins with the written text and is otherwise unchanged. The work area is all zero for its stated length and

@@ -1,5 +1,5 @@
-// The stages of the call, in the order of document 01: both lengths, the whole document read, the whole patch read,
-// the shape of every operation, the operations one after another, then the result written.
+// The stages of the call, in the order of SPECIFICATION 2.3: both lengths, the whole document read, the whole patch
+// read, the shape of every operation, the operations one after another, then the result written.
 use crate::answer::Answer;
 use crate::answer::misshapen;
 use crate::answer::refused;

@@ -30,13 +30,13 @@ partOf out list ns xs = memoryOf out list (take workNodes ns) (take workEntries 
 
 -- ---- the two ways out, of any call
 module _ {a : Listed Spec.Answer} {r : Answer} where
-  -- "After a 1, no buffer has changed."
+  -- SPECIFICATION 2.4: after a 1, no buffer has changed.
   pub call-short : {m : ListMemory} → workSuffices (lentOf (m .call)) ≡ false → a ≡ unlisted (Spec.refusal work-too-short 0 0 0)
       → RefusalIs work-too-short 0 0 0 r → CalledIs a m m r
   unfolding wiped
   call-short e short is = record { listed = listed-as short (listed-refusal is); nodes-after = rw e; index-after = rw e }
 
-  -- "After any other answer the work area is all zero; where a work buffer is longer than stated, the part beyond is unchanged."
+  -- SPECIFICATION 2.4: after any other answer the work area is all zero; where a work buffer is longer than stated, the part beyond is unchanged.
   -- The stages answer b, on the part of the work area that they are lent.
   pub call-done : {b : Listed Spec.Answer} {out out' : Bytes} {list list' : List ℕ} {ns ns' : List Row} {xs xs' : List ℕ}
       → workNodes ≤ length ns → workEntries ≤ length xs

@@ -56,7 +56,7 @@ outputsOf m = record { output = m .call .output; list = m .list }
 abbrev pub lendingOf : ListMemory → Lending Lent
 lendingOf m = record { call = lentOf (m .call); list = length (m .list) }
 
--- ---- the answer, the output and the list: "in a lent list; its rest stays, and all of it on a refusal"
+-- ---- the answer, the output and the list. T-11: "in a lent list; its rest stays, and all of it on a refusal"
 pub record ListedIs (a : Listed Spec.Answer) (o o' : Outputs) (r : Answer) : Type 0 where
   pub answered : Answered (a .answer) (o .output) (o' .output) r
   pub list : o' .list ≡ a .origins ++ drop (length (a .origins)) (o .list)

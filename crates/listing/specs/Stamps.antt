@@ -1,4 +1,4 @@
--- The origins that nodes bear before the run: document 02, T-11, "0 from the document, k for a value put in by operation k [..], all nodes of it".
+-- The origins that nodes bear before the run: SPECIFICATION 19.1. T-11: "0 from the document, k for a value put in by operation k [..], all nodes of it".
 -- The k-th element of the patch bears k, so a value that operation k takes from the patch does.
 use Prim.Native.Nat.{ℕ, _+_, _≤_}
 use mathlib.Core.Path.{_≡_}

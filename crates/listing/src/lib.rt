@@ -1,5 +1,5 @@
-// A JSON Patch applied to a JSON document, and the origin of each value listed: document 02, T-11. `apply_listing` is
-// the whole library; the other public functions serve the other calls that list origins.
+// A JSON Patch applied to a JSON document, and the origin of each value listed: SPECIFICATION 19, T-11. `apply_listing`
+// is the whole library; the other public functions serve the other calls that list origins.
 //
 // What is proved: on every input the answer and the list are those of the definition `answer` of crate `origin`. The
 // output and the list afterwards begin with what is written and are otherwise unchanged. The work area is left as the

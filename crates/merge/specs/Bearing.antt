@@ -1,4 +1,4 @@
--- Nodes of the table with the origins that they bear: document 02, T-11, "A merge patch counts as operation 1, also for the empty objects it makes."
+-- Nodes of the table with the origins that they bear: SPECIFICATION 19.2. T-11: "A merge patch counts as operation 1, also for the empty objects it makes."
 -- A view gives an origin: each as it is, for a call that lists them, or the merge's own for all, for a call that does not ask. So one contract serves both.
 use Prim.Native.Nat.{ℕ}
 use mathlib.Core.Path.{_≡_}

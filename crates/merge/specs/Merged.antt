@@ -28,8 +28,8 @@ use Rattle.merge.specs.Partner.{PatchObject}
 unfoldable pub membersEnd : List Row → ℕ → ℕ
 membersEnd nodes target = if eqb (kindOf (getD nodes target [])) objectKind then endOf nodes target else target + 1
 
--- the members of the value in a row, and the origin of the object that they are members of: "a target that is no object is taken as an empty one".
--- It is no object, whatever is laid down in the scratch rows.
+-- the members of the value in a row, and the origin of the object that they are members of. T-02: "a target that is no object is taken as an empty
+-- one". It is no object, whatever is laid down in the scratch rows.
 pub data Target (o : View) (w : Table) (target : ℕ) : ℕ → Forest Cell → Type 0 where
   target-object : {c : Cell} {kids : Forest Cell} → NodeHeld w target c kids → c .kind ≡ objectKind → target + size kids < scratchRow
       → NoRepeats true (members (w .texts) kids) → Target o w target (o (c .origin)) kids

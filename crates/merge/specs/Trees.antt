@@ -40,7 +40,7 @@ pub record ValueAt (w : Table) (at : ℕ) (v : Value.Value) : Type 0 where
   pub held : NodeHeld w at c kids
   pub means : meant (w .texts) c kids ≡ v
 
--- ---- the same with origins: document 02, T-11
+-- ---- the same with origins: SPECIFICATION 19.2, T-11
 -- the document bears those of a value, and every node of the patch the merge's
 pub record BothBearing (w : Table) (v : Origin.Value) (p : Value.Value) : Type 0 where
   pub both : Both w (forget v) p

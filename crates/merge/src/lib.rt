@@ -1,4 +1,4 @@
-// A merge patch applied to a document: RFC 7396, as document 02, T-02, reads it. `merge` is the whole library;
+// A merge patch applied to a document: RFC 7396; SPECIFICATION 18, T-02. `merge` is the whole library;
 // `merge_read` serves the call that lists origins.
 //
 // What is proved: on every input the answer is that of the definition `mergeAnswer` of crate `merging`. What holds of

@@ -1,4 +1,4 @@
--- The origins that nodes bear before the merge: document 02, T-11, "0 from the document", and "A merge patch counts as operation 1".
+-- The origins that nodes bear before the merge: SPECIFICATION 19.2. T-11: "0 from the document", and "A merge patch counts as operation 1".
 use Prim.Native.Nat.{ℕ}
 use mathlib.Core.Path.{_≡_}
 use mathlib.Core.List.{List}

@@ -1,5 +1,5 @@
-// The origins that nodes bear before the merge: 0 in the document, and 1 in the patch, since "a merge patch counts as
-// operation 1".
+// The origins that nodes bear before the merge: 0 in the document, and 1 in the patch. T-11: "A merge patch counts
+// as operation 1".
 use operations::stamp;
 use tape::layout;
 use tape::layout::Node;

@@ -23,7 +23,7 @@ pub data WithoutNulls : Members → Type 0 where
 pub record MergeStatement : Type 0 where
   -- "If the provided merge patch contains members that do not appear within the target, those members are added": to nothing, all of them are
   pub into-nothing : (p : Value.Value) → Proper p → p .label ≡ Label.object → WithoutNulls (p .kids) → mergePatch (leaf Label.object) p ≡ p
-  -- "any other patch replaces the whole"
+  -- T-02: "any other patch replaces the whole"
   pub whole : (t p : Value.Value) → isObject (p .label) ≡ false → mergePatch t p ≡ p
   -- "a target that is no object is taken as an empty one"
   pub no-object : (t p : Value.Value) → isObject (t .label) ≡ false → p .label ≡ Label.object → mergePatch t p ≡ mergePatch (leaf Label.object) p

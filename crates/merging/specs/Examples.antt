@@ -39,7 +39,7 @@ appendix =
     case "{}" "{\"a\":{\"bb\":{\"ccc\":null}}}" "{\"a\":{\"bb\":{}}}" ∷
     []
 
--- "Existing members keep their position, new ones go last": in the patch's order; nulls in arrays stay
+-- T-02: "Existing members keep their position, new ones go last": in the patch's order; nulls in arrays stay
 abbrev pub positions : List Case
 positions =
     case "{\"a\":1,\"b\":2,\"c\":3}" "{\"c\":4,\"y\":5,\"a\":6,\"x\":7}" "{\"a\":6,\"b\":2,\"c\":4,\"y\":5,\"x\":7}" ∷

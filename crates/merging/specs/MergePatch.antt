@@ -1,4 +1,4 @@
--- JSON Merge Patch: RFC 7396, section 2, its procedure MergePatch(Target, Patch) line by line; positions as document 02, T-02, says.
+-- JSON Merge Patch: RFC 7396, section 2, its procedure MergePatch(Target, Patch) line by line; positions as in SPECIFICATION 18.2, T-02.
 use Prim.Native.Nat.{ℕ}
 use mathlib.Core.Bool.{Bool, not}
 use lib.ListN.{length}
@@ -31,7 +31,7 @@ without name target = if has name (target .kids) then withKids target (removeAt 
 unfoldable pub memberOf : Text → Value.Value → Value.Value
 memberOf name target = if has name (target .kids) then valueOf (child (find name (target .kids)) target) else leaf Label.null-literal
 
--- "for each Name/Value pair in Patch: if Value is null: [..] else: Target[Name] = MergePatch(Target[Name], Value)". Document 02: "Existing
+-- "for each Name/Value pair in Patch: if Value is null: [..] else: Target[Name] = MergePatch(Target[Name], Value)". T-02: "Existing
 -- members keep their position, new ones go last."
 unfoldable pub mergeMembers : Members → Value.Value → Value.Value
 mergeMembers none target = target
@@ -46,9 +46,9 @@ mergeMembers (tree e kids rest) target =
 unfoldable pub mergePatch : Value.Value → Value.Value → Value.Value
 mergePatch target patch = if isObject (patch .label) then mergeMembers (patch .kids) (asObject target) else patch
 
--- ---- the answer: "Refusals: 1 to 7 and 16, in 01's order."
+-- ---- the answer: SPECIFICATION 18.3
 
--- "after it only 6 can arise from a limit, judged on the final result, with op 0"
+-- T-02: "after it only 6 can arise from a limit, judged on the final result, with op 0"
 unfoldable pub mergedIn : ℕ → Value.Value → Answer
 mergedIn room merged = if leb (nodes merged) maxNodes then fitting room (write merged) else refusal too-many-nodes 0 0 0
 
@@ -60,7 +60,7 @@ unfoldable pub onMergeDocument : ℕ → Outcome Value.Value → Bytes → Answe
 onMergeDocument room (ok document) patch = onMergePatch room document (read patch)
 onMergeDocument room (refused number place) patch = refusal number 1 0 place
 
--- "Reading follows 01, for both texts"
+-- 1, 2, then both texts read: SPECIFICATION 18.3
 unfoldable pub mergeAnswer : Bytes → Bytes → Lent → Answer
 mergeAnswer document patch lent =
     if not (workSuffices lent) then refusal work-too-short 0 0 0 else

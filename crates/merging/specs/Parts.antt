@@ -1,5 +1,5 @@
--- What a merge makes of the members, position by position. Document 02, T-02: "Existing members keep their position, new ones go last." First stand the
--- target's members, each as it was, merged, or not at all; then those of the patch that the target does not have.
+-- What a merge makes of the members, position by position. SPECIFICATION 18.2, T-02: "Existing members keep their position, new ones go last." First stand
+-- the target's members, each as it was, merged, or not at all; then those of the patch that the target does not have.
 use mathlib.Core.Option.{Option, none, some}
 use Rattle.spec.specs.Outcome.{if_then_else_}
 use Rattle.spec.specs.Bytes.{Text}

@@ -1,4 +1,4 @@
--- Nodes that get another origin: document 02, T-11, "k for a value put in by operation k, add, replace or copy, all nodes of it".
+-- Nodes that get another origin: SPECIFICATION 19.1. T-11: "k for a value put in by operation k, add, replace or copy, all nodes of it".
 use Prim.Native.Nat.{ℕ, _+_}
 use mathlib.Core.Path.{_≡_}
 use mathlib.Core.List.{List, [], _∷_, _++_}

@@ -1,4 +1,4 @@
-// The six operations in the node table, and the run of a patch: document 01, "Walking and the six operations".
+// The six operations in the node table, and the run of a patch: SPECIFICATION 6.
 //
 // What is proved: of a document (`Document` of changes) and of a patch that was read and whose shape is right, `run`
 // answers as the definitions' run of its operations does, each with the limits judged. Either the document is then

@@ -1,4 +1,4 @@
-// Nodes that get another origin: document 02, T-11.
+// Nodes that get another origin: SPECIFICATION 19.1, T-11.
 use changes::size;
 use tape::layout;
 use tape::layout::Node;

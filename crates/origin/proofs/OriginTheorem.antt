@@ -1,4 +1,4 @@
--- What document 02, T-11, says of origins: specs/Claims.
+-- What SPECIFICATION 19 says of origins: specs/Claims.
 use mathlib.Core.Path.{_≡_, refl, ap, sym, subst, _∙_}
 use mathlib.Core.Bool.{Bool, true, false, not}
 use mathlib.Core.List.{List, [], _∷_}

@@ -1,4 +1,4 @@
--- The answers of the calls that list origins: document 02, T-11, "Each call that applies a patch, merge and undo included, lists the origins
+-- The answers of the calls that list origins: SPECIFICATION 19.4. T-11: "Each call that applies a patch, merge and undo included, lists the origins
 -- too, one for each value in the order of their first written bytes, in a lent list; its rest stays, and all of it on a refusal."
 use Prim.Native.Nat.{ℕ}
 use mathlib.Core.List.{List, []}
@@ -48,7 +48,7 @@ fitting room list v =
     (if leb (length (origins v)) list then listed (success (write (forget v))) (origins v) else unlisted (refusal output-too-short 0 0 0))
     else unlisted (refusal output-too-short 0 0 0)
 
--- ---- the call of document 01
+-- ---- the call of SPECIFICATION 2
 unfoldable pub answerOf : ℕ → ℕ → Run Value.Value → Listed Answer
 answerOf room list (finished v) = fitting room list v
 answerOf room list (stopped s) = unlisted (failure s)

@@ -1,4 +1,4 @@
--- What document 02, T-11, says of origins, as claims on the definitions.
+-- What SPECIFICATION 19 says of origins, as claims on the definitions.
 use mathlib.Core.Path.{_≡_}
 use Prim.Native.Nat.{ℕ, _≤_}
 use mathlib.Core.Bool.{true, false}

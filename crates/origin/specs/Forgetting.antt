@@ -1,5 +1,5 @@
 -- With origins forgotten, each definition of this crate is the plain one, results and refusals alike. So what is proved of the plain calls stands as it is:
--- document 02, T-11, "Demand 3 speaks of texts and not of origins."
+-- T-11: "Demand 3 speaks of texts and not of origins."
 use mathlib.Core.Path.{_≡_}
 use Prim.Native.Nat.{ℕ, _≤_}
 use mathlib.Core.List.{List}

@@ -1,4 +1,4 @@
--- The merge patch on a target with origins: document 02, T-11, "A merge patch counts as operation 1, also for the empty objects it makes."
+-- The merge patch on a target with origins: SPECIFICATION 19.2. T-11: "A merge patch counts as operation 1, also for the empty objects it makes."
 -- Each definition is that of the crate merging.
 use Prim.Native.Nat.{ℕ}
 use Rattle.spec.specs.Outcome.{if_then_else_}

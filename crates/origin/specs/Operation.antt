@@ -1,4 +1,4 @@
--- The six operations on values with origins: document 02, T-11, "k for a value put in by operation k, add, replace or copy, all nodes of it; a
+-- The six operations on values with origins: SPECIFICATION 19.1. T-11: "k for a value put in by operation k, add, replace or copy, all nodes of it; a
 -- moved value keeps its own, and a container keeps its origin when a child changes". Each definition is that of the plain operation.
 use Prim.Native.Nat.{ℕ, suc}
 use mathlib.Core.List.{[], _∷_}

@@ -1,4 +1,4 @@
--- "one for each value in the order of their first written bytes": document 02, T-11, of the text that is written.
+-- T-11: "one for each value in the order of their first written bytes", of the text that is written. SPECIFICATION 19.3.
 use mathlib.Core.Path.{_≡_}
 use Prim.Native.Nat.{ℕ, _+_, _≤_}
 use mathlib.Core.List.{List, [], _∷_, _++_, map}

@@ -1,5 +1,5 @@
--- JSON values whose nodes bear an origin: document 02, T-11, "Every node shall carry its origin: 0 from the document, k for a value put in by
--- operation k". Apart from that they are the values of document 01, and `forget` gives those.
+-- JSON values whose nodes bear an origin: SPECIFICATION 19.1. T-11: "Every node shall carry its origin: 0 from the document, k for a value put in by
+-- operation k". Apart from that they are the values of crate spec, and `forget` gives those.
 use Prim.Native.Nat.{ℕ}
 use mathlib.Core.Bool.{Bool}
 use mathlib.Core.List.{List, [], _∷_, _++_}

@@ -1,5 +1,5 @@
--- The answer of the call with a region that lists origins: document 02, T-05 and T-11. The region's rule is one on the patch's shape, so all else is
--- as in the plain call.
+-- The answer of the call with a region that lists origins: SPECIFICATION 15 and 19, T-05 and T-11. The region's rule is one on the patch's shape, so
+-- all else is as in the plain call.
 use Prim.Native.Nat.{ℕ}
 use mathlib.Core.Bool.{not}
 use lib.ListN.{length}

@@ -1,4 +1,4 @@
--- The bytes of the line that the program prints: document 02, T-12, words and numbers with a space between them.
+-- The bytes of the line that the program prints: SPECIFICATION 14.3, T-12, words and numbers with a space between them.
 use Prim.Native.Nat.{ℕ}
 use mathlib.Core.List.{List, [], _∷_, _++_}
 use lib.Dec.{ltb}

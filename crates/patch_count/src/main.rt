@@ -1,5 +1,5 @@
-// A count over patch files, whose names are read from standard input, one a line: document 02, T-12. It prints one
-// line, or `too long` where there are more than 1,000,000 names.
+// A count over patch files, whose names are read from standard input, one a line: SPECIFICATION 14, T-12. It prints
+// one line, or `too long` where there are more than 1,000,000 names.
 //
 // What is proved: the line is that of the definition `printed` (specs/Line), of the files that were visited, and no
 // sum wraps. No contract of the system's calls says which files those are.

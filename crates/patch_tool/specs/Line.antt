@@ -1,4 +1,4 @@
--- What the tool prints of two readable files: document 01, "Examples on each side".
+-- What the tool prints of two readable files: SPECIFICATION 10.2.
 use Prim.Native.Nat.{ℕ}
 use mathlib.Core.Path.{_≡_}
 use lib.ListN.{take}
@@ -8,7 +8,7 @@ use Rattle.spec.specs.Bytes.{Bytes}
 use Rattle.spec.specs.Answer.{Lent, answer}
 use Rattle.report.specs.Line.{lineOf}
 
--- "lends 65,536 bytes of output", and a work area of the stated length
+-- SPECIFICATION 10.1: "It lends 65,536 bytes of output", and a work area of the stated length
 abbrev pub lent : Lent
 lent = record { output = 65_536; nodes = workNodes; index = workEntries }
 

@@ -1,4 +1,4 @@
--- One operation: by `operation` and by document 01's relations. These are what the shape's theorem says of a patch of one element.
+-- One operation: by `operation` and by the relations of `Shape` in crate spec. These are what the shape's theorem says of a patch of one element.
 use mathlib.Core.Path.{_≡_, refl, ap, ap₂, sym, subst, _∙_}
 use mathlib.Core.Bool.{Bool, true, false, _&&_, true≢false}
 use mathlib.Core.List.{List, [], _∷_, _++_}

@@ -1,4 +1,4 @@
--- The answer of the call with a region: document 02, T-05. "The region is a pointer given with the call."
+-- The answer of the call with a region: SPECIFICATION 15.3. T-05: "The region is a pointer given with the call."
 use Prim.Native.Nat.{ℕ}
 use mathlib.Core.Bool.{not}
 use lib.ListN.{length}

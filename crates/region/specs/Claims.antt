@@ -24,7 +24,7 @@ use Rattle.region.specs.Answer.{regionTokens, answerWithin}
 
 -- ---- the rule, as a relation
 
--- "Makers shall send only test, replace and add"
+-- T-05: "Makers shall send only test, replace and add"
 pub data Makers : Kind → Type 0 where
   test : Makers Kind.test
   replace : Makers Kind.replace
@@ -49,7 +49,7 @@ pub data KeepsRule (region : Tokens) : List Operation → Type 0 where
 
 -- ---- the shape of a maker's patch
 
--- it is a patch by document 01, and keeps the rule
+-- it is a patch by SPECIFICATION 4, and keeps the rule
 pub record IsPatchWithin (region : Tokens) (v : Value.Value) (os : List Operation) : Type 0 where
   pub patch : IsPatch v os
   pub rule : KeepsRule region os
@@ -92,12 +92,12 @@ abbrev pub RuleStatement : Type 0
 RuleStatement =
     (region : Tokens) (v : Value.Value) (op : ℕ) → shapeWithin region v ≡ stopped (stop not-permitted op 0 0) ↔ BreaksRule region v op
 
--- ---- document 01's "strictly inside" is the rule's part on paths, for the three kinds
+-- ---- "strictly inside" of SPECIFICATION 9.1 is the rule's part on paths, for the three kinds
 
 abbrev pub InsideStatement : Type 0
 InsideStatement = (region : Tokens) (o : Operation) → Makers (o .kind) → strictlyInside region o ≡ true ↔ ProperPrefix region (o .path)
 
--- so a maker's patch is strictly inside its region, and document 01's region statement speaks of it
+-- so a maker's patch is strictly inside its region, and the statement of SPECIFICATION 9.4 speaks of it
 abbrev pub AllInsideStatement : Type 0
 AllInsideStatement = (region : Tokens) (v : Value.Value) (os : List Operation) → shapeWithin region v ≡ finished os → allInside region os ≡ true
 

@@ -1,4 +1,4 @@
--- The rule for pack makers: document 02, T-05, "A narrower patch for pack makers". It is one more test on each operation, last in its shape.
+-- The rule for pack makers: SPECIFICATION 15.2, T-05. It is one more test on each operation, last in its shape.
 use Prim.Native.Nat.{ℕ, _+_}
 use mathlib.Core.List.{List, [], _∷_}
 use mathlib.Core.Bool.{Bool, true, false, _&&_}
@@ -13,7 +13,7 @@ use Rattle.spec.specs.Pointer.{Tokens}
 use Rattle.spec.specs.Operation.{Kind, add, remove, replace, move, copy, test, Operation}
 use Rattle.spec.specs.Patch.{properPrefix, operation, stop, Run, finished, stopped, atOp, noPointer, onFinish}
 
--- "Makers shall send only test, replace and add"
+-- T-05: "Makers shall send only test, replace and add"
 unfoldable pub isMakers : Kind → Bool
 isMakers add = true
 isMakers remove = false

@@ -1,4 +1,4 @@
-// The shape of a patch with the rule for makers: document 02, T-05. The rule is judged last of each element.
+// The shape of a patch with the rule for makers: SPECIFICATION 15.3, T-05. The rule is judged last of each element.
 use crate::compare::is_inside;
 use crate::compare::is_raw;
 use shape::Kind;

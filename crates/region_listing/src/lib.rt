@@ -1,5 +1,5 @@
-// A maker's patch applied within a region, and the origin of each value listed: document 02, T-05 and T-11.
-// `apply_within_listing` is the whole library.
+// A maker's patch applied within a region, and the origin of each value listed: SPECIFICATION 15 and 19, T-05 and
+// T-11. `apply_within_listing` is the whole library.
 //
 // What is proved: on every input the answer and the list are those of the definition `answerWithin` of crate
 // `origin_within`. What holds of the output, the list and the work area in the call without a region holds here too.

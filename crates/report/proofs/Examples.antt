@@ -1,5 +1,4 @@
--- Document 01: "With 3001 for 3e3 it is `refused 15 text 0 op 1 place 0`.", with the pointer of document 02, T-01; and numbers around a change of
--- the number of digits.
+-- The last example of SPECIFICATION 10.2: `refused 15 text 0 op 1 place 0 pointer 0`; and numbers around a change of the number of digits.
 use mathlib.Core.Path.{_≡_, refl}
 use mathlib.Core.List.{_++_}
 use Rattle.spec.specs.Bytes.{ascii}

@@ -1,5 +1,5 @@
--- The line that the patch tool prints: document 01, "It prints the written text and a newline, or `refused`, the number, `text`, its value, `op`,
--- its value, `place`, its value, on one line". Document 02, T-01: "the refusal line ends in `pointer` and its value, on every line".
+-- The line that the patch tool prints: SPECIFICATION 10.2. It is the written text and a newline, or `refused`, the number, `text`, its
+-- value, `op`, its value, `place`, its value, on one line. T-01: "the refusal line ends in `pointer` and its value, on every line".
 use Prim.Native.Nat.{ℕ, zero, suc, _+_, _/_, _%_}
 use Prim.Native.Char.{code}
 use mathlib.Core.List.{[], _∷_, _++_}

@@ -1,5 +1,5 @@
-// The line that the patch tool prints: document 01, "Examples on each side". `run` makes it of a document and a
-// patch, `report` of an answer of the call.
+// The line that the patch tool prints: SPECIFICATION 10.2. `run` makes it of a document and a patch, `report` of
+// an answer of the call.
 //
 // What is proved: the bytes laid down are those of the definition `lineOf` (specs/Line), of the answer that the
 // definition `answer` of crate `spec` gives, as many as there is room for; behind them the buffer is as it was. Where

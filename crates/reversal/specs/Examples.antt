@@ -116,7 +116,7 @@ letters (suc n) = 97 ∷ letters n
 abbrev pub RefusedWith : Value.Value → ℕ → Type 0
 RefusedWith u number = undoWritten 0 [] u ≡ undoRefusal (refusal number 2 0 0)
 
--- "9, 5, 6, 2": each of these exceeds all the limits from its own on
+-- T-09: "9, 5, 6, 2": each of these exceeds all the limits from its own on
 pub record Order : Type 0 where
   pub operations : RefusedWith (listOf 257 (nested 32 (listOf 8 (leaf (Label.string (letters 128)))))) 9
   pub levels : RefusedWith (listOf 256 (nested 31 (listOf 8 (leaf (Label.string (letters 128)))))) 5

@@ -1,4 +1,4 @@
--- What an undo does: document 02, T-09, over whole texts, with the two laws that it rests on. proofs/UndoTheorem proves it.
+-- What an undo does: SPECIFICATION 16.6, T-09, over whole texts, with the two laws that it rests on. proofs/UndoTheorem proves it.
 use mathlib.Core.Path.{_≡_}
 use Prim.Native.Nat.{_≤_}
 use mathlib.Core.Bool.{true}
@@ -31,7 +31,7 @@ pub record Situation (document patch text undo : Bytes) (lent : UndoLent) (again
   -- "with buffers enough": neither 1 nor 16 applies
   pub enough : Enough text undo again
 
--- "applying the undo to that text [..] succeeds and gives a document equal, by 01's equality as mended, to the original"
+-- "applying the undo to that text [..] succeeds and gives a document equal [..] to the original", by SPECIFICATION 7
 pub record TakenBack (document text undo : Bytes) (again : Lent) : Type 0 where
   pub original : Value.Value
   pub restored : Value.Value

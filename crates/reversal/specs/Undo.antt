@@ -1,4 +1,4 @@
--- The undo of a patch, as operations: document 02, T-09, sentence by sentence.
+-- The undo of a patch, as operations: SPECIFICATION 16.1 and 16.2, and T-09 sentence by sentence.
 use Prim.Native.Nat.{ℕ, zero, suc, _+_, _/_, _%_}
 use Prim.Native.Char.{code}
 use mathlib.Core.List.{List, [], _∷_, _++_}

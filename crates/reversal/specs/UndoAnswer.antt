@@ -1,4 +1,4 @@
--- The answer of the call that writes the undo beside the document: document 02, T-09.
+-- The answer of the call that writes the undo beside the document: SPECIFICATION 16.4, T-09.
 use Prim.Native.Nat.{ℕ}
 use mathlib.Core.List.{List, []}
 use lib.ListN.{length}

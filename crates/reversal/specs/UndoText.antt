@@ -1,5 +1,5 @@
--- The undo's text, to the byte: document 02, T-09, "The undo is compact, each operation's members being op, path and, where used, value, in
--- that order". It is the undo's value written: `text` of specs/Statement.
+-- The undo's text, to the byte: SPECIFICATION 16.3. T-09: "The undo is compact, each operation's members being op, path and, where used, value,
+-- in that order". It is the undo's value written: `text` of specs/Statement.
 use mathlib.Core.Bool.{Bool, true, false}
 use mathlib.Core.List.{List, [], _∷_, _++_}
 use Rattle.spec.specs.Outcome.{if_then_else_}

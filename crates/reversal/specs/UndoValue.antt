@@ -1,5 +1,5 @@
--- The undo of a patch, as a JSON value. Its text is that value written: document 02, T-09, "The undo is compact, each operation's members being op, path
--- and, where used, value, in that order; pointers are written from their tokens".
+-- The undo of a patch, as a JSON value. Its text is that value written: SPECIFICATION 16.3. T-09: "The undo is compact, each operation's members being op,
+-- path and, where used, value, in that order; pointers are written from their tokens".
 use mathlib.Core.List.{List, [], _∷_}
 use Rattle.spec.specs.Outcome.{if_then_else_}
 use Rattle.spec.specs.Bytes.{Text, ascii}

@@ -1,4 +1,4 @@
--- Patches in a row: document 02, T-13. "If the first patch succeeds, its text is at most 32,768 bytes, the second is well formed, the joined
+-- Patches in a row: SPECIFICATION 11.2. T-13: "if the first patch succeeds, its text is at most 32,768 bytes, the second is well formed, the joined
 -- patch is within the limits and the lent buffers suffice, then applying the second to the first's text gives the joined patch's text, or its
 -- refusal with op less by the first's operations." All of it is said of whole texts, and of the definition `answer`.
 use mathlib.Core.Path.{_≡_}

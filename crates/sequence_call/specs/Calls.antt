@@ -1,5 +1,5 @@
--- Patches in a row, said of the calls themselves: document 02, T-13. Crate `sequence` speaks of the definition `answer`; this speaks of whatever
--- two calls answer, and of the outputs that they leave. Every call promises `Answered` of that definition (`ApplyIs`).
+-- Patches in a row, said of the calls themselves: SPECIFICATION 11, T-13. Crate `sequence` speaks of the definition `answer`; this speaks of
+-- whatever two calls answer, and of the outputs that they leave. Every call promises `Answered` of that definition (`ApplyIs`).
 use mathlib.Core.Path.{_≡_}
 use Prim.Native.Nat.{ℕ, _+_, _≤_}
 use mathlib.Core.List.{List, _++_}

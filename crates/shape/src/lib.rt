@@ -1,5 +1,4 @@
-// The shape of a patch: document 01, "Patch shape". Nothing is stored: a member of an operation is found again when
-// it runs.
+// The shape of a patch: SPECIFICATION 4. Nothing is stored: a member of an operation is found again when it runs.
 //
 // What is proved: of a patch that the table holds, `shape_of` answers as the definitions do, with the number of the
 // refusal and the operation.

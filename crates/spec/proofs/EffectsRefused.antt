@@ -1,4 +1,4 @@
--- Refusals: `walk` and `perform` are refused exactly as document 01 says, specs/Effects.
+-- Refusals: `walk` and `perform` are refused exactly as SPECIFICATION 6 says, specs/Effects.
 use mathlib.Core.Path.{_≡_, refl, ap, sym, subst, _∙_}
 use mathlib.Core.Logic.{_↔_}
 use mathlib.Core.Bool.{Bool, true, false, _&&_, true≢false}

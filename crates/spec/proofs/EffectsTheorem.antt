@@ -1,4 +1,4 @@
--- `walk` and `perform` are what RFC 6901, RFC 6902 and document 01 say: specs/Effects.
+-- `walk` and `perform` are what RFC 6901, RFC 6902 and SPECIFICATION 6 say: specs/Effects.
 use Rattle.spec.specs.Effects.{EffectsStatement}
 use Rattle.spec.proofs.EffectsDone.{walk-to, to-walk, performs-to, to-performs}
 use Rattle.spec.proofs.EffectsRefused.{walk-refused, perform-refused}

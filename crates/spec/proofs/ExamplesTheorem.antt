@@ -1,4 +1,4 @@
--- The examples of documents 01 and 02, proved of the definitions by computation.
+-- The examples of specs/Examples, proved of the definitions by computation.
 use mathlib.Core.Path.{refl}
 use Rattle.spec.specs.Examples.{All, starred, zeros}
 use Rattle.spec.proofs.Computing.{compute, _and_}

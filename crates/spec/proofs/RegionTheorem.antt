@@ -1,4 +1,4 @@
--- The region statement of document 01, proved: specs/Region, `RegionStatement`, for every `Situation`.
+-- The region statement of SPECIFICATION 9.4, proved: specs/Region, `RegionStatement`, for every `Situation`.
 -- From texts to operations: a shuffle of elements' bytes is a shuffle of the values that they are, and so of the operations that they mean. The runs of
 -- operations are RunTheorem's, the limit on nodes is LimitTheorem's, and here they are put together for the whole call.
 use mathlib.Core.Path.{_≡_, refl, ap, sym, _∙_}

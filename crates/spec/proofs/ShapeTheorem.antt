@@ -1,4 +1,4 @@
--- The shape of a patch is exactly document 01's list: specs/Shape.
+-- The shape of a patch is exactly as SPECIFICATION 4 says: specs/Shape.
 use mathlib.Core.Path.{_≡_, refl, ap, ap₂, sym, subst, _∙_}
 use mathlib.Core.Bool.{Bool, true, false, _&&_, not, true≢false}
 use mathlib.Core.List.{List, [], _∷_, _++_}

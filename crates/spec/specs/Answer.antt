@@ -1,4 +1,4 @@
--- The answer of the whole call: document 01, "The answer".
+-- The answer of the whole call: SPECIFICATION 2.
 use Prim.Native.Nat.{ℕ}
 use mathlib.Core.List.{[]}
 use mathlib.Core.Bool.{Bool, _&&_, not}
@@ -15,9 +15,8 @@ use Rattle.spec.specs.Write.{write}
 use Rattle.spec.specs.Operation.{limited}
 use Rattle.spec.specs.Patch.{Stop, Run, finished, stopped, shape, run, onFinish}
 
--- "An answer has a number, text (1 document, 2 patch, else 0), op (counted from 1, else 0), place (a byte offset, else 0) and the written
--- length (0 on refusal)": here the written text, whose length that is. Document 02, T-01: "The answer gains a field, pointer"; for 11 and 12
--- place counts tokens.
+-- The fields: SPECIFICATION 2.1. The written text stands here for its length. T-01: "The answer gains a field, pointer"; for 11 and 12 place
+-- counts tokens.
 pub record Answer : Type 0 where
   pub number : ℕ
   pub text : ℕ
@@ -69,8 +68,8 @@ unfoldable pub onDocument : ℕ → Outcome Value.Value → Bytes → Answer
 onDocument room (ok document) patch = onPatch room document (read patch)
 onDocument room (refused number place) patch = refusal number 1 0 place
 
--- "Order: 1, 2, the whole document read, the whole patch read, the shape of every operation, the operations one after another, then 16.
--- The first that applies is given."
+-- SPECIFICATION 2.3: 1, 2, the whole document read, the whole patch read, the shape of every operation, the operations one after another,
+-- then 16. "The first refusal is the answer."
 unfoldable pub answerIn : Bool → ℕ → Bytes → Bytes → Answer
 answerIn enough room document patch =
     if not enough then refusal work-too-short 0 0 0 else

@@ -1,5 +1,5 @@
--- Demand 3, closed: what document 01 says "for every accepted document, every two well-formed patches, each strictly inside its own region, and
--- every shuffle of them, with buffers enough". proofs/Demand3Theorem proves it.
+-- Demand 3, closed: what SPECIFICATION 9.4 says, for every document, every two patches and every shuffle of them that it speaks of.
+-- proofs/Demand3Theorem proves it.
 use mathlib.Core.Path.{_≡_}
 use mathlib.Core.List.{List, [], _∷_}
 use Rattle.spec.specs.Bytes.{Bytes, ascii}

@@ -1,4 +1,4 @@
--- Names that are not repeated: document 01, "4: a member name repeated in one object".
+-- Names that are not repeated: SPECIFICATION 2.2, number 4, and SPECIFICATION 3.4.
 use mathlib.Core.Path.{_≡_}
 use mathlib.Core.Bool.{Bool, true, false}
 use Rattle.spec.specs.Forest.{none, tree}

@@ -115,7 +115,7 @@ pub data Performs (o : Operation) (v : Value.Value) : Value.Value → Type 0 whe
   replace : {w : Value.Value} → o .kind ≡ Kind.replace → Below (Replaces (o .value)) (o .path) v w → Performs o v w
   replace-root : o .kind ≡ Kind.replace → o .path ≡ [] → Performs o v (o .value)
   -- 4.4, move: "functionally identical to a "remove" operation on the "from" location, followed immediately by an "add" operation at the target
-  -- location with the value that was just removed". Document 01: "Root to root changes nothing." The root is moved nowhere else.
+  -- location with the value that was just removed". SPECIFICATION 6.5: root to root changes nothing. The root is moved nowhere else.
   move : {x left w : Value.Value} → o .kind ≡ Kind.move → Evaluates (o .from) v x → Below Removes (o .from) v left → Added x (o .path) left w →
       Performs o v w
   move-root : o .kind ≡ Kind.move → o .from ≡ [] → Performs o v v
@@ -124,23 +124,22 @@ pub data Performs (o : Operation) (v : Value.Value) : Value.Value → Type 0 whe
   -- 4.6, test: "The target location MUST be equal to the "value" value for the operation to be considered successful."
   test : {found : Value.Value} → o .kind ≡ Kind.test → Evaluates (o .path) v found → equal found (o .value) ≡ true → Performs o v v
 
--- Refusals: document 01, "Walking and the six operations".
+-- Refusals: SPECIFICATION 6.
 
--- `NoChild t v n`: in v the token t names nothing, and n is the refusal.
+-- `NoChild t v n`: in v the token t names nothing, and n is the refusal: SPECIFICATION 6.1.
 pub data NoChild (t : Text) (v : Value.Value) : ℕ → Type 0 where
-  -- "On a scalar: 11."
+  -- on a scalar: 11
   scalar : (v .label ≡ Label.array → ⊥) → (v .label ≡ Label.object → ⊥) → NoChild t v location-missing
-  -- "On an object: the member so named, else 11."
+  -- on an object that has no member so named: 11
   no-member : v .label ≡ Label.object → Without t (v .kids) → NoChild t v location-missing
-  -- "On an array: `-` is 11;
+  -- on an array: `-` is 11;
   after-last : v .label ≡ Label.array → t ≡ code "-" ∷ [] → NoChild t v location-missing
   -- a token that is not `0`, and not a nonzero digit with any digits after it, is 12;
   not-index : v .label ≡ Label.array → (t ≡ code "-" ∷ [] → ⊥) → ((k : ℕ) → ArrayIndex t k → ⊥) → NoChild t v no-index
-  -- an index not below the length, however long, is 11."
+  -- an index not below the length, however long, is 11
   too-large : (k : ℕ) → v .label ≡ Label.array → ArrayIndex t k → count (v .kids) ≤ k → NoChild t v location-missing
 
--- `LeadsNowhere ts v n k`: after k of the tokens ts the next one names nothing. Document 02, T-01: "the count of tokens walked before the one
--- that failed".
+-- `LeadsNowhere ts v n k`: after k of the tokens ts the next one names nothing. T-01: "the count of tokens walked before the one that failed".
 pub data LeadsNowhere : Tokens → Value.Value → ℕ → ℕ → Type 0 where
   here : {t : Text} {ts : Tokens} {v : Value.Value} {n : ℕ} → NoChild t v n → LeadsNowhere (t ∷ ts) v n 0
   later : {t name : Text} {ts : Tokens} {v x : Value.Value} {before after : Members} {n k : ℕ} → Child t v name x before after →
@@ -153,18 +152,18 @@ pub data Fails (Refused : Text → Value.Value → ℕ → Type 0) : Tokens → 
   deeper : {t u name : Text} {ts : Tokens} {v x : Value.Value} {before after : Members} {n k : ℕ} → Child t v name x before after →
       Fails Refused (u ∷ ts) x n k → Fails Refused (t ∷ u ∷ ts) v n (suc k)
 
--- "In an array, `-` appends, an index up to the length inserts, a greater one is 11."
+-- SPECIFICATION 6.2: in an array, `-` appends, an index up to the length inserts, a greater one is 11.
 pub data NotAdded (t : Text) (v : Value.Value) : ℕ → Type 0 where
   scalar : (v .label ≡ Label.array → ⊥) → (v .label ≡ Label.object → ⊥) → NotAdded t v location-missing
   not-index : v .label ≡ Label.array → (t ≡ code "-" ∷ [] → ⊥) → ((k : ℕ) → ArrayIndex t k → ⊥) → NotAdded t v no-index
   too-large : (k : ℕ) → v .label ≡ Label.array → ArrayIndex t k → count (v .kids) < k → NotAdded t v location-missing
 
--- `Refuses o v n k p`: the operation o is refused on v with the number n. With 11 and 12, k tokens were walked of the pointer p. Document 02,
--- T-01: "it is 1 for `path` and 2 for `from`, with all other numbers 0".
+-- `Refuses o v n k p`: the operation o is refused on v with the number n. With 11 and 12, k tokens were walked of the pointer p. T-01: "it
+-- is 1 for `path` and 2 for `from`, with all other numbers 0".
 pub data Refuses (o : Operation) (v : Value.Value) : ℕ → ℕ → ℕ → Type 0 where
   add : {n k : ℕ} → o .kind ≡ Kind.add → Fails NotAdded (o .path) v n k → Refuses o v n k 1
   remove : {n k : ℕ} → o .kind ≡ Kind.remove → Fails NoChild (o .path) v n k → Refuses o v n k 1
-  -- "the root is 13"
+  -- SPECIFICATION 6.3: "The root is 13."
   remove-root : o .kind ≡ Kind.remove → o .path ≡ [] → Refuses o v remove-of-root 0 0
   replace : {n k : ℕ} → o .kind ≡ Kind.replace → Fails NoChild (o .path) v n k → Refuses o v n k 1
   move : {n k : ℕ} → o .kind ≡ Kind.move → LeadsNowhere (o .from) v n k → Refuses o v n k 2
@@ -173,15 +172,15 @@ pub data Refuses (o : Operation) (v : Value.Value) : ℕ → ℕ → ℕ → Typ
   copy : {n k : ℕ} → o .kind ≡ Kind.copy → LeadsNowhere (o .from) v n k → Refuses o v n k 2
   copy-add : {x : Value.Value} {n k : ℕ} → o .kind ≡ Kind.copy → Evaluates (o .from) v x → Fails NotAdded (o .path) v n k → Refuses o v n k 1
   test : {n k : ℕ} → o .kind ≡ Kind.test → LeadsNowhere (o .path) v n k → Refuses o v n k 1
-  -- "be equal, else 15"
+  -- SPECIFICATION 6.7: it must be equal, otherwise 15
   differs : {found : Value.Value} → o .kind ≡ Kind.test → Evaluates (o .path) v found → equal found (o .value) ≡ false →
       Refuses o v test-differs 0 0
 
 pub record EffectsStatement : Type 1 where
-  -- The walk is RFC 6901's evaluation, and is refused exactly as document 01 says.
+  -- The walk is RFC 6901's evaluation, and is refused exactly as SPECIFICATION 6.1 says.
   pub walks : (ts : Tokens) (v w : Value.Value) → walk ts v ≡ ok w ↔ Evaluates ts v w
   pub walk-refused : (ts : Tokens) (v : Value.Value) (n k : ℕ) → walk ts v ≡ refused n k ↔ LeadsNowhere ts v n k
-  -- The operations are RFC 6902's, and are refused exactly as document 01 says.
+  -- The operations are RFC 6902's, and are refused exactly as SPECIFICATION 6 says.
   pub performs : (o : Operation) (v w : Value.Value) → perform o v ≡ ok w ↔ Performs o v w
   pub refuses : (o : Operation) (v : Value.Value) (n k p : ℕ) → ((perform o v ≡ refused n k) × (whichPointer o v n ≡ p)) ↔ Refuses o v n k p
   -- So a pointer that parts from the path of a change leads to what it led to before.

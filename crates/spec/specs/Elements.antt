@@ -1,4 +1,4 @@
--- The elements of a patch text, "each with its own bytes": document 01, "The region statement in detail".
+-- The elements of a patch text, "each with its own bytes": SPECIFICATION 9.2.
 use mathlib.Core.Path.{_≡_}
 use Prim.Native.Char.{code}
 use mathlib.Core.List.{List, [], _∷_, _++_}

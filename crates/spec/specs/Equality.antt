@@ -1,4 +1,4 @@
--- Equality of values: RFC 6902, section 4.6, as document 01 reads it under "Walking and the six operations", mended by document 02, T-04.
+-- Equality of values: RFC 6902, section 4.6; SPECIFICATION 7. Zeros: SPECIFICATION 7.4, T-04.
 use mathlib.Core.Bool.{Bool, true, false, _&&_, not}
 use lib.Dec.{eqb}
 use lib.IntN.{ℤ, pos, negsuc}
@@ -19,12 +19,12 @@ sameInteger (pos m) (negsuc n) = false
 sameInteger (negsuc m) (pos n) = false
 sameInteger (negsuc m) (negsuc n) = eqb m n
 
--- "Numbers by exact value", and T-04: "RFC 6902 says numerically equal, so 01 was wrong"; a zero has no sign (Worth).
+-- numbers by their exact values: SPECIFICATION 7.3; a zero has no sign (Worth)
 unfoldable pub sameWorth : Worth → Worth → Bool
 sameWorth v w =
     sameBool (v .negative) (w .negative) && (sameText (v .significand) (w .significand) && sameInteger (v .power) (w .power))
 
--- "Same type; strings by unescaped text; literals by kind", numbers by what they are worth
+-- scalars of the same type: strings by unescaped text, literals by kind, numbers by what they are worth: SPECIFICATION 7.1
 unfoldable pub sameLabel : Label → Label → Bool
 sameLabel l m =
     eqb (tag l) (tag m) &&
@@ -40,14 +40,14 @@ abbrev pub sameValue : Label → Members → Label → Members → Bool → Bool
 sameValue l kids m below inside = sameLabel l m && (eqb (count kids) (count below) && inside)
 
 unfoldable mutual
-  -- "Arrays in order": of two arrays of the same length
+  -- arrays: "the elements are equal one by one"; of two arrays of the same length
   pub sameElements : Members → Members → Bool
   sameElements none g = true
   sameElements (tree e kids f) none = false
   sameElements (tree e kids f) (tree p below g) =
       sameValue (e .label) kids (p .label) below (if isObject (e .label) then sameMembers kids below else sameElements kids below) && sameElements f g
 
-  -- "objects by names with equal values, in any order": of two objects with the same number of members
+  -- objects: "the same names, in any order, and the values of each name are equal"; of two objects with the same number of members
   pub sameMembers : Members → Members → Bool
   sameMembers none g = true
   sameMembers (tree e kids f) g =

@@ -1,5 +1,5 @@
--- The starred examples of document 01, "Examples on each side", and examples of document 02: whole answers. proofs/ExamplesTheorem proves
--- them by computation.
+-- Examples of SPECIFICATION 4.4, 5.2, 6.2, 6.5, 7.2 and 7.3, and of zeros, SPECIFICATION 7.4: whole answers. proofs/ExamplesTheorem proves them
+-- by computation.
 use mathlib.Core.Path.{_≡_}
 use Prim.Native.Nat.{ℕ}
 use Prim.Native.String.{String}

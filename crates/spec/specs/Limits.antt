@@ -1,4 +1,4 @@
--- Document 01, "Numbers that bound the work".
+-- The limits: SPECIFICATION 1.3.
 use Prim.Native.Nat.{ℕ}
 
 -- bytes of a document, and of a patch

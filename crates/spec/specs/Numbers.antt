@@ -1,4 +1,4 @@
--- JSON's numbers: RFC 8259, section 6, production by production, within the limits of document 01. `start` is where the number begins. Each
+-- JSON's numbers: RFC 8259, section 6, production by production, within the limits of SPECIFICATION 1.3. `start` is where the number begins. Each
 -- reader gives the place after what it read, 3 at the first byte that no valid text has there, or 7 at the first byte past a limit.
 use Prim.Native.Nat.{ℕ, zero, suc, _+_, _-_, _*_}
 use Prim.Native.Char.{code}

@@ -1,4 +1,4 @@
--- The six operations: RFC 6902, section 4, as document 01 reads it under "Walking and the six operations".
+-- The six operations: RFC 6902, section 4; SPECIFICATION 6.
 use Prim.Native.Nat.{ℕ, suc}
 use mathlib.Core.List.{[], _∷_}
 use lib.Dec.{leb}
@@ -37,13 +37,13 @@ atParent change t (u ∷ ts) v = do
   w ← farther (atParent change u ts (valueOf (child k v)))
   ok (put k w v)
 
--- "In an array, `-` appends, an index up to the length inserts, a greater one is 11."
+-- SPECIFICATION 6.2: in an array, `-` appends, an index up to the length inserts, a greater one is 11.
 unfoldable pub insertElement : Value.Value → Text → Value.Value → Outcome Value.Value
 insertElement x t v = do
   k ← if isDash t then ok (count (v .kids)) else elementBelow (suc (count (v .kids))) t
   ok (withKids v (insertAt k (named [] x) (v .kids)))
 
--- "A member that exists is replaced at its position; a new one goes last."
+-- SPECIFICATION 6.2: a member that exists is replaced at its position, a new one goes last.
 unfoldable pub insertMember : Value.Value → Text → Value.Value → Value.Value
 insertMember x t v =
     if has t (v .kids) then put (find t (v .kids)) x v else withKids v (insertAt (count (v .kids)) (named t x) (v .kids))
@@ -63,23 +63,23 @@ replaceChild x t v = do
   k ← childAt t v
   ok (put k x v)
 
--- "The parent must exist. At the root, the value becomes the document."
+-- SPECIFICATION 6.2: "The parent must exist". At the root, "the value becomes the document".
 unfoldable pub addAt : Tokens → Value.Value → Value.Value → Outcome Value.Value
 addAt [] x v = ok x
 addAt (t ∷ ts) x v = atParent (insertChild x) t ts v
 
--- "The target must exist; the root is 13."
+-- SPECIFICATION 6.3: "The target must exist"; "The root is 13."
 unfoldable pub removeAtPath : Tokens → Value.Value → Outcome Value.Value
 removeAtPath [] v = refused remove-of-root 0
 removeAtPath (t ∷ ts) v = atParent removeChild t ts v
 
--- "The target must exist and keeps its position; the root may be replaced."
+-- SPECIFICATION 6.4: "The target must exist"; it "keeps its position. The root may be replaced."
 unfoldable pub replaceAtPath : Tokens → Value.Value → Value.Value → Outcome Value.Value
 replaceAtPath [] x v = ok x
 replaceAtPath (t ∷ ts) x v = atParent (replaceChild x) t ts v
 
--- "`from` must exist; remove it, then add it at `path`, walked in what is left. Root to root changes nothing." The root is moved nowhere
--- else: its tokens are a proper prefix of any others.
+-- SPECIFICATION 6.5: `from` must exist; it is removed, then added at `path`, which is walked in what is left. Root to root changes nothing. The
+-- root is moved nowhere else: its tokens are a proper prefix of any others.
 unfoldable pub moveTo : Tokens → Tokens → Value.Value → Outcome Value.Value
 moveTo [] path v = ok v
 moveTo (t ∷ ts) path v = do
@@ -87,13 +87,13 @@ moveTo (t ∷ ts) path v = do
   left ← removeAtPath (t ∷ ts) v
   addAt path x left
 
--- "`from` must exist; then add, in the unchanged document."
+-- SPECIFICATION 6.6: "`from` must exist"; then its value is added, "in the unchanged document".
 unfoldable pub copyTo : Tokens → Tokens → Value.Value → Outcome Value.Value
 copyTo from path v = do
   x ← walk from v
   addAt path x v
 
--- "The target must exist and be equal, else 15."
+-- SPECIFICATION 6.7: the target must exist and be equal, otherwise 15.
 unfoldable pub testAt : Tokens → Value.Value → Value.Value → Outcome Value.Value
 testAt path x v = do
   found ← walk path v
@@ -110,7 +110,7 @@ perform o v =
       | test ↦ testAt (o .path) (o .value) v
     ]
 
--- "After each operation, 5 if the result is too deep, then 6 if it has too many nodes."
+-- SPECIFICATION 6.8: after each operation, 5 if the result is too deep, then 6 if it has too many nodes.
 unfoldable pub notTooDeep : Value.Value → Outcome Value.Value
 notTooDeep v = if leb (depth v) maxDepth then ok v else refused too-deep 0
 

@@ -1,4 +1,4 @@
--- A patch: document 01, "Patch shape", and the run of its operations.
+-- A patch: SPECIFICATION 4; and the run of its operations: SPECIFICATION 6.9.
 use Prim.Native.Nat.{ℕ, _+_}
 use mathlib.Core.List.{List, [], _∷_}
 use mathlib.Core.Bool.{Bool, true, false, _&&_, _||_, not}
@@ -26,7 +26,7 @@ stringMember name v = do
   m ← member name v
   stringOf (m .label)
 
--- "`op` is one of add, remove, replace, move, copy, test"
+-- SPECIFICATION 4.2: `op` is one of add, remove, replace, move, copy, test; otherwise 8.
 unfoldable pub kindNamed : Text → Outcome Kind
 kindNamed t =
     if sameText t (ascii "add") then ok add else
@@ -74,7 +74,7 @@ valueFor kind v = if usesValue kind then member (ascii "value") v else ok (leaf 
 unfoldable pub fromFor : Kind → Value.Value → Outcome Text
 fromFor kind v = if usesFrom kind then stringMember (ascii "from") v else ok []
 
--- "`path` is a string; add, replace and test have `value`; move and copy have `from`, a string: else 8"
+-- SPECIFICATION 4.2: `path` is a string; add, replace and test have `value`; move and copy have `from`, a string; otherwise 8.
 unfoldable pub membersFor : Kind → Value.Value → Outcome OperationMembers
 membersFor kind v = do
   path ← stringMember (ascii "path") v
@@ -82,7 +82,7 @@ membersFor kind v = do
   from ← fromFor kind v
   ok (record { kind = kind; path = path; from = from; value = value })
 
--- "It is an object; `op` is one of ..", and the other members that it must have: else 8
+-- SPECIFICATION 4.2: an object, with `op` and the other members that it must have; otherwise 8.
 unfoldable pub operationMembers : Value.Value → Outcome OperationMembers
 operationMembers v = do
   _ ← require wrong-shape (isObject (v .label))
@@ -97,8 +97,8 @@ properPrefix [] (u ∷ us) = true
 properPrefix (t ∷ ts) [] = false
 properPrefix (t ∷ ts) (u ∷ us) = sameText t u && properPrefix ts us
 
--- "Then `path`, then `from` where used, is a pointer: else 10. Then, for move, the tokens of `from` are not a proper prefix of those of
--- `path`: else 14."
+-- SPECIFICATION 4.3: `path`, then `from` where used, is a pointer; otherwise 10. SPECIFICATION 4.4: for move, the tokens of `from` are not a
+-- proper prefix of the tokens of `path`; otherwise 14.
 unfoldable pub withPointers : OperationMembers → Outcome Operation
 withPointers m = do
   path ← tokens (m .path)
@@ -146,13 +146,13 @@ operations op (tree e kids rest) =
     onFinish (operations (op + 1) rest) λ os.
     finished (o ∷ os)
 
--- "The top value is an array (8, op 0), of at most 256 elements (9). Then for each element in order .."
+-- SPECIFICATION 4.1: the top value is an array (8, op 0), of at most 256 elements (9). Then each element in order.
 unfoldable pub shape : Value.Value → Run (List Operation)
 shape v =
     if isArray (v .label) then (if leb (count (v .kids)) maxOperations then operations 1 (v .kids) else stopped (stop too-many-operations 0 0 0))
     else stopped (stop wrong-shape 0 0 0)
 
--- Document 02, T-01: "with 11 and 12 it is 1 for `path` and 2 for `from`, with all other numbers 0". Where `from` is used, it is walked first.
+-- T-01: "with 11 and 12 it is 1 for `path` and 2 for `from`, with all other numbers 0". Where `from` is used, it is walked first.
 unfoldable pub whichPointer : Operation → Value.Value → ℕ → ℕ
 whichPointer o v number =
     if eqb number location-missing || eqb number no-index then (if usesFrom (o .kind) && isRefused (walk (o .from) v) then 2 else 1) else 0

@@ -27,7 +27,7 @@ unfoldable pub segments : Text → List Text
 segments [] = [] ∷ []
 segments (c ∷ s) = if eqb c (code "/") then [] ∷ segments s else prepend c (segments s)
 
--- what the character after a `~` stands for: "`~1` means `/` and `~0` means `~`; `~` before anything else is malformed"
+-- what the character after a `~` stands for: `~1` means `/`, `~0` means `~`, and `~` before anything else is malformed: SPECIFICATION 5.2
 unfoldable pub tilde : ℕ → Outcome ℕ
 tilde c =
     if eqb c (code "0") then ok (code "~") else
@@ -53,7 +53,7 @@ unescapeAll (t ∷ ts) = do
   us ← unescapeAll ts
   ok (u ∷ us)
 
--- "A pointer is empty or begins with `/`. After `/` come tokens, an empty token included." Otherwise 10.
+-- SPECIFICATION 5.1: a pointer is empty or begins with `/`; each `/` begins a token, which may be empty. Otherwise 10.
 unfoldable pub tokens : Text → Outcome Tokens
 tokens [] = ok []
 tokens (c ∷ s) = if eqb c (code "/") then unescapeAll (segments s) else refused malformed-pointer 0
@@ -62,7 +62,7 @@ unfoldable pub allDigits : Text → Bool
 allDigits [] = true
 allDigits (c ∷ s) = isDigit c && allDigits s
 
--- "`0`", or "a nonzero digit with any digits after it"
+-- `0`, or "a nonzero digit with any digits after it": SPECIFICATION 6.1
 unfoldable pub isIndex : Text → Bool
 isIndex [] = false
 isIndex (c ∷ []) = isDigit c
@@ -71,18 +71,18 @@ isIndex (c ∷ d ∷ s) = within (code "1") (code "9") c && (isDigit d && allDig
 unfoldable pub isDash : Text → Bool
 isDash t = sameText t (ascii "-")
 
--- the index of one of n elements: "On an array: `-` is 11; a token that is not `0`, and not a nonzero digit with any digits after it, is 12; an
--- index not below the length, however long, is 11."
+-- the index of one of n elements, SPECIFICATION 6.1: on an array `-` is 11; a token that is not `0`, and not a nonzero digit with any digits
+-- after it, is 12; an index not below the length, however long, is 11
 unfoldable pub elementBelow : ℕ → Text → Outcome ℕ
 elementBelow n t =
     if isDash t then refused location-missing 0 else
     if isIndex t then (if ltb (decimal 0 t) n then ok (decimal 0 t) else refused location-missing 0) else refused no-index 0
 
--- "On an object: the member so named, else 11."
+-- on an object: the member so named, otherwise 11
 unfoldable pub memberNamed : Text → Members → Outcome ℕ
 memberNamed name f = if has name f then ok (find name f) else refused location-missing 0
 
--- the position of the child that a token names; "on a scalar: 11"
+-- the position of the child that a token names; on a scalar 11
 unfoldable pub childAt : Text → Value.Value → Outcome ℕ
 childAt t v =
     if isArray (v .label) then elementBelow (count (v .kids)) t else
@@ -92,12 +92,12 @@ childAt t v =
 unfoldable pub child : ℕ → Value.Value → Tree Entry
 child k v = nth (named [] (leaf Label.null-literal)) k (v .kids)
 
--- Document 02, T-01: "place is the count of tokens walked before the one that failed". This is an outcome with one more token walked before it.
+-- T-01: "place is the count of tokens walked before the one that failed". This is an outcome with one more token walked before it.
 unfoldable pub farther : {A : Type 0} → Outcome A → Outcome A
 farther (ok a) = ok a
 farther (refused number walked) = refused number (suc walked)
 
--- "Token by token from the root."
+-- SPECIFICATION 6.1: "A pointer is walked token by token from the root."
 unfoldable pub walk : Tokens → Value.Value → Outcome Value.Value
 walk [] v = ok v
 walk (t ∷ ts) v = do

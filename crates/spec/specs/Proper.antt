@@ -1,4 +1,4 @@
--- Values as texts are read: RFC 8259, sections 3 to 7, at every depth, and within the limits of document 01.
+-- Values as texts are read: RFC 8259, sections 3 to 7, at every depth, and within the limits of SPECIFICATION 1.3.
 use mathlib.Core.Path.{_≡_}
 use Prim.Native.Nat.{ℕ, _≤_}
 use mathlib.Core.List.{[], _∷_}

@@ -1,5 +1,5 @@
--- Reading JSON text: RFC 8259, section 2, within the limits; document 01, "Reading JSON". The reader goes left to right and refuses at the
--- first byte that causes it: a reader's outcome is what it read with the place after it, or the refusal. On one byte the order is 3, 5, 6, 7.
+-- Reading JSON text: RFC 8259, section 2, within the limits; SPECIFICATION 3. The reader goes from left to right and refuses at the first
+-- byte that causes a refusal: a reader's outcome is what it read with the place after it, or the refusal. On one byte the order is 3, 5, 6, 7.
 -- `nodes` is the number of values that have begun before.
 use Prim.Native.Nat.{ℕ, zero, suc, _+_, _-_}
 use Prim.Native.Char.{code}
@@ -34,7 +34,7 @@ unfoldable pub wordAt : Bytes → Bytes → ℕ → Outcome ℕ
 wordAt [] s at = ok at
 wordAt (b ∷ word) s at = byteIn s at b b >>= λ _. wordAt word s (at + 1)
 
--- "6: the first byte of value 2,049."
+-- SPECIFICATION 3.5: "The place of a 6 is the first byte of value 2,049."
 unfoldable pub roomFor : ℕ → ℕ → Outcome ℕ
 roomFor nodes at = if ltb nodes maxNodes then ok at else refused too-many-nodes at
 
@@ -64,7 +64,7 @@ scalar s at nodes =
     if eqb b (code "t") then (roomFor nodes at >>= λ _. literalValue Label.true-literal (ascii "rue") s at) else
     if eqb b (code "f") then (roomFor nodes at >>= λ _. literalValue Label.false-literal (ascii "alse") s at) else refused not-json at
 
--- "4: the closing quote of the second name": where the members so far have the name
+-- 4, at "the closing quote of the second name", SPECIFICATION 3.4: where the members so far have the name
 unfoldable pub fresh : Text → Members → ℕ → Outcome ℕ
 fresh name so-far quote = if has name so-far then refused repeated-name quote else ok quote
 
@@ -114,7 +114,7 @@ container value object s at nodes = do
   (kids, next) ← contents value object s (nodes + 1) (at + 1)
   ok (record { label = containerLabel object; kids = kids }, next)
 
--- A value, where `left` levels are left for containers. "5: the bracket that opens level 33."
+-- A value, where `left` levels are left for containers. SPECIFICATION 3.5: "The place of a 5 is the bracket that opens level 33."
 unfoldable pub value : ℕ → Bytes → ℕ → ℕ → Outcome (Value.Value × ℕ)
 value zero s at nodes =
     if eqb (byte s at) (code "[") then refused too-deep at else

@@ -1,4 +1,4 @@
--- The numbers of the answer: document 01, "The answer", its table in its order; then 17, document 02, T-05.
+-- The numbers of the answer: SPECIFICATION 2.2, in the order of its table; then 17, SPECIFICATION 15.3, T-05.
 use Prim.Native.Nat.{ℕ}
 
 abbrev pub done : ℕ

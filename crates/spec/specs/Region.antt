@@ -1,5 +1,5 @@
--- Two makers' patches in regions of their own: document 01, "The region statement in detail", sentence by sentence. The last two records
--- are the statement, and Demand3 says it of every situation.
+-- Two makers' patches in regions of their own: SPECIFICATION 9, sentence by sentence. The last two records are the statement, and
+-- Demand3 says it of every situation.
 use mathlib.Core.Path.{_≡_}
 use Prim.Native.Nat.{ℕ, _+_, _≤_}
 use mathlib.Core.Bool.{Bool, true, false, _&&_, _||_, not}
@@ -21,7 +21,7 @@ use Rattle.spec.specs.Patch.{Stop, stop, Run, finished, stopped, usesFro
 use Rattle.spec.specs.Answer.{Lent, answer, success, refusal, failure}
 use Rattle.spec.specs.Elements.{ElementsOf}
 
--- Regions. "A region is a pointer, whether or not the document has a value there; tokens are compared unescaped."
+-- Regions, SPECIFICATION 9.1: "A region is a pointer, whether or not the document has a value there. Tokens are compared unescaped."
 
 -- whether the second pointer begins with the tokens of the first
 unfoldable pub isPrefix : Tokens → Tokens → Bool
@@ -29,11 +29,11 @@ isPrefix [] us = true
 isPrefix (t ∷ ts) [] = false
 isPrefix (t ∷ ts) (u ∷ us) = sameText t u && isPrefix ts us
 
--- "Neither region's tokens are a prefix of the other's."
+-- "Two regions are apart if neither's tokens are a prefix of the other's."
 unfoldable pub apart : Tokens → Tokens → Bool
 apart R S = not (isPrefix R S) && not (isPrefix S R)
 
--- "A patch is strictly inside it if every `path`, and every `from` that is used, begins with its tokens and has at least one more."
+-- "A patch is strictly inside a region if every `path`, and every `from` that is used, begins with the region's tokens and has at least one more."
 unfoldable pub strictlyInside : Tokens → Operation → Bool
 strictlyInside R o = properPrefix R (o .path) && (not (usesFrom (o .kind)) || properPrefix R (o .from))
 
@@ -41,8 +41,8 @@ unfoldable pub allInside : Tokens → List Operation → Bool
 allInside R [] = true
 allInside R (o ∷ os) = strictlyInside R o && allInside R os
 
--- Texts. "A document is accepted if neither its length nor its reading is refused; a patch is well formed if neither its length, its
--- reading nor its shape is. Either patch may be empty."
+-- Texts, SPECIFICATION 9.2: "A document is accepted if neither its length nor its reading is refused. A patch is well formed if neither its
+-- length, its reading nor its shape is refused. It may be empty."
 
 pub record Accepted (text : Bytes) (document : Value.Value) : Type 0 where
   pub fits : length text ≤ maxBytes
@@ -60,8 +60,8 @@ pub data Shuffle {A : Type 0} : List A → List A → List A → Type 0 where
   left : {x : A} {xs ys zs : List A} → Shuffle xs ys zs → Shuffle (x ∷ xs) ys (x ∷ zs)
   right : {y : A} {xs ys zs : List A} → Shuffle xs ys zs → Shuffle xs (y ∷ ys) (y ∷ zs)
 
--- "A shuffle is a well-formed patch text whose elements are those of both patches, each with its own bytes, those of one patch in the
--- order they have there; blanks between elements don't matter."
+-- "A shuffle of two patches is a well-formed patch text. Its elements are those of both patches, each with its own bytes. The elements of
+-- one patch have the order they have there. Blanks between elements don't matter."
 pub record ShuffleText (first second both : Bytes) : Type 0 where
   pub firsts : List Bytes
   pub seconds : List Bytes
@@ -76,7 +76,7 @@ pub record Enough (document patch : Bytes) (lent : Lent) : Type 0 where
   pub work : answer document patch lent .number ≡ work-too-short → ⊥
   pub output : answer document patch lent .number ≡ output-too-short → ⊥
 
--- Runs. "Each operation gets the document that the one before left, by the rules above with 5 after it, but never 6."
+-- Runs, SPECIFICATION 9.3: "Each operation gets the document that the one before left, by section 6 with 5 after it, but never 6."
 
 unfoldable pub bare : Operation → Value.Value → Outcome Value.Value
 bare o v = perform o v >>= notTooDeep
@@ -137,8 +137,8 @@ firstTooLarge op (o ∷ os) v =
       | refused number place ↦ none
     ]
 
--- The statement. "For every accepted document, every two well-formed patches, each strictly inside its own region, and every shuffle of
--- them, with buffers enough":
+-- The statement, SPECIFICATION 9.4: "Take an accepted document, two well-formed patches, each strictly inside a region of its own, the two
+-- regions apart, and any shuffle of the patches, with buffers enough for the call on the shuffle. Then:"
 pub record Situation
     (D P Q Z : Bytes) (lent : Lent) (R S : Tokens) (document : Value.Value) (xs ys zs : List Operation) : Type 0 where
   pub accepted : Accepted D document
@@ -153,21 +153,21 @@ pub record Situation
 
 pub record RegionStatement {D P Q Z : Bytes} {lent : Lent} {R S : Tokens} {document : Value.Value} {xs ys zs : List Operation}
     (c : Situation D P Q Z lent R S document xs ys zs) : Type 0 where
-  -- "If both succeed alone, so does the shuffle's bare run, and its text is byte for byte that of the two joined, in either order."
+  -- "If both succeed alone, the shuffle's bare run succeeds. Its text is byte for byte that of the two joined, in either order."
   pub both-succeed : (t t' : Bytes) → SucceedsWith (bareRun xs document) t → SucceedsWith (bareRun ys document) t' →
       (text : Bytes) × SucceedsWith (bareRun zs document) text × SucceedsWith (bareRun (xs ++ ys) document) text ×
       SucceedsWith (bareRun (ys ++ xs) document) text
-  -- "Otherwise it ends at the first operation in it at which that operation's own patch ends alone, with the same number." More than that:
-  -- with the same place and pointer, too.
+  -- "Otherwise the shuffle's bare run ends at the first operation in it at which that operation's own patch ends alone, with the same number;
+  -- and with the same place and pointer."
   pub otherwise : (succeeds (bareRun xs document) && succeeds (bareRun ys document)) ≡ false →
       (s : Stop) × (firstEnd (bareRun xs document) (bareRun ys document) 1 (turns (c .shuffle .order) 1 1) ≡ some s) ×
       (bareRun zs document ≡ stopped s)
   -- "If an operation of the shuffle's bare run leaves more than 2,048 nodes, the call on the shuffle answers 6 with the op of the first
   -- such one."
   pub call-too-large : (op : ℕ) → firstTooLarge 1 zs document ≡ some op → answer D Z lent ≡ refusal too-many-nodes 0 op 0
-  -- "Otherwise it answers the bare run's number and op,
+  -- "Otherwise the call answers the bare run's number, op, place and pointer,
   pub call-refused : (s : Stop) → firstTooLarge 1 zs document ≡ none → bareRun zs document ≡ stopped s →
       answer D Z lent ≡ failure s
-  -- or answers 0 and writes the run's text."
+  -- or it answers 0 and writes the run's text."
   pub call-succeeds : (text : Bytes) → firstTooLarge 1 zs document ≡ none → SucceedsWith (bareRun zs document) text →
       answer D Z lent ≡ success text

@@ -1,4 +1,4 @@
--- The shape of a patch: document 01, "Patch shape", as relations. proofs/ShapeTheorem proves that `shape` finishes and stops exactly so.
+-- The shape of a patch: SPECIFICATION 4, as relations. proofs/ShapeTheorem proves that `shape` finishes and stops exactly so.
 use mathlib.Core.Path.{_≡_}
 use mathlib.Core.Logic.{_↔_}
 use Prim.Native.Nat.{ℕ, _+_, _≤_, _<_}
@@ -15,7 +15,7 @@ use Rattle.spec.specs.Operation.{Kind, Operation}
 use Rattle.spec.specs.Patch.{OperationMembers, Stop, finished, stopped, shape}
 use Rattle.spec.specs.Effects.{Without, node}
 
--- "`op` is one of add, remove, replace, move, copy, test"
+-- SPECIFICATION 4.2: `op` is one of add, remove, replace, move, copy, test.
 pub data Spells : Text → Kind → Type 0 where
   add : Spells (ascii "add") Kind.add
   remove : Spells (ascii "remove") Kind.remove
@@ -24,7 +24,7 @@ pub data Spells : Text → Kind → Type 0 where
   copy : Spells (ascii "copy") Kind.copy
   test : Spells (ascii "test") Kind.test
 
--- an object has a member so named; "other members are ignored, of any type"
+-- an object has a member so named; "Other members are ignored, of any type."
 pub data Has (name : Text) (v x : Value.Value) : Type 0 where
   has : (before after : Members) → v .label ≡ Label.object → v .kids ≡ before ⧺ node name x after → Without name before → Has name v x
 
@@ -32,7 +32,7 @@ pub data Has (name : Text) (v x : Value.Value) : Type 0 where
 pub data HasString (name : Text) (v : Value.Value) (cs : Text) : Type 0 where
   has-string : {x : Value.Value} → Has name v x → x .label ≡ Label.string cs → HasString name v cs
 
--- "add, replace and test have `value`"; where it is not used, null stands for it
+-- add, replace and test have `value`; where it is not used, null stands for it
 pub data ValueOf (v : Value.Value) : Kind → Value.Value → Type 0 where
   add : {x : Value.Value} → Has (ascii "value") v x → ValueOf v Kind.add x
   replace : {x : Value.Value} → Has (ascii "value") v x → ValueOf v Kind.replace x
@@ -41,7 +41,7 @@ pub data ValueOf (v : Value.Value) : Kind → Value.Value → Type 0 where
   move : ValueOf v Kind.move (leaf Label.null-literal)
   copy : ValueOf v Kind.copy (leaf Label.null-literal)
 
--- "move and copy have `from`, a string"; where it is not used, the empty text stands for it
+-- move and copy have `from`, a string; where it is not used, the empty text stands for it
 pub data FromOf (v : Value.Value) : Kind → Text → Type 0 where
   move : {cs : Text} → HasString (ascii "from") v cs → FromOf v Kind.move cs
   copy : {cs : Text} → HasString (ascii "from") v cs → FromOf v Kind.copy cs
@@ -50,7 +50,7 @@ pub data FromOf (v : Value.Value) : Kind → Text → Type 0 where
   replace : FromOf v Kind.replace []
   test : FromOf v Kind.test []
 
--- "It is an object; `op` is one of [..]; `path` is a string; [..]"
+-- SPECIFICATION 4.2: an object, with `op`, a `path` that is a string, and what the operation uses.
 pub record HasMembers (v : Value.Value) (m : OperationMembers) : Type 0 where
   pub object : v .label ≡ Label.object
   pub op : Text
@@ -70,22 +70,22 @@ pub record ProperPrefix (ts us : Tokens) : Type 0 where
 pub record IsOperation (v : Value.Value) (o : Operation) : Type 0 where
   pub members : OperationMembers
   pub has-members : HasMembers v members
-  -- "then `path`, then `from` where used, is a pointer"
+  -- SPECIFICATION 4.3: `path` is a pointer, and `from` where used
   pub path : tokens (members .path) ≡ ok (o .path)
   pub from : tokens (members .from) ≡ ok (o .from)
-  -- "then, for move, the tokens of `from` are not a proper prefix of those of `path`"
+  -- SPECIFICATION 4.4: "for `move`, the tokens of `from` are not a proper prefix of the tokens of `path`"
   pub not-into : members .kind ≡ Kind.move → ProperPrefix (o .from) (o .path) → ⊥
   pub kind : members .kind ≡ o .kind
   pub value : members .value ≡ o .value
 
 -- `Wrong v n`: the element v is no operation, and n is the refusal.
 pub data Wrong (v : Value.Value) : ℕ → Type 0 where
-  -- "else 8"
+  -- not as SPECIFICATION 4.2 says: 8
   no-members : ((m : OperationMembers) → HasMembers v m → ⊥) → Wrong v wrong-shape
-  -- "else 10"
+  -- not as SPECIFICATION 4.3 says: 10
   no-path : (m : OperationMembers) → HasMembers v m → ((ts : Tokens) → tokens (m .path) ≡ ok ts → ⊥) → Wrong v malformed-pointer
   no-from : (m : OperationMembers) → HasMembers v m → ((ts : Tokens) → tokens (m .from) ≡ ok ts → ⊥) → Wrong v malformed-pointer
-  -- "else 14"
+  -- not as SPECIFICATION 4.4 says: 14
   into-child : (m : OperationMembers) (path from : Tokens) → HasMembers v m → tokens (m .path) ≡ ok path → tokens (m .from) ≡ ok from →
       m .kind ≡ Kind.move → ProperPrefix from path → Wrong v move-into-child
 
@@ -97,7 +97,7 @@ pub data AreOperations : Members → List Operation → Type 0 where
   element : {e : Entry} {kids rest : Members} {o : Operation} {os : List Operation} → IsOperation (elementOf e kids) o → AreOperations rest os →
       AreOperations (tree e kids rest) (o ∷ os)
 
--- "The top value is an array (8, op 0), of at most 256 elements (9). Then for each element in order: [..]"
+-- SPECIFICATION 4.1: an array of at most 256 elements, and each of them an operation.
 pub record IsPatch (v : Value.Value) (os : List Operation) : Type 0 where
   pub array : v .label ≡ Label.array
   pub few : count (v .kids) ≤ maxOperations

@@ -72,7 +72,7 @@ content (string t) = t
 content array = []
 content object = []
 
--- How deep containers are nested: "A scalar has depth 0, an empty array depth 1."
+-- How deep containers are nested, SPECIFICATION 1.3: "A scalar has depth 0. An empty array or object has depth 1."
 unfoldable pub levels : Label → ℕ → ℕ
 levels l below = if isContainer l then suc below else 0
 
@@ -83,7 +83,7 @@ depths (tree e kids rest) = max (levels (e .label) (depths kids)) (depths rest)
 unfoldable pub depth : Value → ℕ
 depth v = levels (v .label) (depths (v .kids))
 
--- "Each value is a node; a member name is none."
+-- SPECIFICATION 1.3: "Each value is a node [..]. A member name is no node."
 unfoldable pub nodes : Value → ℕ
 nodes v = suc (size (v .kids))
 

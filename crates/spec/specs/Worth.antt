@@ -1,4 +1,4 @@
--- What a number is worth: document 01, "Numbers by exact value: drop zeros on both ends of the digits and adjust a signed power of ten."
+-- What a number is worth: SPECIFICATION 7.3. The zeros on both ends of the digits are dropped, and a signed power of ten is adjusted.
 -- So 4400 and 4.4e3 are both the digits 44 and the power 2.
 use Prim.Native.Nat.{ℕ, _+_, _-_, _*_}
 use Prim.Native.Char.{code}
@@ -12,7 +12,7 @@ use Rattle.spec.specs.Bytes.{Bytes}
 use Rattle.spec.specs.Numbers.{isDigit, isE}
 
 -- The significand is the digits, in ASCII, with no zero at either end: the number is that integer times ten to the power, with its sign.
--- Document 02, T-04: "a zero of either sign, with any exponent, equals any other". So a zero has no digits, the power 0 and no sign.
+-- T-04: "a zero of either sign, with any exponent, equals any other". So a zero has no digits, the power 0 and no sign.
 pub record Worth : Type 0 where
   pub negative : Bool
   pub significand : Bytes

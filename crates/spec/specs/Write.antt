@@ -1,4 +1,4 @@
--- Writing a value: document 01, "Writing". "Compact, no blanks, members in order. Numbers as their source text."
+-- Writing a value: SPECIFICATION 8. The text is compact, without blanks, members in order. A number is written as its source text.
 use Prim.Native.Nat.{ℕ, _+_, _-_, _/_, _%_}
 use Prim.Native.Char.{code}
 use mathlib.Core.List.{[], _∷_, _++_}
@@ -22,8 +22,8 @@ utf8 c =
 unfoldable pub hexDigit : ℕ → ℕ
 hexDigit n = if ltb n 10 then code "0" + n else code "a" + (n - 10)
 
--- A character of a string: "`"` and `\` are escaped, the controls as \b \t \n \f \r or \u00 with two lower-case hex digits, all else raw
--- UTF-8."
+-- A character of a string, SPECIFICATION 8.3: `"` and `\` are escaped, the controls as \b \t \n \f \r or \u00 with two lower-case hex
+-- digits, all else raw UTF-8.
 unfoldable pub writeCharacter : ℕ → Bytes
 writeCharacter c =
     if eqb c (code "\"") then ascii "\\\"" else

@@ -1,5 +1,5 @@
--- What the node table means: a spelling is a text, a cell an entry of the definitions, and a forest of cells a forest of entries. Document 01:
--- "After reading, a string's bytes stand in the document or in the patch; nothing is copied until it is written."
+-- What the node table means: a spelling is a text, a cell an entry of the definitions, and a forest of cells a forest of entries.
+-- SPECIFICATION 3.7: a string's bytes stand in the document or in the patch. "Nothing is copied out of the two texts until it is written."
 use Prim.Native.Nat.{ℕ, _/_, _%_}
 use mathlib.Core.Path.{_≡_}
 use lib.Dec.{eqb}

@@ -1,5 +1,5 @@
--- Hexadecimal digits in upper case: RFC 3986, section 2.1, "should use uppercase hexadecimal digits for all percent-encodings"; document 02, T-07,
--- "upper-case hex".
+-- Hexadecimal digits in upper case: RFC 3986, section 2.1, "should use uppercase hexadecimal digits for all percent-encodings"; T-07: "upper-case
+-- hex".
 use Prim.Native.Nat.{ℕ, _+_, _-_}
 use Prim.Native.Char.{code}
 use lib.Dec.{ltb}

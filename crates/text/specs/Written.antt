@@ -1,4 +1,4 @@
--- What is written of a part, between quotation marks: document 01, "Writing".
+-- What is written of a part, between quotation marks: SPECIFICATION 8.3.
 use Prim.Native.Nat.{ℕ, _+_, _/_, _%_}
 use Prim.Native.Char.{code}
 use mathlib.Core.List.{[], _∷_}

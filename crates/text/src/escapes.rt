@@ -1,4 +1,4 @@
-// A character that is written as an escape: document 01, "Writing".
+// A character that is written as an escape: SPECIFICATION 8.3.
 ghost use mathlib.Core.Path.{_≡_};
 ghost use Prim.Native.Nat.{_<_};
 ghost use Rattle.spec.specs.Write.{hexDigit};

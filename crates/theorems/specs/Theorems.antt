@@ -102,7 +102,7 @@ pub record Meanings : Type 1 where
   pub effects : EffectsStatement
   -- the shape of a patch
   pub shape : ShapeStatement
-  -- numbers compare by exact value; zeros of either sign are equal (document 02, T-04)
+  -- numbers compare by exact value; zeros of either sign are equal (SPECIFICATION 7.4, T-04)
   pub numbers : NumbersStatement
   -- values compare by RFC 6902, section 4.6
   pub equality : EqualityStatement
@@ -113,7 +113,7 @@ pub record Meanings : Type 1 where
   -- what is written is read back
   pub round-trip : RoundTripStatement
 
--- ---- the requests of document 02, what is proved of their definitions. T-01 is part of `effects` above, and T-04 of `numbers` and `equality`.
+-- ---- the requests (docs/changes), what is proved of their definitions. T-01 is part of `effects` above, and T-04 of `numbers` and `equality`.
 pub record Requests : Type 0 where
   -- T-02: a merge patch is RFC 7396's; its fifteen examples, and two of positions
   pub merging : MergeStatement

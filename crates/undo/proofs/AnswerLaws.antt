@@ -33,7 +33,7 @@ pub undo-as : {a b : Spec.UndoAnswer} {before after : Outputs} {r : UndoAnswer} 
 undo-as {before = before} {after} {r} e h = subst (λ a. UndoAnswered a before after r) (sym e) h
 
 -- ---- a refusal leaves both outputs as they were
--- "Refusals: those of the patch first"
+-- T-09: "Refusals: those of the patch first"
 pub patch-refused : {s : Plain.Answer} {out : Outputs} {a : Answer} {r : UndoAnswer} (room : ℕ) (u : Value.Value) → WithoutIs a r
     → Answered s (out .document) (out .document) a → (n : ℕ) → a .number ≡ n → eqb n 0 ≡ false → UndoAnswered (afterPatch room s u) out out r
 unfolding afterPatch

@@ -58,7 +58,7 @@ module _ (D P : Bytes) (lent : UndoLent) where
       go true e = rw e
       go false e = refl
 
--- ---- "After a 1, no buffer has changed."
+-- ---- SPECIFICATION 2.4: after a 1, no buffer has changed.
 module _ {T : Texts} {m : UndoMemory} {a : Answer} {r : UndoAnswer} (is : RefusalIs work-too-short 0 0 0 a) (without : WithoutIs a r) where
   untouched : undoSuffices (undoLentOf m) ≡ false → undoAnswer (T .document) (T .patch) (undoLentOf m) ≡ undoRefusal (Plain.refusal work-too-short 0 0 0)
       → UndoIs T m m r
@@ -92,7 +92,7 @@ module _ {T : Texts} {m : UndoMemory} {a : Answer} {r : UndoAnswer} (is : Refusa
   buffer-missing h i j =
       untouched (rw (work-suffices (lentOf (m .patch)) h i, lt-leb maxBytes (length (m .work)) j)) (buffer-short (T .document) (T .patch) (undoLentOf m) j)
 
--- ---- "After any other answer the work area is all zero; where a work buffer is longer than stated, the part beyond is unchanged."
+-- ---- SPECIFICATION 2.4: after any other answer the work area is all zero; where a work buffer is longer than stated, the part beyond is unchanged.
 undo-same : (D P : Bytes) (l l' : UndoLent) → answer D P (l .patch) ≡ answer D P (l' .patch) → l .undo ≡ l' .undo → maxBytes ≤ l .work → maxBytes ≤ l' .work
     → undoAnswer D P l ≡ undoAnswer D P l'
 undo-same D P l l' e o h i =

@@ -25,7 +25,7 @@ use Rattle.undo.specs.declared.answer.UndoAnswer.{UndoAnswer}
 abbrev pub WithoutIs : Answer → UndoAnswer → Type 0
 WithoutIs a r = (r .answer ≡ a) × (r .undo ≡ 0)
 
--- the document and its undo written: "Refusals: those of the patch first; then [..] 9, 5, 6, 2 [..]; then 16"
+-- the document and its undo written. T-09: "Refusals: those of the patch first; then [..] 9, 5, 6, 2 [..]; then 16"
 abbrev pub WriteBothIs : Table → Outputs → Outputs → Bytes → Log → UndoAnswer → Type 0
 WriteBothIs w out out' work log r =
     (used : ℕ) (v : Value.Value) → Document w used v → (os : List Operation) → Noted log work os

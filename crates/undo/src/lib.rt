@@ -1,5 +1,5 @@
-// A patch applied, and the patch that takes it back written beside the document: document 02, T-09. `apply_with_undo`
-// is the whole library; `run` and `without` serve the call that lists origins too.
+// A patch applied, and the patch that takes it back written beside the document: SPECIFICATION 16, T-09.
+// `apply_with_undo` is the whole library; `run` and `without` serve the call that lists origins too.
 //
 // What is proved: on every input the answer is that of the definition `undoAnswer` of crate `reversal`. Each output
 // afterwards begins with its text and is otherwise unchanged. The work area and the buffer are all zero for their

@@ -31,7 +31,7 @@ ghost use Rattle.table.specs.Meaning.{partOf};
 ghost use Rattle.undo.specs.Mend.{NoteRemovedIs, NoteReplacedIs, MendIs, MendBelowIs, MendChildIs, MendElementIs};
 ghost use Rattle.undo.specs.Mend.{MendMemberIs};
 
-// "A removed one is added": the value at `path` as it stands.
+// T-09: "a removed one is added": the value at `path` as it stands.
 pub fn note_removed<'a>(
     texts: Texts<'a>,
     nodes: &[Node],
@@ -47,7 +47,7 @@ pub fn note_removed<'a>(
     note(texts, nodes, log, Action::Add(row), Target::At(path), work)
 }
 
-// "A value that replaced another is replaced by the old one": the value at `path` as it stands.
+// T-09: "a value that replaced another is replaced by the old one": the value at `path` as it stands.
 pub fn note_replaced<'a>(
     texts: Texts<'a>,
     nodes: &[Node],
@@ -82,7 +82,7 @@ fn is_dash(token: &[u8]) -> bool
     }
 }
 
-// "A value inserted in an array replaces nothing": it is removed, "an array's `-` as its index".
+// T-09: "A value inserted in an array replaces nothing": it is removed, "an array's `-` as its index".
 fn mend_element<'a>(
     texts: Texts<'a>,
     nodes: &[Node],

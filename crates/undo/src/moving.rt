@@ -1,5 +1,6 @@
-// A move, with its undo noted: "A move first mends `path` in that way, then adds the moved value at `from`; but where
-// the value it replaced at `path` had held `from`, only `path` is mended, with that value as it stood before the move."
+// A move, with its undo noted. T-09: "A move first mends `path` in that way, then adds the moved value at `from`; but
+// where the value it replaced at `path` had held `from`, only `path` is mended, with that value as it stood before the
+// move."
 use crate::cuts::last_slash;
 use crate::cuts::shortened;
 use crate::mending::mend;
@@ -168,7 +169,7 @@ fn move_below<'a>(
     )
 }
 
-// The move in a row of the patch. "Nor does a move of root to root" give an operation.
+// The move in a row of the patch. A move of root to root gives no operation.
 pub fn move_step<'a>(
     texts: Texts<'a>,
     nodes: &mut [Node],

@@ -1,4 +1,4 @@
-// The stages of the call, in the order of document 02, T-09: those of the plain call, then the undo's.
+// The stages of the call, in the order of SPECIFICATION 16.4: those of the plain call, then the undo's.
 use crate::answer::UndoAnswer;
 use crate::answer::without;
 use crate::runs::run;

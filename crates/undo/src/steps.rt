@@ -17,8 +17,8 @@ use undo_log::log::Log;
 ghost use Rattle.tape.specs.Lent.{before};
 ghost use Rattle.undo.specs.Step.{NoteBeforeIs, StepIs};
 
-// "Test gives nothing; a value newly put in is removed; a value that replaced another is replaced by the old one; a
-// removed one is added." A move is noted by itself.
+// T-09: "test gives nothing [..]; a value newly put in is removed; a value that replaced another is replaced by the old
+// one; a removed one is added." A move is noted by itself.
 fn note_before<'a>(
     texts: Texts<'a>,
     nodes: &[Node],

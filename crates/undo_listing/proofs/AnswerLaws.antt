@@ -35,7 +35,7 @@ use Rattle.undo_listing.specs.Call.{Outputs, UndoListedIs}
 pub listed-as : {a b : Listed PlainUndo.UndoAnswer} {o o' : Outputs} {r : UndoAnswer} → a ≡ b → UndoListedIs b o o' r → UndoListedIs a o o' r
 listed-as {o = o} {o'} {r} e h = subst (λ a. UndoListedIs a o o' r) (sym e) h
 
--- ---- "Refusals: those of the patch first": nothing is listed then
+-- ---- T-09: "Refusals: those of the patch first": nothing is listed then
 after-unlisted : (room : ℕ) (a : Spec.Answer) (u : Plain.Value) → afterPatch room (unlisted a) u ≡ unlisted (PlainUndo.afterPatch room a u)
 unfolding afterPatch beside
 after-unlisted room a u = go (eqb (PlainUndo.afterPatch room a u .answer .number) done)

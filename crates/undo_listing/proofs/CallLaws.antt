@@ -33,7 +33,7 @@ use Rattle.undo_listing.specs.Call.{UndoListMemory, lendingOf, UndoListi
 use Rattle.undo_listing.specs.Stages.{CheckedIs}
 use Rattle.undo_listing.proofs.AnswerLaws.{listed-as, buffer-enough}
 
--- ---- "After a 1, no buffer has changed."
+-- ---- SPECIFICATION 2.4: after a 1, no buffer has changed.
 abbrev short-answer : Listed PlainUndo.UndoAnswer
 short-answer = unlisted (undoRefusal (Spec.refusal work-too-short 0 0 0))
 
@@ -92,7 +92,7 @@ module _ {T : Texts} {m : UndoListMemory} {a : Answer} {r : UndoAnswer} (is : Re
       untouched (rw (work-suffices (lentOf (m .call .patch)) h i, lt-leb maxBytes (length (m .call .work)) j))
       (buffer-short (T .document) (T .patch) (lendingOf m) j)
 
--- ---- "After any other answer the work area is all zero; where a work buffer is longer than stated, the part beyond is unchanged."
+-- ---- SPECIFICATION 2.4: after any other answer the work area is all zero; where a work buffer is longer than stated, the part beyond is unchanged.
 undo-same : (D P : Bytes) (l l' : Lending UndoLent) → workSuffices (l .call .patch) ≡ workSuffices (l' .call .patch)
     → l .call .patch .output ≡ l' .call .patch .output → l .call .undo ≡ l' .call .undo → l .list ≡ l' .list → maxBytes ≤ l .call .work
     → maxBytes ≤ l' .call .work → undoAnswer D P l ≡ undoAnswer D P l'

@@ -75,7 +75,7 @@ outputsOf m = record { texts = Undo.outputsOf (m .call); list = m .list }
 abbrev pub lendingOf : UndoListMemory → Lending UndoLent
 lendingOf m = record { call = undoLentOf (m .call); list = length (m .list) }
 
--- ---- the answer, the two outputs and the list: "in a lent list; its rest stays, and all of it on a refusal"
+-- ---- the answer, the two outputs and the list. T-11: "in a lent list; its rest stays, and all of it on a refusal"
 pub record UndoListedIs (a : Listed Spec.UndoAnswer) (o o' : Outputs) (r : UndoAnswer) : Type 0 where
   pub answered : UndoAnswered (a .answer) (o .texts) (o' .texts) r
   pub list : o' .list ≡ a .origins ++ drop (length (a .origins)) (o .list)

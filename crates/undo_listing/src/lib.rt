@@ -1,5 +1,5 @@
 // A patch applied, the patch that takes it back written beside the document, and the origin of each value listed:
-// document 02, T-09 and T-11. `apply_with_undo_listing` is the whole library.
+// SPECIFICATION 16 and 19, T-09 and T-11. `apply_with_undo_listing` is the whole library.
 //
 // What is proved: on every input the answer and the list are those of the definition `undoAnswer` of crate `origin`.
 // The two outputs and the list afterwards begin with what is written and are otherwise unchanged. What holds of the

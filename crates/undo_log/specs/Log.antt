@@ -77,7 +77,7 @@ abbrev pub NoteIs : Table → Log → Action → Target → Bytes → Bytes → 
 NoteIs w log action target before after r =
     (os : List Operation) (o : Operation) → Noted log before os → Undoes w target action o → Noted r after (o ∷ os)
 
--- "for an undo that could not be read back, 9, 5, 6, 2": the number, and 0 for one that could
+-- T-09: "for an undo that could not be read back, 9, 5, 6, 2": the number, and 0 for one that could
 unfoldable pub undoNumber : Value.Value → ℕ
 undoNumber u =
     if leb (count (u .kids)) maxOperations then

@@ -1,5 +1,5 @@
-// The log of an undo: document 02, T-09. While a patch runs, each operation's undo is laid down from the end of a
-// buffer towards its front, so that the last operation's stands first. Counts go on where the buffer is full.
+// The log of an undo: SPECIFICATION 16, T-09. While a patch runs, each operation's undo is laid down from the end of
+// a buffer towards its front, so that the last operation's stands first. Counts go on where the buffer is full.
 //
 // What is proved: where the log is that of some operations (`Noted` of specs/Log), it is that of one more after
 // `note`, and what it says in the end is true of the undo's value: whether it could be read back, and its text.

@@ -1,5 +1,5 @@
--- What the node table means with the origins that its nodes bear: document 02, T-11, "Every node shall carry its origin". With origins forgotten, this is
--- `meant` of crate table.
+-- What the node table means with the origins that its nodes bear: SPECIFICATION 19.1. T-11: "Every node shall carry its origin". With origins forgotten,
+-- this is `meant` of crate table.
 use Rattle.spec.specs.Forest.{Forest}
 use Rattle.tape.specs.declared.fields.Cell.{Cell}
 use Rattle.tape.specs.Map.{mapForest}

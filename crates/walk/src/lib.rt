@@ -1,4 +1,4 @@
-// From a value to the one that a pointer names: document 01, "Walking and the six operations".
+// From a value to the one that a pointer names: SPECIFICATION 6.1.
 
 pub mod names; // a pointer's token as a name
 pub mod steps; // from a value to its child by a token

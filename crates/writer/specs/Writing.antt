@@ -1,4 +1,4 @@
--- What writing a value comes to: document 01, "The text is laid down in the lent output, one value after another."
+-- What writing a value comes to: SPECIFICATION 8.4. The text is laid down in the lent output, one value after another.
 use Prim.Native.Nat.{ℕ, _+_, _≤_, _<_, min}
 use mathlib.Core.Path.{_≡_}
 use mathlib.Core.Bool.{Bool, true, false}

@@ -1,4 +1,4 @@
-// A tree of the node table written as text: document 01, "Writing". `fits` says whether an output has room for the
+// A tree of the node table written as text: SPECIFICATION 8. `fits` says whether an output has room for the
 // text before a byte of it is written. `write` lays the text down in the output, one value after another. It calls
 // itself on nested containers, and the levels fall; their scalars are written in the loop.
 //
