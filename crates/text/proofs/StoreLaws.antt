@@ -38,7 +38,7 @@ sets-twice l i u h =
     let long : i + length u ≤ length m = omega (arith, length-sets l i u) in
     let before : take i m ≡ take i l = ap (take i) (is ∙ append-assoc (take i l) u rest) ∙ take-at (take i l) (u ++ rest) i front in
     let behind : drop (i + length u) m ≡ rest =
-        ap (drop (i + length u)) is ∙ drop-at (take i l ++ u) rest (i + length u) (length-append (take i l) u ∙ ap (λ n. n + length u) front) in
+    ap (drop (i + length u)) is ∙ drop-at (take i l ++ u) rest (i + length u) (length-append (take i l) u ∙ ap (λ n. n + length u) front) in
     sets-eq u m i long ∙ ap (λ p. p ++ u ++ drop (i + length u) m) before ∙ ap (λ r. take i l ++ u ++ r) behind ∙ sym is
 
 -- two runs of stores that overlap: the first bytes, then the last
