@@ -18,7 +18,8 @@ fn copy(s: &[u8], from: usize, count: usize, out: &mut [u8], to: usize)
 
 // All of `s`, by its first `count` bytes and its last `count`. Where these overlap, a byte is copied twice.
 fn copy_ends(s: &[u8], count: usize, out: &mut [u8])
-    requires { ⌜ (count ≤ length (now s)) × (length (now s) ≤ count + count) × (1 + length (now s) ≤ length (now out)) ⌝ }
+    requires { ⌜ (count ≤ length (now s)) × (length (now s) ≤ count + count) ⌝ }
+    requires { ⌜ 1 + length (now s) ≤ length (now out) ⌝ }
     ensures { λ _. ⌜ now (out .exit) ≡ sets (now (out .entry)) 1 (now (s .entry)) ⌝ }
 {
     let rest = s.len() - count;
