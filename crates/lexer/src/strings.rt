@@ -36,18 +36,15 @@ pub enum Quoted {
 
 // Whether a byte is a whole character of its string, as most bytes of most strings are. Asking this first keeps a loop
 // over them quick. These are the bytes of the class of other ASCII (`ItselfByClass`, specs/ByClass). They are found by
-// their bounds, since the table of classes would be laid out on the stack for each of them.
+// their bounds, since the table of classes would be laid out on the stack for each of them. Each test has the same
+// outcome for all of these bytes, so a processor predicts it in every text.
 pub fn stands_for_itself(b: u8) -> bool
     ensures { λ r. ⌜ r ≡ standsForItself b ⌝ }
 {
-    // the lower-case letters first
-    if b'\\' < b {
-        if 0x7F < b {
-            return false;
-        }
-        return true;
-    }
     if b < 0x20 {
+        return false;
+    }
+    if 0x7F < b {
         return false;
     }
     if b == b'"' {

@@ -6,8 +6,8 @@ use native.Mathlib.Omega.{arith}
 use native.Mathlib.Nat.{add-zero, zero-add}
 use native.Mathlib.Decide.{decLt}
 use native.Mathlib.Numerals.{add-one}
-use lib.ListN.{length, take, drop, set, getD, length-append, take-append-drop}
-use lib.Seq.{sets, sets-eq, length-sets, set-out, take-suc, take-all, length-take-le}
+use lib.ListN.{length, take, drop, set, getD, length-append, length-drop, take-append-drop}
+use lib.Seq.{sets, sets-eq, length-sets, set-out, take-suc, take-all, take-add, take-at, drop-at, length-take-le}
 use Rattle.spec.specs.Bytes.{Bytes}
 use Rattle.spec.specs.Write.{writeCharacter, writeCharacters}
 use Rattle.text.specs.Decode.{textFrom, textOf}
@@ -27,6 +27,46 @@ stores-on l i u v {m} e f h = f ∙ ap (λ k. sets m k v) h ∙ ap (λ m. sets m
 pub sets-out : (l : Bytes) (i : ℕ) (vs : Bytes) → length l ≤ i → sets l i vs ≡ l
 sets-out l i [] h = refl
 sets-out l i (a ∷ vs) h = ap (λ m. sets m (suc i) vs) (set-out l i a h) ∙ sets-out l (suc i) vs (omega arith)
+
+-- the same bytes stored again at the same place
+sets-twice : (l : Bytes) (i : ℕ) (u : Bytes) → i + length u ≤ length l → sets (sets l i u) i u ≡ sets l i u
+sets-twice l i u h =
+    let m : Bytes = sets l i u in
+    let rest : Bytes = drop (i + length u) l in
+    let is : m ≡ take i l ++ u ++ rest = sets-eq u l i h in
+    let front : length (take i l) ≡ i = length-take-le i l (omega arith) in
+    let long : i + length u ≤ length m = omega (arith, length-sets l i u) in
+    let before : take i m ≡ take i l = ap (take i) (is ∙ append-assoc (take i l) u rest) ∙ take-at (take i l) (u ++ rest) i front in
+    let behind : drop (i + length u) m ≡ rest =
+    ap (drop (i + length u)) is ∙ drop-at (take i l ++ u) rest (i + length u) (length-append (take i l) u ∙ ap (λ n. n + length u) front) in
+    sets-eq u m i long ∙ ap (λ p. p ++ u ++ drop (i + length u) m) before ∙ ap (λ r. take i l ++ u ++ r) behind ∙ sym is
+
+-- two runs of stores that overlap: the first bytes, then the last
+pub sets-overlap : (l : Bytes) (i : ℕ) (s : Bytes) (count rest : ℕ) → rest ≤ count → count ≤ length s → i + length s ≤ length l
+    → sets (sets l i (take count s)) (i + rest) (drop rest s) ≡ sets l i s
+sets-overlap l i s count rest h k room =
+    let p : Bytes = take rest s in
+    let q : Bytes = drop rest s in
+    let q₁ : Bytes = take (count - rest) q in
+    let q₂ : Bytes = drop (count - rest) q in
+    let m : Bytes = sets l i p in
+    let short : length p ≡ rest = length-take-le rest s (omega arith) in
+    let inner : length q₁ ≡ count - rest = length-take-le (count - rest) q (omega (arith, length-drop rest s)) in
+    let sum : rest + (count - rest) ≡ count = omega arith in
+    let first : take count s ≡ p ++ q₁ = ap (λ n. take n s) (sym sum) ∙ take-add rest (count - rest) s in
+    let place : (u : Bytes) (v : Bytes) → sets u (i + length p) v ≡ sets u (i + rest) v = λ u v. ap (λ n. sets u (i + n) v) short in
+    let halves : q₁ ++ q₂ ≡ q = take-append-drop (count - rest) q in
+    let once : sets l i (take count s) ≡ sets m (i + rest) q₁ = ap (sets l i) first ∙ sets-append l i p q₁ ∙ place m q₁ in
+    let roomy : i + rest + length q₁ ≤ length m = omega (arith, length-sets l i p, inner) in
+    ap (λ u. sets u (i + rest) q) once
+    ∙ ap (sets (sets m (i + rest) q₁) (i + rest)) (sym halves)
+    ∙ sets-append (sets m (i + rest) q₁) (i + rest) q₁ q₂
+    ∙ ap (λ u. sets u (i + rest + length q₁) q₂) (sets-twice m (i + rest) q₁ roomy)
+    ∙ sym (sets-append m (i + rest) q₁ q₂)
+    ∙ ap (sets m (i + rest)) halves
+    ∙ sym (place m q)
+    ∙ sym (sets-append l i p q)
+    ∙ ap (sets l i) (take-append-drop rest s)
 
 -- where there is room, the bytes stand at the front, and the output behind them is as it was
 pub laid-down : (vs out : Bytes) → length vs ≤ length out → sets out 0 vs ≡ vs ++ drop (length vs) out

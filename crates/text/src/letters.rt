@@ -8,7 +8,6 @@ ghost use Rattle.text.specs.Letters.{afterTilde, tokenLetter, letterAt, 
 use lexer::Character;
 use lexer::Cursor;
 use lexer::peek;
-use lexer::stands_for_itself;
 
 // The character of a string at a place of its part; refused where the string ends.
 pub fn string_letter(s: &[u8], at: usize) -> Character
@@ -52,14 +51,16 @@ fn token_letter(s: &[u8], at: usize) -> Character
 pub fn is_letter(b: u8) -> bool
     ensures { λ r. ⌜ r ≡ isLetter b ⌝ }
 {
-    // the small letters first
-    if b'\\' < b {
-        if b < b'~' {
-            return true;
-        }
+    if b < 0x20 {
         return false;
     }
-    stands_for_itself(b)
+    if b'~' <= b {
+        return false;
+    }
+    if b == b'"' {
+        return false;
+    }
+    b != b'\\'
 }
 
 // Whether a form says any text but the empty one.

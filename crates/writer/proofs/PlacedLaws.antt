@@ -9,7 +9,7 @@ use lib.ListN.{length, take, drop, set, length-append, length-drop, take-append-
 use lib.Seq.{sets, length-sets, take-set-le, drop-set-add, take-all}
 use borrow.Rule.Slice.PartMut.{putMid, same-len-mid}
 use Rattle.spec.specs.Bytes.{Bytes}
-use Rattle.text.specs.Written.{written, Stored, LaidDown}
+use Rattle.text.specs.Written.{written, LaidDown}
 use Rattle.text.proofs.StoreLaws.{sets-out, stores-on, laid-down}
 use Rattle.writer.specs.Writing.{Placed, PlacedSome}
 
@@ -128,11 +128,11 @@ placed-whole {bytes} {before} p h = (omega (arith, p .next-is), p .after-is ∙ 
 
 -- bytes between two others, where there is room for all of them; n is how many they are
 pub placed-quoted : (q : ℕ) (s : Bytes) {n : ℕ} {before between after : Bytes} → length s + 2 ≤ length before → n ≡ length s
-    → Stored s 1 (set before 0 q) between (1 + length s) → after ≡ set between (1 + n) q → Placed ((q ∷ []) ++ s ++ (q ∷ [])) 0 before after (n + 2)
+    → between ≡ sets (set before 0 q) 1 s → after ≡ set between (1 + n) q → Placed ((q ∷ []) ++ s ++ (q ∷ [])) 0 before after (n + 2)
 placed-quoted q s {n} {before} {between} h e p f =
     record {
       next-is = rw (length-append s (q ∷ [])) (omega arith);
-      after-is = f ∙ ap (λ k. set between (1 + k) q) e ∙ stores-on (set before 0 q) 1 s (q ∷ []) (p .after-is) refl refl;
+      after-is = f ∙ ap (λ k. set between (1 + k) q) e ∙ stores-on (set before 0 q) 1 s (q ∷ []) p refl refl;
     }
 
 -- ---- some bytes

@@ -15,6 +15,7 @@ mod room; // whether there is room for a value's text
 mod lengths; // how long the pieces of a text are
 mod pieces; // the pieces of a text laid down
 mod output; // bytes laid down, as many as there is room for
+mod copies; // bytes copied into the output
 
 pub use output::put_byte;
 pub use output::put_part;

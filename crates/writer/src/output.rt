@@ -1,5 +1,6 @@
 // Bytes laid down at the front of `out`, which is the rest of the output: as many as there is room for. The answer is
 // how many.
+use crate::copies::copy_behind_quote;
 use tape::fields::long;
 use text::write_text;
 ghost use mathlib.Core.Path.{_≡_};
@@ -35,17 +36,14 @@ pub fn put_part(form: u16, s: &[u8], out: &mut [u8]) -> usize
     least(count, out.len())
 }
 
-// Bytes between quotation marks, where there is room for all of it: one loop instead of three calls.
+// Bytes between quotation marks, where there is room for all of it.
 pub fn put_quoted(s: &[u8], out: &mut [u8]) -> usize
     requires { ⌜ length (now s) + 2 ≤ length (now out) ⌝ }
     ensures { λ r. ⌜ Placed ((0x22 ∷ []) ++ now (s .entry) ++ (0x22 ∷ [])) 0 (now (out .entry)) (now (out .exit)) r ⌝ }
 {
     out[0] = b'"';
-    let mut i = 0;
-    while i < s.len() {
-        out[1 + i] = s[i];
-        i += 1;
-    }
-    out[1 + i] = b'"';
-    i + 2
+    copy_behind_quote(s, out);
+    let n = s.len();
+    out[1 + n] = b'"';
+    n + 2
 }

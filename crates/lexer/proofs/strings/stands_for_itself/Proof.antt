@@ -10,10 +10,7 @@ unfolding standsForItself
 stands-for-itself-spec =
     tie.close
     (tie.spec
+    (λ c. rw (below-within 0x20 0x7F _ (c .if1 .taken)))
     (λ c. rw (above-within 0x20 0x7F _ (c .if2 .taken)))
-    (λ c.
-    let b = c .before .before .args .b in
-    rw (between-within 0x20 0x7F b (omega arith) (c .if2 .left), ne-eqb b 0x22 (λ e. omega arith), ne-eqb b 0x5C (λ e. omega arith)))
-    (λ c. rw (below-within 0x20 0x7F _ (c .if3 .taken)))
-    (λ c. rw (between-within 0x20 0x7F _ (c .before .if3 .left) (omega arith), eq-eqb _ _ (c .if4 .taken)))
-    (λ c. rw (between-within 0x20 0x7F _ (c .before .if3 .left) (omega arith), ne-eqb _ _ (c .if4 .left))))
+    (λ c. rw (between-within 0x20 0x7F _ (c .before .before .if1 .left) (c .before .if2 .left), eq-eqb _ _ (c .if3 .taken)))
+    (λ c. rw (between-within 0x20 0x7F _ (c .before .before .if1 .left) (c .before .if2 .left), ne-eqb _ _ (c .if3 .left))))

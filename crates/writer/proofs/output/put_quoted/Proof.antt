@@ -1,55 +1,41 @@
 -- `put_quoted` meets its contract: three runs of stores, one behind another.
-use Prim.Native.Nat.{_+_, _-_, _≤_}
+use Prim.Native.Nat.{_+_, _≤_}
 use native.Mathlib.Omega.{arith}
 use borrow.Author.Needs.{needs}
-use mathlib.Core.Path.{_≡_, refl, _∙_}
-use lib.ListN.{length, length-set}
-use Rattle.text.proofs.StoreLaws.{Copied, copied-none, copied-length, copied-more, copied-all}
+use mathlib.Core.Path.{_≡_, refl, ap, _∙_}
+use lib.ListN.{length, set, length-set}
+use lib.Seq.{sets, length-sets}
+use Rattle.spec.specs.Bytes.{Bytes}
 use Rattle.writer.proofs.PlacedLaws.{placed-quoted}
 use Rattle.writer.proofs.output.put_quoted.Statement.{statement}
 use Rattle.writer.proofs.output.put_quoted.Tie as tie
 
-abbrev Inv-loop : tie.InvT-loop
-Inv-loop s out₀ i₀ out i = (i ≤ length s) × (length s + 2 ≤ length out₀) × Copied s out₀ 1 i out
-
-abbrev μ-loop : tie.MeasureT-loop
-μ-loop s out₀ i₀ out i = length s - i
+-- the output is as long as it was when all of the text is copied
+copied-long : (out s : Bytes) {m : Bytes} → m ≡ sets (set out 0 0x22) 1 s → length m ≡ length out
+copied-long out s e = ap length e ∙ length-sets (set out 0 0x22) 1 s ∙ length-set out 0 0x22
 
 pub put-quoted-spec : {M : Type 1} → statement M
 put-quoted-spec =
     tie.close
     (tie.spec
-    Inv-loop
-    μ-loop
     -- slice-write-out
     (λ c. omega arith)
-    -- loop-holds
-    (λ c. (omega arith, simp length-set (omega arith), copied-none))
-    -- shared-slice-read-out
-    (λ c. search needs)
+    -- copy-behind-quote-requires
+    (λ c κs. omega (arith, length-set (c .before .before .before .args .out .now) 0 0x22))
     -- add-out
     (λ c. search needs)
     -- slice-write-out-2
-    (λ c. omega (arith, copied-length (c .before .before .loop .inv .2)))
-    -- add-i
-    (λ c. search needs)
-    -- loop-less
-    (λ c. search needs)
-    -- loop-again
-    (λ c. (omega arith, omega arith, copied-more (c .before .before .loop .inv .2) (omega arith)))
-    -- add-out-2
-    (λ c. search needs)
-    -- slice-write-out-3
-    (λ c. omega (arith, copied-length (c .before .loop .inv .2)))
+    (λ c.
+    let a = c .before .before .before .before .before .before .args in
+    omega (arith, copied-long (a .out .now) (a .s .now) (c .before .before .copy-behind-quote .ensures)))
     -- add-result
     (λ c. search needs)
     -- same-length
     (λ c.
-    length-set (c .before .loop .out) (1 + c .before .loop .i) 0x22 ∙ copied-length (c .before .loop .inv .2)
-    ∙ length-set (c .before .before .args .out .now) 0 0x22)
+    let a = c .before .before .before .before .before .before .args in
+    length-set (c .before .before .copy-behind-quote .last .1 .0) (1 + length (a .s .now)) 0x22
+    ∙ copied-long (a .out .now) (a .s .now) (c .before .before .copy-behind-quote .ensures))
     -- returns
     (λ c.
-    let turns = c .before .loop .inv in
-    let long : length (c .before .before .args .s .now) + 2 ≤ length (c .before .before .args .out .now) = omega arith in
-    let all : c .before .loop .i ≡ length (c .before .before .args .s .now) = omega arith in
-    placed-quoted 0x22 _ long all (copied-all (turns .2) (simp length-set (omega arith))) refl))
+    let a = c .before .before .before .before .before .before .args in
+    placed-quoted 0x22 (a .s .now) (omega arith) refl (c .before .before .copy-behind-quote .ensures) refl))
