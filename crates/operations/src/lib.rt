@@ -10,7 +10,6 @@
 
 mod answers; // what an operation answers
 mod stamps; // nodes that get another origin
-mod shift; // a value moved within one array
 mod transfers; // a value moved and copied
 pub mod perform; // one operation of the patch
 mod runs; // the operations one after another
