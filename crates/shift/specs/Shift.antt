@@ -85,7 +85,8 @@ pub data Paired (w : Table) (from path : Spelling) : ℕ → ℕ → ℕ → Pai
   paired-apart : {i j row : ℕ} → Paired w from path i j row Apart
 
 -- ---- a value moved, if both pointers name elements of one array; otherwise nothing changes
--- The rows of the patch are as they were. Where the table holds a document, it is then what the definitions' move makes of it, in as many rows.
+-- The patch's rows are as they were. Where the table holds a document, it is then what the definitions' move makes of it, in as many rows.
+-- Whether it is done is left free. If it is done, so are all other rows, and the document's too where the table holds none.
 pub record MovedWithin (w : Table) (nodes' : List Row) (used : ℕ) (from path : Spelling) : Type 0 where
   pub patch : SamePatch (w .nodes) nodes'
   pub bearing : (v : Value.Value) → Bearing w used v → Short (w .texts) → (g : Text) (gs : Tokens) → PathIs (w .texts) from (g ∷ gs)

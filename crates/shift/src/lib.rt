@@ -4,9 +4,9 @@
 // the definitions' move makes of it, in as many rows, and the limits are kept. Where it says no, nothing has changed.
 // Whatever the table holds, the rows of the patch are as they were.
 //
-// What a caller should know: `shift_within` is total. A no is no refusal: the move may be possible in another way, and
-// some moves within one array are answered so. Where it says yes and the table held no document, the document's rows
-// are free. So are the scratch rows after every yes.
+// What a caller should know: `shift_within` is total. A no is no refusal: the move may be possible in another way. Not
+// every move within one array is done; that of an element to `-` is not. After a yes the scratch rows are free, and so
+// are the document's where the table held none.
 
 mod within; // rows that change places, two pointers that name elements of one array, and the move
 
