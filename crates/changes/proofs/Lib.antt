@@ -1,6 +1,7 @@
 pub mod LimitLaws
 pub mod CutLaws
 pub mod KeptLaws
+pub mod PatchLaws
 pub mod SiteLaws
 pub mod PutLaws
 pub mod BorneLaws

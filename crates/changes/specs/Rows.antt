@@ -2,7 +2,7 @@
 use Prim.Native.Nat.{ℕ, _+_, _-_, _%_, _≤_, _<_}
 use mathlib.Core.Path.{_≡_}
 use mathlib.Core.List.{List, []}
-use lib.ListN.{getD, set, drop}
+use lib.ListN.{getD, set, take, drop}
 use Rattle.spec.specs.Limits.{maxDepth, maxNodes}
 use Rattle.tape.specs.Layout.{patchRow, values}
 use Rattle.tape.specs.Columns.{spliced, usedAfter}
@@ -15,6 +15,10 @@ use Rattle.changes.specs.declared.answers.Altered.the-variants.{Done, Re
 -- a list, and the same with other rows for the document
 pub record SameBehind (xs ys : List Row) : Type 0 where
   pub is : drop patchRow ys ≡ drop patchRow xs
+
+-- the same with other rows for the document and for scratch: those of the patch are kept
+pub record SamePatch (xs ys : List Row) : Type 0 where
+  pub is : take maxNodes (drop patchRow ys) ≡ take maxNodes (drop patchRow xs)
 
 -- A refusal changes nothing. Otherwise no row from the patch's first on changes, and the document gets no more rows than it may have.
 pub data Frame (nodes nodes' : List Row) : Altered → Type 0 where

@@ -3,11 +3,6 @@ pub mod PatchLaws
 pub mod AnswerLaws
 pub mod RemovalLaws
 pub mod AsideLaws
-pub mod ExchangeLaws
-pub mod SwapLaws
-pub mod MoveLaws
-pub mod ShiftLaws
-pub mod SiblingLaws
 pub mod TransferLaws
 pub mod ToldLaws
 pub mod BearingLaws

@@ -1,7 +1,8 @@
--- Laws of a value that is set aside and added at another location.
+-- Laws of a value that is moved within its array, or set aside and added at another location.
 use Prim.Native.Nat.{ℕ}
 use native.Mathlib.Omega.{arith}
 use mathlib.Core.Path.{_≡_, sym, ap, _∙_, subst}
+use mathlib.Core.Bool.{Bool, true, false, true≢false}
 use mathlib.Core.List.{List, [], _∷_}
 use Rattle.spec.specs.Outcome.{Outcome, _>>=_}
 use Rattle.spec.specs.Bytes.{Bytes}
@@ -32,7 +33,8 @@ use Rattle.changes.specs.declared.answers.Altered.the-variants.{Done, Refused}
 use Rattle.changes.proofs.KeptLaws.{offered-behind, frame-behind}
 use Rattle.changes.proofs.TokenLaws.{some-token}
 use Rattle.changes.proofs.DocumentLaws.{bearing-fits, the-bearing, no-bearing}
-use Rattle.operations.specs.Answers.{atPath, atFrom, performs}
+use Rattle.shift.specs.Shift.{ShiftIs, shifted, kept}
+use Rattle.operations.specs.Answers.{PerformsBy, atPath, atFrom, performs}
 use Rattle.operations.specs.Stamp.{StampAsideIs}
 use Rattle.operations.specs.Perform.{SetAsideIs, CopyIs, MoveAsideIs, MoveBelowIs, MoveIs}
 use Rattle.operations.specs.declared.answers.Performed.{Performed}
@@ -161,6 +163,28 @@ module _ {w : Table} {used : ℕ} {from path : Spelling} (s : Reached) (is : Wal
             let none = no-bearing s is b short from-is e in
             from-performs {number = number} {place = place} (λ n. bearing-lost (g ∷ gs) v n none) told (rw none);
       }
+
+-- within one array, where that is done and where not
+done-performs : {A : Type 0} {Is : ℕ → A → Type 0} {o : Outcome A} {pointer : ℕ → ℕ} {used : ℕ} → ResultsBy Is o (Done used)
+    → PerformsBy Is o pointer (Performed.Done used)
+done-performs (results e d) = performs e d
+
+pub shift-done : {w : Table} {nodes' : List Row} {used : ℕ} {from path : Spelling} {r : Bool} → r ≡ true → ShiftIs w nodes' used from path r
+    → MoveBelowIs w nodes' used from path (Performed.Done used)
+shift-done e (shifted moves) =
+    record { patch = moves .patch; bearing = λ v b short g gs from-is ts path-is. done-performs (moves .bearing v b short g gs from-is ts path-is) }
+shift-done e (kept is) = absurd (true≢false (sym e))
+
+pub shift-kept : {w : Table} {nodes' : List Row} {used : ℕ} {from path : Spelling} {r : Bool} → r ≡ false → ShiftIs w nodes' used from path r
+    → nodes' ≡ w .nodes
+shift-kept e (shifted moves) = absurd (true≢false e)
+shift-kept e (kept is) = is
+
+-- what holds of the table as it then is holds of it as it was
+pub below-kept : {w : Table} {kept-nodes nodes' : List Row} {used : ℕ} {from path : Spelling} {r : Performed} → kept-nodes ≡ w .nodes
+    → MoveBelowIs (table (w .texts) kept-nodes) nodes' used from path r → MoveBelowIs w nodes' used from path r
+below-kept {w} {nodes' = nodes'} {used} {from} {path} {r} e is =
+    subst (λ n. MoveBelowIs (table (w .texts) n) nodes' used from path r) e is
 
 -- from any location
 module _ {w : Table} {used : ℕ} {from path : Spelling} (pointer : Bytes) (pointer-is : pointer ≡ partOf (w .texts) from) (f : First) (is : FirstOf pointer f)

@@ -2,5 +2,4 @@ pub mod Stamp
 pub mod Bearing
 pub mod Answers
 pub mod Perform
-pub mod Shift
 pub mod Run

@@ -3,9 +3,8 @@
 use Prim.Native.Nat.{ℕ, _+_, _≤_, _<_}
 use mathlib.Core.Path.{_≡_}
 use mathlib.Core.List.{List, [], _∷_}
-use lib.ListN.{take, drop, getD}
+use lib.ListN.{getD}
 use Rattle.spec.specs.Outcome.{Outcome, ok, _>>=_}
-use Rattle.spec.specs.Limits.{maxNodes}
 use Rattle.spec.specs.Bytes.{Text}
 use Rattle.spec.specs.Forest.{Forest, size}
 use Rattle.spec.specs.Value as Value
@@ -35,10 +34,7 @@ use Rattle.changes.specs.declared.answers.Altered.{Altered}
 use Rattle.operations.specs.Bearing.{limitedWith, valueIn}
 use Rattle.operations.specs.Answers.{fromOrPath, Performs, PerformsBearing}
 use Rattle.operations.specs.declared.answers.Performed.{Performed}
-
--- a list of nodes, and the same with other rows for the document and for scratch: those of the patch are kept
-pub record SamePatch (xs ys : List Row) : Type 0 where
-  pub is : take maxNodes (drop patchRow ys) ≡ take maxNodes (drop patchRow xs)
+pub use Rattle.changes.specs.Rows.{SamePatch}
 
 -- ---- a value on its way
 -- the tree in a row copied to the scratch rows

@@ -10,8 +10,7 @@
 
 mod answers; // what an operation answers
 mod stamps; // nodes that get another origin
-mod shift; // a value moved within one array
-mod transfers; // a value moved and copied
+mod transfers; // a value moved and copied; crate shift moves it within one array
 pub mod perform; // one operation of the patch
 mod runs; // the operations one after another
 

@@ -2,7 +2,6 @@
 use crate::answers::Performed;
 use crate::answers::at_from;
 use crate::answers::at_path;
-use crate::shift::shift_within;
 use crate::stamps::stamp_aside;
 use changes::Altered;
 use changes::Change;
@@ -10,6 +9,7 @@ use changes::change_at;
 use changes::size;
 use pointer::First;
 use pointer::first;
+use shift::shift_within;
 use spec::refusal;
 use table::spellings::part;
 use tape::fields::Spelling;

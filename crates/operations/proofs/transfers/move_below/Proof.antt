@@ -1,8 +1,6 @@
 -- `move_below` meets its contract, by what the walk leads to.
-use native.Mathlib.Omega.{arith}
 use borrow.Author.Needs.{needs}
-use Rattle.operations.proofs.SiblingLaws.{shift-done, shift-kept, below-kept}
-use Rattle.operations.proofs.TransferLaws.{value-moved, value-lost}
+use Rattle.operations.proofs.TransferLaws.{value-moved, value-lost, shift-done, shift-kept, below-kept}
 use Rattle.operations.proofs.transfers.move_below.Statement.{statement}
 use Rattle.operations.proofs.transfers.move_below.Tie as tie
 

@@ -2,10 +2,10 @@
 use native.Mathlib.Omega.{arith}
 use mathlib.Core.Path.{refl}
 use borrow.Author.Needs.{needs}
-use Rattle.operations.specs.Shift.{turned-front, not-turned}
-use Rattle.operations.proofs.ShiftLaws.{back-is}
-use Rattle.operations.proofs.shift.turn.Statement.{statement}
-use Rattle.operations.proofs.shift.turn.Tie as tie
+use Rattle.shift.specs.Shift.{turned-front, not-turned}
+use Rattle.shift.proofs.ShiftLaws.{back-is}
+use Rattle.shift.proofs.within.turn.Statement.{statement}
+use Rattle.shift.proofs.within.turn.Tie as tie
 
 pub turn-spec : {M : Type 1} → statement M
 turn-spec =

@@ -2,10 +2,10 @@
 use native.Mathlib.Omega.{arith}
 use mathlib.Core.Path.{refl}
 use borrow.Author.Needs.{needs}
-use Rattle.operations.specs.Shift.{kept}
-use Rattle.operations.proofs.SiblingLaws.{siblings-shift}
-use Rattle.operations.proofs.shift.shift_within.Statement.{statement}
-use Rattle.operations.proofs.shift.shift_within.Tie as tie
+use Rattle.shift.specs.Shift.{kept}
+use Rattle.shift.proofs.SiblingLaws.{siblings-shift}
+use Rattle.shift.proofs.within.shift_within.Statement.{statement}
+use Rattle.shift.proofs.within.shift_within.Tie as tie
 
 pub shift-within-spec : {M : Type 1} → statement M
 shift-within-spec =

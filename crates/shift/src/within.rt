@@ -25,8 +25,8 @@ use walk::token_name;
 ghost use mathlib.Core.Path.{_≡_};
 ghost use Prim.Native.Nat.{_+_, _-_, _≤_};
 ghost use Rattle.tape.specs.Lent.{before, lent};
-ghost use Rattle.operations.specs.Shift.{exchangedBack, exchangedFront, TurnIs, ChildShiftIs};
-ghost use Rattle.operations.specs.Shift.{PairAt, Paired, ShiftIs};
+ghost use Rattle.shift.specs.Shift.{exchangedBack, exchangedFront, TurnIs, ChildShiftIs};
+ghost use Rattle.shift.specs.Shift.{PairAt, Paired, ShiftIs};
 
 // Rows change places with those behind them: `count` from `at` on, and as many as `between` says.
 fn exchange_back(nodes: &mut [Node], at: usize, count: usize, between: usize)

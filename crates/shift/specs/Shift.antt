@@ -5,6 +5,7 @@ use mathlib.Core.Bool.{Bool, true, false}
 use mathlib.Core.List.{List, [], _∷_}
 use lib.ListN.{length, getD}
 use Rattle.spec.specs.Outcome.{ok}
+use Rattle.spec.specs.Bytes.{Text}
 use Rattle.spec.specs.Pointer.{Tokens}
 use Rattle.origin.specs.Value as Value
 use Rattle.origin.specs.Operation.{moveTo}
@@ -21,16 +22,17 @@ use Rattle.pointer.specs.Tokens.{TokenAt, tokenBytes}
 use Rattle.pointer.specs.declared.answers.Token.{Token}
 use Rattle.pointer.specs.declared.answers.Token.the-variants as Token
 use Rattle.walk.specs.Bearing.{borne}
-use Rattle.walk.specs.Names.{IsToken, TokenNameIs}
+use Rattle.walk.specs.Names.{IsToken, Short, TokenNameIs}
+use Rattle.walk.specs.Path.{PathIs}
 use Rattle.walk.specs.Step.{StepIs}
 use Rattle.walk.specs.declared.steps.Child.the-variants as Child
 use Rattle.changes.specs.Site.{Site}
+use Rattle.changes.specs.Rows.{SamePatch}
 use Rattle.changes.specs.Change.{ChangeAnswers}
+use Rattle.changes.specs.Document.{Bearing, judgedBearing, ResultsBearing}
 use Rattle.changes.specs.declared.answers.Altered.the-variants as Altered
-use Rattle.operations.specs.Perform.{SamePatch, MoveBelowIs}
-use Rattle.operations.specs.declared.answers.Performed.the-variants.{Done}
-use Rattle.operations.specs.declared.shift.Pair.{Pair}
-use Rattle.operations.specs.declared.shift.Pair.the-variants.{Siblings, Apart}
+use Rattle.shift.specs.declared.within.Pair.{Pair}
+use Rattle.shift.specs.declared.within.Pair.the-variants.{Siblings, Apart}
 
 -- ---- rows that change places, by way of the scratch rows
 -- `count` from `at` on with those behind them
@@ -83,6 +85,13 @@ pub data Paired (w : Table) (from path : Spelling) : ℕ → ℕ → ℕ → Pai
   paired-apart : {i j row : ℕ} → Paired w from path i j row Apart
 
 -- ---- a value moved, if both pointers name elements of one array; otherwise nothing changes
+-- The patch's rows are as they were. Where the table holds a document, it is then what the definitions' move makes of it, in as many rows.
+-- Whether it is done is left free. If it is done, so are all other rows, and the document's too where the table holds none.
+pub record MovedWithin (w : Table) (nodes' : List Row) (used : ℕ) (from path : Spelling) : Type 0 where
+  pub patch : SamePatch (w .nodes) nodes'
+  pub bearing : (v : Value.Value) → Bearing w used v → Short (w .texts) → (g : Text) (gs : Tokens) → PathIs (w .texts) from (g ∷ gs)
+      → (ts : Tokens) → PathIs (w .texts) path ts → ResultsBearing (w .texts) nodes' (judgedBearing (moveTo (g ∷ gs) ts v)) (Altered.Done used)
+
 pub data ShiftIs (w : Table) (nodes' : List Row) (used : ℕ) (from path : Spelling) : Bool → Type 0 where
-  shifted : MoveBelowIs w nodes' used from path (Done used) → ShiftIs w nodes' used from path true
+  shifted : MovedWithin w nodes' used from path → ShiftIs w nodes' used from path true
   kept : nodes' ≡ w .nodes → ShiftIs w nodes' used from path false

@@ -1,9 +1,9 @@
 -- `last_pair` meets its contract, by which token it is.
 use borrow.Author.Needs.{needs}
-use Rattle.operations.specs.Shift.{pair-apart}
-use Rattle.operations.proofs.SiblingLaws.{last-paired}
-use Rattle.operations.proofs.shift.last_pair.Statement.{statement}
-use Rattle.operations.proofs.shift.last_pair.Tie as tie
+use Rattle.shift.specs.Shift.{pair-apart}
+use Rattle.shift.proofs.SiblingLaws.{last-paired}
+use Rattle.shift.proofs.within.last_pair.Statement.{statement}
+use Rattle.shift.proofs.within.last_pair.Tie as tie
 
 pub last-pair-spec : {M : Type 1} → statement M
 last-pair-spec =

@@ -2,7 +2,7 @@
 use Prim.Native.Nat.{ℕ, suc, _+_, _-_, _≤_, _<_}
 use native.Mathlib.Omega.{arith}
 use mathlib.Core.Path.{_≡_, refl, ap, sym, _∙_, subst}
-use mathlib.Core.Bool.{Bool, true, false, not, _&&_, true≢false}
+use mathlib.Core.Bool.{Bool, true, false, not, _&&_}
 use mathlib.Core.List.{List, [], _∷_}
 use lib.ListN.{length, take, drop, getD, length-drop}
 use lib.Seq.{length-take-le}
@@ -46,26 +46,23 @@ use Rattle.walk.specs.declared.steps.Child.{Child}
 use Rattle.walk.specs.declared.steps.Child.the-variants as Child
 use Rattle.walk.proofs.PathLaws.{first-of}
 use Rattle.changes.specs.Site.{Site, table}
+use Rattle.changes.specs.Rows.{SamePatch}
 use Rattle.changes.specs.Change.{ChangeAnswers, done}
-use Rattle.changes.specs.Document.{Document, Bearing, judgedBearing}
+use Rattle.changes.specs.Document.{Document, Bearing, judgedBearing, results}
 use Rattle.changes.specs.declared.answers.Altered.the-variants as Altered
+use Rattle.changes.proofs.PatchLaws.{patch-same, patch-then, patch-scratch}
 use Rattle.changes.proofs.LimitLaws.{limited-whole, limited-same}
 use Rattle.changes.proofs.SiteLaws.{site-held, site-fit, site-deep, child-name}
 use Rattle.changes.proofs.ChangeLaws.{the-child}
 use Rattle.changes.proofs.AlterLaws.{child-site, site-value, up-same}
 use Rattle.changes.proofs.TokenLaws.{some-token, one-left, more-left}
 use Rattle.changes.proofs.DocumentLaws.{document-site, standing-document}
-use Rattle.operations.specs.Answers.{performs}
-use Rattle.operations.specs.Perform.{SamePatch, MoveBelowIs}
-use Rattle.operations.specs.declared.answers.Performed.{Performed}
-use Rattle.operations.specs.declared.answers.Performed.the-variants.{Done}
-use Rattle.operations.specs.Shift.{TurnIs, turned-front, turned-back, not-turned, Moves, ChildShiftIs, child-shifted, child-kept}
-use Rattle.operations.specs.Shift.{PairAt, pair-last, pair-apart, Paired, paired-last, paired-next, paired-apart, ShiftIs, shifted, kept}
-use Rattle.operations.specs.declared.shift.Pair.{Pair}
-use Rattle.operations.specs.declared.shift.Pair.the-variants.{Siblings, Apart}
-use Rattle.operations.proofs.PatchLaws.{patch-same, patch-then, patch-aside}
-use Rattle.operations.proofs.MoveLaws.{moved-up, moved-here}
-use Rattle.operations.proofs.ShiftLaws.{turn-shifts}
+use Rattle.shift.specs.Shift.{TurnIs, turned-front, turned-back, not-turned, Moves, ChildShiftIs, child-shifted, child-kept}
+use Rattle.shift.specs.Shift.{PairAt, pair-last, pair-apart, Paired, paired-last, paired-next, paired-apart, MovedWithin, ShiftIs, shifted, kept}
+use Rattle.shift.specs.declared.within.Pair.{Pair}
+use Rattle.shift.specs.declared.within.Pair.the-variants.{Siblings, Apart}
+use Rattle.shift.proofs.MoveLaws.{moved-up, moved-here}
+use Rattle.shift.proofs.ShiftLaws.{turn-shifts}
 
 -- ---- the patch's rows, which none of the moves reaches
 patch-moved : (xs : List Row) (to start n : ℕ) → to + n ≤ patchRow → SamePatch xs (moved xs to start n)
@@ -85,12 +82,12 @@ turn-patch : {xs ys : List Row} {used at to : ℕ} {r : Bool} → used ≤ maxNo
 turn-patch {xs} {used = used} {at} {to} few (turned-front n n-is low inside is) =
     let aside : List Row = moved xs scratchRow at n in
     rw is
-    (patch-then (patch-aside at (ap (moved xs scratchRow at) n-is))
+    (patch-then (patch-scratch at n)
     (patch-then (patch-moved aside (to + n) to (at - to) (omega arith)) (patch-moved (moved aside (to + n) to (at - to)) to scratchRow n (omega arith))))
 turn-patch {xs} {used = used} {at} {to} few (turned-back n m n-is low ends inside is) =
     let aside : List Row = moved xs scratchRow at n in
     rw is
-    (patch-then (patch-aside at (ap (moved xs scratchRow at) n-is))
+    (patch-then (patch-scratch at n)
     (patch-then (patch-moved aside at (at + n) m (omega arith)) (patch-moved (moved aside at (at + n) m) (at + m) scratchRow n (omega arith))))
 turn-patch few (not-turned is) = rw is patch-same
 
@@ -193,7 +190,7 @@ document-moved {w} {used} d {nodes'} {y} long (done {kids = kids} e stands) =
 module _ {w : Table} {nodes' : List Row} {used : ℕ} {from path : Spelling} (a b : Bytes) (a-is : a ≡ partOf (w .texts) from)
     (b-is : b ≡ partOf (w .texts) path) (f g : First) (f-is : FirstOf a f) (g-is : FirstOf b g) (i j : ℕ) (f-at : f ≡ First.At i) (g-at : g ≡ First.At j)
     (p : Pair) (pairs : Paired w from path i j documentRow p) {parent : ℕ} {token other : Name} (siblings : p ≡ Siblings parent token other) where
-  moves-below : SamePatch (w .nodes) nodes' → Ends w nodes' used (Siblings parent token other) → MoveBelowIs w nodes' used from path (Done used)
+  moves-below : SamePatch (w .nodes) nodes' → Ends w nodes' used (Siblings parent token other) → MovedWithin w nodes' used from path
   unfolding document-site
   moves-below patch ends =
       record {
@@ -211,7 +208,7 @@ module _ {w : Table} {nodes' : List Row} {used : ℕ} {from path : Spelling} (a 
             let result = document-moved d (m .0) (m .1 .answers) in
             let moves : moveTo (h ∷ hs) ts v ≡ ok (m .1 .result) =
             ap (λ l. moveTo (h ∷ hs) l v) some ∙ ap (moveTo (h ∷ hs) (u ∷ us)) (sym (bears .bears)) ∙ m .1 .is in
-            performs {v = m .1 .result} (ap judgedBearing moves ∙ result .0) (result .1);
+            results {v = m .1 .result} (ap judgedBearing moves ∙ result .0) (result .1);
       }
 
   pub siblings-shift : {r : Bool} → ChildShiftIs w nodes' used parent token other r → ShiftIs w nodes' used from path r
@@ -247,20 +244,3 @@ module _ {w : Table} {from path : Spelling} {i j row : ℕ} (a b : Bytes) (a-is 
       let second : textOf 3 y ≡ textOf 3 (tokenBytes (partOf (w .texts) path) j (Token.Next last after)) = rw (y-is, b-is) in
       paired-next (subst (λ l. TokenAt (partOf (w .texts) from) i l) e from-at) (subst (λ l. TokenNameIs (w .texts) from i l name) e named)
       (subst (λ l. TokenAt (partOf (w .texts) path) j l) f path-at) (first ∙ alike ∙ second) (subst (StepIs w row name) there step) rest
-
--- ---- where it is done, and where not
-pub shift-done : {w : Table} {nodes' : List Row} {used : ℕ} {from path : Spelling} {r : Bool} → r ≡ true → ShiftIs w nodes' used from path r
-    → MoveBelowIs w nodes' used from path (Done used)
-shift-done e (shifted moves) = moves
-shift-done e (kept is) = absurd (true≢false (sym e))
-
-pub shift-kept : {w : Table} {nodes' : List Row} {used : ℕ} {from path : Spelling} {r : Bool} → r ≡ false → ShiftIs w nodes' used from path r
-    → nodes' ≡ w .nodes
-shift-kept e (shifted moves) = absurd (true≢false e)
-shift-kept e (kept is) = is
-
--- what holds of the table as it then is holds of it as it was
-pub below-kept : {w : Table} {kept-nodes nodes' : List Row} {used : ℕ} {from path : Spelling} {r : Performed} → kept-nodes ≡ w .nodes
-    → MoveBelowIs (table (w .texts) kept-nodes) nodes' used from path r → MoveBelowIs w nodes' used from path r
-below-kept {w} {nodes' = nodes'} {used} {from} {path} {r} e is =
-    subst (λ n. MoveBelowIs (table (w .texts) n) nodes' used from path r) e is

@@ -1,7 +1,7 @@
 -- `exchange_back` meets its contract, move by move.
 use borrow.Author.Needs.{needs}
-use Rattle.operations.proofs.shift.exchange_back.Statement.{statement}
-use Rattle.operations.proofs.shift.exchange_back.Tie as tie
+use Rattle.shift.proofs.within.exchange_back.Statement.{statement}
+use Rattle.shift.proofs.within.exchange_back.Tie as tie
 
 pub exchange-back-spec : {M : Type 1} → statement M
 exchange-back-spec =

@@ -2,10 +2,10 @@
 use mathlib.Core.Path.{refl, ap, _∙_}
 use borrow.Author.Needs.{needs}
 use Rattle.tape.specs.Fields.{nameOf}
-use Rattle.operations.specs.Shift.{child-kept}
-use Rattle.operations.proofs.SiblingLaws.{element-shifts}
-use Rattle.operations.proofs.shift.shift.Statement.{statement}
-use Rattle.operations.proofs.shift.shift.Tie as tie
+use Rattle.shift.specs.Shift.{child-kept}
+use Rattle.shift.proofs.SiblingLaws.{element-shifts}
+use Rattle.shift.proofs.within.shift.Statement.{statement}
+use Rattle.shift.proofs.within.shift.Tie as tie
 
 pub shift-spec : {M : Type 1} → statement M
 shift-spec =

@@ -3,7 +3,7 @@ use Prim.Native.Nat.{ℕ, _+_, _-_, _≤_, _<_}
 use native.Mathlib.Omega.{arith}
 use native.Mathlib.Decide.{decLt}
 use mathlib.Core.Path.{_≡_, refl, ap, sym, _∙_, subst}
-use mathlib.Core.Bool.{Bool, true, false, true≢false}
+use mathlib.Core.Bool.{Bool, true, true≢false}
 use mathlib.Core.List.{List, [], _∷_, _++_}
 use lib.ListN.{length, take, drop, getD, length-append}
 use lib.Seq.{take-take}
@@ -32,9 +32,9 @@ use Rattle.changes.specs.declared.answers.Altered.the-variants.{Done}
 use Rattle.changes.proofs.CutLaws.{cut-inside, cut-formed, cut-sound, cut-size, past-front}
 use Rattle.changes.proofs.SiteLaws.{site-held, site-fit, site-deep, child-rows}
 use Rattle.changes.proofs.PutLaws.{in-use, changed-fits}
-use Rattle.operations.specs.Shift.{exchangedBack, exchangedFront, TurnIs, turned-front, turned-back, not-turned}
-use Rattle.operations.proofs.ExchangeLaws.{laid-replaced, exchanged-back, exchanged-front}
-use Rattle.operations.proofs.SwapLaws.{before-less, Swap, swap-cut, swap-formed, swap-sound, swap-size, swap-deep, swap-rows, swap-back, swap-front}
+use Rattle.shift.specs.Shift.{exchangedBack, exchangedFront, TurnIs, turned-front, turned-back, not-turned}
+use Rattle.shift.proofs.ExchangeLaws.{laid-replaced, exchanged-back, exchanged-front}
+use Rattle.shift.proofs.SwapLaws.{before-less, Swap, swap-cut, swap-formed, swap-sound, swap-size, swap-deep, swap-rows, swap-back, swap-front}
 
 -- ---- the children of a container that change places
 module _ {w : Table} {used row levels : ℕ} (z : Site w used row levels) (container : arrayKind ≤ z .c .kind) {changed : Forest Cell} {at n m : ℕ}

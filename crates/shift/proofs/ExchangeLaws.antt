@@ -15,7 +15,7 @@ use Rattle.tape.specs.Tape.{tape, Laid}
 use Rattle.tape.proofs.Columns.{moved-in, length-replaced, replaced-within, drop-replaced, replaced-further, replaced-before, words-moved, scratched-moved}
 use Rattle.tape.proofs.Tape.{length-tape}
 use Rattle.tape.proofs.Changes.{laid-length}
-use Rattle.operations.specs.Shift.{exchangedBack, exchangedFront}
+use Rattle.shift.specs.Shift.{exchangedBack, exchangedFront}
 
 -- rows before those of scratch are the same where only scratch rows change
 rows-before : (xs ys : List Row) (row n : ℕ) → row + n ≤ scratchRow → take scratchRow ys ≡ take scratchRow xs → take n (drop row ys) ≡ take n (drop row xs)

@@ -1,7 +1,7 @@
 -- `exchange_front` meets its contract, move by move.
 use borrow.Author.Needs.{needs}
-use Rattle.operations.proofs.shift.exchange_front.Statement.{statement}
-use Rattle.operations.proofs.shift.exchange_front.Tie as tie
+use Rattle.shift.proofs.within.exchange_front.Statement.{statement}
+use Rattle.shift.proofs.within.exchange_front.Tie as tie
 
 pub exchange-front-spec : {M : Type 1} → statement M
 exchange-front-spec =

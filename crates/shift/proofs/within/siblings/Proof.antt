@@ -5,11 +5,11 @@ use lib.ListN.{length}
 use borrow.Author.Needs.{needs}
 use Rattle.tape.specs.Lent.{tableOf}
 use Rattle.pointer.proofs.WalkLaws.{next-order}
-use Rattle.operations.specs.declared.shift.Pair.{Pair}
-use Rattle.operations.specs.Shift.{Paired, paired-apart}
-use Rattle.operations.proofs.SiblingLaws.{pairs-last, pairs-next}
-use Rattle.operations.proofs.shift.siblings.Statement.{statement}
-use Rattle.operations.proofs.shift.siblings.Tie as tie
+use Rattle.shift.specs.declared.within.Pair.{Pair}
+use Rattle.shift.specs.Shift.{Paired, paired-apart}
+use Rattle.shift.proofs.SiblingLaws.{pairs-last, pairs-next}
+use Rattle.shift.proofs.within.siblings.Statement.{statement}
+use Rattle.shift.proofs.within.siblings.Tie as tie
 
 abbrev Inv-loop : tie.InvT-loop
 Inv-loop texts nodes from start path other a b row₀ i₀ j₀ row i j =

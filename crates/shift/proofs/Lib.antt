@@ -1,0 +1,5 @@
+pub mod ExchangeLaws
+pub mod SwapLaws
+pub mod MoveLaws
+pub mod ShiftLaws
+pub mod SiblingLaws
