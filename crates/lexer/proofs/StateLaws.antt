@@ -34,6 +34,10 @@ pub record Going (escapes : Bool) (s : Bytes) (start end at state : ℕ) : Type 
 pub going-starts : (escapes : Bool) (s : Bytes) (start : ℕ) → Going escapes s start start start 0
 going-starts escapes s start = record { passed = none; midst = between refl }
 
+-- the end as an equal number
+pub going-end : {escapes : Bool} {s : Bytes} {start end at state r : ℕ} → r ≡ end → Going escapes s start end at state → Going escapes s start r at state
+going-end e g = rw e g
+
 -- ---- the first byte of a character of two to four bytes: its row in the table of states, and in the definition's table
 
 data Row (s : Bytes) (at b : ℕ) : ℕ → Outcome (ℕ × ℕ) → Type 0 where

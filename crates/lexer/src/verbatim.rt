@@ -62,7 +62,8 @@ fn limit(escapes: bool) -> u64
 }
 
 // The end of the characters from a place on that are written as they stand, with or without escapes among them, by
-// tables that are lent.
+// tables that are lent. A turn brings `end` up to date before its byte, and not after it: the compiler then keeps one
+// counter of places, and not two.
 fn passed_end(
     s: &[u8],
     start: usize,
@@ -78,14 +79,14 @@ fn passed_end(
     let mut end = start;
     let mut state = BETWEEN;
     while at < s.len() {
+        end = whole_end(state, at, end);
         state = next_state(state, s[at], columns, steps);
         if limit <= state {
             return end;
         }
         at += 1;
-        end = whole_end(state, at, end);
     }
-    end
+    whole_end(state, at, end)
 }
 
 // The end of the characters from a place on that are written byte for byte as they are read, with or without escapes
