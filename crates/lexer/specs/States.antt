@@ -55,6 +55,10 @@ escaped b = if keptEscape b then 0 else 54
 unfoldable pub look : List ℕ → List ℕ → ℕ → ℕ → ℕ
 look columns steps state b = getD steps (getD columns b 0 % 16) 0 / 2 ^ state % 64
 
+-- the bytes of a block
+abbrev pub block : ℕ
+block = 7
+
 -- the state after n bytes from a place on
 unfoldable pub lookOver : List ℕ → List ℕ → ℕ → ℕ → Bytes → ℕ → ℕ
 lookOver columns steps zero state s at = state

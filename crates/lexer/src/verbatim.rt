@@ -7,7 +7,7 @@ ghost use lib.ListN.{length};
 ghost use lib.Dec.{eqb};
 ghost use Rattle.spec.specs.Outcome.{if_then_else_};
 ghost use Rattle.lexer.specs.Verbatim.{Verbatim, VerbatimTo};
-ghost use Rattle.lexer.specs.States.{look, lookOver, Tables, Steps};
+ghost use Rattle.lexer.specs.States.{look, block, lookOver, Tables, Steps};
 use byte_class::columns;
 
 // Where a byte leads is a state, and its number how far a word of STEPS is shifted. 0 is between characters; 6, 12
@@ -16,6 +16,10 @@ use byte_class::columns;
 const BETWEEN: u64 = 0;
 
 const END: u64 = 54;
+
+// The bytes of a block. Characters have one to four bytes, and 7 has no factor in common with 2, 3 or 4: so in a run of
+// characters of one length, the places between blocks are soon between characters too.
+const BLOCK: usize = 7;
 
 // For each column, by its last four bits, the next state of each state, of two octal digits: from the right those of
 // 0, 6, 12 and so on. The columns are the classes of crate `byte_class`, with seven more that need more than a class.
@@ -66,15 +70,15 @@ fn steps(escapes: bool) -> [u64; 16]
     steps
 }
 
-// The state after eight bytes. None of them is tested: the end leads to itself.
+// The state after a block. None of its bytes is tested: the end leads to itself.
 fn after_block(first: u64, s: &[u8], at: usize, columns: &[u8; 256], steps: &[u64; 16]) -> u64
-    requires { ⌜ (first < 64) × (at + 8 ≤ length (now s)) ⌝ }
+    requires { ⌜ (first < 64) × (at + block ≤ length (now s)) ⌝ }
     ensures { λ r. ⌜ (r < 64)
-        × (r ≡ lookOver (now (columns .entry)) (now (steps .entry)) 8 first (now (s .entry)) at) ⌝ }
+        × (r ≡ lookOver (now (columns .entry)) (now (steps .entry)) block first (now (s .entry)) at) ⌝ }
 {
     let mut state = first;
     let mut k = 0;
-    while k < 8 {
+    while k < BLOCK {
         state = next_state(state, s[at + k], columns, steps);
         k += 1;
     }
@@ -90,14 +94,14 @@ fn blocks_end(s: &[u8], start: usize, columns: &[u8; 256], steps: &[u64; 16]) ->
     let mut end = start;
     let mut state = BETWEEN;
     while at < s.len() {
-        if s.len() - at < 8 {
+        if s.len() - at < BLOCK {
             return end;
         }
         state = after_block(state, s, at, columns, steps);
         if state == END {
             return end;
         }
-        at += 8;
+        at += BLOCK;
         end = whole_end(state, at, end);
     }
     end

@@ -3,18 +3,18 @@ use mathlib.Core.Path.{_≡_, sym, _∙_}
 use native.Mathlib.Omega.{arith}
 use borrow.Author.Needs.{needs}
 use Rattle.spec.specs.Bytes.{byte}
-use Rattle.lexer.specs.States.{lookOver}
+use Rattle.lexer.specs.States.{block, lookOver}
 use Rattle.lexer.proofs.StateLaws.{over-whole, over-none, over-next, look-small}
 use Rattle.lexer.proofs.verbatim.after_block.Statement.{statement}
 use Rattle.lexer.proofs.verbatim.after_block.Tie as tie
 
--- the bytes that are left lead where all eight do
+-- the bytes that are left lead where the whole block does
 abbrev Inv-loop : tie.InvT-loop
 Inv-loop first s at columns steps state₀ k₀ state k =
-    (state < 64) × (k ≤ 8) × ((left : ℕ) → 8 ≡ k + left → lookOver columns steps left state s (at + k) ≡ lookOver columns steps 8 first s at)
+    (state < 64) × (k ≤ block) × ((left : ℕ) → block ≡ k + left → lookOver columns steps left state s (at + k) ≡ lookOver columns steps block first s at)
 
 abbrev μ-loop : tie.MeasureT-loop
-μ-loop first s at columns steps state₀ k₀ state k = 8 - k
+μ-loop first s at columns steps state₀ k₀ state k = block - k
 
 pub after-block-spec : {M : Type 1} → statement M
 unfolding byte

@@ -5,7 +5,7 @@ use borrow.Author.Needs.{needs}
 use lib.ListN.{length}
 use Rattle.spec.specs.Bytes.{byte}
 use Rattle.lexer.specs.Verbatim.{Verbatim, none}
-use Rattle.lexer.specs.States.{Tables}
+use Rattle.lexer.specs.States.{block, Tables}
 use Rattle.lexer.proofs.StateLaws.{Gone, gone-starts, gone-block, block-end}
 use Rattle.lexer.proofs.verbatim.blocks_end.Statement.{statement}
 use Rattle.lexer.proofs.verbatim.blocks_end.Tie as tie
@@ -51,7 +51,7 @@ blocks-end-spec =
       step .after-block .ensures .0,
       λ escapes t.
           let so = loop .loop .inv .1 escapes t in
-          let g = gone-block t s small 8 (step .after-block .ensures .1) (c .before .if2 .left) (so .0) in
+          let g = gone-block t s small block (step .after-block .ensures .1) (c .before .if2 .left) (so .0) in
           (g, block-end g (so .1) (c .whole-end .ensures)),
     ))
     -- returns-3
