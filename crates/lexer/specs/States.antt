@@ -64,13 +64,13 @@ unfoldable pub lookOver : List ℕ → List ℕ → ℕ → ℕ → Bytes → �
 lookOver columns steps zero state s at = state
 lookOver columns steps (suc n) state s at = lookOver columns steps n (look columns steps state (byte s at)) s (at + 1)
 
--- they are right; the end leads to itself
+-- the two tables are right; the end leads to itself
 pub record Tables (escapes : Bool) (columns steps : List ℕ) : Type 0 where
   pub between : (b : ℕ) → b < 256 → look columns steps 0 b ≡ begins escapes b
   pub inside : {state more low high : ℕ} → Awaits state more low high → (b : ℕ) → b < 256 → look columns steps state b ≡ later more low high b
   pub after : (b : ℕ) → b < 256 → look columns steps 48 b ≡ escaped b
   pub ended : (b : ℕ) → b < 256 → look columns steps 54 b ≡ 54
 
--- the second one is right, of whatever columns follow their rule
+-- the second table is right beside whatever columns follow their rule
 abbrev pub Steps : Bool → List ℕ → Type 0
 Steps escapes steps = (columns : List ℕ) → ColumnRule columns → Tables escapes columns steps

@@ -21,6 +21,9 @@ const END: u64 = 54;
 // characters of one length, the places between blocks are soon between characters too.
 const BLOCK: usize = 7;
 
+// The column of the backslash.
+const BACKSLASH: usize = 5;
+
 // For each column, by its last four bits, the next state of each state, of two octal digits: from the right those of
 // 0, 6, 12 and so on. The columns are the classes of crate `byte_class`, with seven more that need more than a class.
 const STEPS: [u64; 16] = [
@@ -51,14 +54,14 @@ fn next_state(state: u64, b: u8, columns: &[u8; 256], steps: &[u64; 16]) -> u64
     (steps[column as usize] >> state) % 64
 }
 
-// The end of the whole characters before a place, given their end before the byte that led there.
+// The end of the whole characters before a place, by the state there: the place itself, or the end that was found last.
 fn whole_end(state: u64, at: usize, end: usize) -> usize
     ensures { λ r. ⌜ r ≡ (if eqb state 0 then at else end) ⌝ }
 {
     if state == BETWEEN { at } else { end }
 }
 
-// STEPS, or where no escapes are let through, STEPS with a backslash that leads to the end.
+// The steps. Where no escapes are let through, a backslash between characters leads to the end.
 fn steps(escapes: bool) -> [u64; 16]
     ensures { λ r. ⌜ Steps escapes r ⌝ }
 {
@@ -66,7 +69,7 @@ fn steps(escapes: bool) -> [u64; 16]
     if escapes {
         return steps;
     }
-    steps[5] = 0o66_00_66_66_66_66_66_66_66_66;
+    steps[BACKSLASH] = 0o66_00_66_66_66_66_66_66_66_66;
     steps
 }
 
