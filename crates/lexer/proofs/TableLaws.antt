@@ -13,7 +13,7 @@ use Rattle.byte_class.specs.Column.{continued, lettered, columnOf, ColumnRule}
 use Rattle.byte_class.proofs.TableLaws.{below, below-each}
 use Rattle.lexer.specs.Names.{standsForItself}
 use Rattle.lexer.specs.Verbatim.{keptEscape}
-use Rattle.lexer.specs.States.{Awaits, one, two, three, after-E0, after-ED, after-F0, after-F4, first, begins, later, escaped, look, Tables}
+use Rattle.lexer.specs.States.{Awaits, one, two, three, after-E0, after-ED, after-F0, after-F4, first, begins, later, escaped, look, Tables, Steps}
 use Rattle.lexer.proofs.Tests.{and-both}
 
 unfoldable all : List Bool → Bool
@@ -27,13 +27,13 @@ each (t ∷ ts) e zero = and-both t (all ts) e .0
 each (t ∷ ts) e (suc k) = each ts (and-both t (all ts) e .1) k
 
 -- at a byte, the step of each state
-module _ (steps : List ℕ) (b : ℕ) where
+module _ (escapes : Bool) (steps : List ℕ) (b : ℕ) where
   unfoldable leads : ℕ → ℕ → Bool
   leads state next = eqb (getD steps (columnOf b % 16) 0 / 2 ^ state % 64) next
 
   unfoldable rules : List Bool
   rules =
-      leads 0 (begins b)
+      leads 0 (begins escapes b)
       ∷ leads 6 (later 0 0x80 0xBF b)
       ∷ leads 12 (later 1 0x80 0xBF b)
       ∷ leads 18 (later 2 0x80 0xBF b)
@@ -42,25 +42,26 @@ module _ (steps : List ℕ) (b : ℕ) where
       ∷ leads 36 (later 2 0x90 0xBF b)
       ∷ leads 42 (later 2 0x80 0x8F b)
       ∷ leads 48 (escaped b)
+      ∷ leads 54 54
       ∷ []
 
-unfoldable pub tested : List ℕ → Bool
+unfoldable pub tested : Bool → List ℕ → Bool
 unfolding below all rules leads columnOf lettered continued classOf symbol begins standsForItself within first later escaped keptEscape
-tested steps = below (λ b. all (rules steps b)) 256
+tested escapes steps = below (λ b. all (rules escapes steps b)) 256
 
-module _ (columns steps : List ℕ) (f : ColumnRule columns) (t : tested steps ≡ true) (b : ℕ) (h : b < 256) where
-  rule : (k : ℕ) → getD (rules steps b) k true ≡ true
+module _ (escapes : Bool) (columns steps : List ℕ) (f : ColumnRule columns) (t : tested escapes steps ≡ true) (b : ℕ) (h : b < 256) where
+  rule : (k : ℕ) → getD (rules escapes steps b) k true ≡ true
   unfolding tested
-  rule = each (rules steps b) (below-each (λ b. all (rules steps b)) 256 t b h)
+  rule = each (rules escapes steps b) (below-each (λ b. all (rules escapes steps b)) 256 t b h)
 
   abbrev Step : ℕ → ℕ → Type 0
   Step state next = look columns steps state b ≡ next
 
-  is : (state next : ℕ) → leads steps b state next ≡ true → Step state next
+  is : (state next : ℕ) → leads escapes steps b state next ≡ true → Step state next
   unfolding look leads
   is state next e = rw (f .each b h) (eqb-true _ _ e)
 
-  step-between : Step 0 (begins b)
+  step-between : Step 0 (begins escapes b)
   unfolding rules
   step-between = is 0 _ (rule 0)
 
@@ -78,10 +79,15 @@ module _ (columns steps : List ℕ) (f : ColumnRule columns) (t : tested steps �
   unfolding rules
   step-after = is 48 _ (rule 8)
 
-pub tables : {columns : List ℕ} (steps : List ℕ) → ColumnRule columns → tested steps ≡ true → Tables columns steps
-tables {columns} steps f t =
+  step-ended : Step 54 54
+  unfolding rules
+  step-ended = is 54 _ (rule 9)
+
+pub tables : (escapes : Bool) (steps : List ℕ) → tested escapes steps ≡ true → {e : Bool} → e ≡ escapes → Steps e steps
+tables escapes steps t i = rw i λ columns f.
     record {
-      between = step-between columns steps f t;
-      inside = λ a b h. step-inside columns steps f t b h a;
-      after = step-after columns steps f t;
+      between = step-between escapes columns steps f t;
+      inside = λ a b h. step-inside escapes columns steps f t b h a;
+      after = step-after escapes columns steps f t;
+      ended = step-ended escapes columns steps f t;
     }

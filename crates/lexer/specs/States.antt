@@ -1,7 +1,7 @@
 -- The end of verbatim characters is found byte by byte, from state to state. The states by number: 0 between characters; 6, 12 and 18 with one,
 -- two and three bytes of a character to come, each 80 to BF; 24 after E0, 30 after ED, 36 after F0 and 42 after F4, whose second bytes have
--- bounds of their own; 48 after a backslash; 63 where no character goes on.
-use Prim.Native.Nat.{ℕ, _*_, _/_, _%_, _^_, _<_}
+-- bounds of their own; 48 after a backslash; 54 where no character goes on.
+use Prim.Native.Nat.{ℕ, zero, suc, _+_, _*_, _/_, _%_, _^_, _<_}
 use Prim.Native.Char.{code}
 use mathlib.Core.List.{List}
 use mathlib.Core.Path.{_≡_}
@@ -9,7 +9,8 @@ use mathlib.Core.Bool.{Bool}
 use lib.ListN.{getD}
 use lib.Dec.{eqb}
 use Rattle.spec.specs.Outcome.{if_then_else_}
-use Rattle.spec.specs.Bytes.{within}
+use Rattle.spec.specs.Bytes.{Bytes, byte, within}
+use Rattle.byte_class.specs.Column.{ColumnRule}
 use Rattle.lexer.specs.Names.{standsForItself}
 use Rattle.lexer.specs.Verbatim.{keptEscape}
 
@@ -33,32 +34,42 @@ first b =
     if within 0xEE 0xEF b then 12 else
     if within 0xF0 0xF0 b then 36 else
     if within 0xF1 0xF3 b then 18 else
-    if within 0xF4 0xF4 b then 42 else 63
+    if within 0xF4 0xF4 b then 42 else 54
 
--- after the first byte of any character
-unfoldable pub begins : ℕ → ℕ
-begins b =
+-- after the first byte of any character, where escapes are let through or not
+unfoldable pub begins : Bool → ℕ → ℕ
+begins escapes b =
     if standsForItself b then 0 else
-    if eqb b (code "\\") then 48 else first b
+    if eqb b (code "\\") then (if escapes then 48 else 54) else first b
 
 -- after a later byte, which must lie between two bounds, when `more` bytes are to come after it
 unfoldable pub later : ℕ → ℕ → ℕ → ℕ → ℕ
-later more low high b = if within low high b then 6 * more else 63
+later more low high b = if within low high b then 6 * more else 54
 
 -- after a backslash and a letter
 unfoldable pub escaped : ℕ → ℕ
-escaped b = if keptEscape b then 0 else 63
-
--- the first state at which the characters end
-unfoldable pub limit : Bool → ℕ
-limit escapes = if escapes then 63 else 48
+escaped b = if keptEscape b then 0 else 54
 
 -- The state after a byte, by two tables: the first gives the byte's column, and the second gives, for that column, six bits for each state.
 unfoldable pub look : List ℕ → List ℕ → ℕ → ℕ → ℕ
 look columns steps state b = getD steps (getD columns b 0 % 16) 0 / 2 ^ state % 64
 
--- they are right
-pub record Tables (columns steps : List ℕ) : Type 0 where
-  pub between : (b : ℕ) → b < 256 → look columns steps 0 b ≡ begins b
+-- the bytes of a block
+abbrev pub block : ℕ
+block = 7
+
+-- the state after n bytes from a place on
+unfoldable pub lookOver : List ℕ → List ℕ → ℕ → ℕ → Bytes → ℕ → ℕ
+lookOver columns steps zero state s at = state
+lookOver columns steps (suc n) state s at = lookOver columns steps n (look columns steps state (byte s at)) s (at + 1)
+
+-- the two tables are right; the end leads to itself
+pub record Tables (escapes : Bool) (columns steps : List ℕ) : Type 0 where
+  pub between : (b : ℕ) → b < 256 → look columns steps 0 b ≡ begins escapes b
   pub inside : {state more low high : ℕ} → Awaits state more low high → (b : ℕ) → b < 256 → look columns steps state b ≡ later more low high b
   pub after : (b : ℕ) → b < 256 → look columns steps 48 b ≡ escaped b
+  pub ended : (b : ℕ) → b < 256 → look columns steps 54 b ≡ 54
+
+-- the second table is right beside whatever columns follow their rule
+abbrev pub Steps : Bool → List ℕ → Type 0
+Steps escapes steps = (columns : List ℕ) → ColumnRule columns → Tables escapes columns steps
