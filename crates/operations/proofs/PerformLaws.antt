@@ -1,27 +1,29 @@
 -- Laws of one operation of the patch.
 use Prim.Native.Nat.{ℕ, _+_, _≤_, _<_}
 use native.Mathlib.Omega.{arith}
+use native.Mathlib.Decide.{ℕ-discrete}
 use mathlib.Core.Path.{_≡_, refl, ap, sym, _∙_, subst}
 use mathlib.Core.Bool.{Bool, true, false}
 use mathlib.Core.List.{List}
-use Rattle.spec.specs.Outcome.{Outcome, ok, refused, _>>=_, if_then_else_}
+use Rattle.spec.specs.Outcome.{Outcome, ok, refused, _>>=_, require, if_then_else_}
 use Rattle.spec.specs.Refusal.{wrong-shape, test-differs}
 use Rattle.spec.specs.Limits.{maxDepth}
 use Rattle.spec.specs.Bytes.{Text, ascii}
 use Rattle.spec.specs.Forest.{Forest, size, nth}
 use Rattle.spec.specs.Value as Plain
+use Rattle.spec.specs.Value.{isObject}
 use Rattle.spec.specs.Pointer as Pointer
 use Rattle.spec.specs.Pointer.{Tokens, tokens}
 use Rattle.spec.specs.Operation as Operation
 use Rattle.spec.specs.Operation.{limited}
-use Rattle.spec.specs.Patch.{usesValue, usesFrom, whichPointer}
+use Rattle.spec.specs.Patch.{stringMember, kindNamed, usesValue, usesFrom, whichPointer}
 use Rattle.origin.specs.Value as Value
 use Rattle.origin.specs.Value.{forget, depth}
 use Rattle.origin.specs.Pointer.{walk}
 use Rattle.origin.specs.Operation.{addAt, removeAtPath, replaceAtPath, copyTo, testAt}
 use Rattle.origin.specs.Forgetting.{forgotten}
 use Rattle.origin.proofs.ForgetLaws.{forget-walk}
-use Rattle.spec.proofs.OutcomeLaws.{refused≢ok}
+use Rattle.spec.proofs.OutcomeLaws.{refused≢ok, both-ok}
 use Rattle.spec.proofs.PlaceLaws.{plant-walk, depth-plant}
 use Rattle.spec.specs.Distinct.{Distinct}
 use Rattle.spec.proofs.NameLaws.{proper-repeats}
@@ -32,7 +34,7 @@ use Rattle.tape.specs.Fields.{Row}
 use Rattle.tape.specs.declared.fields.Spelling.{Spelling}
 use Rattle.tape.specs.declared.fields.Cell.{Cell}
 use Rattle.tape.specs.Lent.{Texts, Table}
-use Rattle.table.specs.Meaning.{partOf, meant}
+use Rattle.table.specs.Meaning.{partOf, spelled, meant}
 use Rattle.table.specs.Sound.{NodeHeld, RowsHeld}
 use Rattle.table.specs.Find.{Found, found, missing}
 use Rattle.tape.specs.Rows.{endOf, childRow}
@@ -49,13 +51,13 @@ use Rattle.walk.specs.declared.path.Reached.{Reached}
 use Rattle.walk.specs.declared.path.Reached.the-variants as Reached
 use Rattle.equality.specs.Compare.{EqualIs}
 use Rattle.shape.specs.Kinds.{kindOutcome}
-use Rattle.shape.specs.Members.{TextIs, MemberIs, StringIs}
-use Rattle.shape.specs.Operation.{KindIs}
+use Rattle.shape.specs.Members.{TextIs, MemberIs, foundAt, StringIs}
+use Rattle.shape.specs.Operation.{kindOf, KindIs}
 use Rattle.shape.specs.declared.kinds.Kind.{Kind}
 use Rattle.shape.specs.declared.members.Spelled.{Spelled}
 use Rattle.shape.specs.declared.members.Spelled.the-variants as Spelled
-use Rattle.shape.proofs.MemberLaws.{sought-missing}
-use Rattle.shape.proofs.AnswerLaws.{text-refused, text-decoded}
+use Rattle.shape.proofs.MemberLaws.{found-none, found-row, sought-missing}
+use Rattle.shape.proofs.AnswerLaws.{text-refused, text-spelled, text-decoded}
 use Rattle.changes.specs.Site.{Offered}
 use Rattle.changes.specs.Document.{judged, results, refusal, ChangeAtIs}
 use Rattle.changes.specs.Document.{Bearing, judgedBearing, adds-bearing, removes-bearing, replaces-bearing}
@@ -116,12 +118,22 @@ move-is o v e = rw e
 
 -- ---- with a value
 -- it stands in the rows of its object, and so behind the document's
-module _ {w : Table} {row : ℕ} {m : Member} (is : MemberIs w row (ascii "value") m) (at : ℕ) (e : m ≡ Member.At at) where
+module _ {w : Table} {row at : ℕ} (is : MemberIs w row (ascii "value") (foundAt at)) where
+  -- an operation that uses a value has one
+  value-found : {o : Operation.Operation} → Listed w row o → usesValue (o .kind) ≡ true → foundAt at ≡ Member.At at
+  value-found {o} l uses = go (ℕ-discrete at 0)
+    where
+      go : Dec (at ≡ 0) → foundAt at ≡ Member.At at
+      go (yes z) =
+          let none = sought-missing (found-none at z) (is .held (l .c) (l .kids) (l .held)) in
+          absurd (refused≢ok (sym none ∙ told _ o (l .is) .value uses))
+      go (no d) = found-row at d
+
   operand : {C : Type 0} {o : Operation.Operation} (l : Listed w row o) → usesValue (o .kind) ≡ true
       → ((x : Cell) (kids : Forest Cell) → Offered w at x kids → borne (w .texts) x kids ≡ valueIn (borne (w .texts) (l .c) (l .kids))
       → meant (w .texts) x kids ≡ o .value → Distinct (meant (w .texts) x kids) → C) → C
   unfolding childRow
-  operand {C} {o} l uses then-it = go (is .rows .held (l .kids) rows) e
+  operand {C} {o} l uses then-it = go (is .rows .held (l .kids) rows) (value-found l uses)
     where
       rows : RowsHeld w (row + 1) (endOf (w .nodes) row) (l .kids)
       rows = record { held = held-kids (l .held .held); ends = sym (end-here (held-node (l .held .held))); sound = l .held .sound }
@@ -140,55 +152,44 @@ module _ {w : Table} {row : ℕ} {m : Member} (is : MemberIs w row (ascii "value
           then-it x below (record { behind = omega (arith, l .behind, place); held = node }) (sym bears) means (subst Distinct (sym means) distinct)
       go (missing f) g = absurd (let z : _≡_ {A = ℕ} 0 1 = cc in omega arith)
 
-module _ {w : Table} {used row : ℕ} {path : Spelling} {m : Member} (is : MemberIs w row (ascii "value") m) where
-  -- an operation that uses a value has one
-  pub value-missing : {k : Operation.Kind} {r : Performed} → usesValue k ≡ true → m ≡ Member.Missing → OperationIs w (w .nodes) used row path k r
-  value-missing uses e =
+module _ {w : Table} {used row at : ℕ} {path : Spelling} (is : MemberIs w row (ascii "value") (foundAt at)) where
+  pub add-done : {nodes' : List Row} {q : Altered} {r : Performed} → ChangeAtIs w nodes' used path (Add at) q → r ≡ atPath q
+      → OperationIs w nodes' used row path Operation.add r
+  unfolding usesValue usesFrom
+  add-done changed from-path =
+      record {
+        patch = patch-framed (changed .frame);
+        bearing = λ op any v d short o l p.
+            operand is l (ap usesValue (p .0)) λ x kids offered bears means distinct.
+            path-performs (which-path o (forget v) (ap usesFrom (p .0))) from-path
+            (same-results (add-with op o _ v (p .0) ∙ ap (λ u. judgedBearing (addAt (o .path) u v)) (sym bears))
+            (changed .bearing v d short (o .path) (p .1) _ (adds-bearing at x kids offered)));
+      }
+
+  pub replace-done : {nodes' : List Row} {q : Altered} {r : Performed} → ChangeAtIs w nodes' used path (Replace at) q → r ≡ atPath q
+      → OperationIs w nodes' used row path Operation.replace r
+  unfolding usesValue usesFrom
+  replace-done changed from-path =
+      record {
+        patch = patch-framed (changed .frame);
+        bearing = λ op any v d short o l p.
+            operand is l (ap usesValue (p .0)) λ x kids offered bears means distinct.
+            path-performs (which-path o (forget v) (ap usesFrom (p .0))) from-path
+            (same-results (replace-with op o _ v (p .0) ∙ ap (λ u. judgedBearing (replaceAtPath (o .path) u v)) (sym bears))
+            (changed .bearing v d short (o .path) (p .1) _ (replaces-bearing at x kids offered)));
+      }
+
+  pub test-done : {q : Altered} {r : Performed} → EqualToIs w used path at q → r ≡ atPath q → OperationIs w (w .nodes) used row path Operation.test r
+  unfolding usesValue usesFrom
+  test-done tested from-path =
       record {
         patch = patch-same;
         bearing = λ op any v d short o l p.
-            let none = sought-missing e (is .held (l .c) (l .kids) (l .held)) in
-            absurd (refused≢ok (sym none ∙ told _ o (l .is) .value (ap usesValue (p .0) ∙ uses)));
+            operand is l (ap usesValue (p .0)) λ x kids offered bears means distinct.
+            path-performs (which-path o (forget v) (ap usesFrom (p .0))) from-path
+            (same-results (test-with op o _ v (p .0) ∙ ap (λ u. judgedBearing (testAt (o .path) u v)) (sym means))
+            (tested v d short (o .path) (p .1) x kids (offered .held) distinct));
       }
-
-  module _ (at : ℕ) (e : m ≡ Member.At at) where
-    pub add-done : {nodes' : List Row} {q : Altered} {r : Performed} → ChangeAtIs w nodes' used path (Add at) q → r ≡ atPath q
-        → OperationIs w nodes' used row path Operation.add r
-    unfolding usesValue usesFrom
-    add-done changed from-path =
-        record {
-          patch = patch-framed (changed .frame);
-          bearing = λ op any v d short o l p.
-              operand is at e l (ap usesValue (p .0)) λ x kids offered bears means distinct.
-              path-performs (which-path o (forget v) (ap usesFrom (p .0))) from-path
-              (same-results (add-with op o _ v (p .0) ∙ ap (λ u. judgedBearing (addAt (o .path) u v)) (sym bears))
-              (changed .bearing v d short (o .path) (p .1) _ (adds-bearing at x kids offered)));
-        }
-
-    pub replace-done : {nodes' : List Row} {q : Altered} {r : Performed} → ChangeAtIs w nodes' used path (Replace at) q → r ≡ atPath q
-        → OperationIs w nodes' used row path Operation.replace r
-    unfolding usesValue usesFrom
-    replace-done changed from-path =
-        record {
-          patch = patch-framed (changed .frame);
-          bearing = λ op any v d short o l p.
-              operand is at e l (ap usesValue (p .0)) λ x kids offered bears means distinct.
-              path-performs (which-path o (forget v) (ap usesFrom (p .0))) from-path
-              (same-results (replace-with op o _ v (p .0) ∙ ap (λ u. judgedBearing (replaceAtPath (o .path) u v)) (sym bears))
-              (changed .bearing v d short (o .path) (p .1) _ (replaces-bearing at x kids offered)));
-        }
-
-    pub test-done : {q : Altered} {r : Performed} → EqualToIs w used path at q → r ≡ atPath q → OperationIs w (w .nodes) used row path Operation.test r
-    unfolding usesValue usesFrom
-    test-done tested from-path =
-        record {
-          patch = patch-same;
-          bearing = λ op any v d short o l p.
-              operand is at e l (ap usesValue (p .0)) λ x kids offered bears means distinct.
-              path-performs (which-path o (forget v) (ap usesFrom (p .0))) from-path
-              (same-results (test-with op o _ v (p .0) ∙ ap (λ u. judgedBearing (testAt (o .path) u v)) (sym means))
-              (tested v d short (o .path) (p .1) x kids (offered .held) distinct));
-        }
 
 -- ---- with a string that spells a pointer
 module _ {T : Texts} {o : Outcome Text} {s : Spelled} {t : Text} (is : TextIs T o s) (there : o ≡ ok t) where
@@ -276,24 +277,50 @@ perform-is {w} {op = op} patch all =
     }
 
 -- ---- the path and the kind, which every operation has
+-- a kind is that of the operation in a row
+pub record KindListed (w : Table) (row : ℕ) (kind : Kind) : Type 0 where
+  pub is : (o : Operation.Operation) → Listed w row o → kindOutcome kind ≡ ok (o .kind)
+
 module _ {w : Table} {used row op : ℕ} {r : Performed} {s : Spelled} (is : StringIs w row (ascii "path") s) where
   pub path-missing : s ≡ Spelled.Not → PerformIs w (w .nodes) used row op r
   path-missing e =
       perform-is patch-same (λ v d short o l any. absurd (spelled-not (is .held (l .c) (l .kids) (l .held)) (told _ o (l .is) .path-there) e))
 
-  module _ {kind : Kind} (kind-is : KindIs w row kind) where
-    pub of-kind : {Number : ℕ → Type 0} {nodes' : List Row} (k : Operation.Kind) (path : Spelling) → s ≡ Spelled.As path → kindOutcome kind ≡ ok k
+  module _ {kind : Kind} (kind-is : KindListed w row kind) where
+    pub of-known : {Number : ℕ → Type 0} {nodes' : List Row} (k : Operation.Kind) (path : Spelling) → s ≡ Spelled.As path → kindOutcome kind ≡ ok k
         → Number op → OperationFor Number w nodes' used row path k r → PerformIs w nodes' used row op r
-    of-kind k path e known number done =
+    of-known k path e known number done =
         perform-is (done .patch) λ v d short o l any.
         let t = told _ o (l .is) in
-        let found = kind-is .held (l .c) (l .kids) (l .held) in
-        let asked = t .kind in
+        let found = kind-is .is o l in
         let same : o .kind ≡ k = cc in
         done .bearing op number v d short o l (same, spelled-path (is .held (l .c) (l .kids) (l .held)) (t .path-there) e (t .path-is))
 
     -- no operation is of an unknown kind
     pub unknown : kindOutcome kind ≡ refused wrong-shape 0 → PerformIs w (w .nodes) used row op r
-    unknown known =
-        perform-is patch-same λ v d short o l any.
-        absurd (refused≢ok (sym known ∙ kind-is .held (l .c) (l .kids) (l .held) ∙ told _ o (l .is) .kind))
+    unknown known = perform-is patch-same (λ v d short o l any. absurd (refused≢ok (sym known ∙ kind-is .is o l)))
+
+  pub of-kind : {kind : Kind} → KindIs w row kind → {Number : ℕ → Type 0} {nodes' : List Row} (k : Operation.Kind) (path : Spelling) → s ≡ Spelled.As path
+      → kindOutcome kind ≡ ok k → Number op → OperationFor Number w nodes' used row path k r → PerformIs w nodes' used row op r
+  of-kind kind-is = of-known (record { is = λ o l. kind-is .held (l .c) (l .kids) (l .held) ∙ told _ o (l .is) .kind })
+
+-- the kind by the text of `op`
+op-told : (v : Plain.Value) {k : Operation.Kind} → kindOf v ≡ ok k → (stringMember (ascii "op") v >>= kindNamed) ≡ ok k
+unfolding kindOf
+op-told v {k} e = let (u, object, rest) = both-ok (require wrong-shape (isObject (v .label))) _ k e in rest
+
+module _ {w : Table} {row : ℕ} {s : Spelled} (is : StringIs w row (ascii "op") s) where
+  op-listed : {o : Operation.Operation} (l : Listed w row o) → (stringMember (ascii "op") (meant (w .texts) (l .c) (l .kids)) >>= kindNamed) ≡ ok (o .kind)
+  op-listed {o} l = op-told _ (told _ o (l .is) .kind)
+
+  pub op-missing : {used op : ℕ} {r : Performed} → s ≡ Spelled.Not → PerformIs w (w .nodes) used row op r
+  unfolding _>>=_
+  op-missing e =
+      perform-is patch-same λ v d short o l any.
+      let none = text-refused (is .held (l .c) (l .kids) (l .held)) e in
+      absurd (refused≢ok (rw none at (op-listed l)))
+
+  pub kind-listed : (word : Spelling) → s ≡ Spelled.As word → (kind : Kind) → kindOutcome kind ≡ kindNamed (spelled (w .texts) word) → KindListed w row kind
+  unfolding _>>=_
+  kind-listed word e kind known =
+      record { is = λ o l. known ∙ (rw (text-spelled (is .held (l .c) (l .kids) (l .held)) word e) at (op-listed l)) }

@@ -5,7 +5,7 @@ use mathlib.Core.Path.{_≡_}
 use mathlib.Core.List.{List, [], _∷_}
 use lib.ListN.{getD}
 use Rattle.spec.specs.Outcome.{Outcome, ok, _>>=_}
-use Rattle.spec.specs.Bytes.{Text}
+use Rattle.spec.specs.Bytes.{Text, ascii}
 use Rattle.spec.specs.Forest.{Forest, size}
 use Rattle.spec.specs.Value as Value
 use Rattle.spec.specs.Pointer.{Tokens}
@@ -25,6 +25,7 @@ use Rattle.table.specs.Sound.{NodeHeld}
 use Rattle.origin.specs.Value as Origin
 use Rattle.origin.specs.Value.{forget}
 use Rattle.origin.specs.Operation as Origins
+use Rattle.shape.specs.Members.{MemberIs, foundAt}
 use Rattle.walk.specs.Bearing.{borne}
 use Rattle.walk.specs.Names.{Short}
 use Rattle.walk.specs.Path.{PathIs}
@@ -109,6 +110,13 @@ OperationIs w nodes' used row path k r = OperationFor (λ op. Unit {0}) w nodes'
 
 abbrev pub CopyOperationIs : Table → List Row → ℕ → ℕ → Spelling → ℕ → Performed → Type 0
 CopyOperationIs w nodes' used row path origin r = OperationFor (λ op. op ≡ origin) w nodes' used row path Operation.copy r
+
+-- the same, given the row of `from`
+abbrev pub MoveGiven : Table → List Row → ℕ → ℕ → Spelling → Performed → Type 0
+MoveGiven w nodes' used at path r = (row : ℕ) → MemberIs w row (ascii "from") (foundAt at) → OperationIs w nodes' used row path Operation.move r
+
+abbrev pub CopyGiven : Table → List Row → ℕ → ℕ → Spelling → ℕ → Performed → Type 0
+CopyGiven w nodes' used at path origin r = (row : ℕ) → MemberIs w row (ascii "from") (foundAt at) → CopyOperationIs w nodes' used row path origin r
 
 -- any, of a number
 pub record PerformIs (w : Table) (nodes' : List Row) (used row op : ℕ) (r : Performed) : Type 0 where

@@ -9,66 +9,31 @@ use changes::change_at;
 use equality::compare;
 use shape::Kind;
 use shape::Spelled;
-use shape::kind_of;
-use shape::member;
-use shape::string_member;
+use shape::kind_named;
+use shape::members_of;
+use shape::string_in;
 use spec::limits;
 use spec::refusal;
-use table::find::Member;
 use tape::fields::Spelling;
 use tape::layout;
 use tape::layout::Node;
 use tape::layout::Texts;
 use walk::Reached;
 use walk::walk;
-ghost use mathlib.Core.Path.{_≡_};
-ghost use Rattle.spec.specs.Operation as Operation;
 ghost use Rattle.tape.specs.Lent.{before};
-ghost use Rattle.operations.specs.Perform.{OperationIs, CopyOperationIs, EqualToIs, PerformIs};
+ghost use Rattle.operations.specs.Perform.{MoveGiven, CopyGiven, EqualToIs, PerformIs};
 
-// RFC 6902, section 4.1: the value is added at `path`.
-fn add<'a>(
-    texts: Texts<'a>,
-    nodes: &mut [Node],
-    used: usize,
-    row: usize,
-    path: Spelling,
-) -> Performed
-    ensures { λ r. ⌜ OperationIs (before texts nodes) (now (nodes .exit)) used row path Operation.add r ⌝ }
-{
-    let Member::At(value) = member(texts, nodes, row, b"value") else {
-        return Performed::Refused(refusal::WRONG_SHAPE, 0, 0);
-    };
-    at_path(change_at(texts, nodes, used, path, Change::Add(value)))
-}
-
-// Section 4.3: the value at `path` is replaced.
-fn replace<'a>(
-    texts: Texts<'a>,
-    nodes: &mut [Node],
-    used: usize,
-    row: usize,
-    path: Spelling,
-) -> Performed
-    ensures { λ r. ⌜ OperationIs (before texts nodes) (now (nodes .exit)) used row path Operation.replace r ⌝ }
-{
-    let Member::At(value) = member(texts, nodes, row, b"value") else {
-        return Performed::Refused(refusal::WRONG_SHAPE, 0, 0);
-    };
-    at_path(change_at(texts, nodes, used, path, Change::Replace(value)))
-}
-
-// Section 4.4: the value at `from` is removed, then added at `path`.
+// RFC 6902, section 4.4: the value at `from` is removed, then added at `path`. The row of `from` is given.
 fn move_to<'a>(
     texts: Texts<'a>,
     nodes: &mut [Node],
     used: usize,
-    row: usize,
+    at: usize,
     path: Spelling,
 ) -> Performed
-    ensures { λ r. ⌜ OperationIs (before texts nodes) (now (nodes .exit)) used row path Operation.move r ⌝ }
+    ensures { λ r. ⌜ MoveGiven (before texts nodes) (now (nodes .exit)) used at path r ⌝ }
 {
-    let Spelled::As(from) = string_member(texts, nodes, row, b"from") else {
+    let Spelled::As(from) = string_in(nodes, at) else {
         return Performed::Refused(refusal::WRONG_SHAPE, 0, 0);
     };
     move_value(texts, nodes, used, from, path)
@@ -79,13 +44,13 @@ fn copy<'a>(
     texts: Texts<'a>,
     nodes: &mut [Node],
     used: usize,
-    row: usize,
+    at: usize,
     path: Spelling,
     op: u16,
 ) -> Performed
-    ensures { λ r. ⌜ CopyOperationIs (before texts nodes) (now (nodes .exit)) used row path op r ⌝ }
+    ensures { λ r. ⌜ CopyGiven (before texts nodes) (now (nodes .exit)) used at path op r ⌝ }
 {
-    let Spelled::As(from) = string_member(texts, nodes, row, b"from") else {
+    let Spelled::As(from) = string_in(nodes, at) else {
         return Performed::Refused(refusal::WRONG_SHAPE, 0, 0);
     };
     copy_value(texts, nodes, used, from, path, op)
@@ -113,24 +78,8 @@ fn equal_to<'a>(
     }
 }
 
-// Section 4.6: the value at `path` is compared with the operation's.
-fn test<'a>(
-    texts: Texts<'a>,
-    nodes: &[Node],
-    index: &mut [u16],
-    used: usize,
-    row: usize,
-    path: Spelling,
-) -> Performed
-    ensures { λ r. ⌜ OperationIs (before texts nodes) (now (nodes .entry)) used row path Operation.test r ⌝ }
-{
-    let Member::At(value) = member(texts, nodes, row, b"value") else {
-        return Performed::Refused(refusal::WRONG_SHAPE, 0, 0);
-    };
-    at_path(equal_to(texts, nodes, index, used, path, value))
-}
-
-// The operation in a row of the patch, and its number in the run: a copy bears it.
+// The operation in a row of the patch, and its number in the run: a copy bears it. RFC 6902, section 4. In a patch of
+// the right shape, an operation has each member that its kind uses.
 pub fn perform<'a>(
     texts: Texts<'a>,
     nodes: &mut [Node],
@@ -141,17 +90,28 @@ pub fn perform<'a>(
 ) -> Performed
     ensures { λ r. ⌜ PerformIs (before texts nodes) (now (nodes .exit)) used row op r ⌝ }
 {
-    let Spelled::As(path) = string_member(texts, nodes, row, b"path") else {
+    let members = members_of(texts, nodes, row);
+    let Spelled::As(path) = string_in(nodes, members.path) else {
         return Performed::Refused(refusal::WRONG_SHAPE, 0, 0);
     };
-    let kind = kind_of(texts, nodes, row);
+    let Spelled::As(word) = string_in(nodes, members.op) else {
+        return Performed::Refused(refusal::WRONG_SHAPE, 0, 0);
+    };
+    let kind = kind_named(texts, word);
+    let value = members.value;
     match kind {
-        Kind::Add => return add(texts, nodes, used, row, path),
+        Kind::Add => return at_path(change_at(texts, nodes, used, path, Change::Add(value))),
         Kind::Remove => return at_path(change_at(texts, nodes, used, path, Change::Remove)),
-        Kind::Replace => return replace(texts, nodes, used, row, path),
-        Kind::Move => return move_to(texts, nodes, used, row, path),
-        Kind::Copy => return copy(texts, nodes, used, row, path, op),
-        Kind::Test => return test(texts, nodes, index, used, row, path),
+        Kind::Replace => return at_path(change_at(
+            texts,
+            nodes,
+            used,
+            path,
+            Change::Replace(value),
+        )),
+        Kind::Move => return move_to(texts, nodes, used, members.from, path),
+        Kind::Copy => return copy(texts, nodes, used, members.from, path, op),
+        Kind::Test => return at_path(equal_to(texts, nodes, index, used, path, value)),
         Kind::Unknown => return Performed::Refused(refusal::WRONG_SHAPE, 0, 0),
     }
 }

@@ -3,7 +3,7 @@ use Prim.Native.Nat.{ℕ, _<_}
 use native.Mathlib.Omega.{arith}
 use mathlib.Core.Path.{_≡_, refl, sym, ap, _∙_}
 use mathlib.Core.Bool.{Bool, true, false}
-use mathlib.Core.List.{List, []}
+use mathlib.Core.List.{[]}
 use lib.Dec.{eqb}
 use lib.ListN.{getD}
 use borrow.Author.Tests.{eq-eqb, ne-eqb}
@@ -18,7 +18,7 @@ use Rattle.spec.specs.Pointer.{tokens}
 use Rattle.spec.specs.Patch.{member, stringMember, kindNamed, usesValue, usesFrom, isMove}
 use Rattle.spec.specs.Patch.{OperationMembers, valueFor, fromFor, membersFor, operationMembers, withPointers, operation}
 use Rattle.spec.proofs.OutcomeLaws.{>>=-assoc}
-use Rattle.text.specs.Decode.{decode, decodeFrom, decodeLoop, textOf, textFrom}
+use Rattle.text.specs.Decode.{decode}
 use Rattle.pointer.specs.Tokens.{accepted}
 use Rattle.pointer.specs.Prefix.{PrefixOf}
 use Rattle.pointer.proofs.AcceptLaws.{accepted-ok, not-accepted}
@@ -31,17 +31,15 @@ use Rattle.tape.proofs.Held.{held-node}
 use Rattle.table.specs.Meaning.{partOf, spelled, meant}
 use Rattle.table.specs.Sound.{NodeHeld}
 use Rattle.table.proofs.MeaningLaws.{isObject-label}
-use Rattle.table.specs.declared.find.Member.{Member}
-use Rattle.table.specs.declared.find.Member.the-variants as Member
 use Rattle.shape.specs.Kinds.{kindOutcome}
-use Rattle.shape.specs.Members.{Sought, textOutcome, TextIs, StringIs}
+use Rattle.shape.specs.Members.{Sought, foundAt, textOutcome, TextIs, StringIs}
 use Rattle.shape.specs.Operation as OperationNumber
 use Rattle.shape.specs.Operation.{Answers, right, wrong, kindOf, KindRows, no-object, object, KindIs, OthersAre, MembersAre}
 use Rattle.shape.specs.declared.kinds.Kind.{Kind}
 use Rattle.shape.specs.declared.kinds.Kind.the-variants as Kind
 use Rattle.shape.specs.declared.members.Spelled.{Spelled}
 use Rattle.shape.specs.declared.members.Spelled.the-variants as Spelled
-use Rattle.shape.proofs.MemberLaws.{sought-missing, sought-at}
+use Rattle.shape.proofs.MemberLaws.{found-none, found-row, sought-missing, sought-at}
 use Rattle.tape.specs.Lent.{Texts, Table}
 
 -- the answer 0 is a result, and any other a refusal
@@ -111,25 +109,25 @@ module _ (k : Operation.Kind) (v : Value.Value) where
   unfolding valueFor
   value-unused e = rw e (right _)
 
-  module _ {w : Table} {row : ℕ} {r : Member} (used : usesValue k ≡ true) (s : Sought w row (ascii "value") v r) where
+  module _ {w : Table} {row : ℕ} (value : ℕ) (used : usesValue k ≡ true) (s : Sought w row (ascii "value") v (foundAt value)) where
     value-is : valueFor k v ≡ member (ascii "value") v
     unfolding valueFor
     value-is = rw used
 
-    pub value-missing : r ≡ Member.Missing → Answers (valueFor k v) 8
-    value-missing e = rw (value-is, sought-missing e s) (wrong 8 (omega arith))
+    pub value-missing : value ≡ 0 → Answers (valueFor k v) 8
+    value-missing e = rw (value-is, sought-missing (found-none value e) s) (wrong 8 (omega arith))
 
-    pub value-there : (at : ℕ) → r ≡ Member.At at → Answers (valueFor k v) 0
-    value-there at e = let (c, kids, l, few, n, is) = sought-at at e s in rw (value-is, is) (right _)
+    pub value-there : (value ≡ 0 → ⊥) → Answers (valueFor k v) 0
+    value-there d = let (c, kids, l, few, n, is) = sought-at value (found-row value d) s in rw (value-is, is) (right _)
 
-  -- ---- `from`: no text spells the empty one
-  pub from-unused : {T : Texts} → usesFrom k ≡ false → TextIs T (fromFor k v) (Spelled.As (record { form = 0; source = 0; start = 0; length = 0 }))
-  unfolding fromFor textOutcome spelled textOf textFrom partOf decode decodeFrom decodeLoop
-  from-unused e = rw e (record { text = refl; decoded = refl })
-
-  pub from-used : {T : Texts} {r : Spelled} → usesFrom k ≡ true → TextIs T (stringMember (ascii "from") v) r → TextIs T (fromFor k v) r
+  -- ---- `from`: where it is not used, the empty text
+  pub from-none : usesFrom k ≡ false → fromFor k v ≡ ok []
   unfolding fromFor
-  from-used e is = rw e is
+  from-none e = rw e
+
+  pub from-text : {T : Texts} {r : Spelled} → usesFrom k ≡ true → TextIs T (stringMember (ascii "from") v) r → TextIs T (fromFor k v) r
+  unfolding fromFor
+  from-text e is = rw e is
 
 -- ---- the pointers
 -- a part that is and that is not a pointer, as the code tests it
@@ -170,6 +168,21 @@ module _ (m : OperationMembers) where
             let (us, p) = accepted-ok _ path in
             let (ts, f) = accepted-ok _ from in
             rw (p, f, moves, ← is .right ts us f p) (right _)
+
+-- a path alone: no operation without `from` moves
+no-from-no-move : (k : Operation.Kind) → usesFrom k ≡ false → isMove k ≡ false
+unfolding usesFrom isMove
+no-from-no-move Operation.add e = refl
+no-from-no-move Operation.remove e = refl
+no-from-no-move Operation.replace e = refl
+no-from-no-move Operation.move e = e
+no-from-no-move Operation.copy e = refl
+no-from-no-move Operation.test e = refl
+
+pub path-alone : (k : Operation.Kind) (path : Text) (value : Value.Value) → usesFrom k ≡ false → accepted (tokens path) ≡ true
+    → Answers (withPointers (record { kind = k; path = path; from = []; value = value })) 0
+unfolding accepted tokens
+path-alone k path value e is = no-move _ is refl (no-from-no-move k e)
 
 -- ---- all members of an operation of a kind
 module _ (k : Operation.Kind) (v : Value.Value) where

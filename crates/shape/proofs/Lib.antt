@@ -1,4 +1,5 @@
 pub mod KindLaws
 pub mod MemberLaws
+pub mod PassLaws
 pub mod AnswerLaws
 pub mod RunLaws

@@ -5,7 +5,7 @@ use mathlib.Core.Path.{_≡_, refl, sym, ap, _∙_, subst}
 use mathlib.Core.Bool.{Bool, true, false}
 use mathlib.Core.List.{List, []}
 use lib.Dec.{eqb}
-use lib.ListN.{length, getD}
+use lib.ListN.{length, getD, List·getD-eq-default}
 use borrow.Author.Tests.{lt-ltb, le-ltb, eq-eqb, ne-eqb, eqb-true, eqb-false}
 use Rattle.spec.specs.Outcome.{Outcome, ok, refused, _>>=_}
 use Rattle.spec.specs.Refusal.{wrong-shape}
@@ -35,7 +35,7 @@ use Rattle.table.specs.declared.find.Member.the-variants as Member
 use Rattle.table.proofs.AllLaws.{all-first, all-kids, all-nth}
 use Rattle.table.proofs.MeaningLaws.{isString-label}
 use Rattle.table.proofs.Search.{finds-ascii}
-use Rattle.shape.specs.Members.{Sought, found, missing, MemberIs, textOutcome, TextIs, stringIn, stringAt, StringIs}
+use Rattle.shape.specs.Members.{Sought, found, missing, MemberIs, foundAt, textOutcome, TextIs, stringIn, stringAt, StringIs}
 use Rattle.shape.specs.declared.members.Spelled.{Spelled}
 use Rattle.shape.specs.declared.members.Spelled.the-variants as Spelled
 use Rattle.tape.specs.Lent.{Texts, Table}
@@ -174,6 +174,36 @@ module _ {w : Table} {at : ℕ} {e : Cell} {below : Forest Cell} (n : NodeHeld w
           subst (TextIs (w .texts) t) (sym (none-in _ (λ k. d (sym (kind-here node) ∙ k))))
           (text-not (is ∙ other-label (w .texts) (e .kind) (e .value) (formed-fit (n .held .formed) .kind) d))
 
+-- ---- a row that is 0 where there is no member
+pub found-none : (at : ℕ) → at ≡ 0 → foundAt at ≡ Member.Missing
+unfolding foundAt
+found-none at e = rw e
+
+pub found-row : (at : ℕ) → (at ≡ 0 → ⊥) → foundAt at ≡ Member.At at
+unfolding foundAt
+found-row zero d = absurd (d refl)
+found-row (suc at) d = refl
+
+module _ (nodes : List Row) (at : ℕ) where
+  pub in-none : at ≡ 0 → Spelled.Not ≡ stringAt nodes (foundAt at)
+  unfolding stringAt
+  in-none e = sym (ap (stringAt nodes) (found-none at e))
+
+  in-row : (at ≡ 0 → ⊥) → stringAt nodes (foundAt at) ≡ stringIn (getD nodes at [])
+  unfolding stringAt
+  in-row d = ap (stringAt nodes) (found-row at d)
+
+  module _ (d : at ≡ 0 → ⊥) where
+    pub in-out : length nodes ≤ at → Spelled.Not ≡ stringAt nodes (foundAt at)
+    unfolding stringIn
+    in-out h = sym (in-row d ∙ ap stringIn (List·getD-eq-default nodes [] h))
+
+    pub in-other : (kindOf (getD nodes at []) ≡ 4 → ⊥) → Spelled.Not ≡ stringAt nodes (foundAt at)
+    in-other k = sym (in-row d ∙ none-in _ k)
+
+    pub in-string : {s : Spelling} → kindOf (getD nodes at []) ≡ 4 → s ≡ valueOf (getD nodes at []) → Spelled.As s ≡ stringAt nodes (foundAt at)
+    in-string k e = ap Spelled.As e ∙ sym (in-row d ∙ string-in _ k)
+
 sought-text : {w : Table} {row : ℕ} {name : Text} {v : Value.Value} {m : Member} → Sought w row name v m
     → TextIs (w .texts) (stringMember name v) (stringAt (w .nodes) m)
 unfolding stringAt
@@ -182,7 +212,7 @@ sought-text {name = name} {v} (missing e) = text-not (string-none name v e)
 
 -- each way out of `string_member`
 module _ {w : Table} {row : ℕ} {name : Text} {m : Member} (is : MemberIs w row name m) where
-  string-is : {r : Spelled} → r ≡ stringAt (w .nodes) m → StringIs w row name r
+  pub string-is : {r : Spelled} → r ≡ stringAt (w .nodes) m → StringIs w row name r
   string-is {r} e =
       record {
         at = m;

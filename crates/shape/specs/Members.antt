@@ -1,27 +1,30 @@
 -- What a search for a member of an operation answers.
-use Prim.Native.Nat.{ℕ, _+_, _<_, _≤_}
+use Prim.Native.Nat.{ℕ, zero, suc, _+_, _<_, _≤_}
 use mathlib.Core.Path.{_≡_}
 use mathlib.Core.List.{List, []}
 use lib.Dec.{eqb}
 use lib.ListN.{getD}
 use Rattle.spec.specs.Outcome.{Outcome, ok, refused, if_then_else_}
 use Rattle.spec.specs.Refusal.{wrong-shape}
-use Rattle.spec.specs.Bytes.{Text}
+use Rattle.spec.specs.Bytes.{Text, ascii}
 use Rattle.spec.specs.Forest.{Forest, size}
 use Rattle.spec.specs.Value as Value
 use Rattle.spec.specs.Patch.{member, stringMember}
+use Rattle.lexer.specs.Hash.{hash}
 use Rattle.text.specs.Decode.{decode}
 use Rattle.tape.specs.Layout.{stringKind}
 use Rattle.tape.specs.Fields.{Row, kindOf, valueOf}
 use Rattle.tape.specs.declared.fields.Spelling.{Spelling}
+use Rattle.tape.specs.declared.fields.Name.{Name}
 use Rattle.tape.specs.declared.fields.Cell.{Cell}
 use Rattle.tape.specs.Rows.{endOf}
 use Rattle.tape.specs.Lent.{Texts, Table}
-use Rattle.table.specs.Meaning.{partOf, spelled, meant}
+use Rattle.table.specs.Meaning.{partOf, spelled, meant, shortHash}
 use Rattle.table.specs.Sound.{NodeHeld, ForHeld}
-use Rattle.table.specs.Find.{FindAsciiIs}
+use Rattle.table.specs.Find.{isNamed, FindAsciiIs}
 use Rattle.table.specs.declared.find.Member.{Member}
 use Rattle.table.specs.declared.find.Member.the-variants as Member
+use Rattle.shape.specs.declared.all_members.Members.{Members}
 use Rattle.shape.specs.declared.members.Spelled.{Spelled}
 use Rattle.shape.specs.declared.members.Spelled.the-variants as Spelled
 
@@ -41,6 +44,35 @@ pub record MemberIs (w : Table) (row : ℕ) (name : Text) (r : Member) : Type 0 
   pub rows : FindAsciiIs w (row + 1) (endOf (w .nodes) row) name r
   pub held : ForMeant w row λ v. Sought w row name v r
 
+-- a row that is 0 where there is no member: row 0 is the document's root
+unfoldable pub foundAt : ℕ → Member
+foundAt zero = Member.Missing
+foundAt (suc row) = Member.At (suc row)
+
+-- the four members that an operation may have, each found by its name
+pub record MembersFound (w : Table) (row : ℕ) (r : Members) : Type 0 where
+  pub op : MemberIs w row (ascii "op") (foundAt (r .op))
+  pub path : MemberIs w row (ascii "path") (foundAt (r .path))
+  pub value : MemberIs w row (ascii "value") (foundAt (r .value))
+  pub from : MemberIs w row (ascii "from") (foundAt (r .from))
+
+-- ---- one row of the pass: what was found before, and otherwise this row if it has the name
+unfoldable pub noted : Texts → Name → ℕ → ℕ → ℕ → Text → ℕ
+noted texts own at soFar h name = if eqb soFar 0 then (if isNamed texts own h name then at else 0) else soFar
+
+abbrev pub notedName : Texts → Name → ℕ → ℕ → Text → ℕ
+notedName texts own at soFar name = noted texts own at soFar (shortHash (hash name)) name
+
+abbrev pub allNoted : Texts → Name → ℕ → Members → Members
+allNoted texts own at m =
+    record {
+      op = notedName texts own at (m .op) (ascii "op");
+      path = notedName texts own at (m .path) (ascii "path");
+      value = notedName texts own at (m .value) (ascii "value");
+      from = notedName texts own at (m .from) (ascii "from");
+    }
+
+-- ---- a string
 -- a string by where it stands, given what stands there
 unfoldable pub textOutcome : (Spelling → Text) → Spelled → Outcome Text
 textOutcome text (Spelled.As spelling) = ok (text spelling)

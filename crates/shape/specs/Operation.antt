@@ -1,16 +1,16 @@
 -- What the code answers of one operation, by the definitions of Patch.
 use Prim.Native.Nat.{ℕ, _<_}
 use mathlib.Core.Path.{_≡_}
-use mathlib.Core.Bool.{Bool}
-use mathlib.Core.List.{List, []}
+use mathlib.Core.Bool.{Bool, false}
+use mathlib.Core.List.{[]}
 use lib.ListN.{getD}
 use Rattle.spec.specs.Outcome.{Outcome, ok, refused, _>>=_, require}
 use Rattle.spec.specs.Refusal.{wrong-shape, malformed-pointer, move-into-child}
-use Rattle.spec.specs.Bytes.{Bytes, ascii}
+use Rattle.spec.specs.Bytes.{ascii}
 use Rattle.spec.specs.Value as Value
 use Rattle.spec.specs.Value.{isObject}
 use Rattle.spec.specs.Operation as Operation
-use Rattle.spec.specs.Patch.{stringMember, kindNamed, usesValue, usesFrom, isMove, valueFor, fromFor, membersFor, withPointers, operation}
+use Rattle.spec.specs.Patch.{stringMember, kindNamed, usesValue, usesFrom, isMove, valueFor, membersFor, withPointers, operation}
 use Rattle.text.specs.Decode.{decode}
 use Rattle.tape.specs.Layout.{objectKind}
 use Rattle.tape.specs.Fields as Fields
@@ -18,7 +18,8 @@ use Rattle.tape.specs.declared.fields.Spelling.{Spelling}
 use Rattle.tape.specs.Lent.{Texts, Table}
 use Rattle.table.specs.Meaning.{partOf, spelled}
 use Rattle.shape.specs.Kinds.{kindOutcome}
-use Rattle.shape.specs.Members.{ForMeant, textOutcome, TextIs, StringIs}
+use Rattle.shape.specs.Members.{ForMeant, MemberIs, foundAt, MembersFound, textOutcome, StringIs}
+use Rattle.shape.specs.declared.all_members.Members.{Members}
 use Rattle.shape.specs.declared.kinds.Kind.{Kind}
 use Rattle.shape.specs.declared.members.Spelled.{Spelled}
 
@@ -53,13 +54,20 @@ pub data OperationNumber : ℕ → Type 0 where
   pointer : OperationNumber malformed-pointer
   into-child : OperationNumber move-into-child
 
--- ---- the steps: which number is answered of a table that holds no node in the row is free
-pub record ValueIs (w : Table) (row : ℕ) (used : Bool) (r : ℕ) : Type 0 where
-  pub number : OperationNumber r
-  pub held : (k : Operation.Kind) → used ≡ usesValue k → ForMeant w row λ v. Answers (valueFor k v) r
+-- ---- the steps, given the rows of the members: which number is answered of a table that holds no node in the row is free
+abbrev pub KindGiven : Table → ℕ → ℕ → Kind → Type 0
+KindGiven w row op r = MemberIs w row (ascii "op") (foundAt op) → KindIs w row r
 
-abbrev pub FromIs : Table → ℕ → Bool → Spelled → Type 0
-FromIs w row used r = (k : Operation.Kind) → used ≡ usesFrom k → ForMeant w row λ v. TextIs (w .texts) (fromFor k v) r
+pub record ValueIs (value : ℕ) (used : Bool) (r : ℕ) : Type 0 where
+  pub number : OperationNumber r
+  pub held : (k : Operation.Kind) → used ≡ usesValue k → (w : Table) (row : ℕ) → MemberIs w row (ascii "value") (foundAt value)
+      → ForMeant w row λ v. Answers (valueFor k v) r
+
+-- a path without `from`, as it stands in a string; the value is free
+pub record OnlyPathIs (T : Texts) (path : Spelling) (r : ℕ) : Type 0 where
+  pub number : OperationNumber r
+  pub held : (k : Operation.Kind) → usesFrom k ≡ false → (value : Value.Value) →
+      Answers (withPointers (record { kind = k; path = decode (partOf T path); from = []; value = value })) r
 
 -- the pointers as they stand in strings; the value is free
 pub record PointersAre (T : Texts) (moves : Bool) (path from : Spelling) (r : ℕ) : Type 0 where
@@ -76,6 +84,12 @@ pub record OthersAre (w : Table) (row : ℕ) (kind : Kind) (path : Spelling) (r 
 pub record MembersAre (w : Table) (row : ℕ) (kind : Kind) (r : ℕ) : Type 0 where
   pub number : OperationNumber r
   pub held : (k : Operation.Kind) → Knows kind k → ForMeant w row λ v. Answers (membersFor k v >>= withPointers) r
+
+abbrev pub OthersGiven : Table → Members → Kind → Spelling → ℕ → Type 0
+OthersGiven w found kind path r = (row : ℕ) → MembersFound w row found → OthersAre w row kind path r
+
+abbrev pub MembersGiven : Table → Members → Kind → ℕ → Type 0
+MembersGiven w found kind r = (row : ℕ) → MembersFound w row found → MembersAre w row kind r
 
 pub record OperationIs (w : Table) (row r : ℕ) : Type 0 where
   pub number : OperationNumber r

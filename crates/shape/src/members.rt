@@ -8,8 +8,9 @@ use tape::layout;
 use tape::layout::Node;
 use tape::layout::Texts;
 use tape::nodes::end_of;
+ghost use mathlib.Core.Path.{_≡_};
 ghost use Rattle.tape.specs.Lent.{before};
-ghost use Rattle.shape.specs.Members.{MemberIs, StringIs};
+ghost use Rattle.shape.specs.Members.{MemberIs, StringIs, foundAt, stringAt};
 
 // A string by where it stands.
 pub enum Spelled {
@@ -36,6 +37,23 @@ pub fn string_member<'a>(texts: Texts<'a>, nodes: &[Node], row: usize, name: &[u
     let Member::At(at) = member(texts, nodes, row, name) else {
         return Spelled::Not;
     };
+    let node = nodes[at];
+    if kind_in(node[layout::TAGS]) != layout::STRING {
+        return Spelled::Not;
+    }
+    Spelled::As(value_of(node))
+}
+
+// The string in the row of a member, which is 0 where there is none.
+pub fn string_in(nodes: &[Node], at: usize) -> Spelled
+    ensures { λ r. ⌜ r ≡ stringAt (now (nodes .entry)) (foundAt at) ⌝ }
+{
+    if at == 0 {
+        return Spelled::Not;
+    }
+    if nodes.len() <= at {
+        return Spelled::Not;
+    }
     let node = nodes[at];
     if kind_in(node[layout::TAGS]) != layout::STRING {
         return Spelled::Not;

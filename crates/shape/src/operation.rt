@@ -1,14 +1,14 @@
 // One operation: its members, then its pointers. A function that answers a number answers 0 where nothing is refused.
+use crate::all_members::Members;
+use crate::all_members::members_of;
 use crate::kinds::Kind;
 use crate::kinds::kind_named;
 use crate::kinds::uses_of;
 use crate::members::Spelled;
-use crate::members::member;
-use crate::members::string_member;
+use crate::members::string_in;
 use pointer::is_pointer;
 use pointer::proper_prefix;
 use spec::refusal;
-use table::find::Member;
 use table::spellings::part;
 use tape::fields::Spelling;
 use tape::layout;
@@ -16,47 +16,51 @@ use tape::layout::Node;
 use tape::layout::Texts;
 use tape::nodes::kind;
 ghost use Rattle.tape.specs.Lent.{lent, before};
-ghost use Rattle.shape.specs.Operation.{KindIs, ValueIs, FromIs, PointersAre, OthersAre, MembersAre, OperationIs};
+ghost use Rattle.shape.specs.Operation.{KindIs, KindGiven, ValueIs, OnlyPathIs, PointersAre};
+ghost use Rattle.shape.specs.Operation.{OthersAre, OthersGiven, MembersGiven, OperationIs};
+
+// The kind of the operation in a row, given the row of its `op`.
+fn kind_at<'a>(texts: Texts<'a>, nodes: &[Node], row: usize, op: usize) -> Kind
+    ensures { λ r. ⌜ KindGiven (before texts nodes) row op r ⌝ }
+{
+    if kind(nodes, row) != layout::OBJECT {
+        return Kind::Unknown;
+    }
+    let Spelled::As(word) = string_in(nodes, op) else {
+        return Kind::Unknown;
+    };
+    kind_named(texts, word)
+}
 
 // The kind of the operation in a row. It is known only of an object with an `op` that names one.
 pub fn kind_of<'a>(texts: Texts<'a>, nodes: &[Node], row: usize) -> Kind
     ensures { λ r. ⌜ KindIs (before texts nodes) row r ⌝ }
 {
-    if kind(nodes, row) != layout::OBJECT {
-        return Kind::Unknown;
-    }
-    let Spelled::As(op) = string_member(texts, nodes, row, b"op") else {
-        return Kind::Unknown;
-    };
-    kind_named(texts, op)
+    kind_at(texts, nodes, row, members_of(texts, nodes, row).op)
 }
 
 // Refused where a value is used and there is none.
-fn value_number<'a>(texts: Texts<'a>, nodes: &[Node], row: usize, used: bool) -> u8
-    ensures { λ r. ⌜ ValueIs (before texts nodes) row used r ⌝ }
+fn value_number(value: usize, used: bool) -> u8
+    ensures { λ r. ⌜ ValueIs value used r ⌝ }
 {
     if !used {
         return 0;
     }
-    let Member::At(_) = member(texts, nodes, row, b"value") else {
+    if value == 0 {
         return refusal::WRONG_SHAPE;
-    };
+    }
     0
 }
 
-// Where `from` stands, and an empty text where it is not used.
-fn from_of<'a>(texts: Texts<'a>, nodes: &[Node], row: usize, used: bool) -> Spelled
-    ensures { λ r. ⌜ FromIs (before texts nodes) row used r ⌝ }
+// Refused where `path` is no pointer, of an operation that uses no `from`.
+fn path_number<'a>(texts: Texts<'a>, path: Spelling) -> u8
+    ensures { λ r. ⌜ OnlyPathIs (lent texts) path r ⌝ }
 {
-    if !used {
-        return Spelled::As(Spelling {
-            form: layout::NO_TEXT,
-            source: 0,
-            start: 0,
-            length: 0,
-        });
+    let to = part(texts, path);
+    if !is_pointer(to) {
+        return refusal::MALFORMED_POINTER;
     }
-    string_member(texts, nodes, row, b"from")
+    0
 }
 
 // Refused where `path` or `from` is no pointer, or a move leads into what it moves.
@@ -80,8 +84,32 @@ fn pointers_number<'a>(texts: Texts<'a>, moves: bool, path: Spelling, from: Spel
     0
 }
 
-// Refused where another member than `op` and `path` is wrong, or a pointer is, of an operation of a kind whose `path`
-// is given.
+// Refused where another member than `op` and `path` is wrong, or a pointer is, of an operation of a kind whose members
+// and `path` are given.
+fn others_in<'a>(
+    texts: Texts<'a>,
+    nodes: &[Node],
+    members: Members,
+    kind: Kind,
+    path: Spelling,
+) -> u8
+    ensures { λ r. ⌜ OthersGiven (before texts nodes) members kind path r ⌝ }
+{
+    let uses = uses_of(kind);
+    let number = value_number(members.value, uses.value);
+    if number != 0 {
+        return number;
+    }
+    if !uses.from {
+        return path_number(texts, path);
+    }
+    let Spelled::As(from) = string_in(nodes, members.from) else {
+        return refusal::WRONG_SHAPE;
+    };
+    pointers_number(texts, uses.moves, path, from)
+}
+
+// The same, of the operation in a row.
 pub fn others_number<'a>(
     texts: Texts<'a>,
     nodes: &[Node],
@@ -91,34 +119,27 @@ pub fn others_number<'a>(
 ) -> u8
     ensures { λ r. ⌜ OthersAre (before texts nodes) row kind path r ⌝ }
 {
-    let uses = uses_of(kind);
-    let number = value_number(texts, nodes, row, uses.value);
-    if number != 0 {
-        return number;
-    }
-    let Spelled::As(from) = from_of(texts, nodes, row, uses.from) else {
-        return refusal::WRONG_SHAPE;
-    };
-    pointers_number(texts, uses.moves, path, from)
+    others_in(texts, nodes, members_of(texts, nodes, row), kind, path)
 }
 
-// Refused where another member than `op` is wrong, or a pointer is, of an operation of a kind.
-fn members_number<'a>(texts: Texts<'a>, nodes: &[Node], row: usize, kind: Kind) -> u8
-    ensures { λ r. ⌜ MembersAre (before texts nodes) row kind r ⌝ }
+// Refused where another member than `op` is wrong, or a pointer is, of an operation of a kind whose members are given.
+fn members_number<'a>(texts: Texts<'a>, nodes: &[Node], members: Members, kind: Kind) -> u8
+    ensures { λ r. ⌜ MembersGiven (before texts nodes) members kind r ⌝ }
 {
-    let Spelled::As(path) = string_member(texts, nodes, row, b"path") else {
+    let Spelled::As(path) = string_in(nodes, members.path) else {
         return refusal::WRONG_SHAPE;
     };
-    others_number(texts, nodes, row, kind, path)
+    others_in(texts, nodes, members, kind, path)
 }
 
 // Refused where the operation in a row is malformed.
 pub fn operation_number<'a>(texts: Texts<'a>, nodes: &[Node], row: usize) -> u8
     ensures { λ r. ⌜ OperationIs (before texts nodes) row r ⌝ }
 {
-    let kind = kind_of(texts, nodes, row);
+    let members = members_of(texts, nodes, row);
+    let kind = kind_at(texts, nodes, row, members.op);
     if !uses_of(kind).known {
         return refusal::WRONG_SHAPE;
     }
-    members_number(texts, nodes, row, kind)
+    members_number(texts, nodes, members, kind)
 }

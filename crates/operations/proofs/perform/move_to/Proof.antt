@@ -1,21 +1,18 @@
 -- `move_to` meets its contract: an operation that moves has a `from`.
-use native.Mathlib.Omega.{arith}
-use borrow.Author.Needs.{needs}
-use Rattle.spec.specs.Bytes.{ascii}
 use mathlib.Core.Path.{refl}
+use borrow.Author.Needs.{needs}
 use Rattle.spec.specs.Patch.{usesFrom}
+use Rattle.shape.proofs.MemberLaws.{string-is}
 use Rattle.operations.proofs.PerformLaws.{from-missing, move-done}
 use Rattle.operations.proofs.perform.move_to.Statement.{statement}
 use Rattle.operations.proofs.perform.move_to.Tie as tie
 
 pub move-to-spec : {M : Type 1} → statement M
-unfolding ascii usesFrom
+unfolding usesFrom
 move-to-spec =
     tie.close
     (tie.spec
-    -- slice-aggregate-string-member
-    (λ c. search needs)
-    -- string-member-requires
+    -- string-in-requires
     (λ c κs. search needs)
     -- enum-known-from
     (λ c. search needs)
@@ -24,11 +21,15 @@ move-to-spec =
     -- same-length
     (λ c. search needs)
     -- returns
-    (λ c. from-missing (c .before .before .string-member .ensures) refl (c .enum-told .given .1))
+    (λ c. λ row is. from-missing (string-is is (c .before .before .string-in .ensures)) refl (c .enum-told .given .1))
     -- move-value-requires
     (λ c κs. search needs)
     -- same-length-2
     (λ c. search needs)
     -- returns-2
-    (λ c. move-done (c .before .before .before .before .before .before .string-member .ensures) _ (c .before .before .before .before .from .given .1)
-    (c .before .move-value .ensures)))
+    (λ c.
+    let at-move-value = c .before in
+    let at-from = at-move-value .before .before .before in
+    let at-string-in = at-from .before .before in
+    λ row is. move-done (string-is is (at-string-in .string-in .ensures)) _ (at-from .from .given .1)
+    (at-move-value .move-value .ensures)))

@@ -14,26 +14,34 @@ pub operation-number-spec : {M : Type 1} → statement M
 operation-number-spec =
     tie.close
     (tie.spec
-    -- kind-of-requires
+    -- members-of-requires
+    (λ c κs. search needs)
+    -- kind-at-requires
     (λ c κs. search needs)
     -- uses-of-requires
     (λ c κs. search needs)
     -- returns
-    (λ c. record {
+    (λ c.
+    let at-uses-of = c .before .before in
+    let at-kind-at = at-uses-of .before in
+    let at-members-of = at-kind-at .before in
+    record {
       number = Operation.shape;
-      held = λ e kids n. kind-refused _ (c .before .before .before .kind-of .ensures .held e kids n)
-          (not-known _ (sym (ap (λ (u : Uses). u .known) (c .before .before .uses-of .ensures)) ∙ not-true _ (c .if1 .taken)));
+      held = λ e kids n. kind-refused _ (at-kind-at .kind-at .ensures (at-members-of .members-of .ensures .op) .held e kids n)
+          (not-known _ (sym (ap (λ (u : Uses). u .known) (at-uses-of .uses-of .ensures)) ∙ not-true _ (c .if1 .taken)));
     })
     -- members-number-requires
     (λ c κs. search needs)
     -- returns-2
     (λ c.
-    let kind-of = c .before .before .before .before .kind-of in
-    let uses-of = c .before .before .before .uses-of in
-    let members-number = c .members-number in
+    let at-if1 = c .before in
+    let at-uses-of = at-if1 .before .before in
+    let at-kind-at = at-uses-of .before in
+    let at-members-of = at-kind-at .before in
     record {
-      number = members-number .ensures .number;
+      number = c .members-number .ensures _ (at-members-of .members-of .ensures) .number;
       held = λ e kids n.
-          let (k, known) = accepted-ok _ (sym (ap (λ (u : Uses). u .known) (uses-of .ensures)) ∙ not-false _ (c .before .if1 .left)) in
-          kind-known _ (kind-of .ensures .held e kids n) known (members-number .ensures .held k (record { is = known }) e kids n);
+          let (k, known) = accepted-ok _ (sym (ap (λ (u : Uses). u .known) (at-uses-of .uses-of .ensures)) ∙ not-false _ (at-if1 .if1 .left)) in
+          kind-known _ (at-kind-at .kind-at .ensures (at-members-of .members-of .ensures .op) .held e kids n) known
+          (c .members-number .ensures _ (at-members-of .members-of .ensures) .held k (record { is = known }) e kids n);
     }))
