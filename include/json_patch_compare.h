@@ -38,7 +38,7 @@ typedef struct json_patch_comparison {
  * which is also found->number; a 0 says that both were read, and found->equal
  * whether they are equal.
  *
- * names counts as document 02 does: the first text's members lead, in order, each
+ * names counts as SPECIFICATION 17 does: the first text's members lead, in order, each
  * against the second one's names from the first until one matches, their two
  * values then at once; all stops at the first difference; unequal member counts
  * or array lengths differ without a comparison. For values of a and b nodes it is

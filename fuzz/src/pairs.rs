@@ -1,4 +1,4 @@
-//! Two patches in a row are one, on the library: document 02, T-13.
+//! Two patches in a row are one, on the library: SPECIFICATION 11, T-13.
 
 use crate::judge::{Fault, Judge};
 use crate::{crash, lending, Options};

@@ -571,7 +571,7 @@ def compare(first: Bytes, second: Bytes) -> Compared:
     """Compares the values of two texts, as a test in a patch does: numbers by exact
     value, strings by their unescaped text, members in any order.
 
-    The count is that of document 02: the first one's members in order, each against
+    The count is that of SPECIFICATION 17: the first one's members in order, each against
     the second one's names from the first until one matches; all stops at the first
     difference. For values of a and b nodes it is at most a times b.
 

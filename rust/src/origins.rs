@@ -1,5 +1,5 @@
 //! Which operation put this here? Patches applied with the origins of the result's
-//! values listed: document 02, T-11.
+//! values listed: SPECIFICATION 19, T-11.
 //!
 //! ```
 //! # fn main() -> Result<(), json_patch::Refusal> {

@@ -1,4 +1,4 @@
-//! The call through the wrapper: the lines of document 01, and what is promised
+//! The call through the wrapper: the lines of docs/SPECIFICATION.md, and what is promised
 //! of lent memory.
 
 use json_patch::{apply, apply_in, Kind, Node, Pointer, Refusal, Work};

@@ -1,4 +1,4 @@
-//! A count over patch files, whose names stand one a line: document 02, T-12.
+//! A count over patch files, whose names stand one a line: SPECIFICATION 14, T-12.
 
 pub mod cases;
 

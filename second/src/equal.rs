@@ -1,4 +1,4 @@
-//! Two texts compared, and how many names that takes: document 02, T-10.
+//! Two texts compared, and how many names that takes: SPECIFICATION 17, T-10.
 
 use crate::answer::{in_text, DOCUMENT, PATCH};
 use crate::limits::LONGEST_TEXT;

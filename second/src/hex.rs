@@ -1,4 +1,4 @@
-//! A text as Intel HEX: document 02, T-07.
+//! A text as Intel HEX: SPECIFICATION 13, T-07.
 //!
 //! One record a line: a colon, and in hexadecimal digits how many bytes of data,
 //! an address in two bytes, a type, the data, and a byte that makes the sum of

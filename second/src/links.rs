@@ -1,4 +1,4 @@
-//! Pointers as links: document 02, T-14; RFC 6901, section 6.
+//! Pointers as links: SPECIFICATION 12, T-14; RFC 6901, section 6.
 //!
 //! A link is `#` and the pointer's bytes, those outside a small set of ASCII
 //! written as `%` and two hexadecimal digits.

@@ -1,4 +1,4 @@
-//! Patches of pack makers, in a region: document 02, T-05.
+//! Patches of pack makers, in a region: SPECIFICATION 15, T-05.
 //!
 //! A maker sends only test, replace and add, a test first, and every path lies
 //! strictly inside the region. What keeps that rule is applied as any patch is.

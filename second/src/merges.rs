@@ -1,4 +1,4 @@
-//! Merge patches: RFC 7396, and document 02, T-02.
+//! Merge patches: RFC 7396, and SPECIFICATION 18, T-02.
 
 pub mod generate;
 pub mod vectors;

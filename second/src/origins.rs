@@ -1,4 +1,4 @@
-//! Origins: which operation put each value there. Document 02, T-11.
+//! Origins: which operation put each value there. SPECIFICATION 19, T-11.
 //!
 //! A tree of marks stands beside the document, one mark for each value. The values
 //! know nothing of it: an operation's pointers are followed in the document as the

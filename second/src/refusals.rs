@@ -31,9 +31,9 @@ pub const INTO_OWN_CHILD: u32 = 14;
 pub const DIFFERENT: u32 = 15;
 /// The written text is longer than the output.
 pub const NO_ROOM: u32 = 16;
-/// The rule for makers is broken: document 02, T-05.
+/// The rule for makers is broken: SPECIFICATION 15, T-05.
 pub const NOT_PERMITTED: u32 = 17;
-/// No record of Intel HEX: document 02, T-07.
+/// No record of Intel HEX: SPECIFICATION 13, T-07.
 pub const NO_RECORD: u32 = 18;
 /// A record with a wrong sum.
 pub const WRONG_SUM: u32 = 19;
@@ -41,5 +41,5 @@ pub const WRONG_SUM: u32 = 19;
 pub const WRONG_ADDRESS: u32 = 20;
 /// No end record, or anything after it.
 pub const BAD_END: u32 = 21;
-/// A link that is none: document 02, T-14.
+/// A link that is none: SPECIFICATION 12, T-14.
 pub const BAD_LINK: u32 = 22;

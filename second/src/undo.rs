@@ -1,4 +1,4 @@
-//! The undo of a patch: document 02, T-09.
+//! The undo of a patch: SPECIFICATION 16, T-09.
 //!
 //! Each operation is looked at with the document that it finds, the patch is run
 //! once more meanwhile, and what was noted is put together from the last to the

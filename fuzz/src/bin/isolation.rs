@@ -1,4 +1,4 @@
-//! Nobody else's shelf decides, on the library: document 02, T-06.
+//! Nobody else's shelf decides, on the library: T-06.
 //!
 //!     cargo run --release --offline --manifest-path fuzz/Cargo.toml --bin isolation [SEED [COUNT]]
 //!

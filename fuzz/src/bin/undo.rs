@@ -10,7 +10,7 @@
 //! list or the buffer is too short. All lent memory ends where a page begins that may
 //! not be touched.
 //!
-//! Then the law of document 02, T-09, is held on the library's own texts: the undo is
+//! Then the law of SPECIFICATION 16, T-09, is held on the library's own texts: the undo is
 //! applied by the library to the patched text, and the result must be equal to the
 //! original and the same but for the order of members. Where the original fits into a
 //! patch, the library also tests the result against it.

@@ -1,5 +1,4 @@
-//! Two patches in a row and the joined one, and the law on them: document 02,
-//! T-13.
+//! Two patches in a row and the joined one, and the law on them: SPECIFICATION 11, T-13.
 
 use super::drafts::{drafts, patch};
 use super::random::Random;

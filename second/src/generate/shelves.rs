@@ -1,5 +1,5 @@
 //! A maker's patch, and two documents that have the same value in its region:
-//! document 02, T-06.
+//! T-06.
 
 use super::drafts::{bend, patch, slot, target, tested, Draft};
 use super::random::Random;

@@ -222,7 +222,7 @@ const RUN_ROWS: &[Row] = &[
     ("order", [r#"{"a":{"b":{"c":1}},"d":[[2]],"e":3}"#,
         r#"[{"op":"replace","path":"/a/b/c","value":0},{"op":"replace","path":"/d/0/0","value":0},{"op":"replace","path":"/e","value":0}]"#],
         [r#"{"a":{"b":{"c":0}},"d":[[0]],"e":0}"#, "0 0 0 1 0 0 2 3"]),
-    // The document 01's own example.
+    // The specification's own example.
     ("example", [r#"{"mAh":3000,"cut":[4.2,3.0]}"#,
         r#"[{"op":"test","path":"/mAh","value":3e3},{"op":"add","path":"/cut/-","value":2.8}]"#],
         [r#"{"mAh":3000,"cut":[4.2,3.0,2.8]}"#, "0 0 0 0 0 2"]),

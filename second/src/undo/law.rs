@@ -1,4 +1,4 @@
-//! The law of undos, on the answers of any engine: document 02, T-09.
+//! The law of undos, on the answers of any engine: SPECIFICATION 16, T-09.
 
 use super::UndoAnswer;
 use crate::limits::LONGEST_TEXT;

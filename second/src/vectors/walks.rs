@@ -1,4 +1,4 @@
-//! How far a pointer got: document 02, T-01.
+//! How far a pointer got: SPECIFICATION 6.1, T-01.
 
 use super::{refused_pointer, vector, Row, Vector};
 
