@@ -22,7 +22,7 @@ use Rattle.table.specs.Meaning.{partOf, spelled, shortHash}
 use Rattle.table.specs.Find.{isNamed, rowBehind, Sought}
 use Rattle.table.specs.declared.find.Member.the-variants as Member
 use Rattle.table.proofs.Search.{Passed, pass, meet, over, finds-ascii}
-use Rattle.shape.specs.Members.{MemberIs, foundAt, MembersFound, noted, allNoted}
+use Rattle.shape.specs.Members.{MemberIs, foundAt, MembersFound, noted, notedName, allNoted}
 use Rattle.shape.specs.declared.all_members.Members.{Members}
 use Rattle.shape.proofs.MemberLaws.{member-is, member-out, found-row}
 
@@ -56,6 +56,13 @@ module _ (T : Texts) (own : Name) (at so-far h : ℕ) (name : Text) where
     pub noted-here : true ≡ isNamed T own h name → at ≡ noted T own at so-far h name
     unfolding noted
     noted-here e = rw (eq-eqb so-far 0 none, ← e)
+
+-- the four names
+pub each-noted : (T : Texts) (own : Name) (at : ℕ) (m : Members) {op path value from : ℕ}
+    → op ≡ notedName T own at (m .op) (ascii "op") → path ≡ notedName T own at (m .path) (ascii "path")
+    → value ≡ notedName T own at (m .value) (ascii "value") → from ≡ notedName T own at (m .from) (ascii "from")
+    → record { op = op; path = path; value = value; from = from } ≡ allNoted T own at m
+each-noted T own at m o p v f i = record { op = o i; path = p i; value = v i; from = f i }
 
 -- ---- what is found of a name up to a row: nothing yet, or the first row that has it
 abbrev named : Table → Text → Name → Bool

@@ -19,7 +19,6 @@ pub use kinds::Uses;
 pub use kinds::kind_named;
 pub use kinds::uses_of;
 pub use members::Spelled;
-pub use members::member;
 pub use members::string_in;
 pub use members::string_member;
 pub use operation::kind_of;

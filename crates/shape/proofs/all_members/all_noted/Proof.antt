@@ -6,6 +6,7 @@ use Rattle.spec.specs.Strings.{character}
 use Rattle.lexer.specs.Hash.{hash, hashFrom, mix}
 use Rattle.text.specs.Decode.{decode, decodeFrom, decodeLoop, before, characterIn}
 use Rattle.table.specs.Meaning.{shortHash}
+use Rattle.shape.proofs.PassLaws.{each-noted}
 use Rattle.shape.proofs.all_members.all_noted.Statement.{statement}
 use Rattle.shape.proofs.all_members.all_noted.Tie as tie
 
@@ -35,4 +36,4 @@ all-noted-spec =
     let at-noted3 = c .before .before in
     let at-noted2 = at-noted3 .before .before in
     let at-noted = at-noted2 .before .before in
-    λ i. record { op = at-noted .noted .ensures i; path = at-noted2 .noted2 .ensures i; value = at-noted3 .noted3 .ensures i; from = c .noted4 .ensures i }))
+    each-noted _ _ _ _ (at-noted .noted .ensures) (at-noted2 .noted2 .ensures) (at-noted3 .noted3 .ensures) (c .noted4 .ensures)))
