@@ -1,8 +1,7 @@
 #!/bin/sh
 # Runs what tools/cross.sh made: the C examples, and every committed case, compared with
 # the stored output of the crates `vectors`, `region_vectors`, `merge_vectors`,
-# `undo_vectors` and, as soon as it is there, `origin_vectors`. That output is the second
-# program's.
+# `undo_vectors` and `origin_vectors`. That output is the second program's.
 #   tests/cross.sh [aarch64] [riscv64] [bare] [wasm64]   all four if none is named
 #     aarch64, riscv64   under qemu-user
 #     bare               an AArch64 machine without an operating system (docs/DEVICE.md)
