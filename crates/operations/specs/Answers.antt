@@ -22,7 +22,7 @@ use Rattle.operations.specs.declared.answers.Performed.the-variants.{Don
 unfoldable pub pointerOf : ℕ → ℕ → ℕ
 pointerOf which number = if eqb number location-missing || eqb number no-index then which else 0
 
--- of an operation with a `from`: that is walked first
+-- for an operation with a `from`, which is walked first
 unfoldable pub fromOrPath : Tokens → Value.Value → ℕ → ℕ
 fromOrPath from v number = pointerOf (if isRefused (walk from v) then 2 else 1) number
 

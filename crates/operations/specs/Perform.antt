@@ -73,7 +73,7 @@ pub record MoveAsideIs (w : Table) (nodes' : List Row) (used : ℕ) (from path :
       → (ts : Tokens) → PathIs (w .texts) path ts → (x : Cell) (kids : Forest Cell) → Offered w scratchRow x kids
       → ResultsBearing (w .texts) nodes' (judgedBearing (Origins.removeAtPath (g ∷ gs) v >>= Origins.addAt ts (borne (w .texts) x kids))) r
 
--- ---- a test, with a value no object of which has two members of one name
+-- ---- a test with a value in which no object repeats a name
 abbrev pub EqualToIs : Table → ℕ → Spelling → ℕ → Altered → Type 0
 EqualToIs w used path value r =
     (v : Origin.Value) → Bearing w used v → Short (w .texts) → (ts : Tokens) → PathIs (w .texts) path ts
@@ -81,7 +81,7 @@ EqualToIs w used path value r =
     → ResultsBearing (w .texts) (w .nodes) (judgedBearing (Origins.testAt ts (meant (w .texts) x kids) v)) r
 
 -- ---- an operation of the patch
--- the operation that the element in a row of the patch is, a value as texts are read
+-- the operation in a row of the patch, whose element is a proper value
 pub record Listed (w : Table) (row : ℕ) (o : Operation.Operation) : Type 0 where
   pub c : Cell
   pub kids : Forest Cell
@@ -91,7 +91,7 @@ pub record Listed (w : Table) (row : ℕ) (o : Operation.Operation) : Type 0 whe
   pub before : row + size kids < scratchRow
   pub is : operation (meant (w .texts) c kids) ≡ ok o
 
--- what holds of an operation, op of the run, given what becomes of the document by the definitions
+-- what holds of an operation, number `op` of the run, given what becomes of the document by the definitions
 abbrev pub ForOperation : Table → ℕ → ℕ → ℕ → (Operation.Operation → Type 0) → (Outcome Origin.Value → (ℕ → ℕ) → Type 0) → Type 0
 ForOperation w used row op P Q =
     (v : Origin.Value) → Bearing w used v → Short (w .texts) → (o : Operation.Operation) (l : Listed w row o) → P o
@@ -118,7 +118,7 @@ MoveGiven w nodes' used at path r = (row : ℕ) → MemberIs w row (ascii "from"
 abbrev pub CopyGiven : Table → List Row → ℕ → ℕ → Spelling → ℕ → Performed → Type 0
 CopyGiven w nodes' used at path origin r = (row : ℕ) → MemberIs w row (ascii "from") (foundAt at) → CopyOperationIs w nodes' used row path origin r
 
--- any, of a number
+-- an operation of any kind, with its number
 pub record PerformIs (w : Table) (nodes' : List Row) (used row op : ℕ) (r : Performed) : Type 0 where
   pub patch : SamePatch (w .nodes) nodes'
   pub held : (v : Value.Value) → Document w used v → Short (w .texts) → (o : Operation.Operation) → Listed w row o

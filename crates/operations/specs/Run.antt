@@ -37,7 +37,7 @@ RanTo T nodes' o r = RanBy (Document (table T nodes')) o r
 abbrev pub RanBearing : Texts → List Row → Run Origin.Value → Ran → Type 0
 RanBearing T nodes' o r = RanBy (Bearing (table T nodes')) o r
 
--- what holds of the run of the operations that are elements in the rows from one to another, values as texts are read
+-- what holds of the run of the operations that are elements in the rows from one to another, all proper values
 abbrev pub ForRun : Table → ℕ → ℕ → ℕ → (Run Value.Value → Type 0) → Type 0
 ForRun w used start end Q =
     (v : Value.Value) → Document w used v → Short (w .texts) → (f : Forest Cell) → RowsHeld w start end f → patchRow ≤ start → end ≤ scratchRow
@@ -56,7 +56,7 @@ pub record ElementsRunIs (w : Table) (nodes' : List Row) (used start end : ℕ) 
   pub held : ForRun w used start end (λ o. RanTo (w .texts) nodes' o r)
   pub bearing : ForRunBearing w used start end (λ o. RanBearing (w .texts) nodes' o r)
 
--- the operations of the patch, a value as texts are read
+-- the operations of the patch, which is a proper value
 pub record RunIs (w : Table) (nodes' : List Row) (used : ℕ) (r : Ran) : Type 0 where
   pub patch : SamePatch (w .nodes) nodes'
   pub held : (v : Value.Value) → Document w used v → Short (w .texts) → (c : Cell) (kids : Forest Cell) → NodeHeld w patchRow c kids

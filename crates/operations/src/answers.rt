@@ -11,7 +11,7 @@ pub enum Performed {
     Refused(u8, usize, u8),
 }
 
-// The pointer that belongs to a refusal's number: only 11 and 12 are of one.
+// The pointer that belongs to a refusal's number: only 11 and 12 have one.
 fn pointer_of(number: u8, which: u8) -> u8
     ensures { λ r. ⌜ r ≡ pointerOf which number ⌝ }
 {

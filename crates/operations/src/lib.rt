@@ -1,6 +1,6 @@
 // The six operations in the node table, and the run of a patch: SPECIFICATION 6.
 //
-// What is proved: of a document (`Document` of changes) and of a patch that was read and whose shape is right, `run`
+// What is proved: for a document (`Document` of changes) and a patch that was read and whose shape is right, `run`
 // answers as the definitions' run of its operations does, each with the limits judged. Either the document is then
 // the result and the patch's rows are as they were, or the answer is the first refusal with its operation, its place
 // and its pointer.

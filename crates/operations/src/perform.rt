@@ -1,4 +1,4 @@
-// One operation of the patch, in a row of it. Its members are found again there.
+// One operation of the patch, by its row. Its members are found again there.
 use crate::answers::Performed;
 use crate::answers::at_path;
 use crate::transfers::copy_value;

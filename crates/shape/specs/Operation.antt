@@ -1,4 +1,4 @@
--- What the code answers of one operation, by the definitions of Patch.
+-- What the code answers for one operation, by the definitions of Patch.
 use Prim.Native.Nat.{ℕ, _<_}
 use mathlib.Core.Path.{_≡_}
 use mathlib.Core.Bool.{Bool, false}
@@ -47,14 +47,14 @@ pub record KindIs (w : Table) (row : ℕ) (r : Kind) : Type 0 where
 pub record Knows (kind : Kind) (k : Operation.Kind) : Type 0 where
   pub is : kindOutcome kind ≡ ok k
 
--- whatever the table holds, no other number is answered of an operation
+-- whatever the table holds, no other number is answered for an operation
 pub data OperationNumber : ℕ → Type 0 where
   nothing : OperationNumber 0
   shape : OperationNumber wrong-shape
   pointer : OperationNumber malformed-pointer
   into-child : OperationNumber move-into-child
 
--- ---- the steps, given the rows of the members: which number is answered of a table that holds no node in the row is free
+-- ---- the steps, given the rows of the members: which number is answered for a table that holds no node in the row is free
 abbrev pub KindGiven : Table → ℕ → ℕ → Kind → Type 0
 KindGiven w row op r = MemberIs w row (ascii "op") (foundAt op) → KindIs w row r
 

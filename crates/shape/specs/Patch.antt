@@ -1,4 +1,4 @@
--- What the code answers of a whole patch.
+-- What the code answers for a whole patch.
 use Prim.Native.Nat.{ℕ}
 use mathlib.Core.Path.{_≡_}
 use mathlib.Core.List.{List, []}
@@ -23,7 +23,7 @@ pub data ShapeIs : Run (List Operation.Operation) → Shape → Type 0 where
   right : (os : List Operation.Operation) → ShapeIs (finished os) Shape.Right
   wrong : (number op : ℕ) → ShapeIs (stopped (stop number op 0 0)) (Shape.Refused number op)
 
--- whatever the table holds, an operation is refused with a number that is answered of one
+-- whatever the table holds, an operation is refused with one of the numbers of an operation
 pub data ElementNumber : Shape → Type 0 where
   all-right : ElementNumber Shape.Right
   one-wrong : {number op : ℕ} → OperationNumber number → ElementNumber (Shape.Refused number op)
@@ -33,7 +33,7 @@ pub record ElementsAre (w : Table) (start end : ℕ) (r : Shape) : Type 0 where
   pub number : ElementNumber r
   pub held : (f : Forest Cell) → RowsHeld w start end f → ShapeIs (operations 1 (members (w .texts) f)) r
 
--- whatever the table holds: by the row's kind. Of an array's row whose tree is not held, it is free which of the other answers is given, and of
+-- whatever the table holds: by the row's kind. For an array's row whose tree is not held, it is free which of the other answers is given, and for
 -- which operation.
 pub data PatchNumber (w : Table) (row : ℕ) : Shape → Type 0 where
   no-array : (kindOf (getD (w .nodes) row []) ≡ arrayKind → ⊥) → PatchNumber w row (Shape.Refused wrong-shape 0)

@@ -1,10 +1,10 @@
 // The shape of a patch: SPECIFICATION 4. Nothing is stored: a member of an operation is found again when it runs.
 //
-// What is proved: of a patch that the table holds, `shape_of` answers as the definitions do, with the number of the
+// What is proved: for a patch that the table holds, `shape_of` answers as the definitions do, with the number of the
 // refusal and the operation.
 //
 // What a caller should know: every public function is total and changes nothing. Its contract also says what it
-// answers of a table that holds no tree, and what is free there.
+// answers for a table that holds no tree, and what is free there.
 
 mod all_members; // the four members of an operation, found in one pass
 mod kinds; // the kinds of operations, by their names

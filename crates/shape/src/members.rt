@@ -19,7 +19,7 @@ pub enum Spelled {
     Not,
 }
 
-// The row of the member of that name, of the object in a row.
+// The row of the member with that name, in the object in a row.
 pub fn member<'a>(texts: Texts<'a>, nodes: &[Node], row: usize, name: &[u8]) -> Member
     ensures { λ r. ⌜ MemberIs (before texts nodes) row (now (name .entry)) r ⌝ }
 {
@@ -30,7 +30,7 @@ pub fn member<'a>(texts: Texts<'a>, nodes: &[Node], row: usize, name: &[u8]) -> 
     find_ascii(texts, nodes, row + 1, end, name)
 }
 
-// The string that is the member of that name.
+// The string that is the member with that name.
 pub fn string_member<'a>(texts: Texts<'a>, nodes: &[Node], row: usize, name: &[u8]) -> Spelled
     ensures { λ r. ⌜ StringIs (before texts nodes) row (now (name .entry)) r ⌝ }
 {

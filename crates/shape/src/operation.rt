@@ -32,7 +32,7 @@ fn kind_at<'a>(texts: Texts<'a>, nodes: &[Node], row: usize, op: usize) -> Kind
     kind_named(texts, word)
 }
 
-// The kind of the operation in a row. It is known only of an object with an `op` that names one.
+// The kind of the operation in a row. It is known only for an object whose `op` names one.
 pub fn kind_of<'a>(texts: Texts<'a>, nodes: &[Node], row: usize) -> Kind
     ensures { λ r. ⌜ KindIs (before texts nodes) row r ⌝ }
 {
@@ -52,7 +52,7 @@ fn value_number(value: usize, used: bool) -> u8
     0
 }
 
-// Refused where `path` is no pointer, of an operation that uses no `from`.
+// Refused where the `path` of an operation without `from` is no pointer.
 fn path_number<'a>(texts: Texts<'a>, path: Spelling) -> u8
     ensures { λ r. ⌜ OnlyPathIs (lent texts) path r ⌝ }
 {
@@ -84,8 +84,8 @@ fn pointers_number<'a>(texts: Texts<'a>, moves: bool, path: Spelling, from: Spel
     0
 }
 
-// Refused where another member than `op` and `path` is wrong, or a pointer is, of an operation of a kind whose members
-// and `path` are given.
+// Refused where a member other than `op` and `path` is wrong, or a pointer is. The operation's kind, its members and
+// its `path` are given.
 fn others_in<'a>(
     texts: Texts<'a>,
     nodes: &[Node],
@@ -109,7 +109,7 @@ fn others_in<'a>(
     pointers_number(texts, uses.moves, path, from)
 }
 
-// The same, of the operation in a row.
+// The same for the operation in a row.
 pub fn others_number<'a>(
     texts: Texts<'a>,
     nodes: &[Node],
@@ -122,7 +122,7 @@ pub fn others_number<'a>(
     others_in(texts, nodes, members_of(texts, nodes, row), kind, path)
 }
 
-// Refused where another member than `op` is wrong, or a pointer is, of an operation of a kind whose members are given.
+// Refused where a member other than `op` is wrong, or a pointer is. The operation's kind and its members are given.
 fn members_number<'a>(texts: Texts<'a>, nodes: &[Node], members: Members, kind: Kind) -> u8
     ensures { λ r. ⌜ MembersGiven (before texts nodes) members kind r ⌝ }
 {

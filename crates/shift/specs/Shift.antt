@@ -71,7 +71,7 @@ pub data PairAt (T : Texts) (row : ℕ) (token : Name) (path : Spelling) (at : �
   pair-last : {end : ℕ} (other : Name) → TokenNameIs T path at (Token.Last end) other → PairAt T row token path at (Token.Last end) (Siblings row token other)
   pair-apart : {t : Token} → PairAt T row token path at t Apart
 
--- along both pointers from places of theirs on, from the node in a row on
+-- along both pointers, each from a place on, beginning at the node in a row
 pub data Paired (w : Table) (from path : Spelling) : ℕ → ℕ → ℕ → Pair → Type 0 where
   paired-last : {i j row end last : ℕ} {token other : Name}
       → TokenAt (partOf (w .texts) from) i (Token.Last end) → TokenNameIs (w .texts) from i (Token.Last end) token

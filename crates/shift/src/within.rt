@@ -1,5 +1,5 @@
 // A value moved within one array. Its rows change places with those between where it stands and where it is to stand:
-// no row's span changes, and no limit is passed. This is the quick way; where it is not gone, nothing changes.
+// no row's span changes, and no limit is exceeded. This is the quick way. Where it is not taken, nothing changes.
 use changes::size;
 use pointer::First;
 use pointer::Token;
@@ -28,7 +28,7 @@ ghost use Rattle.tape.specs.Lent.{before, lent};
 ghost use Rattle.shift.specs.Shift.{exchangedBack, exchangedFront, TurnIs, ChildShiftIs};
 ghost use Rattle.shift.specs.Shift.{PairAt, Paired, ShiftIs};
 
-// Rows change places with those behind them: `count` from `at` on, and as many as `between` says.
+// Rows change places with those behind them: the `count` rows from `at` on, and the `between` rows that follow.
 fn exchange_back(nodes: &mut [Node], at: usize, count: usize, between: usize)
     requires { ⌜ at + count + between ≤ 2048 ⌝ }
     ensures { λ _. ⌜ now (nodes .exit) ≡ exchangedBack (now (nodes .entry)) at count between ⌝ }
@@ -38,7 +38,7 @@ fn exchange_back(nodes: &mut [Node], at: usize, count: usize, between: usize)
     slide(nodes, at + between, layout::SCRATCH, count);
 }
 
-// Rows change places with those before them: `count` from `at` on, and those from `to` on.
+// Rows change places with those before them: the `count` rows from `at` on, and those from `to` up to `at`.
 fn exchange_front(nodes: &mut [Node], at: usize, count: usize, to: usize)
     requires { ⌜ (at + count ≤ 2048) × (to ≤ at) ⌝ }
     ensures { λ _. ⌜ now (nodes .exit) ≡ exchangedFront (now (nodes .entry)) at count to ⌝ }
@@ -128,7 +128,7 @@ fn last_pair<'a>(
     }
 }
 
-// Along two pointers from places of theirs on, as long as their tokens are the same.
+// Along two pointers, each from a place on, as long as their tokens are the same.
 fn siblings<'a>(
     texts: Texts<'a>,
     nodes: &[Node],
