@@ -86,7 +86,7 @@ pub data Paired (w : Table) (from path : Spelling) : ℕ → ℕ → ℕ → Pai
 
 -- ---- a value moved, if both pointers name elements of one array; otherwise nothing changes
 -- The patch's rows are as they were. Where the table holds a document, it is then what the definitions' move makes of it, in as many rows.
--- Whether it is done is left free. If it is done, so are all other rows, and the document's too where the table holds none.
+-- Whether it is done is left free. After a move all other rows are free, and the document's too where the table held none.
 pub record MovedWithin (w : Table) (nodes' : List Row) (used : ℕ) (from path : Spelling) : Type 0 where
   pub patch : SamePatch (w .nodes) nodes'
   pub bearing : (v : Value.Value) → Bearing w used v → Short (w .texts) → (g : Text) (gs : Tokens) → PathIs (w .texts) from (g ∷ gs)

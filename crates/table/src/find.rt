@@ -47,7 +47,7 @@ fn limit(nodes: &[Node], end: usize) -> usize
     nodes.len()
 }
 
-// Whether the row is a multiple of BLOCK and in the BLOCK rows from it on no node has children and no name has this
+// True only if the BLOCK rows from this one on are before `stop`, no node in them has children and no name has this
 // hash. Such rows are passed together: no turn waits for another row's span.
 fn quiet(nodes: &[Node], row: usize, stop: usize, hash: u16) -> bool
     requires { ⌜ (row ≤ stop) × (stop ≤ length (now nodes)) ⌝ }
