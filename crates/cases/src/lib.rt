@@ -4,6 +4,8 @@
 // What is proved: on every input, a case is what the definition `case_at` (specs/CaseFile) gives, a part of the file is
 // what `cut` gives, and a check of a buffer answers as `every` does (specs/Same). A case ends behind its beginning, and
 // its parts lie in the file (proofs/PlaceLaws). No contract speaks of what is read from the file or of what is printed.
+#![tactic(auto)]
+
 mod checks; // whether a buffer holds the same value everywhere
 mod file; // the file of cases
 mod lines; // what is printed

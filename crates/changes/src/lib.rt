@@ -8,6 +8,7 @@
 //
 // What a caller should know: every public function is total. The limits are judged before anything moves, 5 before 6.
 // The new value of an addition or a replacement stands in rows behind the document's, and is copied from there.
+#![tactic(auto)]
 
 pub mod answers; // what the functions below take and answer
 mod trees; // a tree put among the children of a node, and taken out

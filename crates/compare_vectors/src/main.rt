@@ -1,5 +1,7 @@
 // Every committed case of two texts, compared by the library. Each prints a line: its name, and the verdict with the
 // count of names, or the refusal. The stored output is what the second program answers, so each run compares the two.
+#![tactic(auto)]
+
 use cases::{
     Case, Contents, Found, buffer, bytes_of, case_at, front, print_no_case, read_cases, say,
     say_number, work_clear,

@@ -2,6 +2,7 @@
 // in order, each against the patch value's names from the first until one matches". Members are found in step or by
 // the index, so that the work is linear. The number of names compared for a member is its place, which is noted
 // beforehand.
+#![tactic(auto)]
 
 mod places; // the place of each node among its siblings
 mod values; // two values compared

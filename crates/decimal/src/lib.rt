@@ -1,6 +1,7 @@
 // Equality of two JSON numbers by their exact value: SPECIFICATION 7.3. The zeros on both ends of the digits are
 // dropped, and a signed power of ten is adjusted. A zero of either sign is zero (SPECIFICATION 7.4, T-04).
 // Each function reads a number's text where it lies: no digit is copied, and no float is made.
+#![tactic(auto)]
 
 mod exponent; // exponent.rt: what is written after the letter e
 mod mantissa; // mantissa.rt: the digits before it

@@ -1,5 +1,7 @@
 // Equality of two values of the node table: SPECIFICATION 7. Types are compared first; strings are compared by their
 // unescaped text, numbers by exact value, arrays in order, and objects by name in any order.
+#![tactic(auto)]
+
 ghost use Rattle.tape.specs.Lent.{lent, before};
 ghost use Rattle.equality.specs.Compare.{SameLabelIs, Hints, SoughtIs, PartnerOf, EqualIs};
 

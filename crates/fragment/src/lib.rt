@@ -5,6 +5,7 @@
 // specs/Answer, and the output afterwards begins with the written text and is otherwise unchanged. specs/Claims says
 // what the definitions come to: reading what was written returns the pointer, every accepted link names a pointer, and
 // two links with the same pointer differ only in percents.
+#![tactic(auto)]
 
 pub mod answer; // what a call answers
 mod scan; // octets looked at one after another: UTF-8, and a pointer's syntax

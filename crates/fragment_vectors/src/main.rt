@@ -1,6 +1,8 @@
 // Every committed case of links, run through the library: a text is taken as a pointer and written as a link, and taken
 // as a link and read. Each of the two prints a line: the case's name, and the text, or the number of the refusal. The
 // stored output is what the second program answers, so each run compares the two.
+#![tactic(auto)]
+
 ghost use Rattle.std.specs.Prelude.{◌≤◌, length};
 
 use cases::{

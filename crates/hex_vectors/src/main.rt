@@ -1,13 +1,15 @@
 // Every committed case of Intel HEX, run through the library: a text is written as Intel HEX, and taken as Intel HEX
 // and read. Each of the two prints a line: the case's name, and the text, or the number of the refusal and its place.
 // The stored output is what the second program answers, so each run compares the two.
+#![tactic(auto)]
+
 ghost use Rattle.std.specs.Prelude.{◌≤◌, length};
 
 use cases::{
     Case, Contents, Found, all_bytes, buffer, bytes_of, case_at, front, print_no_case, read_cases,
     say, say_number,
 };
-use hex::{Answer, read_hex, write_hex};
+use intel_hex::{Answer, read_hex, write_hex};
 
 // Room for the longest text as records: 180,236 bytes.
 const OUTPUT: usize = 180_240;

@@ -5,6 +5,7 @@
 // The index stands in a lent list of its own, `index: &mut [u16]`: the slots where paths begin, two branches of each
 // row, and each row's parent. Rows are counted from a base. The list need not be empty at first: a path leads through
 // growing rows only, so that it ends whatever the slots hold.
+#![tactic(auto)]
 
 // the slots
 mod slots;

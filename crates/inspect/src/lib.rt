@@ -3,6 +3,7 @@
 //
 // What is proved: on every input the answer is that of the definition `inspectionIn` of crate `inspection`. The work
 // area is all zero for its stated length and otherwise unchanged, or untouched where it was too short.
+#![tactic(auto)]
 
 mod answer; // what the call answers
 mod call; // the call

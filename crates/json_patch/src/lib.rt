@@ -4,6 +4,7 @@
 // begins with the written text and is otherwise unchanged. The work area is all zero for its stated length and
 // otherwise unchanged, or untouched where it was too short. For two makers' patches in regions of their own,
 // specs/Region says what the call answers on a shuffle of them.
+#![tactic(auto)]
 
 mod answer; // what the call answers
 mod call; // the call

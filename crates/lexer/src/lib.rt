@@ -3,6 +3,7 @@
 // Each contract is an equation with a definition of crate `spec`; specs/Answers.antt says what outcome each answer
 // stands for. That of `verbatim_end` is a relation, in specs/Verbatim.antt. The classes of bytes in strings are in
 // crate `byte_class`; specs/ByClass.antt says what a character is by them.
+#![tactic(auto)]
 
 pub mod cursor; // a place in a text, what reading there answers, and the byte there
 pub mod blanks; // Cursor::blanks

@@ -4,6 +4,7 @@
 // What is proved: on every input the answer and the list are those of the definition `answer` of crate `origin`. The
 // output and the list afterwards begin with what is written and are otherwise unchanged. The work area is left as the
 // plain call leaves it.
+#![tactic(auto)]
 
 mod call; // the call
 mod exports; // the call for C

@@ -6,6 +6,7 @@
 //
 // The result is built in the scratch rows, in written order: every row that is laid down is part of it. So a result
 // with too many nodes is known by the rows that it would take, and nothing overflows on the way.
+#![tactic(auto)]
 
 mod build; // rows of the result laid down
 mod marks; // which members of the patch the target has

@@ -4,6 +4,7 @@
 // What is proved: on every input the answer and the list are those of the definition `mergeAnswer` of crate `origin`.
 // The output and the list afterwards begin with what is written and are otherwise unchanged. What holds of the work
 // area in the plain call holds here too.
+#![tactic(auto)]
 
 mod call; // the call
 mod exports; // the call for C

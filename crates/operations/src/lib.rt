@@ -7,6 +7,7 @@
 //
 // What a caller should know: `run` is total. After a refusal, and where the table holds no document and no patch, the
 // nodes are free. So is the index after every answer.
+#![tactic(auto)]
 
 mod answers; // what an operation answers
 mod stamps; // nodes that get another origin

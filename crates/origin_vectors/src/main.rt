@@ -5,6 +5,8 @@
 //
 // A case begins with the name of its call, has the rooms of the output, of the undo and of the list, and three texts:
 // document, patch and region. What its call does not take is 0 or empty.
+#![tactic(auto)]
+
 mod lines; // what is printed
 mod merged; // the call for merge patches
 mod plain; // the plain call

@@ -3,6 +3,8 @@
 //
 // What is proved: the line is that of the definition `printed` (specs/Line), of the files that were visited, and no
 // sum wraps. No contract of the system's calls says which files those are.
+#![tactic(auto)]
+
 mod files; // a file by its name
 mod line; // the line that is printed
 mod names; // names from standard input

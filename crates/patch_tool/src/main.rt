@@ -1,5 +1,7 @@
 // The patch tool: two file names, a document and a patch. It prints the patched document, or the refusal on one line,
 // or `unreadable`.
+#![tactic(auto)]
+
 ghost use Rattle.std.specs.Prelude.{length};
 ghost use Rattle.patch_tool.specs.Contents.{Within};
 ghost use Rattle.patch_tool.specs.Line.{LineIs};

@@ -1,6 +1,7 @@
 // Text becomes a tree in the node table: RFC 8259, within the limits; SPECIFICATION 3. The two public functions are
 // total. Their contract is that of the definition `read` of crate `spec`: its refusal, or its value as
 // a tree in the table.
+#![tactic(auto)]
 
 // whole texts: the document, and the patch
 mod texts;

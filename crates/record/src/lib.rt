@@ -3,6 +3,8 @@
 //
 // A record has the fields of the engine's row, `tape::layout::Node`, in the same order. What these functions do to a
 // record's fields is what those of `tape::moves` do to its row (specs/Rows.antt). Each is total.
+#![tactic(auto)]
+
 ghost use Rattle.std.specs.Prelude.{◌≡◌, set, get_or};
 ghost use Rattle.record.specs.Records.{no_record};
 

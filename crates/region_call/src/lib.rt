@@ -3,6 +3,7 @@
 // What is proved: on every input the answer is that of the definition `answerWithin` of crate `region`; and what keeps
 // the rule for makers gets the answer of a plain patch (specs/Claims there). What holds of the output and the work area
 // in the plain call holds here too.
+#![tactic(auto)]
 
 mod call; // the call
 mod exports; // the call for C

@@ -3,6 +3,7 @@
 //
 // What is proved: on every input the answer and the list are those of the definition `answerWithin` of crate
 // `origin_within`. What holds of the output, the list and the work area in the call without a region holds here too.
+#![tactic(auto)]
 
 mod call; // the call
 mod exports; // the call for C

@@ -5,6 +5,8 @@
 // definition `answer` of crate `spec` gives, as many as there is room for; behind them the buffer is as it was. Where
 // it has 84 bytes or more, there is room for every line. `put_bytes` and `put_two_fields` lay down pieces of other
 // lines in the same way.
+#![tactic(auto)]
+
 mod pieces; // the pieces of the line
 
 ghost use Rattle.std.specs.Prelude.{◌≡◌, ◌-◌};

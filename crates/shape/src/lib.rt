@@ -5,6 +5,7 @@
 //
 // What a caller should know: every public function is total and changes nothing. Its contract also says what it
 // answers for a table that holds no tree, and what is free there.
+#![tactic(auto)]
 
 mod all_members; // the four members of an operation, found in one pass
 mod kinds; // the kinds of operations, by their names

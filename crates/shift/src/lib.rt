@@ -7,6 +7,7 @@
 // What a caller should know: `shift_within` is total. A no is no refusal: the move may be possible in another way. Not
 // every move within one array is done; that of an element to `-` is not. After a yes the scratch rows are free, and so
 // are the document's where the table held none.
+#![tactic(auto)]
 
 mod within; // rows that change places, two pointers that name elements of one array, and the move
 

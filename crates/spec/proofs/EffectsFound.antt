@@ -72,6 +72,7 @@ step_in {t} {v = v} us c = walk_on t us v _ (child_at_lem c) ∙ ap (λ x. farth
 -- what a pointer leads to that parts from the path of a change
 pub untouched : (Change : Text → Value.Value → Value.Value → Type 0) (ts us : Tokens) (v w : Value.Value) → Below Change ts v w → Parts ts us →
     walk us w ≡ walk us v
+untouched Change _ us v w (there b) p = elim p [ ]
 untouched Change ts us v w (deeper {y = y} c b) (Effects.here {t} {u = u} {us = us'} n) =
     ap (walk (u ∷ us')) (sym (child-put c y)) ∙ walk-beside t u us' y v _ (child_at_lem c) n
 untouched Change ts us v w (deeper {x = x} {y = y} c b) (Effects.later {us = us'} p) =

@@ -182,11 +182,14 @@ there_stands {t} {v} s = subst (λ x. Child t v s.name x s.earlier s.later) (sym
 
 -- The walk
 
+from_flat : {No : ℕ → Type 0} (No' : ℕ → ℕ → Type 0) → ((n : ℕ) → No n → No' n 0) → (n k : ℕ) → Flat No n k → No' n k
+from_flat _ h n _ (flat q) = h n q
+
 walk_out : (ts : Tokens) (v : Value.Value) → Out (LeadsNowhere ts v) (walk ts v)
 unfolding walk
 walk_out [] v = fine v
 walk_out (t ∷ ts) v =
-    out_then (child_at t v) _ (child_out t v) (λ n k q. elim q [ flat q ↦ here q ]) λ k e.
+    out_then (child_at t v) _ (child_out t v) (from_flat (LeadsNowhere (t ∷ ts) v) (λ n q. here q)) λ k e.
     let c = there_stands (standing t v k e) in
     out_farther (walk ts (value_of (child k v))) (walk_out ts (value_of (child k v))) (λ n k q. later c q)
 
@@ -201,9 +204,9 @@ module _ (change : Text → Value.Value → Outcome Value.Value) (Refused : Text
   parent_out : ((t : Text) (v : Value.Value) → Out (Flat (Refused t v)) (change t v)) → (t : Text) (ts : Tokens) (v : Value.Value) →
       Out (Fails Refused (t ∷ ts) v) (at_parent change t ts v)
   unfolding at_parent
-  parent_out out t [] v = out_map (λ n k q. elim q [ flat q ↦ there q ]) (out t v)
+  parent_out out t [] v = out_map (from_flat (Fails Refused (t ∷ []) v) (λ n q. there q)) (out t v)
   parent_out out t (u ∷ ts) v =
-      out_then (child_at t v) _ (child_out t v) (λ n k q. elim q [ flat q ↦ no_parent q ]) λ k e.
+      out_then (child_at t v) _ (child_out t v) (from_flat (Fails Refused (t ∷ u ∷ ts) v) (λ n q. no_parent q)) λ k e.
       let c = there_stands (standing t v k e) in
       out_then (farther (at_parent change u ts (value_of (child k v)))) _
       (out_farther _ (parent_out out u ts (value_of (child k v))) (λ n k q. deeper c q)) (λ n k q. q) λ w f.

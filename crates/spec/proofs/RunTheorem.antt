@@ -167,14 +167,16 @@ module _ {R S : Tokens} (x : Operation) (xs ys zs : List Operation) (s : Shuffle
   left_step (ends n p e f h) ih =
       ended (stop n op p (which_pointer x v n)) (rw (run_ends i x xs a n p f, ends_now i n p (which_pointer x a n), h)) (run_ends op x zs v n p e)
   left_step (goes w c e f k) ih =
-      carry (run_goes op x zs v w e) (run_goes i x xs a c f) refl (rw (run_goes i x xs a c f, not_yet i xs c)) (ih w c k)
+      carry (run_goes op x zs v w e) (run_goes i x xs a c f) refl (rw (run_goes i x xs a c f, not_yet i xs c)
+      (ap (λ r. first_end r (run bare j ys b) (op + 1) (turns s (i + 1) j)) (run_goes i x xs a c f))) (ih w c k)
 
   right_step : Step S R x v b a → ((w c : Value.Value) → Between R S w a c → Result R s (op + 1) i (j + 1) w a c) → Result R (right {y = x} s) op i j v a b
   unfolding first_end ends_alone here_or turns
   right_step (ends n p e f h) ih =
       ended (stop n op p (which_pointer x v n)) (rw (run_ends j x ys b n p f, ends_now j n p (which_pointer x b n), h)) (run_ends op x zs v n p e)
   right_step (goes w c e f k) ih =
-      carry (run_goes op x zs v w e) refl (run_goes j x ys b c f) (rw (run_goes j x ys b c f, not_yet j ys c)) (ih w c (swap k))
+      carry (run_goes op x zs v w e) refl (run_goes j x ys b c f) (rw (run_goes j x ys b c f, not_yet j ys c)
+      (ap (λ r. first_end (run bare i xs a) r (op + 1) (turns s i (j + 1))) (run_goes j x ys b c f))) (ih w c (swap k))
 
 shuffled : {R S : Tokens} {xs ys zs : List Operation} → Apart R S → Apart S R → all_inside R xs ≡ true → all_inside S ys ≡ true →
     (s : Shuffle xs ys zs) (op i j : ℕ) (v a b : Value.Value) → Between R S v a b → Result R s op i j v a b

@@ -1,4 +1,5 @@
 // The numbers of the definitions, for the code. The definitions are in specs/.
+#![tactic(auto)]
 
 pub mod limits;
 pub mod refusal;

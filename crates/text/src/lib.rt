@@ -2,6 +2,7 @@
 // marks, in the document or in the patch, or those of a pointer's token among them. A part's form says how it is
 // read: 1 a string without escapes, 2 any string, 3 a pointer's token in a string; any other form says the empty
 // text. Every public function is total, and its contract is an equation.
+#![tactic(auto)]
 
 pub mod letters; // one character of what a part says
 pub mod compare; // whether two texts are the same

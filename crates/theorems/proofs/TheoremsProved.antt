@@ -13,7 +13,7 @@ use Rattle.region.proofs.ExamplesTheorem as Maker
 use Rattle.isolation.proofs.IsolationTheorem.{isolation}
 use Rattle.isolation.proofs.ExampleTheorem as Isolation
 use Rattle.isolation_call.proofs.CallsTheorem.{isolated_calls, calls_met}
-use Rattle.hex.proofs.ClaimTheorems as Hex
+use Rattle.intel_hex.proofs.ClaimTheorems as Hex
 use Rattle.json_patch.proofs.RegionTheorem.{call_in_regions}
 use Rattle.json_patch.proofs.ColumnsTheorem.{columns}
 use Rattle.record.proofs.RowsTheorem.{same_fields}
@@ -55,8 +55,8 @@ use Rattle.undo_listing.proofs.apply_with_undo_listing.Met as ApplyWithUndoListi
 use Rattle.undo_listing.proofs.json_patch_apply_with_undo_origins.Met as ApplyWithUndoListingForC
 use Rattle.fragment.proofs.write_link.Met as WriteLink
 use Rattle.fragment.proofs.read_link.Met as ReadLink
-use Rattle.hex.proofs.write_hex.Met as WriteHex
-use Rattle.hex.proofs.read_hex.Met as ReadHex
+use Rattle.intel_hex.proofs.write_hex.Met as WriteHex
+use Rattle.intel_hex.proofs.read_hex.Met as ReadHex
 use Rattle.theorems.specs.Theorems.{Theorems}
 
 pub theorems : Theorems

@@ -18,7 +18,7 @@ use Rattle.region.specs.Examples as Maker
 use Rattle.isolation.specs.Isolation.{IsolationStatement}
 use Rattle.isolation.specs.Example as Isolation
 use Rattle.isolation_call.specs.Calls.{IsolatedCallsStatement, CallsMetStatement}
-use Rattle.hex.specs.Claims as Hex
+use Rattle.intel_hex.specs.Claims as Hex
 use Rattle.json_patch.specs.Region.{CallInRegions}
 use Rattle.json_patch.specs.Columns.{ColumnsStatement}
 use Rattle.record.specs.Rows.{SameFields}
@@ -60,8 +60,8 @@ use Rattle.undo_listing.proofs.apply_with_undo_listing.Statement as ApplyWithUnd
 use Rattle.undo_listing.proofs.json_patch_apply_with_undo_origins.Statement as ApplyWithUndoListingForC
 use Rattle.fragment.proofs.write_link.Statement as WriteLink
 use Rattle.fragment.proofs.read_link.Statement as ReadLink
-use Rattle.hex.proofs.write_hex.Statement as WriteHex
-use Rattle.hex.proofs.read_hex.Statement as ReadHex
+use Rattle.intel_hex.proofs.write_hex.Statement as WriteHex
+use Rattle.intel_hex.proofs.read_hex.Statement as ReadHex
 
 -- ---- the three demands
 pub record Demands : Type 2 where

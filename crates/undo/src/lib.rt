@@ -9,6 +9,7 @@
 // What a caller of `run` should know: it is total. The patch's rows are as they were. After a refusal, and where the
 // table holds no document and no patch, the other nodes, the log and the buffer are free. So is the index after every
 // answer.
+#![tactic(auto)]
 
 mod cuts; // a pointer cut at its last slash
 mod mending; // what takes back a value that is put in

@@ -4,6 +4,7 @@
 // What is proved: on every input the answer and the list are those of the definition `undoAnswer` of crate `origin`.
 // The two outputs and the list afterwards begin with what is written and are otherwise unchanged. What holds of the
 // work area and the buffer in the call with an undo holds here too.
+#![tactic(auto)]
 
 mod call; // the call
 mod exports; // the call for C

@@ -6,6 +6,7 @@
 //
 // What a caller should know: every public function is total. Where no operations are noted, the log and the buffer
 // are free.
+#![tactic(auto)]
 
 pub mod log; // what is noted of the undo
 pub mod note; // one more operation of it

@@ -2,6 +2,8 @@
 // would print of the patched document if it lent as many bytes as the case says. Where the patch is applied, there are
 // two more lines: the undo, and what the patch tool would print of the undo on the patched text. The stored output is
 // what the second program answers, so that each run compares the two.
+#![tactic(auto)]
+
 ghost use Rattle.std.specs.Prelude.{◌≤◌, length};
 
 use cases::{

@@ -1,6 +1,8 @@
 // Every committed case, run through the library. It prints a line for each: its name, and what the patch tool would
 // print if it lent as many bytes of output as the case says. The stored output is what the second program answers, so
 // that each run compares the two.
+#![tactic(auto)]
+
 ghost use Rattle.std.specs.Prelude.{◌≤◌, length};
 
 use cases::{

@@ -1,4 +1,5 @@
 // From a value to the one that a pointer names: SPECIFICATION 6.1.
+#![tactic(auto)]
 
 pub mod names; // a pointer's token as a name
 pub mod steps; // from a value to its child by a token

@@ -9,6 +9,7 @@
 // What a caller should know: both are total. Where the output is too short, `write` fills it with the text's first
 // bytes; so ask `fits` first. Where the table holds no such node, the answer of `fits` is free; `write` then lays
 // down some bytes at the front of the output, answers how many, and leaves the rest as it was.
+#![tactic(auto)]
 
 mod values; // a value of the table: its length, and its text
 mod room; // whether there is room for a value's text
