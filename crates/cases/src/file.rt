@@ -5,7 +5,7 @@ ghost use Rattle.cases.specs.Within.{Within};
 // Room for the file of cases.
 const FILE: usize = 1_048_576;
 
-#[derive(Drop)]
+#[derive(Clone, Copy)]
 pub enum Contents {
     Bytes(usize),
     Unreadable,

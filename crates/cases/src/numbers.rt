@@ -7,7 +7,7 @@ use crate::words::{Taken, bytes_of, word_at};
 // Another digit is read only while the number is at most this, so that none overflows.
 const LARGEST: usize = 99_999_999;
 
-#[derive(Drop)]
+#[derive(Clone, Copy)]
 pub enum Digits {
     Say(usize),
     Unclear,
@@ -40,7 +40,7 @@ fn worth(text: &[u8]) -> Digits
 }
 
 // A number, and the place behind the byte that ends it.
-#[derive(Drop)]
+#[derive(Clone, Copy)]
 pub enum Number {
     Is(usize, usize),
     Missing,
@@ -73,14 +73,14 @@ fn counted(file: &[u8], at: usize, i: usize, count: usize, end: u8) -> Number
 }
 
 // Up to three numbers. Those that a case does not have are 0.
-#[derive(Drop)]
+#[derive(Clone, Copy)]
 pub struct Three {
     pub first: usize,
     pub second: usize,
     pub third: usize,
 }
 
-#[derive(Drop)]
+#[derive(Clone, Copy)]
 pub enum Numbers {
     Are(Three, usize),
     Missing,

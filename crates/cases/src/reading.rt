@@ -31,14 +31,14 @@ fn text_at(file: &[u8], at: usize, i: usize, count: usize, length: usize) -> Tak
 }
 
 // Up to three texts. Those that a case does not have are empty.
-#[derive(Drop)]
+#[derive(Clone, Copy)]
 pub struct Texts {
     pub first: Part,
     pub second: Part,
     pub third: Part,
 }
 
-#[derive(Drop)]
+#[derive(Clone, Copy)]
 pub enum Standing {
     Are(Texts, usize),
     Missing,
@@ -67,7 +67,7 @@ fn texts_at(file: &[u8], at: usize, lengths: Three, count: usize) -> Standing
 }
 
 // A case: its name, how much it lends, its texts, and the place behind it.
-#[derive(Drop)]
+#[derive(Clone, Copy)]
 pub struct Case {
     pub name: Part,
     pub rooms: Three,
@@ -75,7 +75,7 @@ pub struct Case {
     pub next: usize,
 }
 
-#[derive(Drop)]
+#[derive(Clone, Copy)]
 pub enum Found {
     Here(Case),
     Nothing,

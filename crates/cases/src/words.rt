@@ -2,7 +2,7 @@
 ghost use Rattle.std.specs.Prelude.{◌≡◌, take};
 ghost use Rattle.cases.specs.Taking.{found, cut, word_at, bytes_at};
 
-#[derive(Drop)]
+#[derive(Clone, Copy)]
 pub enum Place {
     At(usize),
     Nowhere,
@@ -23,7 +23,7 @@ fn find(file: &[u8], at: usize, byte: u8) -> Place
 }
 
 // A part of the file.
-#[derive(Drop)]
+#[derive(Clone, Copy)]
 pub struct Part {
     pub start: usize,
     pub end: usize,
@@ -55,7 +55,7 @@ pub fn front<'a>(bytes: &'a [u8], n: usize) -> &'a [u8]
 }
 
 // A part, and the place behind the byte that ends it.
-#[derive(Drop)]
+#[derive(Clone, Copy)]
 pub enum Taken {
     Is(Part, usize),
     Missing,

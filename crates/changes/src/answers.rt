@@ -1,14 +1,14 @@
 // What the functions of this crate take and answer.
 
 // A change at a location. The new value of an addition or a replacement is the tree in a row behind the document's.
-#[derive(Drop)]
+#[derive(Clone, Copy)]
 pub enum Change {
     Add(usize),
     Remove,
     Replace(usize),
 }
 
-#[derive(Drop)]
+#[derive(Clone, Copy)]
 pub enum Altered {
     // how many rows the document has from now on
     Done(usize),

@@ -12,7 +12,7 @@ use tape::layout::Node;
 use tape::{layout, moves, nodes};
 
 // A node whose children change: the document's rows, the node's own row, and how many containers a child may nest.
-#[derive(Drop)]
+#[derive(Clone, Copy)]
 pub struct Parent {
     pub used: usize,
     pub row: usize,

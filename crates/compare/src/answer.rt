@@ -9,7 +9,7 @@ use spec::refusal;
 // The number is 0 where both texts were read, and that of the refusal otherwise. `text` is 1 or 2 for a refusal of
 // that text, and `place` a byte offset in it; what a refusal does not set is 0. `equal` says whether the values are
 // equal, and `names` how many names were compared; after a refusal they are false and 0.
-#[derive(Drop)]
+#[derive(Clone, Copy)]
 pub struct Answer {
     pub number: u8,
     pub text: u8,

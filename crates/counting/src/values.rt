@@ -13,7 +13,7 @@ use tape::layout::{Node, Texts};
 use tape::nodes::{arity, end_of, kind};
 
 // Whether two values are equal, and how many names were compared to tell.
-#[derive(Drop)]
+#[derive(Clone, Copy)]
 pub struct Comparison {
     pub same: bool,
     pub names: u64,

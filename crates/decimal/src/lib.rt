@@ -24,7 +24,7 @@ const MAX_EXPONENT: usize = 9_999;
 // A number's text in normal form: whether it is below zero; where its significant digits begin, and how many there are,
 // without zeros at either end and not counting the point between them; and the power of ten of the last of them. A zero
 // has no significant digits, the power 0 and no sign.
-#[derive(Drop)]
+#[derive(Clone, Copy)]
 pub struct Normal {
     pub negative: bool,
     pub first: usize,
@@ -32,7 +32,7 @@ pub struct Normal {
     pub power: i32,
 }
 
-#[derive(Drop)]
+#[derive(Clone, Copy)]
 pub enum Normalized {
     Number(Normal),
     // The text is longer than a number may be, or its exponent larger.

@@ -62,7 +62,7 @@ fn sought<'a>(
 }
 
 // Two containers whose children are compared in step. The second is in the row `other` and ends before the row `end`.
-#[derive(Drop)]
+#[derive(Clone, Copy)]
 pub struct Pair {
     pub top: usize,
     pub object: bool,

@@ -3,7 +3,7 @@ ghost use Rattle.fragment.specs.Call.{SuccessIs, RefusalIs};
 
 // The number is 0 where the text was written, and that of the refusal otherwise. `length` is the length of the written
 // text, and 0 after a refusal.
-#[derive(Drop)]
+#[derive(Clone, Copy)]
 pub struct Answer {
     pub number: u8,
     pub length: usize,

@@ -9,7 +9,7 @@ use crate::scan::{Awaited, Syntax, Verdict, judge, next_byte, next_syntax};
 use lexer::peek;
 
 // The octet at a place of a fragment and the place after it; `Bad` where no fragment has what stands there.
-#[derive(Drop)]
+#[derive(Clone, Copy)]
 pub enum Octet {
     Is(u8, usize),
     Bad,
@@ -60,7 +60,7 @@ pub fn octet_at(s: &[u8], at: usize, kept: &[u8; 256]) -> Octet
 
 // What a text is as a fragment: octets that are a pointer, with their number; no fragment, or octets that are not
 // UTF-8; or a text that is no pointer.
-#[derive(Drop)]
+#[derive(Clone, Copy)]
 pub enum Fragment {
     Pointer(usize),
     Bad,

@@ -5,7 +5,7 @@ ghost use Rattle.fragment.specs.Scan.{lowest, highest, first_byte, next_byte, ne
 
 // What is to come of a character in UTF-8: how many bytes, and the bounds of the next one. After a byte that no
 // character has there, the bounds admit no byte.
-#[derive(Drop)]
+#[derive(Clone, Copy)]
 pub struct Awaited {
     pub more: u8,
     pub low: u8,
@@ -78,7 +78,7 @@ pub fn next_byte(a: Awaited, b: u8) -> Awaited
 }
 
 // How far a pointer has been read: nothing yet; a token, or its beginning; a `~`; what no pointer begins with.
-#[derive(Drop)]
+#[derive(Clone, Copy)]
 pub enum Syntax {
     Start,
     Token,
@@ -129,7 +129,7 @@ fn may_end(y: Syntax) -> bool
 }
 
 // What bytes are: a pointer, bytes that are not UTF-8, or a text that is no pointer.
-#[derive(Drop)]
+#[derive(Clone, Copy)]
 pub enum Verdict {
     Pointer,
     NotUtf8,

@@ -13,7 +13,7 @@ use tape::layout::Texts;
 use text::letter;
 
 // The bits that are left of a hash, with a 1 above them that marks their end, and the place of the next character.
-#[derive(Drop)]
+#[derive(Clone, Copy)]
 pub struct Bits {
     pub left: u32,
     pub next: usize,

@@ -23,7 +23,7 @@ fn either(a: bool, b: bool) -> bool
 }
 
 // Where a search path ends, and whether a row on it has the name.
-#[derive(Drop)]
+#[derive(Clone, Copy)]
 pub struct Ending {
     slot: usize,
     same: bool,

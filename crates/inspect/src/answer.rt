@@ -10,7 +10,7 @@ use spec::refusal;
 // The number is 0 where the patch is well formed, and that of the refusal otherwise. `text` is 2 for a refusal of the
 // patch's text, `op` counts the operations from 1, and `place` is a byte offset. What a refusal does not set is 0,
 // and so are all counts after a refusal.
-#[derive(Drop)]
+#[derive(Clone, Copy)]
 pub struct Answer {
     pub number: u8,
     pub text: u8,

@@ -5,7 +5,7 @@ ghost use Rattle.inspect.specs.Counts.{counts_in, CountsAre, OneIs, PlusIs};
 
 use shape::Kind;
 
-#[derive(Drop)]
+#[derive(Clone, Copy)]
 pub struct Counts {
     pub adds: usize,
     pub removes: usize,

@@ -3,7 +3,7 @@ ghost use Rattle.intel_hex.specs.Call.{SuccessIs, RefusalIs};
 
 // The number is 0 where the text was written, and that of the refusal otherwise. `place` is the line of the refusal,
 // and 0 where it has none. `length` is the length of the written text, and 0 after a refusal.
-#[derive(Drop)]
+#[derive(Clone, Copy)]
 pub struct Answer {
     pub number: u8,
     pub place: usize,

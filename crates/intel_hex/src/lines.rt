@@ -13,7 +13,7 @@ use std::num::wrapping_add_u8;
 const MAX_TEXT: usize = 65_536;
 
 // The sum, modulo 256, of bytes written in digits; `Bad` where something is no digit.
-#[derive(Drop)]
+#[derive(Clone, Copy)]
 pub enum Scanned {
     Sum(u8),
     Bad,
@@ -85,7 +85,7 @@ fn line_sum(t: &[u8]) -> Scanned
 }
 
 // What a record is by its type, count and address.
-#[derive(Drop)]
+#[derive(Clone, Copy)]
 pub enum Form {
     Data,
     End,
@@ -127,7 +127,7 @@ pub fn line_length(t: &[u8]) -> usize
 
 // What reading a line comes to: data, with their number and the line's length; the end of all; a refusal; or the end
 // with a line behind it.
-#[derive(Drop)]
+#[derive(Clone, Copy)]
 pub enum Step {
     More(usize, usize),
     Done,

@@ -9,7 +9,7 @@ use crate::lines::{Step, line_length, step_at};
 use crate::writing::put;
 
 // How many bytes a text has, or why it is refused, with the line.
-#[derive(Drop)]
+#[derive(Clone, Copy)]
 pub enum Measure {
     Bytes(usize),
     Refused(u8, usize),

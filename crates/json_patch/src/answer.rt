@@ -11,7 +11,7 @@ use spec::refusal;
 // for the patch, and `op` counts the operations from 1. With 11 and 12 `pointer` is 1 for `path` and 2 for `from`, and
 // `place` the count of tokens walked before the one that failed; with 3 to 7 `place` is a byte offset. What a refusal
 // does not set is 0, and so is `length` after a refusal.
-#[derive(Drop)]
+#[derive(Clone, Copy)]
 pub struct Answer {
     pub number: u8,
     pub text: u8,

@@ -8,7 +8,7 @@ use crate::escapes::escape;
 use crate::utf8::multibyte;
 
 // A character's code point with the cursor after it, or the place of a refusal, whose number is 3.
-#[derive(Drop)]
+#[derive(Clone, Copy)]
 pub enum Character {
     Scalar(u32, Cursor),
     Refused(usize),

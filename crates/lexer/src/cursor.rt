@@ -4,20 +4,20 @@ ghost use Rattle.spec.specs.Bytes.{byte, byte_in};
 ghost use Rattle.lexer.specs.Answers.{bounded_outcome, ReadIs};
 
 // A place in a text, which may lie past its end.
-#[derive(Drop)]
+#[derive(Clone, Copy)]
 pub struct Cursor {
     pub at: usize,
 }
 
 // The cursor after what was read, or a refusal's number and place.
-#[derive(Drop)]
+#[derive(Clone, Copy)]
 pub enum Scan {
     To(Cursor),
     Refused(u8, usize),
 }
 
 // A byte or the value of a digit, if it lies between the bounds that were given.
-#[derive(Drop)]
+#[derive(Clone, Copy)]
 pub enum Bounded {
     Within(u8),
     Outside,
@@ -31,7 +31,7 @@ pub fn peek(s: &[u8], at: usize) -> u8
 }
 
 // A byte that was read, and the cursor after it.
-#[derive(Drop)]
+#[derive(Clone, Copy)]
 pub struct ByteRead {
     pub byte: u8,
     pub next: Cursor,

@@ -13,7 +13,7 @@ use crate::verbatim::verbatim_end;
 
 // A name's cursor after it, the hash of its characters, and whether it is plain: written with no escape; or the place
 // of a refusal, whose number is 3.
-#[derive(Drop)]
+#[derive(Clone, Copy)]
 pub enum Name {
     Read {
         next: Cursor,
@@ -24,7 +24,7 @@ pub enum Name {
 }
 
 // A string's cursor after it, and whether it is plain; or the place of a refusal, whose number is 3.
-#[derive(Drop)]
+#[derive(Clone, Copy)]
 pub enum Quoted {
     Read { next: Cursor, plain: bool },
     Refused(usize),

@@ -15,7 +15,7 @@ use tape::layout::{Node, Texts};
 use tape::moves::load;
 use tape::nodes::kind;
 
-#[derive(Drop)]
+#[derive(Clone, Copy)]
 pub enum Step {
     // it is gone
     Nothing,

@@ -5,7 +5,7 @@ ghost use Rattle.operations.specs.Answers.{pointer_of, at_path, at_from};
 use changes::Altered;
 use spec::refusal;
 
-#[derive(Drop)]
+#[derive(Clone, Copy)]
 pub enum Performed {
     // the document's rows from now on
     Done(usize),

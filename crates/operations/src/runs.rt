@@ -9,7 +9,7 @@ use tape::layout;
 use tape::layout::{Node, Texts};
 use tape::nodes::end_of;
 
-#[derive(Drop)]
+#[derive(Clone, Copy)]
 pub enum Ran {
     // the document's number of rows then
     Done(usize),

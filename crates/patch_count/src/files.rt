@@ -12,7 +12,7 @@ use tape::layout::Node;
 // One byte more than a patch may have, so that a longer one is seen to be too long.
 pub const INPUT: usize = 32_769;
 
-#[derive(Drop)]
+#[derive(Clone, Copy)]
 pub enum Contents {
     Bytes(usize),
     Unreadable,

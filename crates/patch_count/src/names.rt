@@ -17,13 +17,13 @@ const LONGER: usize = 4_097;
 const MAX_NAMES: usize = 1_000_000;
 
 // How many bytes there are of the name that is not complete yet, and the sums over the names before it.
-#[derive(Drop)]
+#[derive(Clone, Copy)]
 pub struct State {
     pub pending: usize,
     pub tally: Tally,
 }
 
-#[derive(Drop)]
+#[derive(Clone, Copy)]
 pub enum Fed {
     Going(State),
     TooMany,

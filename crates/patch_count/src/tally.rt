@@ -9,7 +9,7 @@ ghost use Rattle.patch_count.specs.Sums.{tally_in, Room, Adds};
 
 use inspect::{Answer, Counts};
 
-#[derive(Drop)]
+#[derive(Clone, Copy)]
 pub struct Tally {
     pub patches: usize,
     pub refused: usize,

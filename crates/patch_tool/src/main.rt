@@ -31,7 +31,7 @@ fn run<'a>(document: &'a [u8], patch: &'a [u8]) {
     io::write_all(STDOUT_FILENO, &line[..n]);
 }
 
-#[derive(Drop)]
+#[derive(Clone, Copy)]
 pub enum Contents {
     Bytes(usize),
     Unreadable,

@@ -2,7 +2,7 @@
 
 // Where the tokens of a pointer begin: nowhere, in the empty pointer, which names the root; at a place, after the
 // first slash; or the text does not begin with a slash.
-#[derive(Drop)]
+#[derive(Clone, Copy)]
 pub enum First {
     Root,
     At(usize),
@@ -11,7 +11,7 @@ pub enum First {
 
 // A token by the place where it ends. The last one runs to the end of the part, or to the first byte that is no
 // character's; behind any other stands a slash, and the next token begins after it.
-#[derive(Drop)]
+#[derive(Clone, Copy)]
 pub enum Token {
     Last { end: usize },
     Next { end: usize, next: usize },
@@ -19,7 +19,7 @@ pub enum Token {
 
 // What a token is to an array: `-`, which stands for the element behind the last; an index below the limit; an index
 // beyond it, of any length; or none of these.
-#[derive(Drop)]
+#[derive(Clone, Copy)]
 pub enum Index {
     Dash,
     At(usize),

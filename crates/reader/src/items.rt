@@ -13,7 +13,7 @@ use spec::refusal;
 use tape::fields::Name;
 use tape::layout::Node;
 
-#[derive(Drop)]
+#[derive(Clone, Copy)]
 pub enum Item {
     // the cursor where the item's value begins, and its name
     Begins(Cursor, Name),

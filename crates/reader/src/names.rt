@@ -14,7 +14,7 @@ use tape::layout::Node;
 
 // A container that is being read: whether it is an object, in which text it stands, where the text's rows begin, its
 // own row, and the row behind its items so far.
-#[derive(Drop)]
+#[derive(Clone, Copy)]
 pub struct Container {
     pub object: bool,
     pub source: u16,

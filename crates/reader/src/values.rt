@@ -20,7 +20,7 @@ use tape::layout;
 use tape::layout::Node;
 use tape::moves::store;
 
-#[derive(Drop)]
+#[derive(Clone, Copy)]
 pub enum Read {
     // the cursor after the value, and the row after its last
     Value(Cursor, usize),

@@ -12,14 +12,14 @@ use tape::fields::Spelling;
 use tape::{fields, layout};
 
 // The cursor after a scalar, and its spelling; or a refusal's number and place.
-#[derive(Drop)]
+#[derive(Clone, Copy)]
 pub enum Spelled {
     Read(Cursor, Spelling),
     Refused(u8, usize),
 }
 
 // The same for a name.
-#[derive(Drop)]
+#[derive(Clone, Copy)]
 pub enum Named {
     Read(Cursor, fields::Name),
     Refused(u8, usize),

@@ -14,7 +14,7 @@ mod exports;
 pub use exports::{json_patch_node_clear, json_patch_node_read, json_patch_node_store};
 
 #[repr(C)]
-#[derive(Drop)]
+#[derive(Clone, Copy)]
 pub struct Node {
     // where its name begins, and the name's bytes
     pub name_start: u16,

@@ -13,7 +13,7 @@ use tape::layout::{Node, Texts};
 use tape::nodes::end_of;
 
 // The rows of an operation's members, each 0 where there is none: row 0 is the document's root.
-#[derive(Drop)]
+#[derive(Clone, Copy)]
 pub struct Members {
     pub op: usize,
     pub path: usize,

@@ -10,7 +10,7 @@ use table::spellings::{part, spells};
 use tape::fields::Spelling;
 use tape::layout::Texts;
 
-#[derive(Drop)]
+#[derive(Clone, Copy)]
 pub enum Kind {
     Add,
     Remove,
@@ -22,7 +22,7 @@ pub enum Kind {
 }
 
 // What a kind uses beside `op` and `path`, and whether it moves a value. An unknown kind uses nothing.
-#[derive(Drop)]
+#[derive(Clone, Copy)]
 pub struct Uses {
     pub known: bool,
     pub value: bool,

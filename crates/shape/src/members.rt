@@ -10,7 +10,7 @@ use tape::layout::{Node, Texts};
 use tape::nodes::end_of;
 
 // A string by where it stands.
-#[derive(Drop)]
+#[derive(Clone, Copy)]
 pub enum Spelled {
     As(Spelling),
     // there is no such member, or it is no string

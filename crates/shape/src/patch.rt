@@ -8,7 +8,7 @@ use tape::layout;
 use tape::layout::{Node, Texts};
 use tape::nodes::{arity, end_of, kind};
 
-#[derive(Drop)]
+#[derive(Clone, Copy)]
 pub enum Shape {
     Right,
     // the number of the refusal, and the operation

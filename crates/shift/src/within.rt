@@ -93,7 +93,7 @@ fn shift<'a>(
 }
 
 // What two pointers name.
-#[derive(Drop)]
+#[derive(Clone, Copy)]
 pub enum Pair {
     // children of one node, by its row and their tokens
     Siblings(usize, Name, Name),

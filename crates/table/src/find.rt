@@ -11,7 +11,7 @@ use tape::fields::{Name, kind_in, name_of, wide};
 use tape::layout::{ARRAY, HASH, Node, SPAN, TAGS, Texts};
 use tape::nodes::BLOCK;
 
-#[derive(Drop)]
+#[derive(Clone, Copy)]
 pub enum Member {
     // the member's row
     At(usize),

@@ -10,7 +10,7 @@ use crate::layout::{
 };
 
 // Where a text stands, and how it is read there.
-#[derive(Drop)]
+#[derive(Clone, Copy)]
 pub struct Spelling {
     pub form: u16,
     pub source: u16,
@@ -19,14 +19,14 @@ pub struct Spelling {
 }
 
 // A name: its text, and a hash of that.
-#[derive(Drop)]
+#[derive(Clone, Copy)]
 pub struct Name {
     pub text: Spelling,
     pub hash: u16,
 }
 
 // What a node bears beside its children.
-#[derive(Drop)]
+#[derive(Clone, Copy)]
 pub struct Cell {
     pub kind: u16,
     pub value: Spelling,

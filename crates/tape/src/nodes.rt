@@ -79,7 +79,7 @@ fn leaves(nodes: &[Node], row: usize, end: usize, most: usize) -> bool
     spans == 0
 }
 
-#[derive(Drop)]
+#[derive(Clone, Copy)]
 pub enum Located {
     // the child's row
     At(usize),

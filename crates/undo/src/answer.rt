@@ -4,7 +4,7 @@ ghost use Rattle.undo.specs.Stages.{WithoutIs};
 use json_patch::Answer;
 
 // As the plain call, and the undo's length: 0 after a refusal.
-#[derive(Drop)]
+#[derive(Clone, Copy)]
 pub struct UndoAnswer {
     pub answer: Answer,
     pub undo: usize,

@@ -7,7 +7,7 @@ use tape::fields::{Spelling, narrow};
 use text::letter;
 
 // Where the last slash stands, and the place behind it, where the last token begins.
-#[derive(Drop)]
+#[derive(Clone, Copy)]
 pub struct Cut {
     pub end: usize,
     pub next: usize,

@@ -21,7 +21,7 @@ use undo_log::note::{Action, Target, note};
 use walk::{Reached, walk};
 
 // What an operation came to, and what is noted then.
-#[derive(Drop)]
+#[derive(Clone, Copy)]
 pub struct Stepped {
     pub outcome: Performed,
     pub log: Log,

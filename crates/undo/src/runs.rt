@@ -11,7 +11,7 @@ use tape::nodes::end_of;
 use undo_log::log::Log;
 
 // What a run came to, and what is noted then.
-#[derive(Drop)]
+#[derive(Clone, Copy)]
 pub struct Logged {
     pub ran: Ran,
     pub log: Log,

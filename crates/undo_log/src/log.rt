@@ -8,7 +8,7 @@ use writer::{put_byte, put_part};
 
 // How many operations, whether no value of them is too deep, how many values, and how many bytes of text. Each count
 // is cut off one past its limit. The text stands at the end of the buffer, as long as it is within its limit.
-#[derive(Drop)]
+#[derive(Clone, Copy)]
 pub struct Log {
     pub count: usize,
     pub shallow: bool,

@@ -12,7 +12,7 @@ use tape::layout::{Node, Texts};
 use tape::nodes::{span, within};
 
 // What an operation of the undo does. A value is given by its row.
-#[derive(Drop)]
+#[derive(Clone, Copy)]
 pub enum Action {
     Add(usize),
     Remove,
@@ -21,7 +21,7 @@ pub enum Action {
 
 // Where it acts: at a pointer of the patch; or at the element of an index, behind a pointer that is cut off after its
 // last slash.
-#[derive(Drop)]
+#[derive(Clone, Copy)]
 pub enum Target {
     At(Spelling),
     Appended(Spelling, usize),

@@ -10,7 +10,7 @@ use table::spellings::part;
 use tape::fields::Spelling;
 use tape::layout::{Node, Texts};
 
-#[derive(Drop)]
+#[derive(Clone, Copy)]
 pub enum Reached {
     // the row of the value
     At(usize),

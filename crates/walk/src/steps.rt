@@ -11,7 +11,7 @@ use tape::layout::{Node, Texts};
 use tape::nodes::Located;
 use tape::{layout, nodes};
 
-#[derive(Drop)]
+#[derive(Clone, Copy)]
 pub enum Child {
     // the child's row
     At(usize),
