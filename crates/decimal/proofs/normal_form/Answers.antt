@@ -45,4 +45,4 @@ returns c =
     (back c.args.exponent c.ranges.exponent.sfits ∙ c.requires.1.0)
     c.fraction.ensures
     c.digits.ensures
-    (back c.power.result c.power.type-inv ∙ c.power.ensures)
+    (back c.power.result c.power.type_inv ∙ c.power.ensures)

@@ -18,10 +18,9 @@ returns-then-not-same_sign c =
 pub same_power-requires : goal.same_power-requires
 same_power-requires c = tt
 
--- TODO bare place c.before
 pub returns-then-not-same_power : goal.returns-then-not-same_power
 returns-then-not-same_power c =
-    power_differs _ _ _ _ c.requires.0 c.requires.1 (told (powers c.before) (not-true _ c.if-not-same_power.true-raw))
+    power_differs _ _ _ _ c.requires.0 c.requires.1 (told (c.same_power.ensures ∙ rw (back c.args.x.power (omega arith), back c.args.y.power (omega arith))) (not-true _ c.if-not-same_power.true-raw))
 
 pub returns-then-x-y : goal.returns-then-x-y
 returns-then-x-y c =
@@ -31,11 +30,10 @@ pub same_digits-requires : goal.same_digits-requires
 same_digits-requires c =
     (enough_left _ _ _ _ c.requires.0 c.requires.1, enough_right _ _ _ _ c.requires.0 c.requires.1 c.if-x-y.false)
 
--- TODO bare place power.before
 pub returns : goal.returns
 returns c =
     digits_decide _ _ _ _ c.requires.0 c.requires.1 _
     (told c.same_sign.ensures (not-false _ c.if-not-same_sign.false-raw))
-    (told (powers power.before) (not-false _ c.if-not-same_power.false-raw))
+    (told (c.same_power.ensures ∙ rw (back c.args.x.power (omega arith), back c.args.y.power (omega arith))) (not-false _ c.if-not-same_power.false-raw))
     c.if-x-y.false
     c.same_digits.ensures

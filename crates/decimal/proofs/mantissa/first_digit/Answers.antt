@@ -3,45 +3,32 @@ use Prim.Native.Nat.{ℕ, ◌+◌, ◌-◌}
 use mathlib.Core.Path.{◌≡◌}
 use native.Mathlib.Omega.{arith}
 use lib.ListN.{length, drop}
-use Rattle.spec.specs.Bytes.{Bytes}
 use Rattle.decimal.specs.Normal.{first_digit}
 use Rattle.decimal.proofs.MantissaLaws.{told, first_ends, first_here, first-later, first_past}
 use Rattle.decimal.proofs.mantissa.first_digit.Goals as goal
 
-abbrev text : tie.In-loop invariant-loop decreases-loop → Bytes
-text b = b.before.before.before.args.t.now
-
-abbrev place : tie.In-loop invariant-loop decreases-loop → ℕ
-place b = b.before.loop.i
-
 pub is_e-requires : goal.is_e-requires
 is_e-requires c = tt
 
--- TODO bare place b
--- TODO bare place b
 pub returns-then-is_e : goal.returns-then-is_e
 returns-then-is_e c =
     let e = told c.is_e.ensures c.if-is_e.true in
-    omega (arith, first_ends (text b) (place b) c.loop-i-test.true e)
+    omega (arith, first_ends c.args.t.now c.loop-i.i c.loop-i-test.true e)
 
 pub is_nonzero_digit-requires : goal.is_nonzero_digit-requires
 is_nonzero_digit-requires c = tt
 
--- TODO bare place b
--- TODO bare place b
 pub returns-then-is_nonzero_digit : goal.returns-then-is_nonzero_digit
 returns-then-is_nonzero_digit c =
     let e = told c.is_e.ensures c.if-is_e.false in
     let d = told c.is_nonzero_digit.ensures c.if-is_nonzero_digit.true in
-    omega (arith, first_here (text b) (place b) c.loop-i-test.true e d)
+    omega (arith, first_here c.args.t.now c.loop-i.i c.loop-i-test.true e d)
 
--- TODO bare place b
--- TODO bare place b
 pub loop-i-preserved : goal.loop-i-preserved
 loop-i-preserved c =
     let e = told c.is_e.ensures c.if-is_e.false in
     let d = told c.is_nonzero_digit.ensures c.if-is_nonzero_digit.false in
-    omega (arith, first-later (text b) (place b) c.loop-i-test.true e d)
+    omega (arith, first-later c.args.t.now c.loop-i.i c.loop-i-test.true e d)
 
 pub returns : goal.returns
 returns c = omega (arith, first_past c.args.t.now c.loop-i.i c.loop-i-test.false)
