@@ -31,7 +31,7 @@ loop-left-smaller-then-not-is_digit c =
 
 pub loop-left-preserved-then-not-is_digit : goal.loop-left-preserved-then-not-is_digit
 loop-left-preserved-then-not-is_digit c =
-    passing c.loop-left.invariant c.loop-left-test.true (told c.is_digit.ensures (not-true _ c.if-not-is_digit.true-raw))
+    passing c.loop-left.invariant c.loop-left-test.true (told c.is_digit.ensures c.if-not-is_digit.true)
 
 pub is_digit-requires-in-loop-left : goal.is_digit-requires-in-loop-left
 is_digit-requires-in-loop-left c = tt
@@ -46,13 +46,13 @@ loop-left-smaller-then-not-is_digit-2 c =
 
 pub loop-left-preserved-then-not-is_digit-2 : goal.loop-left-preserved-then-not-is_digit-2
 loop-left-preserved-then-not-is_digit-2 c =
-    passing_other c.loop-left.invariant c.loop-left-test.true (told c.is_digit-in-loop-left.ensures (not-true _ c.if-not-is_digit-2.true-raw))
+    passing_other c.loop-left.invariant c.loop-left-test.true (told c.is_digit-in-loop-left.ensures c.if-not-is_digit-2.true)
 
 pub returns-then-x-y : goal.returns-then-x-y
 returns-then-x-y c =
     differing c.loop-left.invariant c.loop-left-test.true
-    (told c.is_digit.ensures (not-false _ c.if-not-is_digit.false-raw))
-    (told c.is_digit-in-loop-left.ensures (not-false _ c.if-not-is_digit-2.false-raw))
+    (told c.is_digit.ensures c.if-not-is_digit.false)
+    (told c.is_digit-in-loop-left.ensures c.if-not-is_digit-2.false)
     c.if-x-y.true
 
 pub overflow_add-i-in-loop-left : goal.overflow_add-i-in-loop-left
@@ -70,8 +70,8 @@ loop-left-smaller c =
 pub loop-left-preserved : goal.loop-left-preserved
 loop-left-preserved c =
     agreeing c.loop-left.invariant c.loop-left-test.true
-    (told c.is_digit.ensures (not-false _ c.if-not-is_digit.false-raw))
-    (told c.is_digit-in-loop-left.ensures (not-false _ c.if-not-is_digit-2.false-raw))
+    (told c.is_digit.ensures c.if-not-is_digit.false)
+    (told c.is_digit-in-loop-left.ensures c.if-not-is_digit-2.false)
     c.if-x-y.false
 
 pub returns : goal.returns

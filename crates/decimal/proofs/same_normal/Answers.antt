@@ -13,14 +13,14 @@ same_sign-requires c = tt
 
 pub returns-then-not-same_sign : goal.returns-then-not-same_sign
 returns-then-not-same_sign c =
-    sign-differs _ _ _ _ c.requires.0 c.requires.1 (told c.same_sign.ensures (not-true _ c.if-not-same_sign.true-raw))
+    sign-differs _ _ _ _ c.requires.0 c.requires.1 (told c.same_sign.ensures c.if-not-same_sign.true)
 
 pub same_power-requires : goal.same_power-requires
 same_power-requires c = tt
 
 pub returns-then-not-same_power : goal.returns-then-not-same_power
 returns-then-not-same_power c =
-    power_differs _ _ _ _ c.requires.0 c.requires.1 (told (c.same_power.ensures ∙ rw (back c.args.x.power (omega arith), back c.args.y.power (omega arith))) (not-true _ c.if-not-same_power.true-raw))
+    power_differs _ _ _ _ c.requires.0 c.requires.1 (told (c.same_power.ensures ∙ rw (back c.args.x.power (omega arith), back c.args.y.power (omega arith))) c.if-not-same_power.true)
 
 pub returns-then-x-y : goal.returns-then-x-y
 returns-then-x-y c =
@@ -33,7 +33,7 @@ same_digits-requires c =
 pub returns : goal.returns
 returns c =
     digits_decide _ _ _ _ c.requires.0 c.requires.1 _
-    (told c.same_sign.ensures (not-false _ c.if-not-same_sign.false-raw))
-    (told (c.same_power.ensures ∙ rw (back c.args.x.power (omega arith), back c.args.y.power (omega arith))) (not-false _ c.if-not-same_power.false-raw))
+    (told c.same_sign.ensures c.if-not-same_sign.false)
+    (told (c.same_power.ensures ∙ rw (back c.args.x.power (omega arith), back c.args.y.power (omega arith))) c.if-not-same_power.false)
     c.if-x-y.false
     c.same_digits.ensures

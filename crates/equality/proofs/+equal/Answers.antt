@@ -16,19 +16,19 @@ pub returns-then-nodes-other : goal.returns-then-nodes-other
 returns-then-nodes-other t c hints = equal_outside_other _ _ c.if-nodes-other.true
 
 pub returns-then-not-same_label : goal.returns-then-not-same_label
-returns-then-not-same_label t c hints = equal_labels _ _ c.same_label.ensures (not-true _ c.if-not-same_label.true-raw)
+returns-then-not-same_label t c hints = equal_labels _ _ c.same_label.ensures c.if-not-same_label.true
 
 pub returns-then-kind-lt-ARRAY : goal.returns-then-kind-lt-ARRAY
-returns-then-kind-lt-ARRAY t c hints = equal-scalar _ _ c.same_label.ensures (not-false _ c.if-not-same_label.false-raw) _
+returns-then-kind-lt-ARRAY t c hints = equal-scalar _ _ c.same_label.ensures c.if-not-same_label.false _
     c.kind_in-kind.ensures c.if-kind-lt-ARRAY.true
 
 pub returns-then-levels-eq0 : goal.returns-then-levels-eq0
-returns-then-levels-eq0 t c hints = equal_flat _ _ c.same_label.ensures (not-false _ c.if-not-same_label.false-raw) _
+returns-then-levels-eq0 t c hints = equal_flat _ _ c.same_label.ensures c.if-not-same_label.false _
     c.kind_in-kind.ensures c.if-kind-lt-ARRAY.false _ c.if-levels-eq0.true
 
 pub loop-row-init : goal.loop-row-init
 loop-row-init t c hints = comparing_all _ _ c.same_label.ensures
-    (not-false _ c.if-not-same_label.false-raw) _ c.kind_in-kind.ensures
+    c.if-not-same_label.false _ c.kind_in-kind.ensures
     c.if-kind-lt-ARRAY.false
     _ _ c.end_of-end.ensures c.end_of.ensures
 
@@ -44,13 +44,13 @@ pub returns-then-not-equal : goal.returns-then-not-equal
 returns-then-not-equal t c hints = equal_differs _ _ _ _ _ _ (c.loop-row.invariant hints) (omega arith) (omega arith)
     c.end_of.ensures
     _ (c.partner.ensures hints) _ c.in-At.is _ (c.equal.ensures hints)
-    (not-true _ c.if-not-equal.true-raw)
+    c.if-not-equal.true
 
 pub loop-row-preserved : goal.loop-row-preserved
 loop-row-preserved t c hints = comparing_next _ _ _ _ _ _ (c.loop-row.invariant hints) (omega arith)
     (omega arith) c.end_of.ensures
     _ (c.partner.ensures hints) _ c.in-At.is _
-    (c.equal.ensures hints) (not-false _ c.if-not-equal.false-raw)
+    (c.equal.ensures hints) c.if-not-equal.false
     _ _ c.end_of-row.ensures c.end_of-next.ensures
 
 pub returns : goal.returns

@@ -10,7 +10,7 @@ use Rattle.changes.proofs.paths.replace_document.Goals as goal
 pub returns-then-not-within : goal.returns-then-not-within
 returns-then-not-within c = record {
   frame = unchanged refl;
-  bearing = λ T v d x kids offered. replace_deep offered c.within.ensures (not-true _ c.if-not-within.true-raw);
+  bearing = λ T v d x kids offered. replace_deep offered c.within.ensures c.if-not-within.true;
 }
 
 pub returns-then-count-gt-MAX_NODES : goal.returns-then-count-gt-MAX_NODES
@@ -18,7 +18,7 @@ returns-then-count-gt-MAX_NODES c =
     record {
       frame = unchanged refl;
       bearing = λ T v d x kids offered.
-          replace_large offered c.within.ensures (not-false _ c.if-not-within.false-raw) _ c.size-count.ensures c.if-count-gt-MAX_NODES.true;
+          replace_large offered c.within.ensures c.if-not-within.false _ c.size-count.ensures c.if-count-gt-MAX_NODES.true;
     }
 
 pub returns : goal.returns
@@ -26,6 +26,6 @@ returns c =
     record {
       frame = replace_frame _ _ _ c.requires c.if-count-gt-MAX_NODES.false c.splice.ensures;
       bearing = λ T v d x kids offered.
-          replace_done offered c.within.ensures (not-false _ c.if-not-within.false-raw) _ c.size-count.ensures d c.if-count-gt-MAX_NODES.false
+          replace_done offered c.within.ensures c.if-not-within.false _ c.size-count.ensures d c.if-count-gt-MAX_NODES.false
           c.splice.ensures;
     }

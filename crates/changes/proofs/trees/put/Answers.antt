@@ -11,7 +11,7 @@ returns-then-not-within c = record {
   rows = put_nothing refl;
   frame = unchanged refl;
   held = λ T z x kids left right container offered fits told cut.
-      put-deep offered _ fits told z container cut c.within.ensures (not-true _ c.if-not-within.true-raw);
+      put-deep offered _ fits told z container cut c.within.ensures c.if-not-within.true;
 }
 
 pub returns-then-kept-count : goal.returns-then-kept-count
@@ -20,7 +20,7 @@ returns-then-kept-count c =
       rows = put_nothing refl;
       frame = unchanged refl;
       held = λ T z x kids left right container offered fits told cut.
-          put_large offered _ fits told z container cut c.within.ensures (not-false _ c.if-not-within.false-raw) _ _ c.size-count.ensures
+          put_large offered _ fits told z container cut c.within.ensures c.if-not-within.false _ _ c.size-count.ensures
           c.minus-kept.ensures
           c.if-kept-count.true;
     }
@@ -36,5 +36,5 @@ pub returns : goal.returns
 returns c =
     put_made c.args.parent c.requires c.args.at c.args.removed c.args.source c.args.name _ _ c.size-count.ensures c.minus-kept.ensures
     c.within.ensures
-    (not-false _ c.if-not-within.false-raw) c.if-kept-count.false c.if-kept-at.false c.splice.ensures c.rename.ensures
+    c.if-not-within.false c.if-kept-count.false c.if-kept-at.false c.splice.ensures c.rename.ensures
     c.resize.ensures

@@ -8,20 +8,20 @@ use Rattle.counting.proofs.CountLaws.{counted_unlike, counted_flat, Counting, co
 use Rattle.counting.proofs.values.+counted.Goals as goal
 
 pub returns-then-not-alike : goal.returns-then-not-alike
-returns-then-not-alike t c hints = counted_unlike _ c.alike.ensures (not-true _ c.if-not-alike.true-raw) c.told.ensures.0 c.told.ensures.1
+returns-then-not-alike t c hints = counted_unlike _ c.alike.ensures c.if-not-alike.true c.told.ensures.0 c.told.ensures.1
 
 pub returns-then-levels-eq0 : goal.returns-then-levels-eq0
-returns-then-levels-eq0 t c hints = counted_flat _ c.alike.ensures (not-false _ c.if-not-alike.false-raw) c.if-levels-eq0.true
+returns-then-levels-eq0 t c hints = counted_flat _ c.alike.ensures c.if-not-alike.false c.if-levels-eq0.true
     c.told-then-levels-eq0.ensures.0 c.told-then-levels-eq0.ensures.1
 
 pub overflow_add-row : goal.overflow_add-row
-overflow_add-row t c = omega (arith, c.alike.ensures.inside (not-false _ c.if-not-alike.false-raw))
+overflow_add-row t c = omega (arith, c.alike.ensures.inside c.if-not-alike.false)
 
 pub overflow_add-next : goal.overflow_add-next
-overflow_add-next t c = omega (arith, c.alike.ensures.inside (not-false _ c.if-not-alike.false-raw))
+overflow_add-next t c = omega (arith, c.alike.ensures.inside c.if-not-alike.false)
 
 pub loop-row-init : goal.loop-row-init
-loop-row-init t c hints = counting_all _ c.alike.ensures (not-false _ c.if-not-alike.false-raw)
+loop-row-init t c hints = counting_all _ c.alike.ensures c.if-not-alike.false
     _ c.kind.ensures _ _ c.end_of-end.ensures
     c.end_of.ensures
 

@@ -11,9 +11,9 @@ pub returns-then-nodes-other : goal.returns-then-nodes-other
 returns-then-nodes-other c = alike_outside_other c.if-nodes-other.true
 
 pub returns-then-not-same_label : goal.returns-then-not-same_label
-returns-then-not-same_label c = alike_labels c.same_label.ensures (not-true _ c.if-not-same_label.true-raw)
+returns-then-not-same_label c = alike_labels c.same_label.ensures c.if-not-same_label.true
 
 pub returns : goal.returns
 returns c =
-    alike_counts c.same_label.ensures (not-false _ c.if-not-same_label.false-raw) (omega (arith, c.if-nodes-at.false))
+    alike_counts c.same_label.ensures c.if-not-same_label.false (omega (arith, c.if-nodes-at.false))
     (omega (arith, c.if-nodes-other.false)) c.arity.ensures c.arity-2.ensures

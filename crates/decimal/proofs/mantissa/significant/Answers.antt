@@ -25,19 +25,19 @@ is_digit-requires c = tt
 pub loop-i-preserved-then-not-is_digit : goal.loop-i-preserved-then-not-is_digit
 loop-i-preserved-then-not-is_digit c =
     let e = told c.is_e.ensures c.if-is_e.false in
-    let d = told c.is_digit.ensures (not-true _ c.if-not-is_digit.true-raw) in
+    let d = told c.is_digit.ensures c.if-not-is_digit.true in
     (omega arith, rw (mantissa-other _ _ c.loop-i-test.true e d) at c.loop-i.invariant.1)
 
 pub loop-i-preserved-then-b-eq48 : goal.loop-i-preserved-then-b-eq48
 loop-i-preserved-then-b-eq48 c =
     let e = told c.is_e.ensures c.if-is_e.false in
-    let d = told c.is_digit.ensures (not-false _ c.if-not-is_digit.false-raw) in
+    let d = told c.is_digit.ensures c.if-not-is_digit.false in
     (omega arith, seen_zero (rw (mantissa-digit _ _ c.loop-i-test.true e d) at c.loop-i.invariant.1) c.if-b-eq48.true)
 
 pub loop-i-preserved : goal.loop-i-preserved
 loop-i-preserved c =
     let e = told c.is_e.ensures c.if-is_e.false in
-    let d = told c.is_digit.ensures (not-false _ c.if-not-is_digit.false-raw) in
+    let d = told c.is_digit.ensures c.if-not-is_digit.false in
     (omega arith, seen_digit (rw (mantissa-digit _ _ c.loop-i-test.true e d) at c.loop-i.invariant.1) c.if-b-eq48.false)
 
 pub returns : goal.returns

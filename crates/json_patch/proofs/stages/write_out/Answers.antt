@@ -7,9 +7,9 @@ use Rattle.json_patch.proofs.stages.write_out.Goals as goal
 
 -- TODO step before.before.fits2.ensures
 pub returns-then-not-fits : goal.returns-then-not-fits
-returns-then-not-fits c used v d = text_refused d _ c.fits2.ensures (not-true _ c.if-not-fits.true-raw) c.refused.ensures
+returns-then-not-fits c used v d = text_refused d _ c.fits2.ensures c.if-not-fits.true c.refused.ensures
 
 -- TODO step before.before.before.before.before.before.fits2.ensures
 pub returns : goal.returns
 returns c used v d = text_written d _ c.fits2.ensures
-    (not-false _ c.if-not-fits.false-raw) c.write-length.ensures c.success.ensures
+    c.if-not-fits.false c.write-length.ensures c.success.ensures

@@ -41,7 +41,7 @@ pub returns-then-not-is_digit : goal.returns-then-not-is_digit
 unfolding scan_outcome
 returns-then-not-is_digit c =
     ends (λ _. exponent_none _ _ _ _)
-    (exponent_end _ _ _ _ (rw (← c.peek-b.ensures) (told c.is_digit.ensures (not-true _ c.if-not-is_digit.true-raw))))
+    (exponent_end _ _ _ _ (rw (← c.peek-b.ensures) (told c.is_digit.ensures c.if-not-is_digit.true)))
     c.loop-start.invariant.1
 
 -- TODO bare place c

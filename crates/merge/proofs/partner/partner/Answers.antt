@@ -13,7 +13,7 @@ returns-then-enter_by_hash c = partner_absent (c.enter_by_hash.ensures.entered c
 pub returns-then-not-enter : goal.returns-then-not-enter
 returns-then-not-enter c =
     partner_absent (entered_after c.enter_by_hash.ensures c.if-enter_by_hash.false c.enter.ensures)
-    (not-true _ c.if-not-enter.true-raw) (omega arith)
+    c.if-not-enter.true (omega arith)
 
 pub returns-in_default : goal.returns-in_default
 returns-in_default c =

@@ -7,15 +7,15 @@ use Rattle.merge_listing.proofs.stages.write_listed.Goals as goal
 
 -- TODO step before.before.fits2.ensures
 pub returns-then-not-fits : goal.returns-then-not-fits
-returns-then-not-fits c v b low counts = text_short b low _ c.fits2.ensures (not-true _ c.if-not-fits.true-raw) c.refused.ensures
+returns-then-not-fits c v b low counts = text_short b low _ c.fits2.ensures c.if-not-fits.true c.refused.ensures
 
 -- TODO step fits2.ensures
 pub returns-then-origins-count : goal.returns-then-origins-count
 returns-then-origins-count c v b low counts =
-    list_short b low _ c.fits2.ensures counts (not-false _ c.if-not-fits.false-raw) (omega (arith, c.if-origins-count.true)) c.refused-then-origins-count.ensures
+    list_short b low _ c.fits2.ensures counts c.if-not-fits.false (omega (arith, c.if-origins-count.true)) c.refused-then-origins-count.ensures
 
 -- TODO step fits2.ensures
 pub returns : goal.returns
 returns c v b low counts =
-    both-written b low _ c.fits2.ensures counts (not-false _ c.if-not-fits.false-raw) (omega (arith, c.if-origins-count.false)) c.write-length.ensures
+    both-written b low _ c.fits2.ensures counts c.if-not-fits.false (omega (arith, c.if-origins-count.false)) c.write-length.ensures
     c.list_origins.ensures c.success.ensures

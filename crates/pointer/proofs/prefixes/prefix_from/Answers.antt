@@ -17,19 +17,19 @@ loop-s-init c = λ r p. p
 pub returns-then-not-same_token : goal.returns-then-not-same_token
 returns-then-not-same_token c =
     c.loop-s.invariant _
-    (prefix_differs _ _ _ _ _ _ c.token-s.ensures c.token-t.ensures _ c.same_token.ensures (not_true _ c.if-not-same_token.true-raw))
+    (prefix_differs _ _ _ _ _ _ c.token-s.ensures c.token-t.ensures _ c.same_token.ensures c.if-not-same_token.true)
 
 pub returns-in_default : goal.returns-in_default
 returns-in_default c =
     c.loop-s.invariant _
     (prefix_behind _ _ _ _ _ _ c.token-s.ensures c.token-t.ensures _ c.same_token.ensures _
-    (not_false _ c.if-not-same_token.false-raw) (rw c.is_next.ensures (last_behind _ _ _ _ _ c.in_default.is)))
+    c.if-not-same_token.false (rw c.is_next.ensures (last_behind _ _ _ _ _ c.in_default.is)))
 
 pub returns-in_default-t : goal.returns-in_default-t
 returns-in_default-t c =
     c.loop-s.invariant _
     (prefix_behind _ _ _ _ _ _ c.token-s.ensures c.token-t.ensures _
-    c.same_token.ensures _ (not_false _ c.if-not-same_token.false-raw) (none_behind _ _ _ _ _ c.in_default-t.is))
+    c.same_token.ensures _ c.if-not-same_token.false (none_behind _ _ _ _ _ c.in_default-t.is))
 
 pub loop-s-smaller : goal.loop-s-smaller
 loop-s-smaller c =
@@ -39,4 +39,4 @@ pub loop-s-preserved : goal.loop-s-preserved
 loop-s-preserved c =
     λ r p. c.loop-s.invariant _
     (prefix_behind _ _ _ _ _ _ c.token-s.ensures c.token-t.ensures _ c.same_token.ensures _
-    (not_false _ c.if-not-same_token.false-raw) (both_behind _ _ _ _ _ _ _ _ _ c.in-Next.is c.in-Next-t.is p))
+    c.if-not-same_token.false (both_behind _ _ _ _ _ _ _ _ _ c.in-Next.is c.in-Next-t.is p))

@@ -14,7 +14,7 @@ returns-then-enter_by_hash c =
 
 pub returns-then-not-enter : goal.returns-then-not-enter
 returns-then-not-enter c =
-    repeated_new (c.requires.lent) (c.requires.inside) (entered_after c.enter_by_hash.ensures c.if-enter_by_hash.false c.enter.ensures) (not-true _ c.if-not-enter.true-raw)
+    repeated_new (c.requires.lent) (c.requires.inside) (entered_after c.enter_by_hash.ensures c.if-enter_by_hash.false c.enter.ensures) c.if-not-enter.true
 
 pub returns-in_default : goal.returns-in_default
 returns-in_default c =

@@ -33,5 +33,5 @@ loop-i-preserved c = same_more c.loop-i.invariant c.if-part-i.false
 
 pub returns : goal.returns
 unfolding byte
-returns c e = begins_all (c.requires (not_false _ c.if-not-raw.false-raw)) (omega arith)
+returns c e = begins_all (c.requires c.if-not-raw.false) (omega arith)
     c.loop-i.invariant (omega arith)

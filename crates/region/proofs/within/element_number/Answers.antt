@@ -38,7 +38,7 @@ returns-then-not-kind_permitted c =
     let (k, known) = accepted_ok _ (sym (ap (λ (u : Uses). u.known) c.uses_of.ensures) ∙ not_false _ c.if-not-uses_of.false) in
     element_other _ c.kind_of-kind.ensures known (members-others c.string_member.ensures _ c.in-As.is
     c.others_number-number.ensures)
-    c.if-number-ne0.false c.kind_permitted.ensures (not-true _ c.if-not-kind_permitted.true-raw)
+    c.if-number-ne0.false c.kind_permitted.ensures c.if-not-kind_permitted.true
 
 pub is_inside-requires : goal.is_inside-requires
 unfolding ascii
@@ -53,7 +53,7 @@ returns-then-is_inside c =
     c.others_number-number.ensures)
     c.if-number-ne0.false c.kind_permitted.ensures
     (path_judged c.string_member.ensures _ c.in-As.is c.part.ensures c.is_inside.ensures)
-    (not_false _ c.if-not-kind_permitted.false-raw) c.if-is_inside.true
+    c.if-not-kind_permitted.false c.if-is_inside.true
 
 pub returns : goal.returns
 unfolding ascii
@@ -63,4 +63,4 @@ returns c =
     c.others_number-number.ensures)
     c.if-number-ne0.false c.kind_permitted.ensures
     (path_judged c.string_member.ensures _ c.in-As.is c.part.ensures c.is_inside.ensures)
-    (not_false _ c.if-not-kind_permitted.false-raw) c.if-is_inside.false
+    c.if-not-kind_permitted.false c.if-is_inside.false

@@ -23,13 +23,13 @@ loop-row-init t c = (omega arith, judging_all _ _ _)
 pub returns-then-not-within : goal.returns-then-not-within
 returns-then-not-within t c =
     within-deep _ (omega arith) (omega arith) _ _ c.end_of-end.ensures c.loop-row.invariant.1 (omega arith) _
-    (not-true _ c.if-not-within.true-raw) c.within.ensures
+    c.if-not-within.true c.within.ensures
 
 pub loop-row-preserved : goal.loop-row-preserved
 loop-row-preserved t c = (
   omega arith,
   judging_next _ _ _ _ _ _ c.end_of-end.ensures (omega arith) c.end_of-row.ensures _
-      (not-false _ c.if-not-within.false-raw) c.within.ensures c.loop-row.invariant.1,
+      c.if-not-within.false c.within.ensures c.loop-row.invariant.1,
 )
 
 pub returns : goal.returns

@@ -35,9 +35,9 @@ returns-then-not-is_letter c = c.loop-i.invariant
 pub loop-i-preserved : goal.loop-i-preserved
 unfolding byte
 loop-i-preserved c =
-    let known = told c.is_form.ensures (not-false _ c.if-not-is_form.false-raw) in
-    let too = told c.is_form-2.ensures (not-false _ c.if-not-is_form-2.false-raw) in
-    common_more known too c.loop-i.invariant c.if-b-i-2.false (told c.is_letter.ensures (not-false _ c.if-not-is_letter.false-raw))
+    let known = told c.is_form.ensures c.if-not-is_form.false in
+    let too = told c.is_form-2.ensures c.if-not-is_form-2.false in
+    common_more known too c.loop-i.invariant c.if-b-i-2.false (told c.is_letter.ensures c.if-not-is_letter.false)
 
 pub returns : goal.returns
 unfolding byte

@@ -6,15 +6,15 @@ use Rattle.text.proofs.letters.plain.Goals as goal
 
 pub returns-then-not-is_letter : goal.returns-then-not-is_letter
 unfolding plain_at
-returns-then-not-is_letter c = rw (← c.peek-b.ensures, told c.is_letter.ensures (not-true _ c.if-not-is_letter.true-raw))
+returns-then-not-is_letter c = rw (← c.peek-b.ensures, told c.is_letter.ensures c.if-not-is_letter.true)
 
 pub returns-then-not-is_form : goal.returns-then-not-is_form
 unfolding plain_at
 returns-then-not-is_form c =
     rw (
       ← c.peek-b.ensures,
-      told c.is_letter.ensures (not-false _ c.if-not-is_letter.false-raw),
-      told c.is_form.ensures (not-true _ c.if-not-is_form.true-raw),
+      told c.is_letter.ensures c.if-not-is_letter.false,
+      told c.is_form.ensures c.if-not-is_form.true,
     )
 
 pub returns : goal.returns
@@ -22,6 +22,6 @@ unfolding plain_at
 returns c =
     rw (
       ← c.peek-b.ensures,
-      told c.is_letter.ensures (not-false _ c.if-not-is_letter.false-raw),
-      told c.is_form.ensures (not-false _ c.if-not-is_form.false-raw),
+      told c.is_letter.ensures c.if-not-is_letter.false,
+      told c.is_form.ensures c.if-not-is_form.false,
     )

@@ -7,7 +7,7 @@ use Rattle.undo.proofs.moving.holds.Goals as goal
 
 pub returns-then-not-proper_prefix : goal.returns-then-not-proper_prefix
 returns-then-not-proper_prefix c = holds_not _ _ _ _ c.part-to.ensures _ c.part.ensures c.proper_prefix.ensures
-    (not-true _ c.if-not-proper_prefix.true-raw)
+    c.if-not-proper_prefix.true
 
 pub returns-in-Root : goal.returns-in-Root
 returns-in-Root c = holds_root _ _ _ _ c.part-to.ensures _

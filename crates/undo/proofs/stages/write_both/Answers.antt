@@ -7,7 +7,7 @@ use Rattle.undo.proofs.stages.write_both.Goals as goal
 
 -- TODO step before.before.before.fits2.ensures
 pub returns-then-not-fits : goal.returns-then-not-fits
-returns-then-not-fits c = both_short _ _ _ c.fits2.ensures (not-true _ c.if-not-fits.true-raw) c.refused.ensures
+returns-then-not-fits c = both_short _ _ _ c.fits2.ensures c.if-not-fits.true c.refused.ensures
     c.without.ensures
 
 -- TODO step before.before.before.before.before.fits2.ensures
