@@ -9,6 +9,8 @@ use Rattle.equality.proofs.EqualLaws.{equal_outside, equal_outside_other, equal_
 use Rattle.equality.proofs.EqualLaws.{Comparing, comparing_all, comparing_next, equal_end, equal_more, equal_alone, equal_differs}
 use Rattle.equality.proofs.+equal.Goals as goal
 
+-- the levels fall
+
 pub returns-then-nodes-at : goal.returns-then-nodes-at
 returns-then-nodes-at t c hints = equal_outside _ _ c.if-nodes-at.true
 

@@ -3,6 +3,8 @@ use Rattle.std.proofs.Common.{ℕ, ◌-◌, ◌<◌, arith, rules}
 use Rattle.counting.proofs.NoteLaws.{noted_flat, noted-first, noted_high, noted_outside, Noting, noting_all, noting_end, noting_next}
 use Rattle.counting.proofs.places.+note_places.Goals as goal
 
+-- the levels fall
+
 pub returns-then-levels-eq0 : goal.returns-then-levels-eq0
 returns-then-levels-eq0 t c = noted_flat c.if-levels-eq0.true
 

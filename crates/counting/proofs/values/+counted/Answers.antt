@@ -7,6 +7,8 @@ use Rattle.equality.specs.Compare.{Hints}
 use Rattle.counting.proofs.CountLaws.{counted_unlike, counted_flat, Counting, counting_all, counted_end, counted_alone, counted_differs, counting_next}
 use Rattle.counting.proofs.values.+counted.Goals as goal
 
+-- the levels fall
+
 pub returns-then-not-alike : goal.returns-then-not-alike
 returns-then-not-alike t c hints = counted_unlike _ c.alike.ensures c.if-not-alike.true c.told.ensures.0 c.told.ensures.1
 

@@ -7,6 +7,8 @@ use Rattle.index.specs.Slots.{room}
 use Rattle.index.specs.Members.{noted, not_found}
 use Rattle.index.proofs.members.lookup.Goals as goal
 
+-- the rows from the last one on
+
 pub returns-then-object-top : goal.returns-then-object-top
 returns-then-object-top c = not_found
 

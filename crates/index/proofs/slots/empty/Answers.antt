@@ -10,6 +10,8 @@ use Rattle.tape.proofs.Loops.{filled_none, filled_more}
 use Rattle.index.specs.Slots.{slots}
 use Rattle.index.proofs.slots.empty.Goals as goal
 
+-- the first i slots are 0
+
 pub returns-then-index-lt-SLOTS : goal.returns-then-index-lt-SLOTS
 returns-then-index-lt-SLOTS c = sym (filled_out c.args.index.now 0 0 slots (omega arith))
 

@@ -6,3 +6,6 @@ use Rattle.lexer.proofs.cursor.peek.Goals as goal
 
 pub returns-else-at-s : goal.returns-else-at-s
 returns-else-at-s c = sym (byte_past _ _ c.if-at-s.false)
+
+pub returns-then-at-s : goal.returns-then-at-s
+returns-then-at-s c = search auto

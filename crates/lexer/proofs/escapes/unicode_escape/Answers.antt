@@ -9,8 +9,30 @@ use Rattle.lexer.proofs.AnswerLaws.{within_ok, outside_refused, hex_taken}
 use Rattle.lexer.proofs.Auto.{auto}
 use Rattle.lexer.proofs.escapes.unicode_escape.Goals as goal
 
+-- the digits that were taken
 a-is : (c : tie.After-a) → let p = c.before.before.before.before.args in hex_in p.s.now p.at 0 15 ≡ ok c.a.given.0.0
 a-is c = within_ok _ c.before.before.hex-in.ensures c.a.given.1
+
+b-is : (c : tie.After-b) →
+    let a = c.before.before.before.before.before in
+    let p = a.before.before.before.before.args in
+    hex_in p.s.now (p.at + 1) 0 (second_limit a.a.given.0.0) ≡ ok c.b.given.0.0
+b-is c = rw (← c.before.before.before.second_limit_lem.ensures) (within_ok _ c.before.before.hex-in2.ensures c.b.given.1)
+
+c-is : (c : tie.After-c) →
+    let b = c.before.before.before.before in
+    let a = b.before.before.before.before.before in
+    let p = a.before.before.before.before.args in
+    hex_in p.s.now (p.at + 2) 0 15 ≡ ok c.c.given.0.0
+c-is c = within_ok _ c.before.before.hex-in3.ensures c.c.given.1
+
+d-is : (c : tie.After-d) →
+    let v = c.before.before.before.before in
+    let b = v.before.before.before.before in
+    let a = b.before.before.before.before.before in
+    let p = a.before.before.before.before.args in
+    hex_in p.s.now (p.at + 3) 0 15 ≡ ok c.d.given.0.0
+d-is c = within_ok _ c.before.before.hex-in4.ensures c.d.given.1
 
 pub returns-in_default : goal.returns-in_default
 unfolding unicode_escape character_outcome ◌>>=◌ within

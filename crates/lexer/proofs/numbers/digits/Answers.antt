@@ -14,6 +14,7 @@ use Rattle.lexer.proofs.NumberLoop.{not_digit, counted_next, digits_more, digits
 use Rattle.lexer.proofs.Auto.{auto}
 use Rattle.lexer.proofs.numbers.digits.Goals as goal
 
+-- a digit stands at the place, which lies within the text
 digit : (c : tie.Then1 invariant-loop decreases-loop) → let h = c.before.before.before in is_digit (byte h.before.before.args.s.now h.loop.at) ≡ true
 digit c = cc
 

@@ -19,11 +19,22 @@ use Rattle.lexer.proofs.NumberLoop.{not_digit, digit_bounds, counted_next}
 use Rattle.lexer.proofs.Auto.{auto}
 use Rattle.lexer.proofs.numbers.exponent_digits.Goals as goal
 
+-- a digit stands at the place, which lies within the text
 digit : (c : tie.Else1 invariant-loop decreases-loop) → is_digit c.before.before.peek.result ≡ true
 digit c = told c.before.is_digit.ensures (not-false _ c.if1.false)
 
+digit-here : (c : tie.Else1 invariant-loop decreases-loop) →
+    let h = c.before.before.before in
+    is_digit (byte h.before.before.args.s.now h.loop.at) ≡ true
+digit-here c = rw (← c.before.before.peek.ensures) (digit c)
+
 within : (c : tie.Else1 invariant-loop decreases-loop) → let h = c.before.before.before in h.loop.at < length h.before.before.args.s.now
 within c = inside is_digit not_digit _ _ (digit-here c)
+
+small : (c : tie.Else2 invariant-loop decreases-loop) →
+    let h = c.before.before.before.before in
+    leb (h.loop.size * 10 + (byte h.before.before.args.s.now h.loop.at - 48)) max_exponent ≡ true
+small c = rw (← c.before.before.before.peek.ensures) (le-leb _ _ c.if2.false)
 
 pub loop-start-init : goal.loop-start-init
 unfolding scan_outcome

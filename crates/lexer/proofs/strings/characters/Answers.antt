@@ -15,6 +15,12 @@ use Rattle.lexer.proofs.VerbatimLaws.{verbatim_self}
 use Rattle.lexer.proofs.NameLaws.{passing_starts, passing_verbatim, passing_quote}
 use Rattle.lexer.proofs.strings.characters.Goals as goal
 
+-- the byte at the place stands for itself
+self : (c : tie.Then1 invariant-loop decreases-loop) →
+    let loop = c.before.before.before in
+    stands_for_itself (byte loop.before.before.args.s.now loop.loop.at) ≡ true
+self c = cc
+
 pub loop-at-init : goal.loop-at-init
 unfolding quoted_outcome
 loop-at-init c = none

@@ -17,6 +17,19 @@ use Rattle.lexer.proofs.NameLaws.{no_more, Passing, passing_starts, passing_verb
 use Rattle.lexer.proofs.Auto.{auto}
 use Rattle.lexer.proofs.strings.mixed_characters.Goals as goal
 
+-- what was passed by the tables
+passed : (c : tie.After-verbatim-end invariant-loop decreases-loop) →
+    let loop = c.before in
+    let start = loop.before.before in
+    let s = start.args.s.now in
+    Passing s start.args.start c.verbatim-end.result loop.loop.plain (plain_of s start.args.start (characters (length s) s start.args.start))
+passed c = passing_verbatim c.verbatim-end.ensures.passed (not-true _) c.before.loop.invariant
+
+no_quote : (c : tie.Else1 invariant-loop decreases-loop) →
+    let passed = c.before.before in
+    byte passed.before.before.before.args.s.now passed.verbatim-end.result ≡ 0x22 → ⊥
+no_quote c e = c.if1.false (c.before.peek.ensures ∙ e)
+
 pub loop-start-init : goal.loop-start-init
 unfolding quoted_outcome
 loop-start-init c = passing_verbatim c.requires (λ e. absurd (true≢false (sym e))) (passing_starts _ _)

@@ -16,6 +16,17 @@ use Rattle.lexer.proofs.NameLaws.{Keeping, keeping_starts, keeping_self, keeping
 use Rattle.lexer.proofs.Auto.{auto}
 use Rattle.lexer.proofs.strings.name_characters.Goals as goal
 
+-- the byte at the place stands for itself; it is no quotation mark
+self : (c : tie.Then1 invariant-loop decreases-loop) →
+    let loop = c.before.before.before in
+    stands_for_itself (byte loop.before.before.args.s.now loop.loop.at) ≡ true
+self c = cc
+
+no_quote : (c : tie.Else2 invariant-loop decreases-loop) →
+    let loop = c.before.before.before.before in
+    byte loop.before.before.args.s.now loop.loop.at ≡ 0x22 → ⊥
+no_quote c e = c.if2.false (c.before.before.before.peek.ensures ∙ e)
+
 pub loop-hash-init : goal.loop-hash-init
 unfolding name_outcome
 loop-hash-init c = keeping_starts _ _

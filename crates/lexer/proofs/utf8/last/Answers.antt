@@ -12,3 +12,11 @@ overflow_sub-result c = omega (arith, byte_known _ _ _ _ _ (omega arith) c.byte_
 pub overflow_add-result-2 : goal.overflow_add-result-2
 unfolding tail character_outcome
 overflow_add-result-2 c = omega (arith, byte_known _ _ _ _ _ (omega arith) c.byte_in.ensures c.in-Within.is)
+
+pub returns-in_default : goal.returns-in_default
+unfolding tail character_outcome
+returns-in_default c = search auto
+
+pub returns : goal.returns
+unfolding tail character_outcome
+returns c = search auto

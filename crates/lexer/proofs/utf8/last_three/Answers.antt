@@ -16,3 +16,11 @@ overflow_sub-b c = omega (arith, byte_known _ _ _ _ _ (omega arith) c.byte_in.en
 pub last_two-requires : goal.last_two-requires
 unfolding tail character_outcome
 last_two-requires c = omega (arith, byte_known _ _ _ _ _ (omega arith) c.byte_in.ensures c.in-Within.is)
+
+pub returns-in_default : goal.returns-in_default
+unfolding tail character_outcome
+returns-in_default c = search auto
+
+pub returns : goal.returns
+unfolding tail character_outcome
+returns c = search auto

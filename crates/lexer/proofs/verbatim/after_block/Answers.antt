@@ -7,6 +7,8 @@ use Rattle.lexer.specs.States.{block, look_over}
 use Rattle.lexer.proofs.StateLaws.{over_whole, over_none, over_next, look_small}
 use Rattle.lexer.proofs.verbatim.after_block.Goals as goal
 
+-- the bytes that are left lead where the whole block does
+
 pub loop-k-init : goal.loop-k-init
 unfolding byte
 loop-k-init c =

@@ -9,6 +9,8 @@ use Rattle.lexer.specs.States.{block, Tables}
 use Rattle.lexer.proofs.StateLaws.{Gone, gone_starts, gone_block, block_end}
 use Rattle.lexer.proofs.verbatim.blocks_end.Goals as goal
 
+-- the state says what the bytes before the place are, and the characters before the end are whole
+
 pub loop-at-init : goal.loop-at-init
 unfolding byte
 loop-at-init c = (omega arith, λ escapes t. (gone_starts _ _ _, none))

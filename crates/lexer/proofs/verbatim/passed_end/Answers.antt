@@ -11,6 +11,8 @@ use Rattle.lexer.specs.States.{Tables}
 use Rattle.lexer.proofs.StateLaws.{Going, between, going_end, look_small, turn, stops, past}
 use Rattle.lexer.proofs.verbatim.passed_end.Goals as goal
 
+-- the state says what the bytes before the place are, and the tables are shifted by it; the end is that of the turn before
+
 pub loop-at-init : goal.loop-at-init
 unfolding byte
 loop-at-init c = (omega arith, λ escapes t. record { passed = c.blocks_end-end.ensures escapes t; midst = between refl })

@@ -21,11 +21,15 @@ use Rattle.merge.proofs.ObjectLaws.{row_inside, row_goes, copy_inside, above_nex
 use Rattle.merge.proofs.ObjectLaws.{members_end_low, append_reaches, reaches_copy, reaches_merge, merge_flat}
 use Rattle.merge.proofs.objects.+merge_object.Goals as goal
 
+-- the levels fall
+
 abbrev merge-object-at : ℕ → In 3 merge-object-kinds.ps
 merge-object-at t = and 3 merge-object-kinds.ps (is 3 merge-object-kinds.ps μ_merge-object t) merge-object.Pre
 
 abbrev merge-object-below : ℕ → In 3 merge-object-kinds.ps
 merge-object-below t = and 3 merge-object-kinds.ps (falls 3 merge-object-kinds.ps ◌<◌ μ_merge-object t) merge-object.Pre
+
+-- what held where a loop began holds now, whatever the table was before
 
 pub returns-then-levels-eq0 : goal.returns-then-levels-eq0
 returns-then-levels-eq0 t c = merge_flat c.if-levels-eq0.true (omega (arith, c.requires))

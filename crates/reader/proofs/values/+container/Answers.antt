@@ -10,6 +10,8 @@ use Rattle.reader.proofs.ReadingLaws.{begun, value-starts, value-fits, opened, o
 use Rattle.reader.proofs.ReadingLaws.{value-way_refused, value-way_unread, value-way_handed, value-way_closed}
 use Rattle.reader.proofs.values.+container.Goals as goal
 
+-- the levels fall
+
 pub returns-then-number-ne-DONE : goal.returns-then-number-ne-DONE
 returns-then-number-ne-DONE t c =
     value-way_refused _ _ _ _ c.requires.kind_value.0 c.refusal_at-number.ensures c.if-number-ne-DONE.true

@@ -10,6 +10,11 @@ use Rattle.spec.specs.Bytes.{Text}
 use Rattle.lexer.specs.Hash.{mix, hash_from, hash}
 use Rattle.table.proofs.find.hash_ascii.Goals as goal
 
+hash_step : (name : Text) (h i : ℕ) {m : ℕ} → i < length name → m ≡ mix h (get_or name i 0) → hash_from h (drop i name) ≡ hash name → hash_from m
+    (drop (i + 1) name) ≡ hash name
+unfolding hash_from
+hash_step name h i inside e so_far = rw (e, add-one) (rw (drop-cons name i 0 inside) at so_far)
+
 hash_end : (name : Text) (h i : ℕ) → i ≡ length name → hash_from h (drop i name) ≡ hash name → h ≡ hash name
 unfolding hash_from
 hash_end name h i e so_far = rw (e, drop-length name) at so_far

@@ -7,6 +7,8 @@ use Rattle.reversal.specs.Undo.{index_token}
 use Rattle.undo_log.proofs.DigitLaws.{small_length, large_length, count_fits}
 use Rattle.undo_log.proofs.digits.digits_length.Goals as goal
 
+-- the digits that are counted, and those of the rest, are all and one more
+
 pub overflow_add-count : goal.overflow_add-count
 overflow_add-count c =
     omega (arith, c.ranges, count_fits c.args.n c.loop-rest.rest c.loop-rest.count c.loop-rest-test.true c.loop-rest.invariant)

@@ -10,6 +10,8 @@ use Rattle.tape.proofs.Loops.{filled_none, filled_more}
 use Rattle.spec.specs.Limits.{max_bytes}
 use Rattle.undo_log.proofs.log.clear.Goals as goal
 
+-- the first i bytes are 0
+
 pub returns-then-work-lt-MAX_BYTES : goal.returns-then-work-lt-MAX_BYTES
 returns-then-work-lt-MAX_BYTES c = sym (filled_out c.args.work.now 0 0 max_bytes (omega arith))
 

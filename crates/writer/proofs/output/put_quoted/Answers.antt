@@ -9,6 +9,7 @@ use Rattle.spec.specs.Bytes.{Bytes}
 use Rattle.writer.proofs.PlacedLaws.{placed_quoted}
 use Rattle.writer.proofs.output.put_quoted.Goals as goal
 
+-- the output is as long as it was when all of the text is copied
 copied_long : (out s : Bytes) {m : Bytes} → m ≡ sets (set out 0 0x22) 1 s → length m ≡ length out
 copied_long out s e = ap length e ∙ length-sets (set out 0 0x22) 1 s ∙ length-set out 0 0x22
 

@@ -19,7 +19,7 @@ returns-then-kind-lt-ARRAY t c =
     (omega (
       arith,
       c.scalar_length.ensures,
-      c.value_of.type_inv,
+      c.value_of.type-inv,
       scalar_short (both c.args.texts)
           c.kind_in-kind.result c.value_of.result,
     ))
@@ -34,7 +34,7 @@ pub overflow_add-total : goal.overflow_add-total
 overflow_add-total t c =
     omega (
       arith,
-      c.name_of.type_inv,
+      c.name_of.type-inv,
       c.measure-value.ensures.few,
       prefix_short (both
           c.args.texts) (eqb c.kind_in-kind.result object_kind)
@@ -45,7 +45,7 @@ pub overflow_add-total-in-loop-row : goal.overflow_add-total-in-loop-row
 overflow_add-total-in-loop-row t c =
     omega (
       arith,
-      c.name_of.type_inv,
+      c.name_of.type-inv,
       c.measure-value.ensures.few,
       prefix_short (both
           c.args.texts) (eqb c.kind_in-kind.result object_kind)

@@ -11,6 +11,7 @@ use Rattle.lexer.proofs.ByteLaws.{inside}
 use Rattle.lexer.proofs.BlankLaws.{not_blank, blanks_more, blanks_none, blanks_end}
 use Rattle.lexer.proofs.cursor.Cursor.blanks.Goals as goal
 
+-- a blank stands at the place, which lies within the text
 blank : (c : tie.Then1 invariant-loop decreases-loop) → let h = c.before.before.before in is_blank (byte h.before.before.args.s.now h.loop.at) ≡ true
 blank c = cc
 

@@ -13,6 +13,12 @@ use Rattle.lexer.proofs.ByteLaws.{here}
 use Rattle.lexer.proofs.Auto.{auto}
 use Rattle.lexer.proofs.cursor.Cursor.character.Goals as goal
 
+-- a byte that is neither a backslash nor ASCII
+other : (s : Bytes) (at : ℕ) → (byte s at ≡ code "\\" → ⊥) → within 0x20 0x7F (byte s at) ≡ false →
+    character s at ≡ multibyte s at (byte s at)
+unfolding character
+other s at n w = rw (ne_eqb (byte s at) (code "\\") n, w)
+
 pub overflow_add-at : goal.overflow_add-at
 unfolding character character_outcome within
 overflow_add-at c = omega (arith, here _ _ _ (sym c.peek-b.ensures) (omega arith))
