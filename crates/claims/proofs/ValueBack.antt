@@ -10,8 +10,7 @@ use lib.ListN.{length, length-append}
 use borrow.Author.Tests.{eq-eqb}
 use Rattle.spec.specs.Outcome.{Outcome, ok, ◌>>=◌, if◌then◌else◌}
 use Rattle.spec.specs.Bytes.{Bytes, Text, ascii, byte, byte_in, within}
-use Rattle.spec.specs.Strings.{string}
-use Rattle.spec.specs.Numbers.{is_digit, is_e, number}
+use Rattle.spec.specs.Numbers.{is_digit, is_e}
 use Rattle.spec.specs.Forest.{none, tree, single, count, size, ◌⧺◌}
 use Rattle.spec.specs.Value as Value
 use Rattle.spec.specs.Value.{Label, Entry, Members, leaf, named, is_object, is_container, tag, has, find, levels, depths}
