@@ -27,7 +27,7 @@ use Rattle.spec.specs.Operation.{copy_to, test_at, perform, not_too_deep, not_to
 use Rattle.spec.specs.Patch.{member, string_of, string_member, kind_named, uses_value, uses_from, is_move, value_for, from_for, members_for, operation_members}
 use Rattle.spec.specs.Patch.{proper_prefix, with_pointers, operation, Stop, Run, finished, stopped, no_pointer, at_op, on_finish, operations, shape, which_pointer}
 use Rattle.spec.specs.Patch.{run}
-use Rattle.spec.specs.Answer.{Answer, Lent, answer, answer_in, success, refusal, work_suffices, fitting, answer_of, patched, on_patch, on_document}
+use Rattle.spec.specs.Answer.{Answer, Lent, answer, answer_in, success, work_suffices, fitting, answer_of, patched, on_patch, on_document}
 
 pub data Numbered {A : Type 0} : Outcome A → Type 0 where
   result : {a : A} → Numbered (ok a)

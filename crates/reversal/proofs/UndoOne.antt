@@ -6,7 +6,6 @@ use Prim.Native.Nat.{ℕ}
 use native.Mathlib.Omega.{arith}
 use Rattle.spec.specs.Outcome.{Outcome, ok, ◌>>=◌}
 use Rattle.spec.specs.Bytes.{Text}
-use Rattle.spec.specs.Forest.{from}
 use Rattle.spec.specs.Value as Value
 use Rattle.spec.specs.Value.{is_array, value_of, has, find, same_text}
 use Rattle.spec.specs.Pointer.{Tokens, child_at, child, farther, walk}
@@ -44,8 +43,8 @@ replaced_parent x t (u ∷ ts) v w h =
     let (y, f, j) = both_ok (farther (at_parent (replace_child x) u ts (value_of (child k v)))) _ w i in
     let same : put k y v ≡ w = cc in
     let ih = replaced_parent x u ts (value_of (child k v)) y (farther_ok _ f) in
-    rw (← same, value_on t (u ∷ ts) v k e, replace_below t k y v e (value_at (u ∷ ts) (value_of (child k v))) u ts, ih)
-    (ap ok (put-child k v (child_there t v k e)))
+    rw (← same) (subst (λ z. replace_at_path (t ∷ u ∷ ts) z (put k y v) ≡ ok v) (sym (value_on t (u ∷ ts) v k e))
+    (rw (replace_below t k y v e (value_at (u ∷ ts) (value_of (child k v))) u ts, ih) (ap ok (put-child k v (child_there t v k e)))))
 
 replaced_path : (path : Tokens) (x v w : Value.Value) → replace_at_path path x v ≡ ok w → replace_at_path path (value_at path v) w ≡ ok v
 unfolding replace_at_path value_at walk result_or
@@ -62,7 +61,9 @@ below_again : (t u : Text) (ts : Tokens) (v : Value.Value) (k : ℕ) → child_a
     at_parent (replace_child (value_at (u ∷ ts) (value_of (child k v)))) u ts (value_of (child k v)) ≡ ok (value_of (child k v)) →
     at_parent (replace_child (value_at (t ∷ u ∷ ts) v)) t (u ∷ ts) v ≡ ok v
 unfolding at_parent farther ◌>>=◌
-below_again t u ts v k e ih = rw (value_on t (u ∷ ts) v k e, e, ih) (ap ok (put-child k v (child_there t v k e)))
+below_again t u ts v k e ih =
+    subst (λ x. at_parent (replace_child x) t (u ∷ ts) v ≡ ok v) (sym (value_on t (u ∷ ts) v k e))
+    (rw (e, ih) (ap ok (put-child k v (child_there t v k e))))
 
 same_again : (t : Text) (ts : Tokens) (v w : Value.Value) → at_parent remove_child t ts v ≡ ok w → at_parent (replace_child (value_at (t ∷ ts) v)) t ts v ≡ ok v
 unfolding at_parent remove_child
