@@ -195,7 +195,8 @@ contents_back {s} {at} object left nodes (tree e kids rest) r back p d n h =
 container_back : {s : Bytes} {at : ℕ} (object : Bool) (left nodes b : ℕ) (kids : Members) (r : Bytes)
     → ItemsBack s kids → ProperItems object kids → depths kids ≤ left →
     suc (nodes + size kids) ≤ 2048 → Rest s at (b ∷ (write_items object true kids ++ (closing_bracket object ∷ r))) →
-    container (value left s) object s at nodes ≡ ok (record { label = container_label object; kids = kids }, at + suc (length (write_items object true kids) + 1))
+    container (value left s) object s at nodes ≡
+    ok (record { label = container_label object; kids = kids }, at + suc (length (write_items object true kids) + 1))
 unfolding container ◌>>=◌
 container_back {s} {at} object left nodes b kids r back p d n h =
     let place : at + 1 + (length (write_items object true kids) + 1) ≡ at + suc (length (write_items object true kids) + 1) = omega arith in

@@ -9,7 +9,8 @@ use Rattle.spec.specs.Bytes.{Text}
 use Rattle.spec.specs.Value as Value
 use Rattle.spec.specs.Value.{is_array, value_of, has, find, same_text}
 use Rattle.spec.specs.Pointer.{Tokens, child_at, child, farther, walk}
-use Rattle.spec.specs.Operation.{Kind, Operation, put, at_parent, insert_member, insert_child, remove_child, replace_child, add_at, remove_at_path, replace_at_path}
+use Rattle.spec.specs.Operation.{Kind, Operation, put, at_parent, insert_member, insert_child, remove_child, replace_child, add_at}
+use Rattle.spec.specs.Operation.{remove_at_path, replace_at_path}
 use Rattle.spec.specs.Operation.{move_to, copy_to, perform, limited}
 use Rattle.spec.specs.Patch.{proper_prefix}
 use Rattle.spec.proofs.OutcomeLaws.{refused≢ok, both_ok}
@@ -100,7 +101,8 @@ kind_below t hs l p =
     rw (mended_new (t ∷ hs) l p a b, mended_new hs l p a b)
 
 -- what was replaced is the child that the token names
-put_old : (x : Value.Value) (t : Text) (v w : Value.Value) (k : ℕ) → is_replace (mended_in [] t v).kind ≡ true → insert_child x t v ≡ ok w → child_at t v ≡ ok k →
+put_old : (x : Value.Value) (t : Text) (v w : Value.Value) (k : ℕ) →
+    is_replace (mended_in [] t v).kind ≡ true → insert_child x t v ≡ ok w → child_at t v ≡ ok k →
     put k x v ≡ w
 unfolding is_replace insert_member
 put_old x t v w k r h e =
@@ -142,7 +144,8 @@ module _ (x : Value.Value) (t : Text) (v c : Value.Value) (k : ℕ) (e : child_a
       rw (← same, value_on t (s ∷ ss) v k e, replace_below t k y v e (value_at (s ∷ ss) (value_of (child k v))) s ss, ih y kind (farther_ok _ f))
       (ap ok (put-child k v (child_there t v k e)))
 
-ancestor_parent : (x : Value.Value) (t : Text) (ps us : Tokens) (v left w : Value.Value) → proper_prefix ps us ≡ true → at_parent remove_child t us v ≡ ok left →
+ancestor_parent : (x : Value.Value) (t : Text) (ps us : Tokens) (v left w : Value.Value) → proper_prefix ps us ≡ true →
+    at_parent remove_child t us v ≡ ok left →
     is_replace (mended (t ∷ ps) left).kind ≡ true → at_parent (insert_child x) t ps left ≡ ok w → replace_at_path (t ∷ ps) (value_at (t ∷ ps) v) w ≡ ok v
 unfolding proper_prefix at_parent
 ancestor_parent x t [] [] v left w q h r i = absurd (false≢true q)
@@ -162,7 +165,8 @@ ancestor_parent x t (p ∷ ps) (u ∷ us) v left w q h r i =
     (λ y kind j. ancestor_parent x p ps us (value_of (child k v)) c y rest (token ∙ farther_ok _ f) kind j)
 
 ancestor_back : (x : Value.Value) (path : Tokens) (t : Text) (ts : Tokens) (v left w : Value.Value) → proper_prefix path (t ∷ ts) ≡ true →
-    remove_at_path (t ∷ ts) v ≡ ok left → is_replace (mended path left).kind ≡ true → add_at path x left ≡ ok w → replace_at_path path (value_at path v) w ≡ ok v
+    remove_at_path (t ∷ ts) v ≡ ok left → is_replace (mended path left).kind ≡ true → add_at path x left ≡ ok w →
+    replace_at_path path (value_at path v) w ≡ ok v
 unfolding proper_prefix remove_at_path add_at replace_at_path value_at walk result_or
 ancestor_back x [] t ts v left w q h r i = refl
 ancestor_back x (p ∷ ps) t ts v left w q h r i =

@@ -72,7 +72,8 @@ record BothWritten (a : Answer) (u : Value.Value) (text undo : Bytes) : Type 0 w
   plain : a ≡ success text
   fitting_undo : Fitting u undo
 
-written_fits : (room : ℕ) (t : Bytes) (u : Value.Value) (text undo : Bytes) → undo_written room t u ≡ undo_success text undo → BothWritten (success t) u text undo
+written_fits : (room : ℕ) (t : Bytes) (u : Value.Value) (text undo : Bytes) → undo_written room t u ≡ undo_success text undo →
+    BothWritten (success t) u text undo
 unfolding undo_written undo_fitting
 written_fits room t u text undo h =
     if_written (leb (count u.kids) max_operations) h
