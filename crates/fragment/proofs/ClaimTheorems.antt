@@ -26,9 +26,7 @@ use Rattle.fragment.specs.Claims.{KeptSet, RoundTrip, Written, raw, percents, Sp
 use Rattle.fragment.specs.Scan.{awaiting, between, broken, lowest, highest, first_byte, next_byte, awaited, syntax, may_end, judge, verdict}
 use Rattle.fragment.specs.declared.scan.Awaited.{Awaited}
 use Rattle.fragment.specs.declared.scan.Syntax.{Syntax}
-use Rattle.fragment.specs.declared.scan.Syntax.TheVariants as Syntax
 use Rattle.fragment.specs.declared.scan.Verdict.{Verdict}
-use Rattle.fragment.specs.declared.scan.Verdict.TheVariants as Verdict
 use Rattle.fragment.proofs.ByteLaws.{first_above, next_first, next_outside}
 use Rattle.fragment.proofs.ScanLaws.{broken_stays, judged}
 use Rattle.fragment.proofs.CallLaws.{no_text-no_pointer, fitting_whole, not_too_long}

@@ -21,11 +21,8 @@ use Rattle.fragment.specs.Scan.{awaiting, between, broken, lowest, highest, firs
 use Rattle.fragment.specs.Scan.{octets_after, Onward, OctetAt, counted, fragment_of}
 use Rattle.fragment.specs.declared.scan.Awaited.{Awaited}
 use Rattle.fragment.specs.declared.scan.Syntax.{Syntax}
-use Rattle.fragment.specs.declared.scan.Syntax.TheVariants as Syntax
 use Rattle.fragment.specs.declared.octets.Octet.{Octet}
-use Rattle.fragment.specs.declared.octets.Octet.TheVariants as Octet
 use Rattle.fragment.specs.declared.octets.Fragment.{Fragment}
-use Rattle.fragment.specs.declared.octets.Fragment.TheVariants as Fragment
 use Rattle.fragment.proofs.ByteLaws.{first-ascii, first_below, first_two, first_three, first-four, first_above, next_first, next_outside, next_inside}
 use Rattle.fragment.proofs.OctetLaws.{from_here, at_end}
 use Rattle.fragment.proofs.SyntaxLaws.{Settled, settles, stays, alike, ends_accepted}

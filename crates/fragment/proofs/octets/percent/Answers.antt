@@ -1,5 +1,4 @@
 use mathlib.Core.Path.{ap, ◌∙◌}
-use Rattle.lexer.proofs.Auto.{auto}
 use Rattle.spec.specs.Strings.{hex_value}
 use Rattle.fragment.proofs.OctetLaws.{bad_first, bad_second, two_digits}
 use Rattle.fragment.proofs.octets.percent.Goals as goal

@@ -1,6 +1,5 @@
 use mathlib.Core.Path.{sym, ◌∙◌}
 use native.Mathlib.Omega.{arith}
-use Rattle.lexer.proofs.Auto.{auto}
 use Rattle.fragment.proofs.ByteLaws.{first-ascii, first_below, first_two, first_three, first-four, first_above}
 use Rattle.fragment.proofs.scan.first_byte.Goals as goal
 
