@@ -12,7 +12,6 @@ use Rattle.intel_hex.specs.Record.{total, line_feed, carriage_return}
 use Rattle.intel_hex.specs.Reading.{hex_byte, is_hex_byte, bytes_at, all_hex, count, record_end, ending, line_length, is_line, bytes_of}
 use Rattle.intel_hex.specs.Steps.{ScanIs, LineIs}
 use Rattle.intel_hex.specs.declared.lines.Scanned.{Scanned}
-use Rattle.intel_hex.specs.declared.lines.Scanned.TheVariants as Scanned
 
 -- ---- digits stand within the text
 

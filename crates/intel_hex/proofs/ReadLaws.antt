@@ -11,9 +11,7 @@ use Rattle.intel_hex.specs.Reading.{hex_byte, bytes_at, all_hex, count, address_
 use Rattle.intel_hex.specs.Reading.{precede, by_type, read_line, read_from, read_text, wrong_sum, not_a_record, wrong_address, wrong_end}
 use Rattle.intel_hex.specs.Steps.{stepped, Onward, StepIs, measured, Accepted, text_of}
 use Rattle.intel_hex.specs.declared.lines.Step.{Step}
-use Rattle.intel_hex.specs.declared.lines.Step.TheVariants as Step
 use Rattle.intel_hex.specs.declared.reading.Measure.{Measure}
-use Rattle.intel_hex.specs.declared.reading.Measure.TheVariants as Measure
 use Rattle.intel_hex.proofs.LineLaws.{all_first, line-room, line-within, parts}
 
 -- what is lent of a text from a place on

@@ -1,10 +1,8 @@
 -- Texts laid down piece by piece.
-use Rattle.std.proofs.Common.{◌≡◌, ℕ, zero, suc, ◌+◌, ◌*◌, ◌/◌, ◌%◌, ◌<◌, ◌≤◌, true, [], ◌∷◌, ◌++◌, length, set, sym, refl, ap, ◌∙◌, append_assoc, append-nil, arith, length-append}
+use Rattle.std.proofs.Common.{◌≡◌, ℕ, zero, suc, ◌+◌, ◌*◌, ◌/◌, ◌%◌, ◌<◌, ◌≤◌, true, [], ◌∷◌, length, set, sym, refl, ap, ◌∙◌, arith}
 use Prim.Native.Char.{code}
-use lib.Seq.{sets, length-sets}
 use Rattle.spec.specs.Bytes.{Bytes, byte}
 use Rattle.text.specs.Written.{Stored}
-use Rattle.text.proofs.StoreLaws.{stores_on}
 use Rattle.spec.specs.Strings.{hex_value}
 use Rattle.text.proofs.LaidLaws.{Laid, laid_starts, laid_on, laid_ends}
 use Rattle.text.specs.UpperHex.{upper_hex}

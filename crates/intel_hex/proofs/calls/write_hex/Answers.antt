@@ -1,5 +1,4 @@
 use Rattle.std.proofs.Common.{◌∙◌, arith}
-use Rattle.lexer.proofs.Auto.{auto}
 use Rattle.intel_hex.proofs.CallLaws.{refuses, succeeds, write_long, write_fits, fitting_short}
 use Rattle.intel_hex.proofs.calls.write_hex.Goals as goal
 
