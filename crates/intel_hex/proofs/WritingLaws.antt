@@ -42,7 +42,8 @@ pub line_stored : (kind address : ℕ) (d : Bytes) (at : ℕ) {x y z a b e : ℕ
 unfolding head
 line_stored kind address d at {z = z} {e = e} {o = o} {r = r} {s} i j k l first second third fourth fifth =
     let same : z ≡ check (body kind address d) = last_byte kind address d i j k l in
-    let one = laid_on (laid_starts at (line_of (record_bytes kind address d)) o) (code ":" ∷ []) (line_pieces kind address d) (byte_stored (code ":") at first) in
+    let one =
+    laid_on (laid_starts at (line_of (record_bytes kind address d)) o) (code ":" ∷ []) (line_pieces kind address d) (byte_stored (code ":") at first) in
     let two = laid_on one (digits_of (length d ∷ address / 256 ∷ address % 256 ∷ kind ∷ [])) refl second in
     let three = laid_on two (digits_of d) refl third in
     let four = laid_on three (digits (check (body kind address d))) refl (rw same at fourth) in

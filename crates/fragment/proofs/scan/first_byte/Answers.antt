@@ -16,7 +16,8 @@ pub returns-then-b-lt240 : goal.returns-then-b-lt240
 returns-then-b-lt240 c = rw (c.awaiting-then-b-lt240.ensures, c.highest.ensures, c.lowest.ensures) (sym (first_three _ (omega arith) (omega arith)))
 
 pub returns-then-b-lt245 : goal.returns-then-b-lt245
-returns-then-b-lt245 c = rw (c.awaiting-then-b-lt245.ensures, c.highest-then-b-lt245.ensures, c.lowest-then-b-lt245.ensures) (sym (first-four _ (omega arith) (omega arith)))
+returns-then-b-lt245 c =
+    rw (c.awaiting-then-b-lt245.ensures, c.highest-then-b-lt245.ensures, c.lowest-then-b-lt245.ensures) (sym (first-four _ (omega arith) (omega arith)))
 
 pub returns : goal.returns
 returns c = c.awaiting-2.ensures ∙ sym (first_above _ (omega arith))

@@ -13,8 +13,16 @@ loop-at-init c = (omega arith, laid_starts 1 _ _)
 
 pub put_octet-end-requires : goal.put_octet-end-requires
 unfolding byte
-put_octet-end-requires c =
-    (omega (arith, laid_bound c.loop-at.invariant.1, encode_length c.args.pointer.now c.loop-at.at (omega arith), link-length c.args.pointer.now, c.requires.0), c.requires.1)
+put_octet-end-requires c = (
+  omega (
+    arith,
+    laid_bound c.loop-at.invariant.1,
+    encode_length c.args.pointer.now c.loop-at.at (omega arith),
+    link-length c.args.pointer.now,
+    c.requires.0,
+  ),
+  c.requires.1,
+)
 
 pub loop-at-preserved : goal.loop-at-preserved
 unfolding byte

@@ -20,7 +20,9 @@ slice_bounds-put_line-end c = omega (arith, c.record_end-stop.ensures)
 
 pub put_line-end-requires : goal.put_line-end-requires
 put_line-end-requires c =
-    let same = cut c.args.text.now c.loop-at.at c.record_end-stop.result (omega (arith, c.record_end-stop.ensures)) c.record_end-stop.ensures.2 c.record_end-stop.ensures.3 in (
+    let same =
+    cut c.args.text.now c.loop-at.at c.record_end-stop.result (omega (arith, c.record_end-stop.ensures))
+    c.record_end-stop.ensures.2 c.record_end-stop.ensures.3 in (
       omega (arith, c.requires),
       omega (
         arith,
@@ -43,7 +45,9 @@ overflow_add-at c = omega (arith, c.requires)
 
 pub loop-at-preserved : goal.loop-at-preserved
 loop-at-preserved c =
-    let same = cut c.args.text.now c.loop-at.at c.record_end-stop.result (omega (arith, c.record_end-stop.ensures)) c.record_end-stop.ensures.2 c.record_end-stop.ensures.3 in
+    let same =
+    cut c.args.text.now c.loop-at.at c.record_end-stop.result (omega (arith, c.record_end-stop.ensures))
+    c.record_end-stop.ensures.2 c.record_end-stop.ensures.3 in
     (refl, omega arith, printing_on c.loop-at.invariant.2 (omega arith) same c.put_line-end.ensures)
 
 pub put_line-requires : goal.put_line-requires
