@@ -25,7 +25,6 @@ use Rattle.pointer.specs.Prefix.{PrefixOf}
 use Rattle.fragment.specs.Link.{character_at, characters_from, characters, is_utf8, is_pointer}
 use Rattle.fragment.specs.Scan.{verdict}
 use Rattle.fragment.specs.declared.scan.Verdict.{Verdict}
-use Rattle.fragment.specs.declared.scan.Verdict.TheVariants as Verdict
 use Rattle.region.specs.Answer.{region_tokens}
 use Rattle.region.specs.Begins.{begins, SameByte}
 use Rattle.region.proofs.SpellLaws.{begins-tokens}
