@@ -27,7 +27,6 @@ use Rattle.table.proofs.MeaningLaws.{is_array_label}
 use Rattle.shape.specs.Operation.{OperationIs}
 use Rattle.shape.specs.Patch.{ShapeIs, right, wrong, all_right, one_wrong, ElementsAre, no-array, too_many, judged, PatchIs}
 use Rattle.shape.specs.declared.patch.Shape.{Shape}
-use Rattle.shape.specs.declared.patch.Shape.TheVariants as Shape
 use Rattle.shape.proofs.AnswerLaws.{answers_ok, answers_refused}
 use Rattle.tape.specs.Lent.{Texts, Table}
 

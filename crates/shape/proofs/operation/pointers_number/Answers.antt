@@ -1,7 +1,6 @@
 -- `pointers_number` meets its contract, by the tests on the two pointers.
 use mathlib.Core.Path.{sym, ◌∙◌}
 use mathlib.Core.Bool.{true, false}
-use borrow.Author.Rules.{rules}
 use borrow.Author.Tests.{not-true}
 use Rattle.shape.specs.Operation as Operation
 use Rattle.shape.proofs.KindLaws.{not_false}
