@@ -62,7 +62,8 @@ module _ (T : Texts) (op : ℕ) (c : Cell) (kids rest : Forest Cell) where
   first_right e = rw e
 
 -- the same answer with one operation more before
-pub one_more : (o : Operation.Operation) {run : Run (List Operation.Operation)} {r : Shape} → ShapeIs run r → ShapeIs (on_finish run (λ os. finished (o ∷ os))) r
+pub one_more : (o : Operation.Operation) {run : Run (List Operation.Operation)} {r : Shape}
+    → ShapeIs run r → ShapeIs (on_finish run (λ os. finished (o ∷ os))) r
 unfolding on_finish
 one_more o (right os) = right (o ∷ os)
 one_more o (wrong number op) = wrong number op
