@@ -1,7 +1,7 @@
 // Two JSON texts compared: equal or different, by the equality of SPECIFICATION 7, and how many names were compared
 // for it: SPECIFICATION 17, T-10.
 //
-// What is proved: on every input the answer is that of the definition `comparisonIn` of crate `comparison`. The work
+// What is proved: on every input the answer is that of the definition `comparison_in` of crate `comparison`. The work
 // area is all zero for its stated length and otherwise unchanged, or untouched where it was too short.
 #![tactic(auto)]
 

@@ -1,7 +1,7 @@
 // A patch applied, and the patch that takes it back written beside the document: SPECIFICATION 16, T-09.
 // `apply_with_undo` is the whole library; `run` and `without` serve the call that lists origins too.
 //
-// What is proved: on every input the answer is that of the definition `undoAnswer` of crate `reversal`. Each output
+// What is proved: on every input the answer is that of the definition `undo_answer` of crate `reversal`. Each output
 // afterwards begins with its text and is otherwise unchanged. The work area and the buffer are all zero for their
 // stated lengths and otherwise unchanged, or untouched where one was too short. Crate `reversal` proves that the undo
 // takes the patch back.
