@@ -1,0 +1,67 @@
+-- What is left of the name, with what is kept of the characters so far, gives the same.
+use Prim.Native.Nat.{◌-◌}
+use mathlib.Core.Path.{◌≡◌, sym, ◌∙◌}
+use mathlib.Core.Bool.{true}
+use native.Mathlib.Omega.{arith}
+use lib.ListN.{length}
+use Rattle.spec.specs.Bytes.{byte}
+use Rattle.spec.specs.Strings.{characters}
+use Rattle.lexer.specs.Answers.{name_outcome}
+use Rattle.lexer.specs.Names.{stands_for_itself, kept_of}
+use Rattle.lexer.proofs.ByteLaws.{here}
+use Rattle.lexer.proofs.AnswerLaws.{scalar_ok, character-refused_at}
+use Rattle.lexer.proofs.StringLaws.{character_ok_past}
+use Rattle.lexer.proofs.StringLoop.{self_inside}
+use Rattle.lexer.proofs.NameLaws.{Keeping, keeping_starts, keeping_self, keeping_more, keeping_quote, keeping_refused}
+use Rattle.lexer.proofs.Auto.{auto}
+use Rattle.lexer.proofs.strings.name_characters.Goals as goal
+
+pub loop-hash-init : goal.loop-hash-init
+unfolding name_outcome
+loop-hash-init c = keeping_starts _ _
+
+pub overflow_add-at : goal.overflow_add-at
+unfolding name_outcome
+overflow_add-at c =
+    let own : stands_for_itself (byte c.args.s.now c.loop-hash.at) ≡ true = cc in
+    omega (arith, self_inside _ _ own)
+
+pub loop-hash-smaller-then-stands_for_itself : goal.loop-hash-smaller-then-stands_for_itself
+unfolding name_outcome
+loop-hash-smaller-then-stands_for_itself c =
+    let own : stands_for_itself (byte c.args.s.now c.loop-hash.at) ≡ true = cc in
+    omega (arith, self_inside _ _ own)
+
+pub loop-hash-preserved-then-stands_for_itself : goal.loop-hash-preserved-then-stands_for_itself
+unfolding name_outcome
+loop-hash-preserved-then-stands_for_itself c =
+    let own : stands_for_itself (byte c.args.s.now c.loop-hash.at) ≡ true = cc in
+    keeping_self own (rw (← c.peek-b.ensures) c.mix-hash.ensures) c.loop-hash.invariant
+
+pub overflow_add-result : goal.overflow_add-result
+unfolding name_outcome
+overflow_add-result c = omega (arith, here _ _ _ (sym c.peek-b.ensures) (omega arith))
+
+pub returns-then-b-eq34 : goal.returns-then-b-eq34
+unfolding name_outcome
+returns-then-b-eq34 c =
+    keeping_quote (sym c.peek-b.ensures ∙ c.if-b-eq34.true) c.loop-hash.invariant
+
+pub returns-in_default : goal.returns-in_default
+unfolding name_outcome
+returns-in_default c =
+    let no_quote : byte c.args.s.now c.loop-hash.at ≡ 0x22 → ⊥ = λ e. c.if-b-eq34.false (c.peek-b.ensures ∙ e) in
+    keeping_refused _ _ no_quote
+    (character-refused_at _ c.character-read.ensures c.in_default.is c.refused_at.ensures) c.loop-hash.invariant
+
+pub loop-hash-smaller : goal.loop-hash-smaller
+unfolding name_outcome
+loop-hash-smaller c =
+    omega (arith, character_ok_past _ _ _ (scalar_ok _ _ c.character-read.ensures c.in-Scalar.is))
+
+pub loop-hash-preserved : goal.loop-hash-preserved
+unfolding name_outcome
+loop-hash-preserved c =
+    let no_quote : byte c.args.s.now c.loop-hash.at ≡ 0x22 → ⊥ = λ e. c.if-b-eq34.false (c.peek-b.ensures ∙ e) in
+    keeping_more _ no_quote (scalar_ok _ _ c.character-read.ensures c.in-Scalar.is) c.mix-hash-in-loop-hash.ensures
+    (rw (← c.peek-b.ensures) c.still_plain-plain.ensures) c.loop-hash.invariant
