@@ -33,7 +33,7 @@ fn empty_index(index: &mut [u16], length: usize)
 
 // JSON-text = ws value ws, stored in the rows from `base` on.
 fn read(s: &[u8], nodes: &mut [Node], index: &mut [u16], source: u16, base: usize) -> Read
-    requires lent { Lent source s.now (record { nodes = nodes.now; index = index.old }) }
+    requires lent { Lent source s.now (record { nodes = nodes.old; index = index.old }) }
     requires max_nodes_bound { base + max_nodes ≤ scratch_row }
     ensures { ReadIs source s.now base (work_before nodes.old index.old) (work_after nodes.new index.new) result }
 {
@@ -61,7 +61,7 @@ fn read(s: &[u8], nodes: &mut [Node], index: &mut [u16], source: u16, base: usiz
 
 // The same. The index is made empty before, unless the text is short.
 fn read_anew(s: &[u8], nodes: &mut [Node], index: &mut [u16], source: u16, base: usize) -> Read
-    requires lent { Lent source s.now (record { nodes = nodes.now; index = index.old }) }
+    requires lent { Lent source s.now (record { nodes = nodes.old; index = index.old }) }
     requires max_nodes_bound { base + max_nodes ≤ scratch_row }
     ensures { ReadIs source s.now base (work_before nodes.old index.old) (work_after nodes.new index.new) result }
 {
