@@ -20,7 +20,7 @@ index_of t =
     if is_dash t then Index.Dash else
     if is_index t then index_at (decimal 0 t) else Index.Not
 
--- The element of an array that is named, given how many elements it has, at most the limit: `elementBelow` of Pointer.
+-- The element of an array that is named, given how many elements it has, at most the limit: `element_below` of Pointer.
 unfoldable pub element_at : ℕ → Index → Outcome ℕ
 element_at elements Index.Dash = refused location_missing 0
 element_at elements (Index.At n) = if ltb n elements then ok n else refused location_missing 0
