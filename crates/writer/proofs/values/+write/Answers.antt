@@ -27,7 +27,7 @@ overflow_add-put-then-sort-lt-ARRAY t c =
     let l = c.loop-row in let p = c.write_prefix-before in let w = c.write_scalar-value in
     let fits : l.put + p.result ≤ length l.out = lent_fits l.out l.put p.result (omega arith) l.invariant.0 in
     let turn = turn_fits l.out l.put p.result p.new.out w.new.out fits p.auto.out w.auto.out (placed-inside w.ensures) in
-    omega (arith, turn.0, placed-length c.put_byte-put.ensures, c.type_inv.out)
+    omega (arith, turn.0, placed-length c.put_byte-put.ensures)
 
 pub loop-row-preserved-then-sort-lt-ARRAY : goal.loop-row-preserved-then-sort-lt-ARRAY
 loop-row-preserved-then-sort-lt-ARRAY t c =
@@ -47,7 +47,7 @@ overflow_add-put-in-loop-row t c =
     let l = c.loop-row in let p = c.write_prefix-before in let w = c.write-value in
     let fits : l.put + p.result ≤ length l.out = lent_fits l.out l.put p.result (omega arith) l.invariant.0 in
     let turn = turn_fits l.out l.put p.result p.new.out w.new.out fits p.auto.out w.auto.out (placed-inside w.ensures.some.placed) in
-    omega (arith, turn.0, placed-length c.put_byte-put.ensures, c.type_inv.out)
+    omega (arith, turn.0, placed-length c.put_byte-put.ensures)
 
 pub loop-row-preserved : goal.loop-row-preserved
 loop-row-preserved t c =
