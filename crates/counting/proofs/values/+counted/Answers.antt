@@ -40,7 +40,7 @@ returns-then-not-values t c hints =
     (c.partner.ensures hints) _ c.in-At.is _ (c.counted-values.ensures hints)
     c.names_for.ensures
     c.wrapping_add_u64-names.ensures.value c.wrapping_add_u64-names-in-loop-row.ensures.value
-    c.if-not-values.true c.told-then-not-values.ensures.0
+    (not-true _ c.if-not-values.true) c.told-then-not-values.ensures.0
     c.told-then-not-values.ensures.1
 
 pub loop-row-smaller : goal.loop-row-smaller
@@ -51,7 +51,7 @@ loop-row-preserved t c hints =
     counting_next _ _ _ _ _ _ _ (c.loop-row.invariant hints) (omega arith) c.end_of.ensures _
     (c.partner.ensures hints) _ c.in-At.is _ (c.counted-values.ensures hints)
     c.names_for.ensures
-    c.wrapping_add_u64-names.ensures.value c.wrapping_add_u64-names-in-loop-row.ensures.value c.if-not-values.false _ _
+    c.wrapping_add_u64-names.ensures.value c.wrapping_add_u64-names-in-loop-row.ensures.value (not-false _ c.if-not-values.false) _ _
     c.end_of-row.ensures c.end_of-next.ensures
 
 pub returns : goal.returns
