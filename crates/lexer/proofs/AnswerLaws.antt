@@ -10,11 +10,8 @@ use Rattle.spec.specs.Bytes.{Bytes, byte, within, byte_in}
 use Rattle.spec.specs.Strings.{hex_value, hex_in}
 use Rattle.lexer.specs.declared.cursor.Cursor.{Cursor}
 use Rattle.lexer.specs.declared.cursor.Bounded.{Bounded}
-use Rattle.lexer.specs.declared.cursor.Bounded.TheVariants as Bounded
 use Rattle.lexer.specs.declared.cursor.Scan.{Scan}
-use Rattle.lexer.specs.declared.cursor.Scan.TheVariants as Scan
 use Rattle.lexer.specs.declared.characters.Character.{Character}
-use Rattle.lexer.specs.declared.characters.Character.TheVariants as Character
 use Rattle.lexer.specs.Answers.{bounded_outcome, character_outcome, refused_at, scan_outcome}
 use Rattle.lexer.proofs.Tests.{within_bounds, below_within, above_within}
 use Rattle.lexer.proofs.ByteLaws.{inside}

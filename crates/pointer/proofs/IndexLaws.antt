@@ -16,7 +16,6 @@ use Rattle.spec.specs.Value.{same_text}
 use Rattle.spec.specs.Pointer.{is_index, is_dash, all_digits, element_below}
 use Rattle.lexer.proofs.Tests.{between-within, below_within, above_within}
 use Rattle.pointer.specs.declared.answers.Index.{Index}
-use Rattle.pointer.specs.declared.answers.Index.TheVariants as Index
 use Rattle.pointer.specs.Index.{index_limit, index_at, index_of, element_at, insertion_at, digits_after, capped, if_last}
 
 -- ---- digits

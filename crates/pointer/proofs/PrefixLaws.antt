@@ -12,9 +12,7 @@ use Rattle.spec.specs.Pointer.{Tokens, tokens, prepend, segments, unescape_all}
 use Rattle.spec.specs.Patch.{proper_prefix}
 use Rattle.text.specs.Decode.{decode, decode_from, text_of}
 use Rattle.pointer.specs.declared.answers.First.{First}
-use Rattle.pointer.specs.declared.answers.First.TheVariants as First
 use Rattle.pointer.specs.declared.answers.Token.{Token}
-use Rattle.pointer.specs.declared.answers.Token.TheVariants as Token
 use Rattle.pointer.specs.Tokens.{tokens_from, token_bytes, segments_after, FirstOf, TokenAt}
 use Rattle.pointer.specs.Prefix.{is_next, is_at, PrefixOf}
 use Rattle.pointer.proofs.WalkLaws.{Unfolds, unescaped, first_root, first_at, first_malformed, tokens_behind, first-token, behind_last, behind_next}

@@ -6,7 +6,6 @@ use Rattle.spec.specs.Bytes.{Text}
 use Rattle.spec.specs.Worth.{decimal}
 use Rattle.spec.specs.Pointer.{is_index, is_dash, all_digits}
 use Rattle.pointer.specs.declared.answers.Index.{Index}
-use Rattle.pointer.specs.declared.answers.Index.TheVariants as Index
 
 -- An index below this limit is given by its number. No array has that many elements.
 abbrev pub index_limit : ℕ

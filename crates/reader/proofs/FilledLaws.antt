@@ -28,7 +28,7 @@ use Rattle.tape.proofs.Map.{map_⧺, size-map}
 use Rattle.table.specs.Meaning.{source_text, entry_of}
 use Rattle.table.specs.All.{all_none, all_tree}
 use Rattle.table.proofs.AllLaws.{all_⧺}
-use Rattle.index.specs.Slots.{room, parents, slots}
+use Rattle.index.specs.Slots.{room, parents}
 use Rattle.index.specs.Ways.{Entered}
 use Rattle.reader.specs.Words.{Labels, Titles}
 use Rattle.reader.specs.Filled.{Between, SameBeyond, Noted, Filled}

@@ -14,7 +14,6 @@ use Rattle.reader.specs.Filled.{Noted}
 use Rattle.reader.specs.Names.{LeadsNext, Having, NamedIs}
 use Rattle.reader.specs.declared.names.Container.{Container}
 use Rattle.reader.specs.declared.words.Named.{Named}
-use Rattle.reader.specs.declared.words.Named.TheVariants as Named
 use Rattle.reader.specs.declared.items.Item.{Item}
 use Rattle.reader.specs.declared.items.Item.TheVariants.{Begins, Closed, Refused}
 

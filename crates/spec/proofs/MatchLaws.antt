@@ -1,5 +1,5 @@
 -- Arrays and objects in one function, for the laws that hold of both: `matches false` is `same_elements`, `matches true` is `same_members`.
-use mathlib.Core.Path.{◌≡◌, refl, ap, sym, ◌∙◌}
+use mathlib.Core.Path.{◌≡◌, refl, ap}
 use mathlib.Core.Bool.{Bool, true, false, ◌&&◌}
 use lib.Dec.{eqb}
 use Rattle.spec.specs.Outcome.{if◌then◌else◌}

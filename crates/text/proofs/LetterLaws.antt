@@ -14,7 +14,6 @@ use Rattle.spec.specs.Bytes.{Bytes, Text, byte, within}
 use Rattle.spec.proofs.OutcomeLaws.{refused≢ok, both_ok}
 use Rattle.lexer.specs.declared.cursor.Cursor.{Cursor}
 use Rattle.lexer.specs.declared.characters.Character.{Character}
-use Rattle.lexer.specs.declared.characters.Character.TheVariants as Character
 use Rattle.lexer.specs.Names.{stands_for_itself}
 use Rattle.lexer.specs.Answers.{character_outcome}
 use Rattle.lexer.proofs.Tests.{within_bounds, and_both}
