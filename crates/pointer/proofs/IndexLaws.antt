@@ -1,4 +1,5 @@
 -- A token as an index: what its first character tells, what each further digit does, and which element it names.
+use Rattle.std.specs.Prelude.{if◌then◌else◌}
 use mathlib.Core.Path.{◌≡◌, refl, sym, ap, ◌∙◌}
 use mathlib.Core.Bool.{Bool, true, false}
 use mathlib.Core.List.{[], ◌∷◌}
@@ -7,7 +8,7 @@ use Prim.Native.Char.{code}
 use native.Mathlib.Omega.{arith}
 use lib.Dec.{ltb}
 use borrow.Author.Tests.{ne_eqb, le-ltb, ltb-true, ltb-false}
-use Rattle.spec.specs.Outcome.{ok, refused, if◌then◌else◌}
+use Rattle.spec.specs.Outcome.{ok, refused}
 use Rattle.spec.specs.Refusal.{location_missing, no_index}
 use Rattle.spec.specs.Bytes.{Text, ascii, within}
 use Rattle.spec.specs.Numbers.{is_digit}

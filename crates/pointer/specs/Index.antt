@@ -1,6 +1,6 @@
 -- What a token is to an array.
-use Rattle.std.specs.Prelude.{ℕ, suc, [], ◌∷◌, ltb}
-use Rattle.spec.specs.Outcome.{Outcome, ok, refused, if◌then◌else◌}
+use Rattle.std.specs.Prelude.{ℕ, suc, [], ◌∷◌, ltb, if◌then◌else◌}
+use Rattle.spec.specs.Outcome.{Outcome, ok, refused}
 use Rattle.spec.specs.Refusal.{location_missing, no_index}
 use Rattle.spec.specs.Bytes.{Text}
 use Rattle.spec.specs.Worth.{decimal}

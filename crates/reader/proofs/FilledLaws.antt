@@ -1,4 +1,5 @@
 -- Laws of rows that are filled: another item behind those so far, and a node's own row before those of its children; and of the index.
+use Rattle.std.specs.Prelude.{if◌then◌else◌}
 use Prim.Native.Nat.{ℕ, ◌+◌, ◌-◌, ◌≤◌, ◌<◌, ◌%◌}
 use native.Mathlib.Omega.{arith}
 use native.Mathlib.Nat.{add-zero}
@@ -8,7 +9,6 @@ use mathlib.Core.List.{List, ◌∷◌, ◌++◌, append-nil}
 use lib.ListN.{length, drop, set}
 use lib.Dec.{eqb}
 use lib.Seq.{drop-drop}
-use Rattle.spec.specs.Outcome.{if◌then◌else◌}
 use Rattle.spec.specs.Bytes.{Bytes, Text}
 use Rattle.spec.specs.Forest.{none, tree, single, size, ◌⧺◌}
 use Rattle.spec.specs.Value.{Label, Members, named}

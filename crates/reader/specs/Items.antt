@@ -1,7 +1,7 @@
 -- What comes next in a container.
-use Rattle.std.specs.Prelude.{ℕ, ◌+◌, ◌≡◌, Bool, true, List, eqb}
+use Rattle.std.specs.Prelude.{ℕ, ◌+◌, ◌≡◌, Bool, true, List, eqb, if◌then◌else◌}
 use Prim.Native.Char.{code}
-use Rattle.spec.specs.Outcome.{Outcome, ok, refused, ◌>>=◌, if◌then◌else◌}
+use Rattle.spec.specs.Outcome.{Outcome, ok, refused, ◌>>=◌}
 use Rattle.spec.specs.Bytes.{Bytes, Text, byte, byte_in}
 use Rattle.spec.specs.Forest.{count}
 use Rattle.spec.specs.Value.{Members}

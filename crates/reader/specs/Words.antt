@@ -1,6 +1,6 @@
 -- What is read of a text: of a scalar its label, of a name its text.
-use Rattle.std.specs.Prelude.{ℕ, ◌-◌, ◌≡◌, Bool}
-use Rattle.spec.specs.Outcome.{Outcome, ok, refused, if◌then◌else◌}
+use Rattle.std.specs.Prelude.{ℕ, ◌-◌, ◌≡◌, Bool, if◌then◌else◌}
+use Rattle.spec.specs.Outcome.{Outcome, ok, refused}
 use Rattle.spec.specs.Refusal.{not_json}
 use Rattle.spec.specs.Bytes.{Bytes, Text}
 use Rattle.spec.specs.Value as Value

@@ -1,8 +1,7 @@
 -- What is written of a part, between quotation marks: SPECIFICATION 8.3.
-use Rattle.std.specs.Prelude.{ℕ, ◌+◌, ◌/◌, ◌%◌, [], ◌∷◌, length, eqb, ◌≡◌}
+use Rattle.std.specs.Prelude.{ℕ, ◌+◌, ◌/◌, ◌%◌, [], ◌∷◌, length, eqb, ◌≡◌, if◌then◌else◌}
 use Prim.Native.Char.{code}
 use Rattle.std.proofs.lemmas.List.Edits.{sets}
-use Rattle.spec.specs.Outcome.{if◌then◌else◌}
 use Rattle.spec.specs.Bytes.{Bytes}
 use Rattle.spec.specs.Write.{write_characters, hex_digit}
 use Rattle.text.specs.Decode.{text_of}

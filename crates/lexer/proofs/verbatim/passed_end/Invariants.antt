@@ -1,8 +1,8 @@
+use Rattle.std.specs.Prelude.{if◌then◌else◌}
 use Prim.Native.Nat.{◌-◌, ◌<◌}
 use mathlib.Core.Bool.{Bool}
 use lib.ListN.{length}
 use lib.Dec.{eqb}
-use Rattle.spec.specs.Outcome.{if◌then◌else◌}
 use Rattle.lexer.specs.States.{Tables}
 use Rattle.lexer.proofs.StateLaws.{Going}
 use Rattle.lexer.proofs.verbatim.passed_end.Given as goal
