@@ -17,7 +17,6 @@ use Rattle.tape.specs.Lent.{Texts}
 use Rattle.table.specs.Meaning.{part_of, name_text}
 use Rattle.pointer.specs.Tokens.{tokens_from, token_bytes, TokenAt}
 use Rattle.pointer.specs.declared.answers.Token.{Token}
-use Rattle.pointer.specs.declared.answers.Token.TheVariants as Token
 use Rattle.pointer.proofs.WalkLaws.{unescaped, last_token_lem, next_token}
 use Rattle.walk.specs.Names.{Short, TokenNameIs}
 use Rattle.walk.specs.Path.{TokensFrom}
