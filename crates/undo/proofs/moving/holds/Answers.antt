@@ -1,6 +1,4 @@
 -- `holds` meets its contract, by the two pointers.
-use native.Mathlib.Omega.{arith}
-use borrow.Author.Rules.{rules}
 use Rattle.undo.proofs.MoveLaws.{holds_not, holds_root, holds_at, holds_malformed}
 use Rattle.undo.proofs.moving.holds.Goals as goal
 

@@ -1,6 +1,5 @@
 -- `write_both` meets its contract, by what is refused.
 use native.Mathlib.Omega.{arith}
-use borrow.Author.Rules.{rules}
 use Rattle.undo.proofs.StageLaws.{both_short, both_unreadable, both_narrow, both-written}
 use Rattle.undo.proofs.stages.write_both.Goals as goal
 
