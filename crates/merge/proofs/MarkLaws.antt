@@ -41,12 +41,16 @@ bit_small : (q : Stream) → bit_of q < 2
 unfolding bit_of
 bit_small q = omega arith
 
-pub paths_noted : (xs : List ℕ) (s v : ℕ) → parents ≤ s → PathsKept xs (slot_set xs s v)
-paths_noted xs s v h slot q t low few (here l) =
+meets_noted : (xs : List ℕ) (s v t : ℕ) → parents ≤ s → t < room → (slot : ℕ) (q : Stream) → slot < parents → Meets xs t slot q
+    → Meets (slot_set xs s v) t slot q
+meets_noted xs s v t h few slot q low (here l) =
     here (record { is = slot_other xs s slot v (λ e. omega arith) ∙ l.is; above = l.above; below = l.below })
-paths_noted xs s v h slot q t low few (there x l m) =
+meets_noted xs s v t h few slot q low (there x l m) =
     there x (record { is = slot_other xs s slot v (λ e. omega arith) ∙ l.is; above = l.above; below = l.below })
-    (paths_noted xs s v h _ _ t (omega (arith, l.below, bit_small q)) few m)
+    (meets_noted xs s v t h few _ _ (omega (arith, l.below, bit_small q)) m)
+
+pub paths_noted : (xs : List ℕ) (s v : ℕ) → parents ≤ s → PathsKept xs (slot_set xs s v)
+paths_noted xs s v h slot q t low few m = meets_noted xs s v t h few slot q low m
 
 pub paths_then : {xs ys zs : List ℕ} → PathsKept xs ys → PathsKept ys zs → PathsKept xs zs
 paths_then a b slot q t low few m = b slot q t low few (a slot q t low few m)
@@ -229,7 +233,8 @@ module _ {T : Texts} where
       (λ q. true≢false (sym (has-from T k rest is) ∙ ap (λ n. has n (members T rest)) q ∙ alone_first distinct)) in
       let next : at ≡ row + 1 + size kids + size (before k rest) = omega arith in
       let low-next : patch_row ≤ row + 1 + size kids = omega arith in
-      marks_tree {c = d} {kids = kids} (ap (λ n. eqb n 0) other ∙ e ∙ rw apart) (marks_met k at is next low-next near long (alone_rest distinct) m)
+      marks_tree {c = d} {kids = kids} (ap (λ n. eqb n 0) other ∙ e ∙ rw apart)
+      (marks_met {row = row + 1 + size kids} k at is next low-next near long (alone_rest distinct) m)
 
 -- ---- the loop that notes the members of an object
 pub record LeftNoted (T : Texts) (nodes : List Row) (patch end : ℕ) (kids : Forest Cell) (ys : List ℕ) (row : ℕ) : Type 0 where

@@ -94,7 +94,7 @@ ways-member {xs} T {row} zero (tree d ds rest) {c} {below} at w is place o =
     subst (λ n. Ways xs n (n + 1) (members T below)) here (subst (λ f. Ways xs row (row + 1) (members T f)) under (ways_kids w object))
 ways-member {xs} {object} T {row} (suc k) (tree d ds rest) at w is place o =
     let many : size (members T ds) ≡ size ds = size-map (entry_of T) ds in
-    ways-member T k rest at (subst (λ n. Ways xs object (row + 1 + n) (members T rest)) many (ways_rest w)) is (omega arith) o
+    ways-member T {row = row + 1 + size ds} k rest at (subst (λ n. Ways xs object (row + 1 + n) (members T rest)) many (ways_rest w)) is (omega arith) o
 
 -- one more behind those so far
 pub ways_more : {xs : List ℕ} {object at end : ℕ} {all : Members} (e : Entry) (kids : Members) → Ways xs object at all → at + size all ≡ end
@@ -137,7 +137,7 @@ module _ (w : Table) (xs : List ℕ) (object : ℕ) (name : Name) (hashed : Hash
       subst (λ n. Ways xs object (at + 1 + n) (members w.texts more)) many (ways_rest ways) in
       has_cons (name_text w.texts name) (entry_of w.texts c) (members w.texts below) (members w.texts more)
       ∙ go (same_text (name_text w.texts c.name) (name_text w.texts name)) refl
-      (absent more rest (held_next h) sound (omega arith) (omega arith))
+      (absent {at = at + 1 + size below} more rest (held_next h) sound (omega arith) (omega arith))
     where
       go : (b : Bool) → same_text (name_text w.texts c.name) (name_text w.texts name) ≡ b
           → has (name_text w.texts name) (members w.texts more) ≡ false

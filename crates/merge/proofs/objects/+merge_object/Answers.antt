@@ -21,16 +21,6 @@ use Rattle.merge.proofs.ObjectLaws.{row_inside, row_goes, copy_inside, above_nex
 use Rattle.merge.proofs.ObjectLaws.{members_end_low, append_reaches, reaches_copy, reaches_merge, merge_flat}
 use Rattle.merge.proofs.objects.+merge_object.Goals as goal
 
--- the levels fall
-
-abbrev merge-object-at : ℕ → In 3 merge-object-kinds.ps
-merge-object-at t = and 3 merge-object-kinds.ps (is 3 merge-object-kinds.ps μ_merge-object t) merge-object.Pre
-
-abbrev merge-object-below : ℕ → In 3 merge-object-kinds.ps
-merge-object-below t = and 3 merge-object-kinds.ps (falls 3 merge-object-kinds.ps ◌<◌ μ_merge-object t) merge-object.Pre
-
--- what held where a loop began holds now, whatever the table was before
-
 pub returns-then-levels-eq0 : goal.returns-then-levels-eq0
 returns-then-levels-eq0 t c = merge_flat c.if-levels-eq0.true (omega (arith, c.requires))
 
@@ -103,10 +93,10 @@ pub merge_object-next-requires : goal.merge_object-next-requires
 merge_object-next-requires t c =
     let reach = reaches_merge c.loop-row.row c.keep.ensures.reaches _ c.in-Merge.is in
     let inside = row_inside _ c.loop-row.row _ c.loop-row.invariant.1 c.loop-row-test.true c.loop-row.invariant.3 in (
-      omega (arith, c.requires.0, c.if-levels-eq0.false),
+      omega (arith, c.requires, c.if-levels-eq0.false),
       (
         (reach.0, reach.1, omega (arith, inside), omega (arith, c.keep.ensures.same_length, c.loop-row.invariant.0.same_index, c.loop-row.invariant.4)),
-        (omega (arith, c.loop-row.invariant.0.from_to, (c.requires.patch_row_le_patch, c.requires.scratch_row_le_to)), c.loop-row.invariant.0.few, c.loop-row.invariant.0.framed.same_length ∙ c.loop-row.invariant.2),
+        (omega (arith, c.loop-row.invariant.0.from_to, c.requires), c.loop-row.invariant.0.few, c.loop-row.invariant.0.framed.same_length ∙ c.loop-row.invariant.2),
       ),
     )
 
@@ -146,7 +136,7 @@ loop-row-2-init t c = (
 
 pub append-requires : goal.append-requires
 append-requires t c =
-    (omega (arith, c.loop-row-2.invariant.1, (c.requires.patch_row_le_patch, c.requires.scratch_row_le_to)), omega (arith, c.loop-row-2.invariant.0.same_index, c.loop-row-2.invariant.4))
+    (omega (arith, c.loop-row-2.invariant.1, c.requires), omega (arith, c.loop-row-2.invariant.0.same_index, c.loop-row-2.invariant.4))
 
 pub loop-row-2-smaller-in-Nothing-append : goal.loop-row-2-smaller-in-Nothing-append
 loop-row-2-smaller-in-Nothing-append t c =
@@ -174,7 +164,7 @@ pub copy-next-requires-in-Copy-append : goal.copy-next-requires-in-Copy-append
 copy-next-requires-in-Copy-append t c =
     let reach =
     subst (Reaches c.loop-row-2.row) (sym c.append.ensures)
-    (append_reaches c.loop-row-2.nodes c.loop-row-2.row c.loop-row-2.index (omega (arith, c.loop-row-2.invariant.1, (c.requires.patch_row_le_patch, c.requires.scratch_row_le_to)))) in (
+    (append_reaches c.loop-row-2.nodes c.loop-row-2.row c.loop-row-2.index (omega (arith, c.loop-row-2.invariant.1, c.requires))) in (
       copy_inside c.loop-row-2.row _ c.loop-row-2.nodes
           (reaches_copy c.loop-row-2.row reach _ c.in-Copy-append.is) (omega (arith, c.loop-row-2-test.true, c.loop-row-2.invariant.3))
           (c.loop-row-2.invariant.0.framed.same_length ∙ c.loop-row-2.invariant.2),
@@ -193,7 +183,7 @@ loop-row-2-preserved-in-Copy-append t c =
     let goes = row_goes c.loop-row-2.nodes c.loop-row-2.row _ c.end_of-row-in-loop-row-2.ensures
     (omega (arith, c.loop-row-2-test.true, c.loop-row-2.invariant.3)) (c.loop-row-2.invariant.0.framed.same_length ∙ c.loop-row-2.invariant.2) in
     let reach = subst (Reaches c.loop-row-2.row) (sym c.append.ensures)
-    (append_reaches c.loop-row-2.nodes c.loop-row-2.row c.loop-row-2.index (omega (arith, c.loop-row-2.invariant.1, (c.requires.patch_row_le_patch, c.requires.scratch_row_le_to)))) in
+    (append_reaches c.loop-row-2.nodes c.loop-row-2.row c.loop-row-2.index (omega (arith, c.loop-row-2.invariant.1, c.requires))) in
     let there = copy_inside c.loop-row-2.row _ c.loop-row-2.nodes
     (reaches_copy c.loop-row-2.row reach _ c.in-Copy-append.is) (omega (arith, c.loop-row-2-test.true, c.loop-row-2.invariant.3))
     (c.loop-row-2.invariant.0.framed.same_length ∙ c.loop-row-2.invariant.2) in
@@ -211,12 +201,12 @@ loop-row-2-preserved-in-Copy-append t c =
 pub merge_object-next-requires-in-Merge-append : goal.merge_object-next-requires-in-Merge-append
 merge_object-next-requires-in-Merge-append t c =
     let reach = subst (Reaches c.loop-row-2.row) (sym c.append.ensures)
-    (append_reaches c.loop-row-2.nodes c.loop-row-2.row c.loop-row-2.index (omega (arith, c.loop-row-2.invariant.1, (c.requires.patch_row_le_patch, c.requires.scratch_row_le_to)))) in
+    (append_reaches c.loop-row-2.nodes c.loop-row-2.row c.loop-row-2.index (omega (arith, c.loop-row-2.invariant.1, c.requires))) in
     let found = reaches_merge c.loop-row-2.row reach _ c.in-Merge-append.is in (
-      omega (arith, c.requires.0, c.if-levels-eq0.false),
+      omega (arith, c.requires, c.if-levels-eq0.false),
       (
         (found.0, found.1, omega arith, omega (arith, c.loop-row-2.invariant.0.same_index, c.loop-row-2.invariant.4)),
-        (omega (arith, c.loop-row-2.invariant.0.from_to, (c.requires.patch_row_le_patch, c.requires.scratch_row_le_to)), c.loop-row-2.invariant.0.few, c.loop-row-2.invariant.0.framed.same_length ∙ c.loop-row-2.invariant.2),
+        (omega (arith, c.loop-row-2.invariant.0.from_to, c.requires), c.loop-row-2.invariant.0.few, c.loop-row-2.invariant.0.framed.same_length ∙ c.loop-row-2.invariant.2),
       ),
     )
 
@@ -258,8 +248,8 @@ returns t c =
           (record {
             object = o;
             merged = merged;
-            low = omega (arith, (c.requires.patch_row_le_patch, c.requires.scratch_row_le_to));
-            few = omega (arith, (c.requires.patch_row_le_patch, c.requires.scratch_row_le_to));
+            low = omega (arith, c.requires);
+            few = omega (arith, c.requires);
             long = c.loop-row.invariant.2;
             shallow = d;
           })

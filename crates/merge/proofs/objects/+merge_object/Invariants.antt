@@ -20,10 +20,11 @@ use Rattle.merge.proofs.ObjectLaws.{row_inside, row_goes, copy_inside, above_nex
 use Rattle.merge.proofs.ObjectLaws.{members_end_low, append_reaches, reaches_copy, reaches_merge, merge_flat}
 use Rattle.merge.proofs.objects.+merge_object.Given as goal
 
--- TODO measure: a.1.1.1.1.1.1.0
+-- the levels fall
 abbrev pub decreases-merge_object : goal.decreases-merge_object
 decreases-merge_object l = l.levels
 
+-- what held where a loop began holds now, whatever the table was before
 abbrev pub invariant-loop-row : goal.invariant-loop-row
 invariant-loop-row l =
     Onward l.to l.initial.nodes l.nodes l.initial.index l.index l.next × (l.target < l.row) × (length l.initial.nodes ≡ rows) × (l.end ≤ max (l.target + 1) rows) × (slots ≤ length l.initial.index)

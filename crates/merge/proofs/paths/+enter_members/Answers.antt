@@ -9,14 +9,6 @@ use Rattle.tape.specs.Lent.{table_of}
 use Rattle.merge.proofs.PathLaws.{Entering, entered_other, entered_flat, entering_none, entering_next, entering_done, entering_over}
 use Rattle.merge.proofs.paths.+enter_members.Goals as goal
 
--- the levels fall
-
-abbrev enter-members-at : ℕ → In 3 enter-members-kinds.ps
-enter-members-at t = and 3 enter-members-kinds.ps (is 3 enter-members-kinds.ps μ_enter-members t) enter-members.Pre
-
-abbrev enter-members-below : ℕ → In 3 enter-members-kinds.ps
-enter-members-below t = and 3 enter-members-kinds.ps (falls 3 enter-members-kinds.ps ◌<◌ μ_enter-members t) enter-members.Pre
-
 pub returns-then-kind-ne-OBJECT : goal.returns-then-kind-ne-OBJECT
 returns-then-kind-ne-OBJECT t c = entered_other c.kind.ensures c.if-kind-ne-OBJECT.true
 

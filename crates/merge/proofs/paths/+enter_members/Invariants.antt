@@ -8,7 +8,7 @@ use Rattle.tape.specs.Lent.{table_of}
 use Rattle.merge.proofs.PathLaws.{Entering, entered_other, entered_flat, entering_none, entering_next, entering_done, entering_over}
 use Rattle.merge.proofs.paths.+enter_members.Given as goal
 
--- TODO measure: a.1.1.1.1.0
+-- the levels fall
 abbrev pub decreases-enter_members : goal.decreases-enter_members
 decreases-enter_members l = l.levels
 

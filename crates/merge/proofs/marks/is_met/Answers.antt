@@ -1,0 +1,9 @@
+-- `is_met` meets its contract.
+use mathlib.Core.Path.{sym}
+use Rattle.index.specs.Slots.{slot_at}
+use borrow.Author.Rules.{rules}
+use Rattle.merge.proofs.marks.is_met.Goals as goal
+
+pub returns : goal.returns
+unfolding slot_at
+returns c = search rules
