@@ -6,33 +6,32 @@ use mathlib.Core.Path.{◌≡◌, refl, sym, ap, ◌∙◌, subst}
 use mathlib.Core.Bool.{Bool, true, false, true≢false}
 use mathlib.Core.List.{List, []}
 use lib.Dec.{eqb}
-use lib.ListN.{length, take, drop, get_or, length-set}
+use lib.ListN.{length, get_or, length-set}
 use lib.Seq.{get_or-take}
-use borrow.Author.Tests.{eq-eqb, ne_eqb}
+use borrow.Author.Tests.{ne_eqb}
 use Rattle.spec.specs.Outcome.{if◌then◌else◌}
 use Rattle.spec.specs.Bytes.{Text}
 use Rattle.spec.specs.Forest.{Forest, none, tree, size, before, from}
 use Rattle.spec.specs.Value.{Entry, Members, is_object, same_text, has}
-use Rattle.spec.proofs.TextLaws.{same_text_refl, same_text_true, same_text_false, same_text-apart}
+use Rattle.spec.proofs.TextLaws.{same_text_refl, same_text-apart}
 use Rattle.spec.specs.Distinct as Repeats
 use Rattle.spec.specs.Distinct.{NoRepeats}
 use Rattle.spec.proofs.NameLaws.{has_cons, absent_parts}
-use Rattle.merging.specs.Parts.{get}
-use Rattle.tape.specs.Layout.{patch_row, scratch_row, rows}
+use Rattle.tape.specs.Layout.{patch_row, scratch_row}
 use Rattle.tape.specs.Fields.{Row, span_of}
 use Rattle.tape.specs.declared.fields.Cell.{Cell}
 use Rattle.tape.specs.Cell.{Node}
 use Rattle.tape.specs.Rows.{end_of}
 use Rattle.tape.specs.Map.{map_forest}
-use Rattle.tape.specs.Lent.{Texts, Table}
-use Rattle.tape.proofs.Rows.{end_here, span_here}
+use Rattle.tape.specs.Lent.{Texts}
+use Rattle.tape.proofs.Rows.{end_here}
 use Rattle.tape.proofs.Held.{Remaining, remaining_all, remaining_next, remaining_none, remaining-first, held_node}
 use Rattle.table.specs.Meaning.{name_text, entry_of, members}
-use Rattle.index.specs.Slots.{room, parents, slots, parent_slot, branch_slot, slot_at, slot_set}
+use Rattle.index.specs.Slots.{room, parents, slots, parent_slot, slot_at, slot_set}
 use Rattle.index.specs.Bits.{Stream, bit_of}
-use Rattle.index.specs.Ways.{Leads, Meets, here, there, Entered}
+use Rattle.index.specs.Ways.{Meets, here, there}
 use Rattle.index.specs.Members.{Among, first, later, Child, Parents}
-use Rattle.index.proofs.SlotLaws.{slot_put, slot_other, slot_dropped}
+use Rattle.index.proofs.SlotLaws.{slot_put, slot_other}
 use Rattle.merge.specs.Building.{Framed}
 use Rattle.merge.specs.Marks.{note_of, PathsKept, Changed, Marks, marks_none, marks_tree, NotedIs}
 

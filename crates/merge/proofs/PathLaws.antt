@@ -3,21 +3,20 @@ use Prim.Native.Nat.{ℕ, zero, suc, ◌+◌, ◌-◌, ◌≤◌, ◌<◌, max}
 use native.Mathlib.Omega.{arith}
 use native.Mathlib.Nat.{add-zero}
 use mathlib.Core.Path.{◌≡◌, refl, sym, ap, ◌∙◌, subst}
-use mathlib.Core.Bool.{Bool, true, false, true≢false}
+use mathlib.Core.Bool.{Bool, true, false}
 use mathlib.Core.List.{List, []}
-use mathlib.Core.Option as Option
 use lib.ListN.{length, drop, get_or}
-use lib.Dec.{eqb, leb}
+use lib.Dec.{leb}
 use borrow.Author.Tests.{eqb-true}
 use Rattle.spec.specs.Outcome.{if◌then◌else◌}
 use Rattle.spec.specs.Bytes.{Text}
-use Rattle.spec.specs.Forest.{Forest, none, tree, single, size, count, before, from, ◌⧺◌}
+use Rattle.spec.specs.Forest.{Forest, none, tree, size, count, before, from, ◌⧺◌}
 use Rattle.spec.specs.Value.{Label, Entry, Members, tag, is_container, is_object, same_text, find, has, depths, levels}
 use Rattle.spec.proofs.TextLaws.{same_text_true}
 use Rattle.spec.proofs.NameLaws.{has_cons}
 use Rattle.lexer.specs.Hash.{hash}
 use Rattle.tape.specs.Layout.{patch_row, scratch_row, object_kind}
-use Rattle.tape.specs.Fields.{Row, no_node, kind_of, name_of}
+use Rattle.tape.specs.Fields.{no_node, kind_of, name_of}
 use Rattle.tape.specs.declared.fields.Name.{Name}
 use Rattle.tape.specs.declared.fields.Cell.{Cell}
 use Rattle.tape.specs.Cell.{Held}

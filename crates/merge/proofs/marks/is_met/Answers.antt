@@ -1,5 +1,4 @@
 -- `is_met` meets its contract.
-use mathlib.Core.Path.{sym}
 use Rattle.index.specs.Slots.{slot_at}
 use borrow.Author.Rules.{rules}
 use Rattle.merge.proofs.marks.is_met.Goals as goal

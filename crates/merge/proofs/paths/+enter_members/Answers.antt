@@ -1,12 +1,8 @@
 -- `enter_members` meets its contract, by the levels, which fall. Its loop passes the members one by one.
-use Prim.Native.Nat.{ℕ, ◌<◌, ◌-◌}
 use native.Mathlib.Omega.{arith}
-use mathlib.Core.Path.{◌≡◌, refl, ap, ◌∙◌}
-use lib.ListN.{length}
-use borrow.Author.Rules.{rules}
+use mathlib.Core.Path.{refl, ap, ◌∙◌}
 use Rattle.tape.specs.Fields.{name_of}
-use Rattle.tape.specs.Lent.{table_of}
-use Rattle.merge.proofs.PathLaws.{Entering, entered_other, entered_flat, entering_none, entering_next, entering_done, entering_over}
+use Rattle.merge.proofs.PathLaws.{entered_other, entered_flat, entering_none, entering_next, entering_done, entering_over}
 use Rattle.merge.proofs.paths.+enter_members.Goals as goal
 
 pub returns-then-kind-ne-OBJECT : goal.returns-then-kind-ne-OBJECT
