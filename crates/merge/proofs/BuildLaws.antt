@@ -13,7 +13,7 @@ use borrow.Author.Tests.{eq-eqb, ne_eqb}
 use Rattle.spec.proofs.ListLaws.{drop-take}
 use Rattle.spec.specs.Outcome.{if◌then◌else◌}
 use Rattle.spec.specs.Forest.{Forest, none, tree, single, size, ◌⧺◌}
-use Rattle.tape.specs.Layout.{values, array_kind, object_kind, rows}
+use Rattle.tape.specs.Layout.{values, array_kind, object_kind}
 use Rattle.tape.specs.Fields.{Row, no_node, with_span, kind_of, origin_of}
 use Rattle.tape.specs.Columns.{moved, copied}
 use Rattle.tape.specs.declared.fields.Cell.{Cell}

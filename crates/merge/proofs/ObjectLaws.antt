@@ -1,5 +1,5 @@
 -- Laws of two objects merged: what holds of the rows on every input, and each way out of `merge_object`.
-use Prim.Native.Nat.{ℕ, ◌+◌, ◌-◌, ◌≤◌, ◌<◌, max}
+use Prim.Native.Nat.{ℕ, ◌+◌, ◌≤◌, ◌<◌, max}
 use native.Mathlib.Omega.{arith}
 use mathlib.Core.Path.{◌≡◌, refl, sym, ◌∙◌, subst}
 use mathlib.Core.Bool.{Bool, true, false}
@@ -96,9 +96,6 @@ row_goes nodes row next is inside long = omega arith
 
 pub copy_inside : (row from : ℕ) (nodes : List Row) → from < max (row + 1) scratch_row → row < rows → length nodes ≡ rows → from < length nodes
 copy_inside row from nodes reaches inside long = omega arith
-
-pub less : (end row next : ℕ) → row < next → row < end → end - next < end - row
-less end row next goes more = omega arith
 
 pub above_next : {low row next : ℕ} → low < row → row < next → low < next
 above_next above goes = omega arith

@@ -7,7 +7,6 @@ use Prim.Native.Nat.{ℕ}
 use native.Mathlib.Omega.{arith}
 use Rattle.spec.specs.Outcome.{if◌then◌else◌}
 use Rattle.spec.specs.Bytes.{Text}
-use Rattle.spec.specs.Forest as Forest
 use Rattle.spec.specs.Forest.{Forest, tree, single, ◌⧺◌}
 use Rattle.spec.specs.Value as Plain
 use Rattle.spec.specs.Value.{Label, is_object, same_text}

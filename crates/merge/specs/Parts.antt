@@ -2,7 +2,6 @@
 use Rattle.std.proofs.Math.Option.{Option, none, some}
 use Rattle.spec.specs.Outcome.{if◌then◌else◌}
 use Rattle.spec.specs.Bytes.{Text}
-use Rattle.spec.specs.Forest as Forest
 use Rattle.spec.specs.Forest.{Forest, tree, single, ◌⧺◌}
 use Rattle.spec.specs.Value as Plain
 use Rattle.spec.specs.Value.{Label}
