@@ -54,7 +54,7 @@ formed_numbered k formed_none = formed_none
 formed_numbered k (formed_tree fit kids rest) =
     let o = formed_stamped k (formed_tree fit kids formed_none) in formed_tree (formed_fit o) (formed_kids o) (formed_numbered (k + 1) rest)
 
-pub sound_numbered : (k : ℕ) {T : Texts} {f : Forest Cell} → Sound T f → Sound T (numbered k f)
+pub sound_numbered : {T : Texts} (k : ℕ) {f : Forest Cell} → Sound T f → Sound T (numbered k f)
 unfolding numbered map_forest
 sound_numbered k all_none = all_none
 sound_numbered k (all_tree h kids rest) =
