@@ -1,4 +1,5 @@
 -- Laws of two objects merged: what holds of the rows on every input, and each way out of `merge_object`.
+use Rattle.std.specs.Prelude.{if◌then◌else◌}
 use Prim.Native.Nat.{ℕ, ◌+◌, ◌≤◌, ◌<◌, max}
 use native.Mathlib.Omega.{arith}
 use mathlib.Core.Path.{◌≡◌, refl, sym, ◌∙◌, subst}
@@ -7,7 +8,6 @@ use mathlib.Core.List.{List, []}
 use lib.Dec.{eqb, leb}
 use lib.ListN.{length, get_or}
 use borrow.Author.Tests.{leb-false}
-use Rattle.spec.specs.Outcome.{if◌then◌else◌}
 use Rattle.tape.specs.Layout.{patch_row, scratch_row, object_kind, rows}
 use Rattle.tape.specs.Fields.{Row, kind_of}
 use Rattle.tape.specs.Rows.{end_of}

@@ -1,4 +1,5 @@
 -- Laws of search paths: those that lead to the members of the patch's objects.
+use Rattle.std.specs.Prelude.{if◌then◌else◌}
 use Prim.Native.Nat.{ℕ, zero, suc, ◌+◌, ◌-◌, ◌≤◌, ◌<◌, max}
 use native.Mathlib.Omega.{arith}
 use native.Mathlib.Nat.{add-zero}
@@ -8,7 +9,6 @@ use mathlib.Core.List.{List, []}
 use lib.ListN.{length, drop, get_or}
 use lib.Dec.{leb}
 use borrow.Author.Tests.{eqb-true}
-use Rattle.spec.specs.Outcome.{if◌then◌else◌}
 use Rattle.spec.specs.Bytes.{Text}
 use Rattle.spec.specs.Forest.{Forest, none, tree, size, count, before, from, ◌⧺◌}
 use Rattle.spec.specs.Value.{Label, Entry, Members, tag, is_container, is_object, same_text, find, has, depths, levels}

@@ -1,7 +1,6 @@
 -- What becomes of one member.
-use Rattle.std.specs.Prelude.{ℕ, ◌+◌, ◌≤◌, ◌<◌, max, ◌≡◌, Bool, true, List, [], eqb, leb, length, get_or}
+use Rattle.std.specs.Prelude.{ℕ, ◌+◌, ◌≤◌, ◌<◌, max, ◌≡◌, Bool, true, List, [], eqb, leb, length, get_or, if◌then◌else◌}
 use Rattle.std.proofs.Math.Option as Option
-use Rattle.spec.specs.Outcome.{if◌then◌else◌}
 use Rattle.spec.specs.Bytes.{Text}
 use Rattle.spec.specs.Forest.{Forest, tree, size, before, from}
 use Rattle.spec.specs.Value.{same_text}
