@@ -5,11 +5,7 @@ use crate::calls::{read_link, write_link};
 
 // As `write_link`. The answer's fields are laid down in `answer`, in the order of the header's struct; the number is
 // returned too.
-pub fn json_patch_write_link(
-    pointer: &[u8],
-    output: &mut [u8],
-    answer: &mut [u64; 6],
-) -> u32
+pub fn json_patch_write_link(pointer: &[u8], output: &mut [u8], answer: &mut [u64; 6]) -> u32
     ensures { WriteExportIs pointer.now output.old output.new
         answer.new result }
 {

@@ -3,7 +3,6 @@
 
 ghost use Rattle.intel_hex.specs.Call.{WritesC, ReadsC};
 
-
 // As `write_hex`. The answer's fields are laid down in `answer`, in the order of the header's struct; the number is
 // returned too.
 #[unsafe(no_mangle)]

@@ -24,5 +24,7 @@ pub extern "C" fn json_patch_apply_within_origins<'a>(
         (list_before output.old origins.old nodes.old index.old)
         (list_after output.new origins.new nodes.new index.new) answer.new result }
 {
-    region_listing::json_patch_apply_within_origins(document, patch, region, output, origins, nodes, index, answer)
+    region_listing::json_patch_apply_within_origins(
+        document, patch, region, output, origins, nodes, index, answer,
+    )
 }

@@ -17,7 +17,8 @@ pub fn json_patch_apply_with_undo<'a>(
     work: &mut [u8],
     answer: &mut [u64; 7],
 ) -> u32
-    ensures { ExportIs (given document.now patch.now) (with_before (memory_before output.old nodes.old index.old) undo.old work.old)
+    ensures { ExportIs (given document.now patch.now)
+        (with_before (memory_before output.old nodes.old index.old) undo.old work.old)
         (with_after (memory_after output.new nodes.new index.new) undo.new work.new) answer.new result }
 {
     let r = apply_with_undo(document, patch, output, undo, nodes, index, work);

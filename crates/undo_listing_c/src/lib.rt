@@ -24,5 +24,7 @@ pub extern "C" fn json_patch_apply_with_undo_origins<'a>(
         (memory_before output.old undo.old origins.old nodes.old index.old work.old)
         (memory_after output.new undo.new origins.new nodes.new index.new work.new) answer.new result }
 {
-    undo_listing::json_patch_apply_with_undo_origins(document, patch, output, undo, origins, nodes, index, work, answer)
+    undo_listing::json_patch_apply_with_undo_origins(
+        document, patch, output, undo, origins, nodes, index, work, answer,
+    )
 }
