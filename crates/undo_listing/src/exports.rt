@@ -18,7 +18,8 @@ pub fn json_patch_apply_with_undo_origins<'a>(
     work: &mut [u8],
     answer: &mut [u64; 7],
 ) -> u32
-    ensures { ExportIs (given document.now patch.now) (memory_before output.old undo.old origins.old nodes.old index.old work.old)
+    ensures { ExportIs (given document.now patch.now)
+        (memory_before output.old undo.old origins.old nodes.old index.old work.old)
         (memory_after output.new undo.new origins.new nodes.new index.new work.new) answer.new result }
 {
     let r = apply_with_undo_listing(document, patch, output, undo, origins, nodes, index, work);
