@@ -34,13 +34,11 @@ use Rattle.shape.specs.Operation.{KindIs}
 use Rattle.shape.specs.Patch.{ShapeIs, right, wrong, PatchIs}
 use Rattle.shape.specs.declared.kinds.Kind.{Kind}
 use Rattle.shape.specs.declared.patch.Shape.{Shape}
-use Rattle.shape.specs.declared.patch.Shape.TheVariants as Shape
 use Rattle.shape.proofs.RunLaws.{rows_children, rows-first, first-node, rows_next}
 use Rattle.reader.specs.Work.{Work}
 use Rattle.reader.specs.Texts as Texts
 use Rattle.reader.specs.Texts.{reading}
 use Rattle.reader.specs.declared.values.Read.{Read}
-use Rattle.reader.specs.declared.values.Read.TheVariants as Read
 use Rattle.changes.specs.Site.{table}
 use Rattle.operations.proofs.ToldLaws.{told}
 use Rattle.json_patch.specs.Call.{wiped}
