@@ -1,4 +1,5 @@
 -- A case ends behind its beginning, and its parts lie in the file.
+use Rattle.std.specs.Prelude.{if◌then◌else◌}
 use Prim.Native.Nat.{ℕ, ◌+◌, ◌-◌, ◌≤◌, ◌<◌}
 use mathlib.Core.Path.{◌≡◌, refl, sym, subst, ◌∙◌}
 use mathlib.Core.Bool.{Bool, true, false}
@@ -8,7 +9,6 @@ use borrow.Author.Tests.{ltb-true}
 use lib.Dec.{eqb, leb, ltb}
 use lib.ListN.{length, take, drop, get_or}
 use lib.Seq.{length-take-le}
-use Rattle.spec.specs.Outcome.{if◌then◌else◌}
 use Rattle.spec.specs.Value.{same_text}
 use Rattle.cases.specs.Places.{Met, Behind, Onward, Lies, TakenIs, Numbered, Counted, Measured, TextIs, AllLie, TextsAre, Stands, FoundIs}
 use Rattle.cases.specs.Taking.{before, placed, found, cut, on_place, on_taken, word_at, bytes_at}

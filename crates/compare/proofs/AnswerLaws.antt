@@ -4,7 +4,6 @@ use native.Mathlib.Omega.{arith}
 use mathlib.Core.Path.{◌≡◌, subst}
 use Rattle.lexer.specs.declared.cursor.Cursor.{Cursor}
 use Rattle.reader.specs.declared.values.Read.{Read}
-use Rattle.reader.specs.declared.values.Read.TheVariants as Read
 use Rattle.compare.specs.Call.{RefusalIs}
 use Rattle.compare.specs.Stages.{UnreadIs}
 use Rattle.compare.specs.declared.answer.Answer.{Answer}

@@ -1,5 +1,5 @@
 -- Laws of the stages of the call, each for one way out of a stage.
-use Prim.Native.Nat.{ℕ, suc, ◌+◌, ◌*◌, ◌%◌, ◌^◌, ◌≤◌, ◌<◌}
+use Prim.Native.Nat.{ℕ, suc, ◌*◌, ◌%◌, ◌^◌, ◌≤◌}
 use native.Mathlib.Nat.{mod-eq_of_lt}
 use native.Mathlib.Omega.{arith}
 use mathlib.Core.Path.{◌≡◌, refl, sym, ap, ap₂, subst, ◌∙◌}
@@ -9,7 +9,6 @@ use lib.ListN.{length, take, drop}
 use lib.Seq.{length-take-le}
 use Rattle.spec.specs.Refusal.{work_too_short}
 use Rattle.spec.specs.Limits.{max_bytes, max_depth, max_nodes, work_nodes, work_entries}
-use Rattle.spec.specs.Bytes.{Bytes}
 use Rattle.spec.specs.Forest.{size}
 use Rattle.spec.specs.Value as Value
 use Rattle.spec.specs.Value.{depth, nodes}
@@ -23,11 +22,10 @@ use Rattle.comparison.specs.Comparison.{Compared}
 use Rattle.comparison.specs.Call.{success, comparison, comparison_in}
 use Rattle.comparison.proofs.CallTheorem.{first_refused, second_refused, both_read, few_names}
 use Rattle.lexer.specs.declared.cursor.Cursor.{Cursor}
-use Rattle.tape.specs.Layout.{document_row, patch_row, scratch_row}
+use Rattle.tape.specs.Layout.{document_row, patch_row}
 use Rattle.tape.specs.Columns.{filled}
 use Rattle.tape.specs.Fields.{Row, no_node}
-use Rattle.tape.specs.Rows.{end_of}
-use Rattle.tape.specs.Lent.{Texts, Table}
+use Rattle.tape.specs.Lent.{Texts}
 use Rattle.tape.specs.Cell.{level, deep}
 use Rattle.tape.proofs.Cells.{formed_kids}
 use Rattle.tape.proofs.Rows.{end_here}
@@ -38,9 +36,7 @@ use Rattle.reader.specs.Work.{Work}
 use Rattle.reader.specs.Texts as Texts
 use Rattle.reader.specs.Texts.{reading, DocumentIs}
 use Rattle.reader.specs.declared.values.Read.{Read}
-use Rattle.reader.specs.declared.values.Read.TheVariants as Read
 use Rattle.changes.specs.Site.{table}
-use Rattle.changes.specs.Document.{Document}
 use Rattle.changes.proofs.DocumentLaws.{few_nodes}
 use Rattle.equality.specs.Compare.{Hints}
 use Rattle.equality.proofs.SiblingLaws.{value-node, value-fit}
@@ -49,7 +45,7 @@ use Rattle.json_patch.specs.Stages.{PatchHeld}
 use Rattle.json_patch.proofs.AnswerLaws.{work_suffices_lem}
 use Rattle.json_patch.proofs.CallLaws.{part-wiped}
 use Rattle.json_patch.proofs.TextLaws.{read_into, text-value, text_refusal, patch_held, document_held, document-kept}
-use Rattle.counting.specs.Places.{place_at, HavePlaces, NotedIs}
+use Rattle.counting.specs.Places.{NotedIs}
 use Rattle.counting.specs.Values.{Tells, CountedIs}
 use Rattle.counting.specs.declared.values.Comparison.{Comparison}
 use Rattle.counting.proofs.PlaceLaws.{value-still}

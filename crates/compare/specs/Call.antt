@@ -1,6 +1,5 @@
 -- What the call promises, on every input: the whole answer, and all lent memory afterwards, as equations with the definition `comparison_in`.
-use Rattle.std.specs.Prelude.{ℕ, ◌≡◌, Bool, List, [], ◌∷◌, length}
-use Rattle.spec.specs.Outcome.{if◌then◌else◌}
+use Rattle.std.specs.Prelude.{ℕ, ◌≡◌, Bool, List, [], ◌∷◌, length, if◌then◌else◌}
 use Rattle.spec.specs.Limits.{work_nodes, work_entries}
 use Rattle.spec.specs.Answer.{work_suffices}
 use Rattle.comparison.specs.Comparison.{Compared}

@@ -8,7 +8,6 @@ use Rattle.comparison.specs.Call.{success, comparison}
 use Rattle.tape.specs.Lent.{Texts}
 use Rattle.reader.specs.Work.{Work}
 use Rattle.reader.specs.declared.values.Read.{Read}
-use Rattle.reader.specs.declared.values.Read.TheVariants as Read
 use Rattle.changes.specs.Site.{table}
 use Rattle.changes.specs.Document.{Document}
 use Rattle.json_patch.specs.Stages.{PatchHeld}

@@ -20,7 +20,8 @@ pub fn compare<'a>(
     nodes: &mut [Node],
     index: &mut [u16],
 ) -> Answer
-    ensures { CompareIs (given first.now second.now) (work_before nodes.old index.old) (work_after nodes.new index.new) result }
+    ensures { CompareIs (given first.now second.now) (work_before nodes.old index.old)
+        (work_after nodes.new index.new) result }
 {
     if nodes.len() < layout::ROWS {
         return refused(refusal::WORK_TOO_SHORT, 0, 0);

@@ -1,17 +1,15 @@
 -- Laws of the counts and of the answer.
 use Prim.Native.Nat.{ℕ, ◌≤◌}
 use native.Mathlib.Omega.{arith}
-use mathlib.Core.Path.{◌≡◌, sym, ap, subst, ◌∙◌}
+use mathlib.Core.Path.{◌≡◌, ap, subst}
 use Rattle.spec.specs.Outcome.{Outcome, ok, refused}
 use Rattle.spec.specs.Operation as Operation
 use Rattle.lexer.specs.declared.cursor.Cursor.{Cursor}
 use Rattle.shape.specs.Kinds.{kind_outcome}
 use Rattle.shape.specs.declared.kinds.Kind.{Kind}
 use Rattle.shape.specs.declared.patch.Shape.{Shape}
-use Rattle.shape.specs.declared.patch.Shape.TheVariants as Shape
 use Rattle.reader.specs.declared.values.Read.{Read}
-use Rattle.reader.specs.declared.values.Read.TheVariants as Read
-use Rattle.inspection.specs.Inspection.{no_counts, one_of, total, Inspection, refusal}
+use Rattle.inspection.specs.Inspection.{no_counts, total, Inspection, refusal}
 use Rattle.inspection.proofs.InspectionLaws.{total-one}
 use Rattle.inspect.specs.Counts.{counts_in, one_for, OneIs}
 use Rattle.inspect.specs.Call.{RefusalIs}

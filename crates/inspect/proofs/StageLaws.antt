@@ -1,4 +1,5 @@
 -- Laws of the stages of the call.
+use Rattle.std.specs.Prelude.{if◌then◌else◌}
 use Prim.Native.Nat.{ℕ, ◌+◌, ◌≤◌, ◌<◌}
 use native.Mathlib.Omega.{arith}
 use mathlib.Core.Path.{◌≡◌, refl, sym, ap, ◌∙◌}
@@ -7,7 +8,7 @@ use mathlib.Core.List.{List, [], ◌∷◌, ◌++◌}
 use lib.Dec.{leb}
 use lib.ListN.{length, take, drop}
 use lib.Seq.{length-take-le}
-use Rattle.spec.specs.Outcome.{Outcome, ok, refused, if◌then◌else◌}
+use Rattle.spec.specs.Outcome.{Outcome, ok, refused}
 use Rattle.spec.specs.Refusal.{work_too_short, wrong_shape, too_many_operations}
 use Rattle.spec.specs.Limits.{max_bytes, max_operations, work_nodes, work_entries}
 use Rattle.spec.specs.Bytes.{Bytes}
@@ -34,13 +35,11 @@ use Rattle.shape.specs.Operation.{KindIs}
 use Rattle.shape.specs.Patch.{ShapeIs, right, wrong, PatchIs}
 use Rattle.shape.specs.declared.kinds.Kind.{Kind}
 use Rattle.shape.specs.declared.patch.Shape.{Shape}
-use Rattle.shape.specs.declared.patch.Shape.TheVariants as Shape
 use Rattle.shape.proofs.RunLaws.{rows_children, rows-first, first-node, rows_next}
 use Rattle.reader.specs.Work.{Work}
 use Rattle.reader.specs.Texts as Texts
 use Rattle.reader.specs.Texts.{reading}
 use Rattle.reader.specs.declared.values.Read.{Read}
-use Rattle.reader.specs.declared.values.Read.TheVariants as Read
 use Rattle.changes.specs.Site.{table}
 use Rattle.operations.proofs.ToldLaws.{told}
 use Rattle.json_patch.specs.Call.{wiped}

@@ -2,7 +2,7 @@
 use Rattle.std.specs.Prelude.{ℕ, ◌≡◌, Bool, List, [], ◌∷◌, length}
 use Rattle.spec.specs.Limits.{work_nodes, work_entries}
 use Rattle.spec.specs.Bytes.{Bytes}
-use Rattle.spec.specs.Answer.{Lent, work_suffices}
+use Rattle.spec.specs.Answer.{work_suffices}
 use Rattle.tape.specs.Fields.{no_node}
 use Rattle.reader.specs.Work.{Work}
 use Rattle.json_patch.specs.Call.{wiped}

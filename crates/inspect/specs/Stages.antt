@@ -2,7 +2,6 @@
 use Rattle.std.specs.Prelude.{ℕ, ◌≤◌, ◌≡◌, List, length}
 use Rattle.spec.specs.Limits.{work_nodes, work_entries}
 use Rattle.spec.specs.Forest.{Forest}
-use Rattle.spec.specs.Value as Value
 use Rattle.spec.specs.Operation as Operation
 use Rattle.spec.specs.Patch.{finished, operations, shape}
 use Rattle.tape.specs.Layout.{patch_row}
@@ -12,10 +11,8 @@ use Rattle.table.specs.Meaning.{members}
 use Rattle.table.specs.Sound.{RowsHeld}
 use Rattle.shape.specs.Members.{ForMeant}
 use Rattle.shape.specs.declared.patch.Shape.{Shape}
-use Rattle.shape.specs.declared.patch.Shape.TheVariants as Shape
 use Rattle.reader.specs.Work.{Work}
 use Rattle.reader.specs.declared.values.Read.{Read}
-use Rattle.reader.specs.declared.values.Read.TheVariants as Read
 use Rattle.inspection.specs.Inspection.{counts_of, of_shape, inspection}
 use Rattle.inspect.specs.Counts.{counts_in}
 use Rattle.inspect.specs.Call.{told, RefusalIs}

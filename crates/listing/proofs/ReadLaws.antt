@@ -16,7 +16,6 @@ use Rattle.reader.specs.Work.{Work}
 use Rattle.reader.specs.Texts as Texts
 use Rattle.reader.specs.Texts.{reading, DocumentIs}
 use Rattle.reader.specs.declared.values.Read.{Read}
-use Rattle.reader.specs.declared.values.Read.TheVariants as Read
 use Rattle.changes.specs.Site.{table}
 use Rattle.changes.specs.Document.{Document}
 use Rattle.json_patch.specs.Stages.{PatchHeld}

@@ -25,7 +25,6 @@ use Rattle.tape.specs.Lent.{Table}
 use Rattle.walk.specs.Names.{Short}
 use Rattle.shape.specs.Patch.{ShapeIs, right, wrong, PatchIs}
 use Rattle.shape.specs.declared.patch.Shape.{Shape}
-use Rattle.shape.specs.declared.patch.Shape.TheVariants as Shape
 use Rattle.writer.specs.Writing.{FitsIs, WriteIs}
 use Rattle.writer.proofs.CallerLaws.{fits_is, written_whole}
 use Rattle.origin.specs.Value as Value
@@ -38,7 +37,6 @@ use Rattle.changes.specs.Document.{Document, Bearing}
 use Rattle.operations.specs.Run.{RanBearing, ran, halted, RunIs}
 use Rattle.operations.proofs.BearingLaws.{numbered-run}
 use Rattle.operations.specs.declared.runs.Ran.{Ran}
-use Rattle.operations.specs.declared.runs.Ran.TheVariants as Ran
 use Rattle.json_patch.specs.Stages.{MisshapenIs, StoppedIs, PatchHeld}
 use Rattle.json_patch.specs.Call.{SuccessIs, RefusalIs}
 use Rattle.json_patch.specs.declared.answer.Answer.{Answer}

@@ -25,7 +25,6 @@ use Rattle.tape.proofs.Rows.{inside_here, row_here, end_here}
 use Rattle.tape.proofs.Held.{held_node}
 use Rattle.tape.proofs.Tape.{length-tape, tape_tree, tape-single, holds_words, holds_kids}
 use Rattle.table.specs.Meaning.{meant, label_of}
-use Rattle.origin.specs.Value as Value
 use Rattle.origin.specs.Value.{forget, painted}
 use Rattle.origin.proofs.ForgetLaws.{forget-painted}
 use Rattle.walk.specs.Bearing.{borne}

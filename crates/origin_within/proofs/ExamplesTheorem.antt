@@ -9,7 +9,8 @@ use Rattle.origin_within.specs.Answer.{patched_within, on_patch_within, on_docum
 use Rattle.origin_within.specs.Examples.{Example}
 
 unfoldable compute_within : Unit {0}
-unfolding is_makers is_test kind_permitted permitted operation_within operations_within elements_within shape_within character_at characters_from characters region_tokens
+unfolding is_makers is_test kind_permitted permitted operation_within operations_within elements_within shape_within
+    character_at characters_from characters region_tokens
 compute_within = tt
 
 pub example : Example

@@ -1,7 +1,7 @@
 -- The answer of the call with a region that lists origins: SPECIFICATION 15 and 19, T-05 and T-11. The region's rule is one on the patch's shape, so
 -- all else is as in the plain call.
-use Rattle.std.specs.Prelude.{ℕ, not, length, ltb}
-use Rattle.spec.specs.Outcome.{Outcome, ok, refused, if◌then◌else◌}
+use Rattle.std.specs.Prelude.{ℕ, not, length, ltb, if◌then◌else◌}
+use Rattle.spec.specs.Outcome.{Outcome, ok, refused}
 use Rattle.spec.specs.Refusal.{work_too_short, input_too_long, malformed_pointer}
 use Rattle.spec.specs.Limits.{max_bytes}
 use Rattle.spec.specs.Bytes.{Bytes}

@@ -1,7 +1,7 @@
 -- Laws of the stages of the call with a region, each for one way out of a stage.
 use Prim.Native.Nat.{ℕ, ◌≤◌, ◌<◌}
 use native.Mathlib.Omega.{arith}
-use mathlib.Core.Path.{◌≡◌, refl, sym, subst, ap, ◌∙◌}
+use mathlib.Core.Path.{◌≡◌, refl, subst, ◌∙◌}
 use mathlib.Core.Bool.{true, false, true≢false}
 use mathlib.Core.List.{List}
 use lib.ListN.{length}
@@ -14,7 +14,7 @@ use Rattle.spec.specs.Value as Value
 use Rattle.spec.specs.Pointer.{Tokens}
 use Rattle.spec.specs.Operation as Operation
 use Rattle.spec.specs.Operation.{limited}
-use Rattle.spec.specs.Patch.{Run, finished, stopped, on_finish, shape, run}
+use Rattle.spec.specs.Patch.{Run, finished, on_finish, shape, run}
 use Rattle.spec.specs.Read.{read}
 use Rattle.spec.specs.Answer as Spec
 use Rattle.spec.specs.Answer.{Lent, work_suffices, answer_of}
@@ -30,23 +30,20 @@ use Rattle.tape.specs.Lent.{Texts, Table}
 use Rattle.walk.specs.Names.{Short}
 use Rattle.shape.specs.Patch.{ShapeIs, right, wrong}
 use Rattle.shape.specs.declared.patch.Shape.{Shape}
-use Rattle.shape.specs.declared.patch.Shape.TheVariants as Shape
 use Rattle.reader.specs.Work.{Work}
 use Rattle.reader.specs.Texts as Texts
 use Rattle.reader.specs.Texts.{reading, DocumentIs}
 use Rattle.reader.specs.declared.values.Read.{Read}
-use Rattle.reader.specs.declared.values.Read.TheVariants as Read
 use Rattle.changes.specs.Site.{table}
 use Rattle.changes.specs.Document.{Document}
 use Rattle.operations.specs.Run.{RanTo, ran, halted, RunIs}
 use Rattle.operations.specs.declared.runs.Ran.{Ran}
-use Rattle.operations.specs.declared.runs.Ran.TheVariants as Ran
 use Rattle.json_patch.specs.Stages.{UnreadIs, MisshapenIs, StoppedIs, PatchHeld, WriteOutIs}
 use Rattle.json_patch.specs.Call.{Answered, RefusalIs}
 use Rattle.json_patch.specs.declared.answer.Answer.{Answer}
 use Rattle.json_patch.proofs.TextLaws.{read_into, text-value, text_refusal, patch_held, document_held, document-kept}
 use Rattle.json_patch.proofs.StageLaws.{shape_right, ran_told}
-use Rattle.json_patch.proofs.AnswerLaws.{answered-refusal, answered-failure, answered_as}
+use Rattle.json_patch.proofs.AnswerLaws.{answered-refusal, answered-failure}
 use Rattle.region.specs.Rule.{shape_within}
 use Rattle.region.specs.Answer.{region_tokens, patched_within, on_patch_within, on_document_within, answer_within}
 use Rattle.region.specs.Within.{PatchWithinIs}

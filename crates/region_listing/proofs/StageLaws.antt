@@ -25,7 +25,6 @@ use Rattle.tape.specs.Lent.{Table}
 use Rattle.walk.specs.Names.{Short}
 use Rattle.shape.specs.Patch.{ShapeIs, right, wrong}
 use Rattle.shape.specs.declared.patch.Shape.{Shape}
-use Rattle.shape.specs.declared.patch.Shape.TheVariants as Shape
 use Rattle.changes.specs.Document.{Document}
 use Rattle.origin.specs.Answer.{unlisted, Lending, answer_of, applied}
 use Rattle.origin_within.specs.Answer.{patched_within, on_patch_within, on_document_within, answer_within}

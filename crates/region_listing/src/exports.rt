@@ -18,7 +18,8 @@ pub fn json_patch_apply_within_origins<'a>(
     index: &mut [u16],
     answer: &mut [u64; 6],
 ) -> u32
-    ensures { ExportIs (given document.now patch.now) region.now (list_before output.old origins.old nodes.old index.old)
+    ensures { ExportIs (given document.now patch.now) region.now
+        (list_before output.old origins.old nodes.old index.old)
         (list_after output.new origins.new nodes.new index.new) answer.new result }
 {
     let r = apply_within_listing(document, patch, region, output, origins, nodes, index);

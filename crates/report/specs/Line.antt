@@ -1,8 +1,7 @@
 -- The line that the patch tool prints: SPECIFICATION 10.2. It is the written text and a newline, or `refused`, the number, `text`, its
 -- value, `op`, its value, `place`, its value, on one line. T-01: "the refusal line ends in `pointer` and its value, on every line".
-use Rattle.std.specs.Prelude.{ℕ, zero, suc, ◌+◌, ◌/◌, ◌%◌, [], ◌∷◌, ◌++◌, eqb, ltb}
+use Rattle.std.specs.Prelude.{ℕ, zero, suc, ◌+◌, ◌/◌, ◌%◌, [], ◌∷◌, ◌++◌, eqb, ltb, if◌then◌else◌}
 use Prim.Native.Char.{code}
-use Rattle.spec.specs.Outcome.{if◌then◌else◌}
 use Rattle.spec.specs.Bytes.{Bytes, ascii}
 use Rattle.spec.specs.Refusal.{done}
 use Rattle.spec.specs.Answer.{Answer}

@@ -1,4 +1,5 @@
 -- Laws of the call's answers with the list beside them: a refusal of the patch, and all written.
+use Rattle.std.specs.Prelude.{if◌then◌else◌}
 use Prim.Native.Nat.{ℕ, ◌≤◌, ◌<◌}
 use mathlib.Core.Path.{◌≡◌, refl, sym, ap, subst, ◌∙◌}
 use mathlib.Core.Bool.{Bool, true, false}
@@ -6,7 +7,7 @@ use mathlib.Core.List.{List, [], ◌++◌}
 use lib.Dec.{leb, eqb}
 use lib.ListN.{length, drop}
 use borrow.Author.Tests.{le-leb, lt-leb}
-use Rattle.spec.specs.Outcome.{ok, if◌then◌else◌}
+use Rattle.spec.specs.Outcome.{ok}
 use Rattle.spec.specs.Refusal.{done, output_too_short}
 use Rattle.spec.specs.Limits.{max_bytes}
 use Rattle.spec.specs.Bytes.{Bytes}

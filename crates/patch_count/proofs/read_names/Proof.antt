@@ -64,7 +64,8 @@ read_names_spec =
     -- loop-again
     (λ c.
     let inv = c.before.before.before.before.before.before.before.before.before.before.before.before.before.before.before.before.before.before.before.before.before.before.before.loop.invariant in
-    let filled = c.before.before.before.before.before.before.before.before.before.before.before.before.before.before.before.before.before.before.before.before.read.auto.1.0 in
+    let filled =
+    c.before.before.before.before.before.before.before.before.before.before.before.before.before.before.before.before.before.before.before.before.read.auto.1.0 in
     let feed = c.before.before.before.before.before.before.before.before.before.feed in
     (filled ∙ inv.0, feed.auto.1.0 ∙ inv.1, feed.auto.1.1.0 ∙ inv.2, subst FedIs c.before.before.before.next.given.1 feed.ensures))
     -- same-length-7

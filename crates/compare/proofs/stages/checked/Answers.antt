@@ -1,6 +1,5 @@
 -- `checked` meets its contract, by the two lengths and by what is read of both texts.
 use native.Mathlib.Omega.{arith}
-use borrow.Author.Rules.{rules}
 use mathlib.Core.Path.{◌∙◌, sym}
 use Rattle.comparison.proofs.CallTheorem.{first_long, second_long}
 use Rattle.compare.proofs.StageLaws.{first_unread, second_unread, second-read}
@@ -14,13 +13,13 @@ returns-then-texts-gt-MAX_BYTES-2 c h i = c.refused-then-texts-gt-MAX_BYTES-2.en
 
 pub returns-in_default : goal.returns-in_default
 returns-in_default c h i =
-    first_unread h i (omega (arith, c.if-texts-gt-MAX_BYTES.false)) (omega (arith, c.if-texts-gt-MAX_BYTES-2.false))
+    first_unread h i (omega arith) (omega arith)
     c.read_document-first.ensures
     c.in_default.is c.unread.ensures
 
 pub returns-in_default-second : goal.returns-in_default-second
 returns-in_default-second c h i =
-    second_unread h i (omega (arith, c.if-texts-gt-MAX_BYTES.false)) (omega (arith, c.if-texts-gt-MAX_BYTES-2.false))
+    second_unread h i (omega arith) (omega arith)
     c.read_document-first.ensures
     c.in-Value.is c.read_document-first.auto.nodes c.read_document-first.auto.index
     c.read_patch-second.ensures
@@ -28,7 +27,7 @@ returns-in_default-second c h i =
 
 pub returns : goal.returns
 returns c h i =
-    second-read h i (omega (arith, c.if-texts-gt-MAX_BYTES.false)) (omega (arith, c.if-texts-gt-MAX_BYTES-2.false))
+    second-read h i (omega arith) (omega arith)
     c.read_document-first.ensures
     c.in-Value.is c.read_document-first.auto.nodes c.read_document-first.auto.index
     c.read_patch-second.ensures

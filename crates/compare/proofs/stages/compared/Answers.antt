@@ -1,5 +1,4 @@
 -- `compared` meets its contract: the places are noted and the members indexed, so that the count is the definition's.
-use borrow.Author.Rules.{rules}
 use Rattle.compare.proofs.StageLaws.{values-compared}
 use Rattle.compare.proofs.stages.compared.Goals as goal
 

@@ -1,5 +1,4 @@
 -- `misshapen` meets its contract: there are two variants.
-use borrow.Author.Rules.{rules}
 use Rattle.inspect.proofs.AnswerLaws.{misshapen_not, misshapen_as}
 use Rattle.inspect.proofs.answer.misshapen.Goals as goal
 

@@ -1,5 +1,4 @@
 -- `refused` meets its contract: its counts are all 0.
-use borrow.Author.Rules.{rules}
 use Rattle.inspect.proofs.AnswerLaws.{refusal-told}
 use Rattle.inspect.proofs.answer.refused.Goals as goal
 

@@ -1,5 +1,4 @@
 -- `unread` meets its contract: there are two variants.
-use borrow.Author.Rules.{rules}
 use Rattle.inspect.proofs.AnswerLaws.{unread_not, unread_as}
 use Rattle.inspect.proofs.answer.unread.Goals as goal
 

@@ -1,5 +1,4 @@
 -- `one` meets its contract, kind by kind.
-use borrow.Author.Rules.{rules}
 use Rattle.shape.specs.Kinds.{kind_outcome}
 use Rattle.inspection.specs.Inspection.{one_of}
 use Rattle.inspect.specs.Counts.{one_for}

@@ -1,6 +1,5 @@
 -- `checked` meets its contract, by the patch's length and by what is read of it.
 use native.Mathlib.Omega.{arith}
-use borrow.Author.Rules.{rules}
 use mathlib.Core.Path.{◌∙◌, sym}
 use Rattle.inspection.proofs.InspectionLaws.{inspection_long}
 use Rattle.inspect.proofs.StageLaws.{text_unread, text_shaped}
@@ -11,8 +10,8 @@ returns-then-texts-gt-MAX_BYTES c h i = c.refused.ensures ∙ sym (inspection_lo
 
 pub returns-in_default : goal.returns-in_default
 returns-in_default c h i =
-    text_unread h i (omega (arith, c.if-texts-gt-MAX_BYTES.false)) c.read_patch-patch.ensures c.in_default.is c.unread.ensures
+    text_unread h i (omega arith) c.read_patch-patch.ensures c.in_default.is c.unread.ensures
 
 pub returns : goal.returns
 returns c h i =
-    text_shaped h i (omega (arith, c.if-texts-gt-MAX_BYTES.false)) c.read_patch-patch.ensures c.in-Value.is c.shaped.ensures
+    text_shaped h i (omega arith) c.read_patch-patch.ensures c.in-Value.is c.shaped.ensures

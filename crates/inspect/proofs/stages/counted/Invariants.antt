@@ -1,11 +1,9 @@
+-- The counts so far and those of the operations that are left are those of all. The measure is the rows that are left.
 use Prim.Native.Nat.{◌≤◌, ◌-◌}
-use native.Mathlib.Omega.{arith}
-use borrow.Author.Rules.{rules}
-use mathlib.Core.Path.{refl}
 use Rattle.tape.specs.Lent.{table_of}
 use Rattle.inspection.specs.Inspection.{total}
 use Rattle.inspect.specs.Counts.{counts_in}
-use Rattle.inspect.proofs.StageLaws.{LeftAny, left_all, left_none, left_inside, left_next, none_small, more_small}
+use Rattle.inspect.proofs.StageLaws.{LeftAny}
 use Rattle.inspect.proofs.stages.counted.Given as goal
 
 abbrev pub invariant-loop-row : goal.invariant-loop-row

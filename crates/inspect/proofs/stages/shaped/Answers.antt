@@ -1,6 +1,4 @@
 -- `shaped` meets its contract, by the patch's shape.
-use native.Mathlib.Omega.{arith}
-use borrow.Author.Rules.{rules}
 use Rattle.inspect.proofs.StageLaws.{shape_refused, shape-counted}
 use Rattle.inspect.proofs.stages.shaped.Goals as goal
 

@@ -1,5 +1,4 @@
 -- `run_listed` meets its contract, by the run.
-use borrow.Author.Rules.{rules}
 use Rattle.listing.proofs.StageLaws.{listed_stopped, listed-done}
 use Rattle.listing.proofs.stages.run_listed.Goals as goal
 

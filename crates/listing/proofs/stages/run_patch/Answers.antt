@@ -1,5 +1,4 @@
 -- `run_patch` meets its contract, by the patch's shape.
-use borrow.Author.Rules.{rules}
 use Rattle.listing.proofs.StageLaws.{listed_misshapen, listed_right}
 use Rattle.listing.proofs.stages.run_patch.Goals as goal
 

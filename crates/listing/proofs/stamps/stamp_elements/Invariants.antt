@@ -1,9 +1,8 @@
+-- The invariant speaks of the elements that are left, and the measure is the rows that are left.
 use Prim.Native.Nat.{◌-◌, ◌≤◌}
-use mathlib.Core.Path.{◌≡◌, refl}
-use native.Mathlib.Omega.{arith}
+use mathlib.Core.Path.{◌≡◌}
 use lib.ListN.{length}
-use borrow.Author.Rules.{rules}
-use Rattle.listing.proofs.StampLaws.{NumberingAny, numbering_all, numbering_none, numbering_inside, numbering_next}
+use Rattle.listing.proofs.StampLaws.{NumberingAny}
 use Rattle.listing.proofs.stamps.stamp_elements.Given as goal
 
 abbrev pub invariant-loop-row : goal.invariant-loop-row

@@ -1,5 +1,4 @@
 -- `stamp_texts` meets its contract: the elements first, then the document.
-use borrow.Author.Rules.{rules}
 use Rattle.listing.proofs.StampLaws.{texts_stamped}
 use Rattle.listing.proofs.stamps.stamp_texts.Goals as goal
 

@@ -1,9 +1,6 @@
 -- `apply_within_listing` meets its contract, by the work area's lengths, and then by what the checked call answers.
 use native.Mathlib.Omega.{arith}
-use borrow.Author.Rules.{rules}
-use mathlib.Core.Path.{refl, sym}
-use lib.Seq.{length-take-le}
-use Rattle.spec.specs.Limits.{work_nodes, work_entries}
+use mathlib.Core.Path.{refl}
 use Rattle.json_patch.proofs.AnswerLaws.{nodes_short, index_short}
 use Rattle.region_listing.proofs.StageLaws.{within_work_short, within_same}
 use Rattle.listing.proofs.CallLaws.{call_short, call_done}
@@ -13,15 +10,8 @@ pub returns-then-nodes-lt-ROWS : goal.returns-then-nodes-lt-ROWS
 returns-then-nodes-lt-ROWS c = let e = nodes_short _ (omega arith) in call_short e (within_work_short _ _ _ _ e) c.refused.ensures
 
 pub returns-then-index-lt-SLOTS : goal.returns-then-index-lt-SLOTS
-returns-then-index-lt-SLOTS c = let e = index_short _ (omega arith) (omega arith) in call_short e (within_work_short _ _ _ _ e) c.refused-then-index-lt-SLOTS.ensures
-
-pub slice_bounds-checked_within-end-2 : goal.slice_bounds-checked_within-end-2
-slice_bounds-checked_within-end-2 c =
-    sym (length-take-le work_nodes c.args.nodes.now (omega arith))
-
-pub slice_bounds-checked_within-end-4 : goal.slice_bounds-checked_within-end-4
-slice_bounds-checked_within-end-4 c =
-    sym (length-take-le work_entries c.args.index.now (omega arith))
+returns-then-index-lt-SLOTS c =
+    let e = index_short _ (omega arith) (omega arith) in call_short e (within_work_short _ _ _ _ e) c.refused-then-index-lt-SLOTS.ensures
 
 pub returns : goal.returns
 returns c =
