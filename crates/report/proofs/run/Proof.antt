@@ -31,7 +31,7 @@ run_spec =
     -- returns
     (λ c.
     let call = c.before.before.before.before.before.before.before.before.before.apply in
-    let ok = call.type-inv in
+    let ok = call.type_inv in
     run_is _ _ c.before.before.before.before.before.before.before.before.before.before.before.before.before.but-one.ensures call.ensures
     call.auto.1.1.0 c.before.before.report.ensures (record {
       number = omega (arith, ok);

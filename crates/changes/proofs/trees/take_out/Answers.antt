@@ -1,0 +1,9 @@
+-- `take_out` meets its contract.
+use borrow.Author.Rules.{rules}
+use Rattle.changes.proofs.PutLaws.{take_made}
+use Rattle.changes.proofs.trees.take_out.Goals as goal
+
+pub returns : goal.returns
+returns c =
+    take_made c.args.parent c.requires c.args.at _ _ c.size-removed.ensures c.minus-left.ensures c.splice.ensures
+    c.resize.ensures

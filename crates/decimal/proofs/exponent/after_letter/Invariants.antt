@@ -1,0 +1,14 @@
+use Prim.Native.Nat.{◌-◌}
+use mathlib.Core.Path.{◌≡◌, refl, sym, ◌∙◌}
+use native.Mathlib.Omega.{arith}
+use lib.ListN.{length, drop}
+use Rattle.spec.specs.Worth.{exponent}
+use Rattle.decimal.proofs.MantissaLaws.{told}
+use Rattle.decimal.proofs.ExponentLaws.{exponent_here, exponent-later, exponent_past}
+use Rattle.decimal.proofs.exponent.after_letter.Given as goal
+
+abbrev pub invariant-loop-i : goal.invariant-loop-i
+invariant-loop-i l = exponent (drop l.i l.t) ≡ exponent l.t
+
+abbrev pub decreases-loop-i : goal.decreases-loop-i
+decreases-loop-i l = length l.t - l.i

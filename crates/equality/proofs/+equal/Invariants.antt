@@ -1,0 +1,20 @@
+use Prim.Native.Nat.{ℕ, ◌<◌, ◌-◌}
+use native.Mathlib.Omega.{arith}
+use borrow.Author.Rules.{rules}
+use borrow.Author.Tests.{not-true, not-false}
+use Rattle.tape.specs.Lent.{table_of}
+use Rattle.equality.specs.Compare.{Hints}
+use Rattle.equality.proofs.EqualLaws.{equal_outside, equal_outside_other, equal_labels, equal-scalar, equal_flat}
+use Rattle.equality.proofs.EqualLaws.{Comparing, comparing_all, comparing_next, equal_end, equal_more, equal_alone, equal_differs}
+use Rattle.equality.proofs.+equal.Given as goal
+
+-- TODO measure: a.1.1.1.1.1.1.0
+abbrev pub decreases-equal : goal.decreases-equal
+decreases-equal l = l.levels
+
+abbrev pub invariant-loop-row : goal.invariant-loop-row
+invariant-loop-row l =
+    Hints l.nodes l.index l.top → Comparing (table_of l.texts l.nodes) l.at l.other l.levels l.pair.object l.end l.pair.end l.row l.next
+
+abbrev pub decreases-loop-row : goal.decreases-loop-row
+decreases-loop-row l = l.end - l.row

@@ -1,0 +1,6 @@
+use Rattle.lexer.proofs.Auto.{auto}
+use native.Mathlib.Omega.{arith}
+use Rattle.fragment.proofs.kept.is_kept.Goals as goal
+
+pub returns : goal.returns
+returns c = c.requires.rule c.args.b (omega arith)

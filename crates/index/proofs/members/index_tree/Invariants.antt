@@ -1,0 +1,14 @@
+use Prim.Native.Nat.{◌-◌, ◌≤◌}
+use native.Mathlib.Omega.{arith}
+use mathlib.Core.Path.{◌≡◌, refl}
+use lib.ListN.{length}
+use borrow.Author.Rules.{rules}
+use Rattle.index.specs.Members.{Indexed}
+use Rattle.index.proofs.MemberLaws.{indexed_self, indexed_on, tree_indexed, tree_not_indexed}
+use Rattle.index.proofs.members.index_tree.Given as goal
+
+abbrev pub invariant-loop-row : goal.invariant-loop-row
+invariant-loop-row l = (l.top ≤ l.row) × (length l.index ≡ length l.initial.index) × Indexed l.top l.nodes l.initial.index l.index
+
+abbrev pub decreases-loop-row : goal.decreases-loop-row
+decreases-loop-row l = l.end - l.row

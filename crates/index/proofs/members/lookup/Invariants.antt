@@ -1,0 +1,13 @@
+use Prim.Native.Nat.{◌-◌}
+use native.Mathlib.Omega.{arith}
+use mathlib.Core.Path.{refl}
+use borrow.Author.Rules.{rules}
+use Rattle.index.specs.Slots.{room}
+use Rattle.index.specs.Members.{noted, not_found}
+use Rattle.index.proofs.members.lookup.Given as goal
+
+abbrev pub invariant-loop-last : goal.invariant-loop-last
+invariant-loop-last l = Unit {0}
+
+abbrev pub decreases-loop-last : goal.decreases-loop-last
+decreases-loop-last l = room - l.last

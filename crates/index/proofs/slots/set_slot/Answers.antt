@@ -1,0 +1,15 @@
+-- `set_slot` meets its contract. Assumes nothing.
+use mathlib.Core.Path.{sym, ap}
+use lib.ListN.{set}
+use lib.Seq.{set_out}
+use borrow.Author.Rules.{rules}
+use Rattle.index.specs.Slots.{slot_set}
+use Rattle.index.proofs.slots.set_slot.Goals as goal
+
+pub returns-then-at-index : goal.returns-then-at-index
+unfolding slot_set
+returns-then-at-index c = rw c.narrow.ensures
+
+pub returns-else-at-index : goal.returns-else-at-index
+unfolding slot_set
+returns-else-at-index c = sym (set_out _ _ _ c.if-at-index.false)

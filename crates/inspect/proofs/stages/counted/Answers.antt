@@ -1,0 +1,26 @@
+-- `counted` meets its contract: the counts so far and those of the operations that are left are those of all. The measure is the rows that are left.
+use Prim.Native.Nat.{◌≤◌, ◌-◌}
+use native.Mathlib.Omega.{arith}
+use borrow.Author.Rules.{rules}
+use mathlib.Core.Path.{refl}
+use Rattle.tape.specs.Lent.{table_of}
+use Rattle.inspection.specs.Inspection.{total}
+use Rattle.inspect.specs.Counts.{counts_in}
+use Rattle.inspect.proofs.StageLaws.{LeftAny, left_all, left_none, left_inside, left_next, none_small, more_small}
+use Rattle.inspect.proofs.stages.counted.Goals as goal
+
+pub loop-row-init : goal.loop-row-init
+loop-row-init c = (none_small c.none-counts.ensures _, left_all _ _ _ c.none-counts.ensures)
+
+pub returns-then-nodes-row : goal.returns-then-nodes-row
+returns-then-nodes-row c = left_inside c.loop-row.invariant.1 (omega arith) (omega arith) _
+
+pub plus-counts-requires : goal.plus-counts-requires
+plus-counts-requires c = omega (arith, c.one-more.ensures.small, c.loop-row.invariant.0)
+
+pub loop-row-preserved : goal.loop-row-preserved
+loop-row-preserved c =
+    (more_small _ _ c.plus-counts.ensures c.loop-row.invariant.0 c.one-more.ensures.small (omega (arith, c.end_of-row.ensures)), left_next c.loop-row.invariant.1 (omega arith) c.kind_of.ensures c.one-more.ensures c.plus-counts.ensures _ c.end_of-row.ensures)
+
+pub returns : goal.returns
+returns c = left_none c.loop-row.invariant.1 (omega arith) refl

@@ -1,0 +1,12 @@
+use Rattle.std.proofs.Common.{◌-◌, ◌<◌, ◌≤◌, arith}
+use Rattle.lexer.proofs.Auto.{auto}
+use Rattle.spec.specs.Bytes.{byte}
+use Rattle.intel_hex.specs.Steps.{ScanIs}
+use Rattle.intel_hex.proofs.LineLaws.{bad_high, bad_low, Scanning, scanning_starts, scanning_bad, scanning_on, scanning_ends, scanning_room}
+use Rattle.intel_hex.proofs.lines.scan.Given as goal
+
+abbrev pub invariant-loop-i : goal.invariant-loop-i
+invariant-loop-i l = (l.i ≤ l.n) × (l.sum < 256) × Scanning l.n l.t l.k l.sum l.at l.i
+
+abbrev pub decreases-loop-i : goal.decreases-loop-i
+decreases-loop-i l = l.n - l.i

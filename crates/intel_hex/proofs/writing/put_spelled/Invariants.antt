@@ -1,0 +1,13 @@
+use Rattle.std.proofs.Common.{◌≡◌, ◌+◌, ◌-◌, ◌*◌, ◌≤◌, length, drop, arith}
+use Rattle.lexer.proofs.Auto.{auto}
+use Rattle.spec.specs.Bytes.{byte}
+use Rattle.text.proofs.LaidLaws.{Laid, laid_starts, laid_length, laid_on, laid_ends}
+use Rattle.intel_hex.specs.Record.{digits, digits_of}
+use Rattle.intel_hex.proofs.RecordLaws.{digits_of_here, digits_of_end}
+use Rattle.intel_hex.proofs.writing.put_spelled.Given as goal
+
+abbrev pub invariant-loop-i : goal.invariant-loop-i
+invariant-loop-i l = (l.i ≤ length l.bytes) × (l.end ≡ l.at + 2 * l.i) × Laid l.at (digits_of l.bytes) (digits_of (drop l.i l.bytes)) l.initial.out l.out l.end
+
+abbrev pub decreases-loop-i : goal.decreases-loop-i
+decreases-loop-i l = length l.bytes - l.i

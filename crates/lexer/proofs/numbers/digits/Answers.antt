@@ -1,0 +1,62 @@
+-- The digits that are left end at the same place.
+use Prim.Native.Nat.{◌-◌, ◌<◌}
+use mathlib.Core.Path.{◌≡◌, ◌∙◌, ap}
+use mathlib.Core.Bool.{true}
+use native.Mathlib.Omega.{arith}
+use lib.ListN.{length}
+use Rattle.spec.specs.Bytes.{byte}
+use Rattle.spec.specs.Numbers.{is_digit, digits}
+use Rattle.lexer.specs.Answers.{scan_outcome}
+use Rattle.lexer.proofs.Fuel.{Runs, starts, goes_on, ends}
+use Rattle.lexer.proofs.ByteLaws.{inside}
+use Rattle.lexer.proofs.AnswerLaws.{to_ok, scan_refused}
+use Rattle.lexer.proofs.NumberLoop.{not_digit, counted_next, digits_more, digits_stopped, digits_end, digits_none}
+use Rattle.lexer.proofs.Auto.{auto}
+use Rattle.lexer.proofs.numbers.digits.Goals as goal
+
+-- a digit stands at the place, which lies within the text
+digit : (c : tie.Then1 invariant-loop decreases-loop) → let h = c.before.before.before in is_digit (byte h.before.before.args.s.now h.loop.at) ≡ true
+digit c = cc
+
+within : (c : tie.Then1 invariant-loop decreases-loop) → let h = c.before.before.before in h.loop.at < length h.before.before.args.s.now
+within c = inside is_digit not_digit _ _ (digit c)
+
+pub loop-digit-init : goal.loop-digit-init
+unfolding scan_outcome
+loop-digit-init c = starts (λ fuel. digits fuel _ _) _ _
+
+pub peek-requires : goal.peek-requires
+unfolding scan_outcome
+peek-requires c = tt
+
+pub is_digit-requires : goal.is_digit-requires
+unfolding scan_outcome
+is_digit-requires c = tt
+
+-- TODO bare place t
+-- TODO bare place t
+pub returns-in_default : goal.returns-in_default
+unfolding scan_outcome
+returns-in_default c =
+    let e = scan_refused _ _ c.counted-digit.ensures c.in_default.is in
+    ap scan_outcome c.in_default.is ∙
+    ends (λ l. absurd (omega (arith, within t))) (digits_stopped _ _ _ _ _ (digit t) e) c.loop-digit.invariant
+
+-- TODO bare place counts.before
+pub loop-digit-smaller : goal.loop-digit-smaller
+unfolding scan_outcome
+loop-digit-smaller c =
+    let e = counted_next _ _ _ (to_ok _ c.counted-digit.ensures c.in-To.is) in
+    omega (arith, within counts.before)
+
+-- TODO bare place t
+-- TODO bare place t
+pub loop-digit-preserved : goal.loop-digit-preserved
+unfolding scan_outcome
+loop-digit-preserved c =
+    let e = to_ok _ c.counted-digit.ensures c.in-To.is in
+    goes_on _ _ (within t) (omega (arith, counted_next _ _ _ e)) (digits_more _ _ _ _ (digit t) e) c.loop-digit.invariant
+
+pub returns : goal.returns
+unfolding scan_outcome
+returns c = ends (λ _. digits_none _ _ _) (digits_end _ _ _ (cc)) c.loop-digit.invariant

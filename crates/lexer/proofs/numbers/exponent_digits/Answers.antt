@@ -1,0 +1,113 @@
+-- The digits that are left, with the exponent's size so far, end at the same place.
+use Prim.Native.Nat.{◌+◌, ◌-◌, ◌*◌, ◌<◌, ◌≤◌}
+use mathlib.Core.Path.{◌≡◌, ◌∙◌, ap}
+use mathlib.Core.Bool.{true}
+use native.Mathlib.Omega.{arith}
+use borrow.Author.Tests.{le-leb, lt-leb, not-true, not-false}
+use lib.ListN.{length}
+use lib.Dec.{leb}
+use Rattle.spec.specs.Limits.{max_exponent}
+use Rattle.spec.specs.Bytes.{byte}
+use Rattle.spec.specs.Numbers.{is_digit, exponent_digits}
+use Rattle.lexer.specs.Answers.{scan_outcome}
+use Rattle.lexer.proofs.Tests.{told}
+use Rattle.lexer.proofs.Fuel.{Runs, starts, goes_on, ends}
+use Rattle.lexer.proofs.ByteLaws.{inside}
+use Rattle.lexer.proofs.AnswerLaws.{to_ok, scan_refused}
+use Rattle.lexer.proofs.NumberLoop.{exponent_more, exponent_stopped, exponent_large, exponent_end, exponent_none}
+use Rattle.lexer.proofs.NumberLoop.{not_digit, digit_bounds, counted_next}
+use Rattle.lexer.proofs.Auto.{auto}
+use Rattle.lexer.proofs.numbers.exponent_digits.Goals as goal
+
+-- a digit stands at the place, which lies within the text
+digit : (c : tie.Else1 invariant-loop decreases-loop) → is_digit c.before.before.peek.result ≡ true
+digit c = told c.before.is_digit.ensures (not-false _ c.if1.false)
+
+digit-here : (c : tie.Else1 invariant-loop decreases-loop) →
+    let h = c.before.before.before in
+    is_digit (byte h.before.before.args.s.now h.loop.at) ≡ true
+digit-here c = rw (← c.before.before.peek.ensures) (digit c)
+
+within : (c : tie.Else1 invariant-loop decreases-loop) → let h = c.before.before.before in h.loop.at < length h.before.before.args.s.now
+within c = inside is_digit not_digit _ _ (digit-here c)
+
+small : (c : tie.Else2 invariant-loop decreases-loop) →
+    let h = c.before.before.before.before in
+    leb (h.loop.size * 10 + (byte h.before.before.args.s.now h.loop.at - 48)) max_exponent ≡ true
+small c = rw (← c.before.before.before.peek.ensures) (le-leb _ _ c.if2.false)
+
+pub loop-start-init : goal.loop-start-init
+unfolding scan_outcome
+loop-start-init c = (omega arith, starts (λ fuel. exponent_digits fuel _ _ 0) _ _)
+
+pub peek-b-requires : goal.peek-b-requires
+unfolding scan_outcome
+peek-b-requires c = tt
+
+pub is_digit-requires : goal.is_digit-requires
+unfolding scan_outcome
+is_digit-requires c = tt
+
+pub returns-then-not-is_digit : goal.returns-then-not-is_digit
+unfolding scan_outcome
+returns-then-not-is_digit c =
+    ends (λ _. exponent_none _ _ _ _)
+    (exponent_end _ _ _ _ (rw (← c.peek-b.ensures) (told c.is_digit.ensures c.if-not-is_digit.true)))
+    c.loop-start.invariant.1
+
+-- TODO bare place c
+pub overflow_sub-size : goal.overflow_sub-size
+unfolding scan_outcome
+overflow_sub-size c = omega (arith, digit_bounds _ (digit c))
+
+-- TODO bare place c
+pub overflow_cast-size : goal.overflow_cast-size
+unfolding scan_outcome
+overflow_cast-size c = omega (arith, digit_bounds _ (digit c))
+
+-- TODO bare place c
+pub overflow_add-size : goal.overflow_add-size
+unfolding scan_outcome
+overflow_add-size c = omega (arith, digit_bounds _ (digit c))
+
+-- TODO bare place t
+-- TODO bare place t
+pub returns-then-size-gt-MAX_EXPONENT : goal.returns-then-size-gt-MAX_EXPONENT
+unfolding scan_outcome
+returns-then-size-gt-MAX_EXPONENT c =
+    ends (λ l. absurd (omega (arith, within t)))
+    (exponent_large _ _ _ _ (digit-here t) (rw (← c.peek-b.ensures) (lt-leb _ _ c.if-size-gt-MAX_EXPONENT.true)))
+    c.loop-start.invariant.1
+
+-- TODO bare place l
+-- TODO bare place t
+-- TODO bare place t
+-- TODO bare place l
+pub returns-in_default : goal.returns-in_default
+unfolding scan_outcome
+returns-in_default c =
+    let e = scan_refused _ _ c.counted-digit.ensures c.in_default.is in
+    ap scan_outcome c.in_default.is ∙
+    ends (λ l. absurd (omega (arith, within t)))
+    (exponent_stopped _ _ _ _ _ _ (digit-here t) (small l) e)
+    c.loop-start.invariant.1
+
+-- TODO bare place counts.before.before
+pub loop-start-smaller : goal.loop-start-smaller
+unfolding scan_outcome
+loop-start-smaller c =
+    let e = counted_next _ _ _ (to_ok _ c.counted-digit.ensures c.in-To.is) in
+    omega (arith, within counts.before.before)
+
+-- TODO bare place t
+-- TODO bare place t
+-- TODO bare place l
+pub loop-start-preserved : goal.loop-start-preserved
+unfolding scan_outcome
+loop-start-preserved c =
+    let e = to_ok _ c.counted-digit.ensures c.in-To.is in (
+      c.if-size-gt-MAX_EXPONENT.false,
+      goes_on _ _ (within t) (omega (arith, counted_next _ _ _ e))
+          (rw (← c.peek-b.ensures) at (exponent_more _ _ _ _ _ (digit-here t) (small l) e))
+          c.loop-start.invariant.1,
+    )

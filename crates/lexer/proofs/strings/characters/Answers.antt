@@ -1,0 +1,54 @@
+-- The bytes so far stand for themselves.
+use borrow.Author.Rules.{rules}
+use Prim.Native.Nat.{◌-◌}
+use mathlib.Core.Path.{◌≡◌, sym, ◌∙◌}
+use mathlib.Core.Bool.{true, false, true≢false}
+use native.Mathlib.Omega.{arith}
+use lib.ListN.{length}
+use Rattle.spec.specs.Bytes.{byte}
+use Rattle.lexer.specs.Answers.{quoted_outcome}
+use Rattle.lexer.specs.Names.{stands_for_itself}
+use Rattle.lexer.specs.Verbatim.{Verbatim, none}
+use Rattle.lexer.proofs.ByteLaws.{here}
+use Rattle.lexer.proofs.StringLoop.{self_inside}
+use Rattle.lexer.proofs.VerbatimLaws.{verbatim_self}
+use Rattle.lexer.proofs.NameLaws.{passing_starts, passing_verbatim, passing_quote}
+use Rattle.lexer.proofs.strings.characters.Goals as goal
+
+-- the byte at the place stands for itself
+self : (c : tie.Then1 invariant-loop decreases-loop) →
+    let loop = c.before.before.before in
+    stands_for_itself (byte loop.before.before.args.s.now loop.loop.at) ≡ true
+self c = cc
+
+pub loop-at-init : goal.loop-at-init
+unfolding quoted_outcome
+loop-at-init c = none
+
+-- TODO bare place c
+pub overflow_add-at : goal.overflow_add-at
+unfolding quoted_outcome
+overflow_add-at c = omega (arith, self_inside _ _ (self c))
+
+-- TODO bare place c
+pub loop-at-smaller : goal.loop-at-smaller
+unfolding quoted_outcome
+loop-at-smaller c = omega (arith, self_inside _ _ (self c))
+
+-- TODO bare place c
+pub loop-at-preserved : goal.loop-at-preserved
+unfolding quoted_outcome
+loop-at-preserved c = verbatim_self c.loop-at.invariant (self c)
+
+pub overflow_add-result : goal.overflow_add-result
+unfolding quoted_outcome
+overflow_add-result c = omega (arith, here _ _ _ (sym c.peek-2.ensures) (omega arith))
+
+pub returns-then-peek-eq34 : goal.returns-then-peek-eq34
+unfolding quoted_outcome
+returns-then-peek-eq34 c = passing_quote (sym c.peek-2.ensures ∙ c.if-peek-eq34.true)
+    (passing_verbatim c.loop-at.invariant (λ e. absurd (true≢false (sym e))) (passing_starts _ _))
+
+pub mixed_characters-requires : goal.mixed_characters-requires
+unfolding quoted_outcome
+mixed_characters-requires c = c.loop-at.invariant

@@ -1,0 +1,70 @@
+-- What is left of the string, with whether it is plain so far, gives the same.
+use Prim.Native.Nat.{◌-◌}
+use mathlib.Core.Path.{◌≡◌, sym, ◌∙◌}
+use mathlib.Core.Bool.{true, false, true≢false}
+use native.Mathlib.Omega.{arith}
+use borrow.Author.Tests.{not-true}
+use lib.ListN.{length}
+use Rattle.spec.specs.Bytes.{byte}
+use Rattle.spec.specs.Strings.{characters}
+use Rattle.lexer.specs.Answers.{quoted_outcome}
+use Rattle.lexer.specs.Names.{plain_of}
+use Rattle.lexer.proofs.ByteLaws.{here}
+use Rattle.lexer.proofs.AnswerLaws.{scalar_ok, character-refused_at}
+use Rattle.lexer.proofs.StringLaws.{character_ok_past}
+use Rattle.lexer.proofs.VerbatimLaws.{verbatim_past, ends_backslash}
+use Rattle.lexer.proofs.NameLaws.{no_more, Passing, passing_starts, passing_verbatim, passing_more, passing_quote, passing_refused}
+use Rattle.lexer.proofs.Auto.{auto}
+use Rattle.lexer.proofs.strings.mixed_characters.Goals as goal
+
+-- what was passed by the tables
+passed : (c : tie.After-verbatim-end invariant-loop decreases-loop) →
+    let loop = c.before in
+    let start = loop.before.before in
+    let s = start.args.s.now in
+    Passing s start.args.start c.verbatim-end.result loop.loop.plain (plain_of s start.args.start (characters (length s) s start.args.start))
+passed c = passing_verbatim c.verbatim-end.ensures.passed (not-true _) c.before.loop.invariant
+
+no_quote : (c : tie.Else1 invariant-loop decreases-loop) →
+    let passed = c.before.before in
+    byte passed.before.before.before.args.s.now passed.verbatim-end.result ≡ 0x22 → ⊥
+no_quote c e = c.if1.false (c.before.peek.ensures ∙ e)
+
+pub loop-start-init : goal.loop-start-init
+unfolding quoted_outcome
+loop-start-init c = passing_verbatim c.requires (λ e. absurd (true≢false (sym e))) (passing_starts _ _)
+
+pub overflow_add-result : goal.overflow_add-result
+unfolding quoted_outcome
+overflow_add-result c = omega (arith, here _ _ _ (sym c.peek.ensures) (omega arith))
+
+-- TODO bare place c.before.before
+pub returns-then-peek-eq34 : goal.returns-then-peek-eq34
+unfolding quoted_outcome
+returns-then-peek-eq34 c = passing_quote (sym c.peek.ensures ∙ c.if-peek-eq34.true) (passed c.before.before)
+
+-- TODO bare place read.before
+-- TODO bare place read.before.before.before
+pub returns-in_default : goal.returns-in_default
+unfolding quoted_outcome
+returns-in_default c =
+    passing_refused _ _ (no_quote read.before) (character-refused_at _ c.character-read.ensures c.in_default.is c.refused_at.ensures)
+    (passed read.before.before.before)
+
+pub loop-start-smaller : goal.loop-start-smaller
+unfolding quoted_outcome
+loop-start-smaller c =
+    omega (
+      arith,
+      character_ok_past _ _ _ (scalar_ok _ _ c.character-read.ensures c.in-Scalar.is),
+      verbatim_past c.verbatim_end-at.ensures.passed,
+    )
+
+-- TODO bare place read.before
+-- TODO bare place end
+pub loop-start-preserved : goal.loop-start-preserved
+unfolding quoted_outcome
+loop-start-preserved c =
+    let e = scalar_ok _ _ c.character-read.ensures c.in-Scalar.is in
+    let n = no_quote read.before in
+    passing_more _ n e (no_more _ _ c.loop-start.plain (ends_backslash c.verbatim_end-at.ensures.ends n e)) (passed end)

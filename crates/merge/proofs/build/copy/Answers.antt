@@ -1,0 +1,9 @@
+-- `copy` meets its contract.
+use mathlib.Core.Path.{sym, ap, ◌∙◌}
+use native.Mathlib.Omega.{arith}
+use borrow.Author.Rules.{rules}
+use Rattle.merge.proofs.build.copy.Goals as goal
+
+pub returns : goal.returns
+returns c =
+    record { nodes_are = rw (c.slide.ensures, c.end_of.ensures); next_is = rw (c.advance.ensures, c.end_of.ensures) }

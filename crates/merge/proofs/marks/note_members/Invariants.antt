@@ -1,0 +1,13 @@
+use Prim.Native.Nat.{◌-◌}
+use native.Mathlib.Omega.{arith}
+use mathlib.Core.Path.{◌≡◌, refl}
+use lib.ListN.{length}
+use Rattle.merge.proofs.MarkLaws.{Noting, noting_none, noting_next, noting_done, noting_over}
+use borrow.Author.Rules.{rules}
+use Rattle.merge.proofs.marks.note_members.Given as goal
+
+abbrev pub invariant-loop-row : goal.invariant-loop-row
+invariant-loop-row l = (length l.index ≡ length l.initial.index) × Noting l.nodes l.patch l.end l.initial.index l.index l.row
+
+abbrev pub decreases-loop-row : goal.decreases-loop-row
+decreases-loop-row l = l.end - l.row

@@ -1,0 +1,16 @@
+use Rattle.lexer.proofs.Auto.{auto}
+use Rattle.pointer.specs.Tokens.{accepted, tokens_after}
+use Rattle.pointer.proofs.tokens.is_pointer.Goals as goal
+
+pub returns-in-Root : goal.returns-in-Root
+unfolding accepted tokens_after
+returns-in-Root c = rw (c.first.ensures.gives, c.in-Root.is)
+
+-- TODO step well-formed-2.ensures
+pub returns-in-At : goal.returns-in-At
+unfolding accepted tokens_after
+returns-in-At c = rw (c.first.ensures.gives, c.in-At.is) c.well-formed-2.ensures
+
+pub returns-in-Malformed : goal.returns-in-Malformed
+unfolding accepted tokens_after
+returns-in-Malformed c = rw (c.first.ensures.gives, c.in-Malformed.is)

@@ -1,0 +1,17 @@
+-- `next_item` meets its contract.
+use Rattle.lexer.proofs.Auto.{auto}
+use native.Mathlib.Omega.{arith}
+use mathlib.Core.Path.{sym, ◌∙◌}
+use Rattle.reader.proofs.PastLaws.{bracket_here}
+use Rattle.reader.proofs.MemberLaws.{item_close, item_next}
+use Rattle.lexer.proofs.ByteLaws.{read-inside}
+use Rattle.reader.proofs.items.next_item.Goals as goal
+
+pub returns-then-read-closing_bracket : goal.returns-then-read-closing_bracket
+returns-then-read-closing_bracket c =
+    let bracket = sym c.read-read.ensures.byte_is ∙ c.if-read-closing_bracket.true ∙ c.closing_bracket.ensures in
+    item_close _ _ _ _ _ c.blanks-place.ensures _ (read-inside (c.read-read.ensures) (bracket_here _ _ _ bracket)) bracket
+
+pub returns : goal.returns
+returns c =
+    item_next _ _ _ _ _ c.blanks-place.ensures (λ e. c.if-read-closing_bracket.false (c.read-read.ensures.byte_is ∙ e ∙ sym c.closing_bracket.ensures)) c.next_name.ensures c.item_of.ensures

@@ -1,0 +1,9 @@
+-- `put` meets its contract.
+use Rattle.lexer.proofs.Auto.{auto}
+use mathlib.Core.Path.{ap, ◌∙◌}
+use lib.ListN.{set}
+use Rattle.reader.proofs.values.put.Goals as goal
+
+pub returns : goal.returns
+returns c =
+    c.store.ensures ∙ ap (set c.args.nodes.now c.args.row) c.node_of.ensures

@@ -1,0 +1,6 @@
+-- `no_name` meets its contract.
+use Rattle.lexer.proofs.Auto.{auto}
+use Rattle.reader.proofs.words.no_name.Goals as goal
+
+pub returns : goal.returns
+returns c = rw c.no_spelling.ensures

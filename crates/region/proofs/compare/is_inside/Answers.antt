@@ -1,0 +1,15 @@
+-- `is_inside` meets its contract: as bytes, or character by character.
+use native.Mathlib.Omega.{arith}
+use borrow.Author.Rules.{rules}
+use Rattle.region.proofs.BeginsLaws.{passed}
+use Rattle.region.proofs.RawLaws.{ahead_raw}
+use Rattle.region.proofs.compare.is_inside.Goals as goal
+
+pub begins_raw-requires : goal.begins_raw-requires
+begins_raw-requires c = c.requires
+
+pub returns-then-begins_raw : goal.returns-then-begins_raw
+returns-then-begins_raw c = passed (ahead_raw (c.begins_raw.ensures c.if-begins_raw.true)) (omega arith) c.slash_at.ensures
+
+pub returns : goal.returns
+returns c = c.is_inside_spelled.ensures

@@ -1,0 +1,16 @@
+-- `slash_at` meets its contract, by the byte and by the character there.
+use mathlib.Core.Path.{sym, ◌∙◌}
+use Rattle.spec.specs.Bytes.{byte}
+use Rattle.lexer.proofs.Auto.{auto}
+use Rattle.lexer.proofs.AnswerLaws.{scalar_ok, character_refused}
+use Rattle.region.proofs.BeginsLaws.{slash_here, slash_none, slash_some}
+use Rattle.region.proofs.compare.slash_at.Goals as goal
+
+pub returns-then-peek-eq47 : goal.returns-then-peek-eq47
+returns-then-peek-eq47 c = slash_here _ _ (sym c.peek.ensures ∙ c.if-peek-eq47.true)
+
+pub returns-in-Scalar : goal.returns-in-Scalar
+returns-in-Scalar c = slash_some _ _ (scalar_ok _ _ c.string_letter.ensures c.in-Scalar.is)
+
+pub returns-in-Refused : goal.returns-in-Refused
+returns-in-Refused c = slash_none _ _ (character_refused _ c.string_letter.ensures c.in-Refused.is)

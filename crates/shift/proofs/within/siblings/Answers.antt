@@ -1,0 +1,44 @@
+-- `siblings`: what is right of the tokens that are left is right of all; the measure is what is left of the first pointer.
+use Prim.Native.Nat.{◌-◌}
+use native.Mathlib.Omega.{arith}
+use lib.ListN.{length}
+use borrow.Author.Rules.{rules}
+use Rattle.tape.specs.Lent.{table_of}
+use Rattle.pointer.proofs.WalkLaws.{next_order}
+use Rattle.shift.specs.declared.within.Pair.{Pair}
+use Rattle.shift.specs.Shift.{Paired, paired_apart}
+use Rattle.shift.proofs.SiblingLaws.{pairs_last, pairs_next}
+use Rattle.shift.proofs.within.siblings.Goals as goal
+
+pub loop-next-init : goal.loop-next-init
+loop-next-init c = λ r p. p
+
+pub returns-in_default : goal.returns-in_default
+returns-in_default c =
+    c.loop-next.invariant _ (pairs_last _ _ c.part-a.ensures c.part-b.ensures _ _ c.token-s.ensures
+    c.token-t.ensures c.token_name-name.ensures c.in_default.is c.last_pair.ensures)
+
+pub returns-in_default-t : goal.returns-in_default-t
+returns-in_default-t c =
+    c.loop-next.invariant _ paired_apart
+
+pub returns-then-not-same_text : goal.returns-then-not-same_text
+returns-then-not-same_text c =
+    c.loop-next.invariant _ paired_apart
+
+pub returns-in_default-step : goal.returns-in_default-step
+returns-in_default-step c =
+    c.loop-next.invariant _ paired_apart
+
+pub loop-next-smaller : goal.loop-next-smaller
+loop-next-smaller c =
+    let order = next_order _ _ _ c.token-s.ensures _ _ c.in-Next.is in
+    omega (arith, order.0, order.1, order.2)
+
+pub loop-next-preserved : goal.loop-next-preserved
+loop-next-preserved c =
+    λ r rest. c.loop-next.invariant r
+    (pairs_next _ _ c.part-a.ensures c.part-b.ensures _ _ c.token-s.ensures c.token-t.ensures
+    c.token_name-name.ensures c.in-Next.is c.in-Next-t.is _ _ c.token_part.ensures
+    c.token_part-in-loop-next.ensures _ c.same_text.ensures c.if-not-same_text.false-raw _ c.step.ensures
+    c.in-At.is rest)

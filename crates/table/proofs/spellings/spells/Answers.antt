@@ -1,0 +1,18 @@
+-- `spells` meets its contract, by those of `part` and of the comparison with a constant; what is too short is another text.
+use native.Mathlib.Omega.{arith}
+use mathlib.Core.Path.{◌∙◌, ap, ap₂}
+use borrow.Author.Rules.{rules}
+use Rattle.spec.specs.Value.{same_text}
+use Rattle.text.specs.Decode.{text_of}
+use Rattle.table.specs.Meaning.{spelled}
+use Rattle.table.proofs.Lengths.{too_short}
+use Rattle.table.proofs.spellings.spells.Goals as goal
+
+pub returns-then-wide-text : goal.returns-then-wide-text
+unfolding spelled
+returns-then-wide-text c = too_short _ _ _ (omega arith)
+
+pub returns : goal.returns
+unfolding spelled
+returns c = c.same_ascii.ensures ∙ ap (λ t. same_text t c.args.text.now)
+    (ap₂ text_of c.long.ensures c.part-s.ensures)

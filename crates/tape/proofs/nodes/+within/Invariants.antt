@@ -1,0 +1,18 @@
+use Prim.Native.Nat.{ℕ, ◌<◌, ◌≤◌, ◌-◌}
+use native.Mathlib.Omega.{arith}
+use lib.ListN.{length}
+use borrow.Author.Rules.{rules}
+use borrow.Author.Tests.{not-true, not-false}
+use Rattle.tape.proofs.Rows.{no_node}
+use Rattle.tape.proofs.Depth.{Judging, judging_all, judging_next, within-scalar, within_flat, within_all, within-deep}
+use Rattle.tape.proofs.nodes.+within.Given as goal
+
+-- TODO measure: a.1.1.0
+abbrev pub decreases-within : goal.decreases-within
+decreases-within l = l.levels
+
+abbrev pub invariant-loop-row : goal.invariant-loop-row
+invariant-loop-row l = (l.row ≤ length l.nodes) × Judging l.nodes l.at l.row (l.levels - 1)
+
+abbrev pub decreases-loop-row : goal.decreases-loop-row
+decreases-loop-row l = l.end - l.row

@@ -1,0 +1,16 @@
+use Rattle.text.proofs.Auto.{auto}
+use borrow.Author.Tests.{ne_eqb}
+use Rattle.text.specs.Written.{written}
+use Rattle.text.proofs.lengths.written_length.Goals as goal
+
+pub returns-then-form-eq1 : goal.returns-then-form-eq1
+unfolding written
+returns-then-form-eq1 c = rw c.if-form-eq1.true
+
+pub returns-then-form-eq2 : goal.returns-then-form-eq2
+unfolding written
+returns-then-form-eq2 c = rw c.if-form-eq2.true c.string_length.ensures
+
+pub returns : goal.returns
+unfolding written
+returns c = rw (ne_eqb _ _ c.if-form-eq1.false) c.text_length.ensures

@@ -1,0 +1,11 @@
+use Rattle.text.proofs.Auto.{auto}
+use Prim.Native.Nat.{◌-◌, ◌≤◌}
+use native.Mathlib.Omega.{arith}
+use Rattle.text.proofs.StoreLaws.{Copied, copied_none, copied-length, copied_more, copied_all}
+use Rattle.text.proofs.write.put_bytes.Given as goal
+
+abbrev pub invariant-loop-i : goal.invariant-loop-i
+invariant-loop-i l = (l.i ≤ l.n) × Copied l.s l.initial.out l.at l.i l.out
+
+abbrev pub decreases-loop-i : goal.decreases-loop-i
+decreases-loop-i l = l.n - l.i

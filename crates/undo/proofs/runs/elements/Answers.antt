@@ -1,0 +1,34 @@
+-- `elements` meets its contract: what the run of the operations that are left gives is what the whole run gives, and so for the undo; the measure is the
+-- rows that are left.
+use Prim.Native.Nat.{◌≤◌, ◌-◌}
+use native.Mathlib.Omega.{arith}
+use mathlib.Core.Path.{◌≡◌, refl}
+use lib.ListN.{length}
+use borrow.Author.Rules.{rules}
+use Rattle.tape.specs.Lent.{table_of}
+use Rattle.undo.proofs.RunLaws.{LoggingAny, logging_all, logged_ends, logged_inside, logged_halts, logged_next}
+use Rattle.undo.proofs.runs.elements.Goals as goal
+
+pub loop-row-init : goal.loop-row-init
+loop-row-init c = (omega arith, refl, refl, refl, logging_all _ _ _ _ _ _)
+
+pub returns-then-nodes-row : goal.returns-then-nodes-row
+returns-then-nodes-row c = logged_inside c.loop-row.invariant.4 (omega arith) (omega arith)
+
+pub loop-row-preserved : goal.loop-row-preserved
+loop-row-preserved c = (
+  search rules,
+  search rules,
+  search rules,
+  search rules,
+  (
+      logged_next c.loop-row.invariant.4 (omega arith) c.step-stepped.ensures c.narrow.ensures c.loop-row.invariant.0 c.in-Done.is _
+      c.end_of-row.ensures),
+)
+
+pub returns-in-Refused : goal.returns-in-Refused
+returns-in-Refused c =
+    logged_halts c.loop-row.invariant.4 (omega arith) c.step-stepped.ensures c.narrow.ensures c.loop-row.invariant.0 c.in-Refused.is
+
+pub returns : goal.returns
+returns c = logged_ends c.loop-row.invariant.4 (omega arith)

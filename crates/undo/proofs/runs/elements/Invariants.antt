@@ -1,0 +1,16 @@
+use Prim.Native.Nat.{◌≤◌, ◌-◌}
+use native.Mathlib.Omega.{arith}
+use mathlib.Core.Path.{◌≡◌, refl}
+use lib.ListN.{length}
+use borrow.Author.Rules.{rules}
+use Rattle.tape.specs.Lent.{table_of}
+use Rattle.undo.proofs.RunLaws.{LoggingAny, logging_all, logged_ends, logged_inside, logged_halts, logged_next}
+use Rattle.undo.proofs.runs.elements.Given as goal
+
+abbrev pub invariant-loop-row : goal.invariant-loop-row
+invariant-loop-row l =
+    (l.op ≤ l.row) × (length l.nodes ≡ length l.initial.nodes) × (length l.index ≡ length l.initial.index) × (length l.work ≡ length l.initial.work)
+    × LoggingAny (table_of l.texts l.initial.nodes) l.used l.start l.end l.initial.noted l.initial.work l.nodes l.work l.rows l.row l.op l.noted
+
+abbrev pub decreases-loop-row : goal.decreases-loop-row
+decreases-loop-row l = l.end - l.row

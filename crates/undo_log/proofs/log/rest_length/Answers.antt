@@ -1,0 +1,11 @@
+-- `rest_length` meets its contract: a text has an opening bracket at least. Assumes nothing.
+use native.Mathlib.Omega.{arith}
+use borrow.Author.Rules.{rules}
+use Rattle.undo_log.proofs.LogLaws.{text_some}
+use Rattle.undo_log.proofs.log.rest_length.Goals as goal
+
+pub returns-then-length-eq0 : goal.returns-then-length-eq0
+returns-then-length-eq0 c work os n h = absurd (omega (arith, c.text_length-length.ensures work os n h, text_some os))
+
+pub returns : goal.returns
+returns c work os n h = omega (arith, c.text_length-length.ensures work os n h)

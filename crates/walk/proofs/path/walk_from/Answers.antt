@@ -1,0 +1,40 @@
+-- `walk_from`: the tokens that are left lead from the row to the same value; the measure is what is left of the pointer.
+use Prim.Native.Nat.{◌-◌}
+use lib.ListN.{length}
+use borrow.Author.Rules.{rules}
+use Rattle.tape.specs.Lent.{table_of}
+use Rattle.walk.proofs.PathLaws.{Walking, walking_all, walking_lost, walking_done, walking_next, walking_count, walking_less}
+use Rattle.walk.proofs.path.walk_from.Goals as goal
+
+pub loop-child-init : goal.loop-child-init
+loop-child-init c = walking_all _ _ _ _
+
+pub returns-in_default : goal.returns-in_default
+returns-in_default c =
+    walking_done c.loop-child.invariant _ c.part-pointer.ensures c.token-t.ensures c.token_name-name.ensures _
+    c.step.ensures _ c.in-At.is _ c.in_default.is
+
+pub overflow_add-walked : goal.overflow_add-walked
+overflow_add-walked c = let less = walking_count
+    c.loop-child.invariant _
+    c.part-pointer.ensures
+    c.token-t.ensures
+    c.token_name-name.ensures _
+    c.step.ensures _
+    c.in-At.is _ _ c.in-Next.is in
+    search rules
+
+pub loop-child-smaller : goal.loop-child-smaller
+loop-child-smaller c =
+    walking_less c.loop-child.invariant _ c.part-pointer.ensures c.token-t.ensures c.token_name-name.ensures _
+    c.step.ensures _ c.in-At.is _ _ c.in-Next.is
+
+pub loop-child-preserved : goal.loop-child-preserved
+loop-child-preserved c =
+    walking_next c.loop-child.invariant _ c.part-pointer.ensures c.token-t.ensures c.token_name-name.ensures _
+    c.step.ensures _ c.in-At.is _ _ c.in-Next.is
+
+pub returns-in-Refused : goal.returns-in-Refused
+returns-in-Refused c =
+    walking_lost c.loop-child.invariant _ c.part-pointer.ensures c.token-t.ensures c.token_name-name.ensures _
+    c.step.ensures _ c.in-Refused.is
