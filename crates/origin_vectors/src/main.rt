@@ -34,19 +34,13 @@ fn run_call(rt: &impl Print, call: &[u8], file: &[u8], c: Case, rubbish: u16) ->
     requires second_bound { c.rooms.second ≤ 32_768 }
     requires third_bound { c.rooms.third ≤ 2_048 }
 {
-    if call == b"apply" {
-        return run_plain(rt, file, c, rubbish);
+    match call {
+        b"apply" => run_plain(rt, file, c, rubbish),
+        b"within" => run_within(rt, file, c, rubbish),
+        b"merge" => run_merged(rt, file, c, rubbish),
+        b"undo" => run_undone(rt, file, c, rubbish),
+        _ => say(rt, b"no such call\n"),
     }
-    if call == b"within" {
-        return run_within(rt, file, c, rubbish);
-    }
-    if call == b"merge" {
-        return run_merged(rt, file, c, rubbish);
-    }
-    if call == b"undo" {
-        return run_undone(rt, file, c, rubbish);
-    }
-    say(rt, b"no such call\n")
 }
 
 // The case's lines, with another text in them where there is less room than the case asks for.
