@@ -8,7 +8,6 @@ use Rattle.cases.specs.declared.words.Taken as Taken
 use Rattle.cases.specs.declared.numbers.Three.{Three}
 use Rattle.cases.specs.declared.reading.Texts.{Texts}
 use Rattle.cases.specs.declared.reading.Standing as Standing
-use Rattle.cases.specs.declared.reading.Case.{Case}
 use Rattle.cases.specs.declared.reading.Found.{Found}
 use Rattle.cases.specs.declared.reading.Found.TheVariants.{Here, Nothing}
 

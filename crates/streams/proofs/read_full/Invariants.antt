@@ -1,5 +1,5 @@
 -- `read_full` ends, since each turn leaves less to fill, and what it has filled is what the reader has given.
-use Rattle.std.proofs.Common.{length, ◌-◌, ◌≤◌, take, ◌≡◌, ℕ, ◌+◌, ◌*◌, ◌<◌, ◌^◌}
+use Rattle.std.proofs.Common.{length, ◌-◌, ◌≤◌, take, ◌≡◌, ◌<◌, ◌^◌}
 use Rattle.std.specs.Io.KnownBytes.{Consumes}
 use Rattle.streams.proofs.read_full.Given as goal
 

@@ -1,10 +1,7 @@
 use Prim.Native.Nat.{◌-◌}
-use mathlib.Core.Path.{◌≡◌, sym, ◌∙◌}
-use borrow.Author.Rules.{rules}
-use native.Mathlib.Omega.{arith}
+use mathlib.Core.Path.{◌≡◌}
 use lib.ListN.{length, drop}
 use Rattle.cases.specs.Same.{all_are}
-use Rattle.cases.proofs.SameLaws.{are_next, are_not, are_all}
 use Rattle.cases.proofs.checks.all_bytes.Given as goal
 
 abbrev pub invariant-loop-i : goal.invariant-loop-i

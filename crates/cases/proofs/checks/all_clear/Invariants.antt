@@ -1,12 +1,7 @@
 use Prim.Native.Nat.{◌-◌}
-use mathlib.Core.Path.{◌≡◌, sym, ◌∙◌}
-use mathlib.Core.List.{[]}
-use borrow.Author.Rules.{rules}
-use borrow.Author.Tests.{not-true, not-false}
-use native.Mathlib.Omega.{arith}
+use mathlib.Core.Path.{◌≡◌}
 use lib.ListN.{length, drop}
-use Rattle.cases.specs.Same.{all_are, all_clear}
-use Rattle.cases.proofs.SameLaws.{every_next, every_not, every_all}
+use Rattle.cases.specs.Same.{all_clear}
 use Rattle.cases.proofs.checks.all_clear.Given as goal
 
 abbrev pub invariant-loop-i : goal.invariant-loop-i

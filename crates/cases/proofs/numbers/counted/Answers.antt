@@ -1,5 +1,4 @@
 -- `counted` meets its contract.
-use borrow.Author.Rules.{rules}
 use borrow.Author.Tests.{le-leb, lt-leb, eq-eqb, ne_eqb}
 use Rattle.cases.specs.Numerals.{counted}
 use Rattle.cases.proofs.numbers.counted.Goals as goal

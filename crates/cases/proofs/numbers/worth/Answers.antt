@@ -1,10 +1,6 @@
 -- `worth` meets its contract: the number so far and the digits left say what all of them say.
-use Prim.Native.Nat.{◌≤◌, ◌-◌}
-use mathlib.Core.Path.{◌≡◌, sym, ◌∙◌}
-use borrow.Author.Rules.{rules}
+use mathlib.Core.Path.{sym, ◌∙◌}
 use native.Mathlib.Omega.{arith}
-use lib.ListN.{length, drop}
-use Rattle.cases.specs.Numerals.{worth_from, worth}
 use Rattle.cases.proofs.NumeralLaws.{worth_none, worth_some, worth_low, worth_high, worth_much, worth_next, worth_all}
 use Rattle.cases.proofs.numbers.worth.Goals as goal
 
@@ -15,28 +11,24 @@ pub loop-i-init : goal.loop-i-init
 loop-i-init c = (worth_some c.args.text.now c.if-text-eq0.false, omega arith)
 
 pub returns-then-digit-lt48 : goal.returns-then-digit-lt48
-returns-then-digit-lt48 c =    
-    
+returns-then-digit-lt48 c =
     sym (worth_low c.args.text.now c.loop-i.n c.loop-i.i (omega arith) (omega arith)) ∙ c.loop-i.invariant.0
 
 pub returns-then-digit-gt57 : goal.returns-then-digit-gt57
-returns-then-digit-gt57 c =    
-    
+returns-then-digit-gt57 c =
     sym (worth_high c.args.text.now c.loop-i.n c.loop-i.i (omega arith) (omega arith) (omega arith)) ∙ c.loop-i.invariant.0
 
 pub returns-then-n-gt-LARGEST : goal.returns-then-n-gt-LARGEST
-returns-then-n-gt-LARGEST c =    
-    
+returns-then-n-gt-LARGEST c =
     sym (worth_much c.args.text.now c.loop-i.n c.loop-i.i (omega arith) (omega arith) (omega arith) (omega arith)) ∙
     c.loop-i.invariant.0
 
 pub loop-i-preserved : goal.loop-i-preserved
-loop-i-preserved c =    
-    (
-      sym (worth_next c.args.text.now c.loop-i.n c.loop-i.i (omega arith) (omega arith) (omega arith) (omega arith)) ∙
-          c.loop-i.invariant.0,
-      omega arith,
-    )
+loop-i-preserved c = (
+  sym (worth_next c.args.text.now c.loop-i.n c.loop-i.i (omega arith) (omega arith) (omega arith) (omega arith)) ∙
+      c.loop-i.invariant.0,
+  omega arith,
+)
 
 pub returns : goal.returns
 returns c = sym (worth_all c.args.text.now c.loop-i.n c.loop-i.i (omega arith)) ∙ c.loop-i.invariant.0

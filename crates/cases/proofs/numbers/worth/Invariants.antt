@@ -1,10 +1,7 @@
 use Prim.Native.Nat.{◌≤◌, ◌-◌}
-use mathlib.Core.Path.{◌≡◌, sym, ◌∙◌}
-use borrow.Author.Rules.{rules}
-use native.Mathlib.Omega.{arith}
+use mathlib.Core.Path.{◌≡◌}
 use lib.ListN.{length, drop}
 use Rattle.cases.specs.Numerals.{worth_from, worth}
-use Rattle.cases.proofs.NumeralLaws.{worth_none, worth_some, worth_low, worth_high, worth_much, worth_next, worth_all}
 use Rattle.cases.proofs.numbers.worth.Given as goal
 
 abbrev pub invariant-loop-i : goal.invariant-loop-i

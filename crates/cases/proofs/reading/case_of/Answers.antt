@@ -1,5 +1,4 @@
 -- `case_of` meets its contract: the name, the rooms, the lengths, the texts.
-use borrow.Author.Rules.{rules}
 use Rattle.cases.specs.CaseFile.{case_at}
 use Rattle.cases.proofs.TakingLaws.{told}
 use Rattle.cases.proofs.reading.case_of.Goals as goal
@@ -10,18 +9,12 @@ returns-in_default c = rw (told c.name_at.ensures c.in_default.is)
 
 pub returns-in_default-three_at : goal.returns-in_default-three_at
 unfolding case_at
-returns-in_default-three_at c =    
-    
-    
+returns-in_default-three_at c =
     rw (told c.name_at.ensures c.in-Is.is, told c.three_at.ensures c.in_default-three_at.is)
 
 pub returns-in_default-three_at-2 : goal.returns-in_default-three_at-2
 unfolding case_at
-returns-in_default-three_at-2 c =    
-    
-    
-    
-    
+returns-in_default-three_at-2 c =
     rw (
       told c.name_at.ensures c.in-Is.is,
       told c.three_at.ensures c.in-Are.is,
@@ -30,13 +23,7 @@ returns-in_default-three_at-2 c =
 
 pub returns-in_default-texts_at : goal.returns-in_default-texts_at
 unfolding case_at
-returns-in_default-texts_at c =    
-    
-    
-    
-    
-    
-    
+returns-in_default-texts_at c =
     rw (
       told c.name_at.ensures c.in-Is.is,
       told c.three_at.ensures c.in-Are.is,
@@ -46,14 +33,7 @@ returns-in_default-texts_at c =
 
 pub returns : goal.returns
 unfolding case_at
-returns c =    
-    
-    
-    
-    
-    
-    
-    
+returns c =
     rw (
       told c.name_at.ensures c.in-Is.is,
       told c.three_at.ensures c.in-Are.is,

@@ -1,5 +1,4 @@
 -- `name_at` meets its contract.
-use borrow.Author.Rules.{rules}
 use Rattle.cases.specs.CaseFile.{name_at}
 use Rattle.cases.proofs.TakingLaws.{told, same_so, same_not}
 use Rattle.cases.proofs.reading.name_at.Goals as goal

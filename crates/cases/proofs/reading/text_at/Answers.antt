@@ -1,5 +1,4 @@
 -- `text_at` meets its contract.
-use borrow.Author.Rules.{rules}
 use borrow.Author.Tests.{le-leb, lt-leb}
 use Rattle.cases.specs.CaseFile.{text_at}
 use Rattle.cases.proofs.reading.text_at.Goals as goal

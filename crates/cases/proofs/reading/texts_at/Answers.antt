@@ -1,5 +1,4 @@
 -- `texts_at` meets its contract: one text after another.
-use borrow.Author.Rules.{rules}
 use Rattle.cases.specs.CaseFile.{texts_at}
 use Rattle.cases.proofs.TakingLaws.{told}
 use Rattle.cases.proofs.reading.texts_at.Goals as goal
@@ -10,18 +9,12 @@ returns-in_default c = rw (told c.text_at.ensures c.in_default.is)
 
 pub returns-in_default-text_at : goal.returns-in_default-text_at
 unfolding texts_at
-returns-in_default-text_at c =    
-    
-    
+returns-in_default-text_at c =
     rw (told c.text_at.ensures c.in-Is.is, told c.text_at-2.ensures c.in_default-text_at.is)
 
 pub returns-in_default-text_at-2 : goal.returns-in_default-text_at-2
 unfolding texts_at
-returns-in_default-text_at-2 c =    
-    
-    
-    
-    
+returns-in_default-text_at-2 c =
     rw (
       told c.text_at.ensures c.in-Is.is,
       told c.text_at-2.ensures c.in-Is-text_at.is,
@@ -30,12 +23,7 @@ returns-in_default-text_at-2 c =
 
 pub returns : goal.returns
 unfolding texts_at
-returns c =    
-    
-    
-    
-    
-    
+returns c =
     rw (
       told c.text_at.ensures c.in-Is.is,
       told c.text_at-2.ensures c.in-Is-text_at.is,

@@ -1,5 +1,4 @@
 -- `bytes_at` meets its contract.
-use borrow.Author.Rules.{rules}
 use mathlib.Core.Path.{sym}
 use native.Mathlib.Omega.{arith}
 use Rattle.cases.proofs.TakingLaws.{bytes_none, bytes_unended, bytes_some}

@@ -1,5 +1,4 @@
 -- `bytes_of` meets its contract.
-use borrow.Author.Rules.{rules}
 use native.Mathlib.Omega.{arith}
 use mathlib.Core.Path.{sym}
 use Rattle.cases.proofs.TakingLaws.{cut_there, cut_turned, cut_beyond}

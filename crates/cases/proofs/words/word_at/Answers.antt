@@ -1,5 +1,4 @@
 -- `word_at` meets its contract.
-use borrow.Author.Rules.{rules}
 use native.Mathlib.Omega.{arith}
 use Rattle.cases.specs.Taking.{word_at}
 use Rattle.cases.proofs.TakingLaws.{told}
