@@ -24,7 +24,7 @@ pub fn alter<'a>(
     change: Change,
 ) -> Altered
     requires { (parent.used ≤ 2048) × (parent.below < 32) }
-    ensures { AlterIs (before texts nodes) nodes.new parent path at change result }
+    ensures { AlterIs (before texts nodes.old) nodes.new parent path at change result }
 {
     // where the table holds no document, a step may lead elsewhere
     if parent.used <= parent.row {

@@ -54,7 +54,7 @@ fn add_element<'a>(
     source: usize,
 ) -> Altered
     requires { Low parent }
-    ensures { AddElementIs (before texts nodes) nodes.new parent token source result }
+    ensures { AddElementIs (before texts nodes.old) nodes.new parent token source result }
 {
     let i = index(part(texts, token.text));
     match insertion(nodes, parent.row, i) {
@@ -82,7 +82,7 @@ fn add_member<'a>(
     source: usize,
 ) -> Altered
     requires { Low parent }
-    ensures { AddMemberIs (before texts nodes) nodes.new parent token source result }
+    ensures { AddMemberIs (before texts nodes.old) nodes.new parent token source result }
 {
     let end = nodes::end_of(nodes, parent.row);
     match find(texts, nodes, parent.row + 1, end, token) {
@@ -99,7 +99,7 @@ fn add<'a>(
     source: usize,
 ) -> Altered
     requires { Low parent }
-    ensures { AddIs (before texts nodes) nodes.new parent token source result }
+    ensures { AddIs (before texts nodes.old) nodes.new parent token source result }
 {
     let k = nodes::kind(nodes, parent.row);
     if k == layout::ARRAY {
@@ -113,7 +113,7 @@ fn add<'a>(
 
 fn remove<'a>(texts: Texts<'a>, nodes: &mut [Node], parent: Parent, token: Name) -> Altered
     requires { Low parent }
-    ensures { RemoveIs (before texts nodes) nodes.new parent token result }
+    ensures { RemoveIs (before texts nodes.old) nodes.new parent token result }
 {
     match step(texts, nodes, parent.row, token) {
         Child::At(at) => return trees::take_out(nodes, parent, at),
@@ -129,7 +129,7 @@ fn replace<'a>(
     source: usize,
 ) -> Altered
     requires { Low parent }
-    ensures { ReplaceIs (before texts nodes) nodes.new parent token source result }
+    ensures { ReplaceIs (before texts nodes.old) nodes.new parent token source result }
 {
     match step(texts, nodes, parent.row, token) {
         Child::At(at) => return replace_child(nodes, parent, at, source),
@@ -146,7 +146,7 @@ pub fn change_child<'a>(
     change: Change,
 ) -> Altered
     requires { Low parent }
-    ensures { ChangeChildIs (before texts nodes) nodes.new parent token change result }
+    ensures { ChangeChildIs (before texts nodes.old) nodes.new parent token change result }
 {
     match change {
         Change::Add(source) => return add(texts, nodes, parent, token, source),

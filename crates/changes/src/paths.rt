@@ -49,7 +49,7 @@ pub fn change_at<'a>(
     path: Spelling,
     change: Change,
 ) -> Altered
-    ensures { ChangeAtIs (before texts nodes) nodes.new used path change result }
+    ensures { ChangeAtIs (before texts nodes.old) nodes.new used path change result }
 {
     if limits::MAX_NODES < used {
         return Altered::Refused(refusal::TOO_MANY_NODES, 0);

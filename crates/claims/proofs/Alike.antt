@@ -21,8 +21,8 @@ pub data Alike : Bool → Members → Members → Type 0 where
 
 pub alike_refl : (object : Bool) (f : Members) → Alike object f f
 alike_refl object none = nothing
-alike_refl true (tree e kids f) = member refl (same_refl _) (alike_refl _ kids) here (alike_refl true f)
-alike_refl false (tree e kids f) = element (same_refl _) (alike_refl _ kids) (alike_refl false f)
+alike_refl true (tree e kids f) = member refl (same_refl _) (alike_refl (is_object e.label) kids) here (alike_refl true f)
+alike_refl false (tree e kids f) = element (same_refl _) (alike_refl (is_object e.label) kids) (alike_refl false f)
 
 -- what is put in on both sides may stand anywhere on the left
 inserted_alike : {e p : Entry} {kids below f f' g : Members} → p.name ≡ e.name → SameLabels p.label e.label →

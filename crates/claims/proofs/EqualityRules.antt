@@ -118,6 +118,7 @@ matches_rules {object = false} {g = g} Proper.empty q no_more c = rw (none_left 
 matches_rules (Proper.element n a k p) (Proper.element n' a' k' p') (next s c' i o) c =
     let counts = c refl in
     elements (equal_labels a a' s) c' (matches_rules k (rw (← is_object_same s) at k') i (λ _. c')) (matches_rules p p' o (λ _. omega arith))
+matches_rules (Proper.element n a k p) Proper.empty m c = elim m [ ]
 matches_rules (Proper.member n h a k p) q (by_name f s c' i o) c =
     let x = has-inside (found-has f) q in
     members (found-has f) (sym (found_name f)) (equal_labels a x.allows s) c' (matches_rules k (rw (← is_object_same s) at x.items) i (λ _. c'))

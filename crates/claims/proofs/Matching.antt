@@ -53,8 +53,8 @@ matches_true object none g h = no_more
 matches_true false (tree e kids f) none h = absurd (true≢false (sym h))
 matches_true false (tree e kids f) (tree p below g) h =
     let s = steps e.label kids p.label below (matches false f g) h in
-    next s.labels s.counts (matches_true _ kids below s.inside) (matches_true false f g s.after)
-matches_true true (tree e kids f) g h = go (partner true e.name g) refl h (matches_true _ kids) (matches_true true f g)
+    next s.labels s.counts (matches_true (is_object e.label) kids below s.inside) (matches_true false f g s.after)
+matches_true true (tree e kids f) g h = go (partner true e.name g) refl h (matches_true (is_object e.label) kids) (matches_true true f g)
   where
     go : (m : Members) → partner true e.name g ≡ m →
         (elim m [ none ↦ false | tree p below after ↦ step e.label kids p.label below (matches true f g) ]) ≡ true →

@@ -17,7 +17,8 @@ use Rattle.spec.specs.Strings.{string}
 use Rattle.spec.specs.Numbers.{is_digit, number}
 use Rattle.spec.specs.Value as Value
 use Rattle.spec.specs.Value.{Label, leaf}
-use Rattle.spec.specs.Read.{is_blank, blanks_from, blanks, word_at, room_for, literal_value, number_value, string_value, scalar, container_label, contents, container}
+use Rattle.spec.specs.Read.{is_blank, blanks_from, blanks, word_at, room_for, literal_value, number_value, string_value, scalar, container_label}
+use Rattle.spec.specs.Read.{contents, container}
 use Rattle.spec.specs.Read.{value, read}
 use Rattle.spec.proofs.OutcomeLaws.{refused≢ok, both_ok, either_ok, first_ok}
 use Rattle.spec.proofs.Tracking.{Ends, Cut, nothing_ends, past_end}

@@ -75,12 +75,16 @@ equal_same {o} h = rw (← h) (go o)
     go (ok v) = both refl
     go (refused number place) = neither
 
+at_end : {t last : Text} {v parent : Value.Value} → AtParent t [] v last parent → parent ≡ v
+at_end end = refl
+
 -- the parent at the end of a path is what the tokens before the last lead to
 parent_walked : (t u : Text) (ts : Tokens) (last : Text) (v w parent : Value.Value)
     → AtParent u (ts ++ (t ∷ [])) v last parent → walk (u ∷ ts) v ≡ ok w → parent ≡ w
 unfolding walk ◌>>=◌
-parent_walked t u [] last v w parent (step {k = k} q end) h =
+parent_walked t u [] last v w parent (step {k = k} q a) h =
     let e : ok (value_of (child k v)) ≡ ok w = farther_ok _ (sym (walk_on u [] v k q) ∙ h) in
+    let same = at_end a in
     cc
 parent_walked t u (s ∷ ts) last v w parent (step {k = k} q a) h =
     parent_walked t s ts last (value_of (child k v)) w parent a (farther_ok _ (sym (walk_on u (s ∷ ts) v k q) ∙ h))

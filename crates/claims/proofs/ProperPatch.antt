@@ -15,7 +15,8 @@ use Rattle.spec.specs.Value.{Label, Entry, Members, leaf, value_of, tag, is_arra
 use Rattle.spec.specs.Pointer.{Tokens, tokens, child}
 use Rattle.spec.specs.Operation.{Kind, Operation, perform, not_too_deep, not_too_large, limited}
 use Rattle.spec.specs.Patch.{member, string_of, string_member, kind_named, uses_value, uses_from, is_move, OperationMembers, value_for, from_for, members_for}
-use Rattle.spec.specs.Patch.{operation_members, proper_prefix, with_pointers, operation, Stop, stop, Run, finished, stopped, no_pointer, at_op, on_finish, operations}
+use Rattle.spec.specs.Patch.{operation_members, proper_prefix, with_pointers, operation, Stop, stop, Run, finished, stopped, no_pointer, at_op}
+use Rattle.spec.specs.Patch.{on_finish, operations}
 use Rattle.spec.specs.Patch.{shape, which_pointer, run}
 use Rattle.spec.proofs.OutcomeLaws.{refused≢ok, both_ok}
 use Rattle.spec.proofs.RunTheorem.{stopped_same}

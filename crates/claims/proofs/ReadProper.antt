@@ -14,7 +14,8 @@ use Rattle.spec.specs.Numbers.{is_digit, number}
 use Rattle.spec.specs.Forest.{none, tree, single, size, ◌⧺◌}
 use Rattle.spec.specs.Value as Value
 use Rattle.spec.specs.Value.{Label, Entry, Members, leaf, named, is_object, tag, has, nodes}
-use Rattle.spec.specs.Read.{blanks, word_at, literal_value, number_value, string_value, scalar, fresh, name_for, container_label, closing_bracket, items, contents}
+use Rattle.spec.specs.Read.{blanks, word_at, literal_value, number_value, string_value, scalar, fresh, name_for, container_label, closing_bracket}
+use Rattle.spec.specs.Read.{items, contents}
 use Rattle.spec.specs.Read.{container, value, read}
 use Rattle.spec.proofs.OutcomeLaws.{refused≢ok, both_ok, either_ok, first_ok}
 use Rattle.spec.specs.Proper as Proper

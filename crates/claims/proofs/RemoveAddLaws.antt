@@ -4,7 +4,7 @@ use mathlib.Core.Bool.{Bool, true}
 use Prim.Native.Nat.{ℕ, zero, suc, ◌<◌}
 use native.Mathlib.Omega.{arith}
 use Rattle.spec.specs.Forest.{Forest, none, tree, Tree, single, count, before, from, insert_at, remove_at, replace_at, ◌⧺◌}
-use Rattle.spec.specs.Value.{Entry, Members}
+use Rattle.spec.specs.Value.{Entry, Members, is_object}
 use Rattle.spec.proofs.SplitLaws as SplitLaws
 use Rattle.claims.specs.Equality.{Permuted, empty, same, swap, more}
 
@@ -26,7 +26,7 @@ module _ {A : Type 0} where
 
 pub permuted_refl : (object : Bool) (f : Members) → Permuted object f f
 permuted_refl object none = empty
-permuted_refl object (tree e kids rest) = same (permuted_refl _ kids) (permuted_refl object rest)
+permuted_refl object (tree e kids rest) = same (permuted_refl (is_object e.label) kids) (permuted_refl object rest)
 
 -- a member moved to the end
 to_last : (t : Tree Entry) (f : Members) → Permuted true (single t ⧺ f) (f ⧺ single t)

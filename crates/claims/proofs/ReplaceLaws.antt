@@ -174,7 +174,8 @@ module _ (R : Value.Value → Value.Value → Type 0)
 
   abbrev ReplacedThere : Text → Tokens → Value.Value → Type 0
   ReplacedThere t ts v =
-      (last : Text) (parent : Value.Value) → AtParent t ts v last parent → Same R (replace_child x last parent) (remove_child last parent >>= insert_child x last)
+      (last : Text) (parent : Value.Value) → AtParent t ts v last parent →
+      Same R (replace_child x last parent) (remove_child last parent >>= insert_child x last)
 
   pub at_parent_lem : (t : Text) (ts : Tokens) (v : Value.Value) → ReplacedThere t ts v → Replaced t ts v
   unfolding at_parent farther ◌>>=◌
@@ -182,7 +183,8 @@ module _ (R : Value.Value → Value.Value → Type 0)
   at_parent_lem t (u ∷ ts) v h = go (child_at t v) refl (at_parent_lem u ts)
     where
       below : (k : ℕ) → child_at t v ≡ ok k → (r : Outcome Value.Value) →
-          (farther r >>= λ w. ok (put k w v)) >>= at_parent (insert_child x) t (u ∷ ts) ≡ farther (r >>= at_parent (insert_child x) u ts) >>= λ w. ok (put k w v)
+          (farther r >>= λ w. ok (put k w v)) >>= at_parent (insert_child x) t (u ∷ ts) ≡
+          farther (r >>= at_parent (insert_child x) u ts) >>= λ w. ok (put k w v)
       below k q (ok w) = below_put (insert_child x) t u ts k w v q
       below k q (refused number place) = refl
 

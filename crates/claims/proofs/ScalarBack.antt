@@ -10,7 +10,7 @@ use lib.ListN.{length}
 use borrow.Author.Tests.{ne_eqb}
 use Rattle.spec.specs.Outcome.{ok, ◌>>=◌}
 use Rattle.spec.specs.Bytes.{Bytes, Text, ascii, byte, within}
-use Rattle.spec.specs.Numbers.{is_digit, number}
+use Rattle.spec.specs.Numbers.{is_digit}
 use Rattle.spec.specs.Value.{Label, Members, leaf}
 use Rattle.spec.specs.Read.{is_blank, word_at, literal_value, string_value, scalar, value}
 use Rattle.spec.specs.Write.{write_string, opening}
@@ -25,7 +25,7 @@ unfolding word_at ◌>>=◌
 word_at_back {at = at} [] r h = rw (add-zero at)
 word_at_back {s} {at} (b ∷ word) r h =
     let place : at + 1 + length word ≡ at + suc (length word) = omega arith in
-    rw (byte_in_ok s at b b b (first_byte h) (omega arith) (omega arith), word_at_back word r (rest_next h), place)
+    rw (byte_in_ok s at b b b (first_byte h) (omega arith) (omega arith), word_at_back {at = at + 1} word r (rest_next h), place)
 
 -- the first byte of a value: it is no blank and closes nothing
 pub record Begins (b : ℕ) : Type 0 where

@@ -20,7 +20,7 @@ characters_back (suc fuel) [] r l nothing h = rw (first_byte h)
 characters_back {s} {at} (suc fuel) (c ∷ cs) r l (another scalar scalars) h =
     let here = rw (append_assoc (write_character c) (write_characters cs) (34 ∷ r)) at h in
     let b = character_back c (write_characters cs ++ (34 ∷ r)) scalar here in
-    let others = characters_back fuel cs r (omega arith) scalars (rest_more (write_character c) here) in
+    let others = characters_back {at = at + length (write_character c)} fuel cs r (omega arith) scalars (rest_more (write_character c) here) in
     let place : at + length (write_character c) + (length (write_characters cs) + 1) ≡ at + (length (write_character c ++ write_characters cs) + 1) =
     omega (arith, length-append (write_character c) (write_characters cs)) in
     rw (b.no_quote, b.reads, others, place)

@@ -10,8 +10,7 @@ use lib.ListN.{length, length-append}
 use borrow.Author.Tests.{eq-eqb}
 use Rattle.spec.specs.Outcome.{Outcome, ok, ◌>>=◌, if◌then◌else◌}
 use Rattle.spec.specs.Bytes.{Bytes, Text, ascii, byte, byte_in, within}
-use Rattle.spec.specs.Strings.{string}
-use Rattle.spec.specs.Numbers.{is_digit, is_e, number}
+use Rattle.spec.specs.Numbers.{is_digit, is_e}
 use Rattle.spec.specs.Forest.{none, tree, single, count, size, ◌⧺◌}
 use Rattle.spec.specs.Value as Value
 use Rattle.spec.specs.Value.{Label, Entry, Members, leaf, named, is_object, is_container, tag, has, find, levels, depths}
@@ -196,7 +195,8 @@ contents_back {s} {at} object left nodes (tree e kids rest) r back p d n h =
 container_back : {s : Bytes} {at : ℕ} (object : Bool) (left nodes b : ℕ) (kids : Members) (r : Bytes)
     → ItemsBack s kids → ProperItems object kids → depths kids ≤ left →
     suc (nodes + size kids) ≤ 2048 → Rest s at (b ∷ (write_items object true kids ++ (closing_bracket object ∷ r))) →
-    container (value left s) object s at nodes ≡ ok (record { label = container_label object; kids = kids }, at + suc (length (write_items object true kids) + 1))
+    container (value left s) object s at nodes ≡
+    ok (record { label = container_label object; kids = kids }, at + suc (length (write_items object true kids) + 1))
 unfolding container ◌>>=◌
 container_back {s} {at} object left nodes b kids r back p d n h =
     let place : at + 1 + (length (write_items object true kids) + 1) ≡ at + suc (length (write_items object true kids) + 1) = omega arith in

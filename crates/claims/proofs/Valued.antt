@@ -1,6 +1,6 @@
 -- A number by its parts, each with what it means, and that this is the grammar with the statement's values. In this form the readers of numbers and the
 -- worth are compared with the grammar.
-use mathlib.Core.Path.{◌≡◌, refl, ap₂, sym, subst}
+use mathlib.Core.Path.{◌≡◌, refl, sym, subst}
 use mathlib.Core.Bool.{Bool, true, false}
 use mathlib.Core.List.{[], ◌∷◌, ◌++◌}
 use Prim.Native.Nat.{ℕ, ◌≤◌}
@@ -9,7 +9,6 @@ use native.Mathlib.Omega.{arith}
 use lib.ListN.{length}
 use lib.IntN.{ℤ, pos, neg_ℤ, ◌-ℤ◌}
 use borrow.Author.Tests.{ne_eqb}
-use Rattle.spec.specs.Outcome.{if◌then◌else◌}
 use Rattle.spec.specs.Bytes.{Bytes}
 use Rattle.grammar.specs.Grammar as Grammar
 use Rattle.grammar.specs.Grammar.{optional, absent, present, *DIGIT, 1*DIGIT, some}

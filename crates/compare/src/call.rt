@@ -20,7 +20,7 @@ pub fn compare<'a>(
     nodes: &mut [Node],
     index: &mut [u16],
 ) -> Answer
-    ensures { CompareIs (given first second) (work_before nodes index) (work_after nodes index) result }
+    ensures { CompareIs (given first.now second.now) (work_before nodes.old index.old) (work_after nodes.new index.new) result }
 {
     if nodes.len() < layout::ROWS {
         return refused(refusal::WORK_TOO_SHORT, 0, 0);

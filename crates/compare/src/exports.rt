@@ -27,7 +27,7 @@ pub extern "C" fn json_patch_compare<'a>(
     index: &mut [u16],
     answer: &mut [u64; 5],
 ) -> u32
-    ensures { ExportIs (given first second) (work_before nodes index) (work_after nodes index)
+    ensures { ExportIs (given first.now second.now) (work_before nodes.old index.old) (work_after nodes.new index.new)
         answer.new result }
 {
     let r = compare(first, second, nodes, index);

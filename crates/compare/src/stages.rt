@@ -15,7 +15,7 @@ use tape::layout::{Node, Texts};
 // The two values, both read. The places of the second one's members are noted, and its members indexed, so that each is
 // found and counted without a search.
 fn compared<'a>(texts: Texts<'a>, nodes: &mut [Node], index: &mut [u16]) -> Answer
-    ensures { ComparedIs (lent texts) (work_before nodes index) result }
+    ensures { ComparedIs (lent texts) (work_before nodes.old index.old) result }
 {
     note_places(nodes, layout::PATCH, limits::MAX_DEPTH);
     index_tree(texts, nodes, index, layout::PATCH);
@@ -32,7 +32,7 @@ fn compared<'a>(texts: Texts<'a>, nodes: &mut [Node], index: &mut [u16]) -> Answ
 
 // All of it, where the work area is long enough.
 pub fn checked<'a>(texts: Texts<'a>, nodes: &mut [Node], index: &mut [u16]) -> Answer
-    ensures { CheckedIs (lent texts) (work_before nodes index) result }
+    ensures { CheckedIs (lent texts) (work_before nodes.old index.old) result }
 {
     if limits::MAX_BYTES < texts[0].len() {
         return refused(refusal::INPUT_TOO_LONG, 1, 0);

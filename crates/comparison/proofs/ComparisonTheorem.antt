@@ -1,5 +1,5 @@
 -- The verdict is that of equality, and the count is bounded: specs/Comparison.
-use Prim.Native.Nat.{ℕ, suc, ◌+◌, ◌*◌, ◌≤◌}
+use Prim.Native.Nat.{suc, ◌+◌, ◌*◌, ◌≤◌}
 use mathlib.Core.Path.{◌≡◌, refl, ap, sym, ◌∙◌}
 use mathlib.Core.Bool.{Bool, true, false, ◌&&◌}
 use native.Mathlib.Nat.{suc-mul, add-mul, mul-le-mul_left, mul-le-mul}

@@ -1,6 +1,6 @@
 -- Arrays and objects in one function, for the laws that hold of both: `compared_items false` is `compared_elements`, `compared_items true` is
 -- `compared_members`.
-use Prim.Native.Nat.{ℕ, ◌+◌}
+use Prim.Native.Nat.{ℕ}
 use native.Mathlib.Nat.{add_assoc}
 use mathlib.Core.Path.{◌≡◌, refl, ap, sym, ◌∙◌}
 use mathlib.Core.Bool.{Bool, true, false}

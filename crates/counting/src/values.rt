@@ -38,7 +38,7 @@ fn names_for(nodes: &[Node], object: bool, found: usize) -> u64
 // Whether the values in the rows `at` and `other` have the same label and equally many children. T-10: "Unequal member
 // counts or array lengths differ without a comparison": so these are counted first.
 fn alike<'a>(texts: Texts<'a>, nodes: &[Node], at: usize, other: usize) -> bool
-    ensures { AlikeIs (before texts nodes) at other result }
+    ensures { AlikeIs (before texts nodes.now) at other result }
 {
     if nodes.len() <= at {
         return false;
@@ -65,7 +65,7 @@ pub fn counted<'a>(
     levels: u32,
 ) -> Comparison
     ensures { Hints nodes.now index.now top
-        → CountedIs (before texts nodes) at other levels result }
+        → CountedIs (before texts nodes.now) at other levels result }
 {
     if !alike(texts, nodes, at, other) {
         return told(false, 0);

@@ -47,7 +47,7 @@ fn sought<'a>(
     name: Name,
 ) -> Member
     ensures { Hints nodes.now index.now top
-        → SoughtIs (before texts nodes) other end name result }
+        → SoughtIs (before texts nodes.now) other end name result }
 {
     if nodes.len() <= other {
         return Member::Missing;
@@ -82,7 +82,7 @@ pub fn partner<'a>(
     next: usize,
 ) -> Member
     ensures { Hints nodes.now index.now pair.top
-        → PartnerOf (before texts nodes) pair row next result }
+        → PartnerOf (before texts nodes.now) pair row next result }
 {
     if !pair.object {
         return Member::At(next);
@@ -108,7 +108,7 @@ fn equal<'a>(
     levels: u32,
 ) -> bool
     ensures { Hints nodes.now index.now top
-        → EqualIs (before texts nodes) at other levels result }
+        → EqualIs (before texts nodes.now) at other levels result }
 {
     if nodes.len() <= at {
         return false;
@@ -164,7 +164,7 @@ pub fn compare<'a>(
     other: usize,
     levels: u32,
 ) -> bool
-    ensures { EqualIs (before texts nodes) at other levels result }
+    ensures { EqualIs (before texts nodes.now) at other levels result }
 {
     if span(nodes, other) < INDEXED {
         return equal(texts, nodes, index, 0, at, other, levels);

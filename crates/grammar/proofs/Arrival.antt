@@ -20,7 +20,7 @@ use Rattle.spec.specs.Value.{Members, named}
 use Rattle.spec.specs.Read as Read
 use Rattle.spec.specs.Read.{blanks, room_for, name_for, closing_bracket, items, contents, container, read}
 use Rattle.spec.proofs.OutcomeLaws.{refused≢ok, >>=_assoc}
-use Rattle.grammar.specs.Grammar.{ws, structural, begin_object, string, name_separator, value_separator, value, members, member, elements}
+use Rattle.grammar.specs.Grammar.{structural, begin_object, string, name_separator, value_separator, value, members, member, elements}
 use Rattle.grammar.specs.RefusedAt.{BeforeValue, outermost, first_element, next_element, first_member, next-member}
 use Rattle.grammar.proofs.Places.{From, split, first, inside}
 use Rattle.grammar.proofs.Containers.{opening_bracket, comma_no_closing}

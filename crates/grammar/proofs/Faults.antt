@@ -19,7 +19,8 @@ use Rattle.spec.specs.Forest.{size, single, ◌⧺◌}
 use Rattle.spec.specs.Value as Value
 use Rattle.spec.specs.Value.{Label, Members, named, has, nodes}
 use Rattle.spec.specs.Read as Read
-use Rattle.spec.specs.Read.{blanks, room_for, literal_value, number_value, string_value, scalar, fresh, name_for, container_label, closing_bracket, items, contents}
+use Rattle.spec.specs.Read.{blanks, room_for, literal_value, number_value, string_value, scalar, fresh, name_for, container_label, closing_bracket}
+use Rattle.spec.specs.Read.{items, contents}
 use Rattle.spec.specs.Read.{container, read}
 use Rattle.grammar.specs.Grammar.{optional, DIGIT, *DIGIT, minus, int, number, *char, string, structural, ws, value, array, object}
 use Rattle.grammar.specs.Limits.{Named}

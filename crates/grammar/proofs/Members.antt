@@ -99,6 +99,7 @@ no_one m = let l = named_counts m in omega arith
 named_last : {n : Text} (f : Members) (e : Entry) (kids : Members) → Named n (f ⧺ tree e kids none) → (Named n f → ⊥) → e.name ≡ n
 unfolding ◌⧺◌
 named_last none e kids (here h) new = h
+named_last {n = n} none e kids (later m) new = elim m [ ]
 named_last (tree d below rest) e kids (here h) new = absurd (new (here h))
 named_last (tree d below rest) e kids (later m) new = named_last rest e kids m (λ i. new (later i))
 

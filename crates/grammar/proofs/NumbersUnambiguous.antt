@@ -1,5 +1,5 @@
 -- A number ends in one place: its bytes are bytes that stand in numbers, and what follows it is no such byte.
-use Prim.Native.Nat.{ℕ, zero, ◌-◌}
+use Prim.Native.Nat.{ℕ, ◌-◌}
 use mathlib.Core.Path.{◌≡◌, refl, ap, sym, ◌∙◌}
 use mathlib.Core.Bool.{true, true≢false}
 use mathlib.Core.List.{[], ◌∷◌, ◌++◌}

@@ -19,7 +19,8 @@ use Rattle.spec.specs.Forest.{size, single, ◌⧺◌}
 use Rattle.spec.specs.Value as Value
 use Rattle.spec.specs.Value.{Label, Members, leaf, named, has, depth, depths, levels, nodes}
 use Rattle.spec.specs.Read as Read
-use Rattle.spec.specs.Read.{is_blank, blanks, word_at, room_for, literal_value, number_value, string_value, scalar, fresh, name_for, container_label, closing_bracket}
+use Rattle.spec.specs.Read.{is_blank, blanks, word_at, room_for, literal_value, number_value, string_value, scalar, fresh, name_for}
+use Rattle.spec.specs.Read.{container_label, closing_bracket}
 use Rattle.spec.specs.Read.{items, contents, container, read}
 use Rattle.grammar.specs.Grammar.{ws, structural, number, string, node, value, object, members, member, array, elements, JSON-text, name_separator}
 use Rattle.grammar.specs.Grammar.{value_separator}
@@ -221,7 +222,8 @@ module _ {is_object : Bool} {s : Bytes} {left before : ℕ} {so_far : Members} {
   items_more : {f kids : Members} {stop : ℕ} → byte s (blanks s next) ≡ code "," →
       Reads (kids, stop) (AskedItems is_object left before (so_far ⧺ single (named name v)) f)
       (items fuel (Read.value left s) is_object s before (so_far ⧺ single (named name v)) (blanks s (blanks s next + 1))) →
-      Reads (kids, stop) (AskedItems is_object left before so_far (node name v f)) (items (suc fuel) (Read.value left s) is_object s before so_far (blanks s at))
+      Reads (kids, stop) (AskedItems is_object left before so_far (node name v f))
+      (items (suc fuel) (Read.value left s) is_object s before so_far (blanks s at))
   unfolding items
   items_more {f} mark rest =
       reads_then _ (asks_more (asked_name name v f) r.named_so)

@@ -18,7 +18,8 @@ use Rattle.spec.specs.Forest.{size, single, ◌⧺◌}
 use Rattle.spec.specs.Value as Value
 use Rattle.spec.specs.Value.{Label, Members, leaf, named, has}
 use Rattle.spec.specs.Read as Read
-use Rattle.spec.specs.Read.{is_blank, blanks_from, blanks, word_at, room_for, literal_value, number_value, string_value, scalar, fresh, name_for, container_label}
+use Rattle.spec.specs.Read.{is_blank, blanks_from, blanks, word_at, room_for, literal_value, number_value, string_value, scalar, fresh}
+use Rattle.spec.specs.Read.{name_for, container_label}
 use Rattle.spec.specs.Read.{closing_bracket, items, contents, container, read}
 use Rattle.grammar.specs.Grammar.{ws, structural, number, string, *char, node, value, object, members, member, array, elements, JSON-text, name_separator}
 use Rattle.grammar.specs.Grammar.{value_separator}

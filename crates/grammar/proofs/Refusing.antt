@@ -87,7 +87,8 @@ after_high_by_3 s high at = next _ (byte_in_by_3 s at _ _) λ _. next _ (byte_in
 unicode_escape_by_3 : (s : Bytes) (at : ℕ) → Refusing By3 (unicode_escape s at)
 unfolding unicode_escape
 unicode_escape_by_3 s at =
-    next _ (hex_in_by_3 s at _ _) λ a. next _ (hex_in_by_3 s (at + 1) _ _) λ b. next _ (hex_in_by_3 s (at + 2) _ _) λ c. next _ (hex_in_by_3 s (at + 3) _ _) λ d.
+    next _ (hex_in_by_3 s at _ _) λ a. next _ (hex_in_by_3 s (at + 1) _ _) λ b.
+    next _ (hex_in_by_3 s (at + 2) _ _) λ c. next _ (hex_in_by_3 s (at + 3) _ _) λ d.
     choose (within _ _ _) (λ _. after_high_by_3 s _ (at + 4)) (λ _. result)
 
 escape_by_3 : (s : Bytes) (at : ℕ) → Refusing By3 (escape s at)

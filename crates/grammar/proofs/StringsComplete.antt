@@ -1,6 +1,6 @@
 -- The reader of strings is complete: what the grammar derives it reads, with the same meaning.
 use Prim.Native.Nat.{ℕ, zero, suc, ◌+◌, ◌-◌, ◌*◌, ◌<◌, ◌≤◌}
-use mathlib.Core.Path.{◌≡◌, refl, ap, sym, ◌∙◌}
+use mathlib.Core.Path.{◌≡◌, refl, ap, ap₂, sym, ◌∙◌}
 use mathlib.Core.Bool.{Bool, true, false}
 use mathlib.Core.List.{[], ◌∷◌}
 use native.Mathlib.Omega.{arith}
@@ -25,7 +25,7 @@ byte_in_reads s at {b} low high e l h = rw (e, in_range low high b l h)
 
 tail_reads : {s w : Bytes} {n low high bits c at next : ℕ} → Tail n low high bits w c → From s at w next → tail n s at low high bits ≡ ok (c, next)
 unfolding tail ◌>>=◌
-tail_reads {at = at} {next = next} (done {bits = bits}) f = let a = f.far in let same : at ≡ next = omega arith in ap (λ p. ok (bits, p)) same
+tail_reads {at = at} {next = next} (done e) f = let a = f.far in let same : at ≡ next = omega arith in ap₂ (λ v p. ok (v, p)) e same
 tail_reads {s} {at = at} (more {low = low} {high = high} r d) f =
     let (e, g, _) = first f in
     rw (byte_in_reads s at low high e r.0 r.1) (tail_reads d g)
@@ -118,21 +118,21 @@ one_reads {a = a} {at = at} h u f =
 
 utf8_reads : {s w : Bytes} {c at next : ℕ} → UTF8-char w c → unescaped c → From s at w next → CharRead s at c next
 utf8_reads (UTF8-char.of_1 (UTF8-1.one {a} h)) u f = one_reads h.1 u f
-utf8_reads (UTF8-char.of_2 (UTF8-2.C2-DF h i)) u f = several_reads (omega arith) (multibyte_2 _ _ (omega arith)) (more i done) (omega arith) f
+utf8_reads (UTF8-char.of_2 (UTF8-2.C2-DF h i)) u f = several_reads (omega arith) (multibyte_2 _ _ (omega arith)) (more i (done refl)) (omega arith) f
 utf8_reads (UTF8-char.of_3 (UTF8-3.E0 {b = b} h i)) u f =
-    several_reads (omega arith) (multibyte_E0 _ _) (more {b = b} (omega arith) (more i done)) (omega arith) f
+    several_reads (omega arith) (multibyte_E0 _ _) (more {b = b} (omega arith) (more i (done refl))) (omega arith) f
 utf8_reads (UTF8-char.of_3 (UTF8-3.E1-EC h i j)) u f =
-    several_reads (omega arith) (multibyte_E1_EC _ _ (omega arith)) (more i (more j done)) (omega arith) f
+    several_reads (omega arith) (multibyte_E1_EC _ _ (omega arith)) (more i (more j (done refl))) (omega arith) f
 utf8_reads (UTF8-char.of_3 (UTF8-3.ED {b = b} h i)) u f =
-    several_reads (omega arith) (multibyte_ED _ _) (more {b = b} (omega arith) (more i done)) (omega arith) f
+    several_reads (omega arith) (multibyte_ED _ _) (more {b = b} (omega arith) (more i (done refl))) (omega arith) f
 utf8_reads (UTF8-char.of_3 (UTF8-3.EE-EF h i j)) u f =
-    several_reads (omega arith) (multibyte_EE_EF _ _ (omega arith)) (more i (more j done)) (omega arith) f
+    several_reads (omega arith) (multibyte_EE_EF _ _ (omega arith)) (more i (more j (done refl))) (omega arith) f
 utf8_reads (UTF8-char.of_4 (UTF8-4.F0 {b = b} h i j)) u f =
-    several_reads (omega arith) (multibyte_F0 _ _) (more {b = b} (omega arith) (more i (more j done))) (omega arith) f
+    several_reads (omega arith) (multibyte_F0 _ _) (more {b = b} (omega arith) (more i (more j (done refl)))) (omega arith) f
 utf8_reads (UTF8-char.of_4 (UTF8-4.F1-F3 h i j k)) u f =
-    several_reads (omega arith) (multibyte_F1_F3 _ _ (omega arith)) (more i (more j (more k done))) (omega arith) f
+    several_reads (omega arith) (multibyte_F1_F3 _ _ (omega arith)) (more i (more j (more k (done refl)))) (omega arith) f
 utf8_reads (UTF8-char.of_4 (UTF8-4.F4 {b = b} h i j)) u f =
-    several_reads (omega arith) (multibyte_F4 _ _) (more {b = b} (omega arith) (more i (more j done))) (omega arith) f
+    several_reads (omega arith) (multibyte_F4 _ _) (more {b = b} (omega arith) (more i (more j (done refl)))) (omega arith) f
 
 -- hexadecimal digits
 hex_value-digit : {b h : ℕ} → HEXDIG b h → (hex_value b ≡ h) × (h ≤ 0xF)

@@ -15,7 +15,6 @@ use Rattle.spec.specs.Strings as Strings
 use Rattle.spec.specs.Strings.{hex_value, hex_in, low_surrogate, after_high, second_limit, unicode_escape, short_escape, escape, tail, multibyte, character}
 use Rattle.spec.specs.Strings.{characters}
 use Rattle.grammar.specs.Grammar.{%x, UTF8-1, UTF8-2, UTF8-3, UTF8-4, UTF8-char, HEXDIG, 4HEXDIG, unescaped, char, *char, string}
-use Rattle.grammar.proofs.Places.{one}
 use Rattle.grammar.proofs.Tests.{by_cases, within_true, past_range}
 use Rattle.grammar.proofs.Sound.{Sound, Some, some, some_cons, refuses, gives, weaken, choose, and_then, finish, past, byte_in_then, expect_then}
 
@@ -28,11 +27,11 @@ Means P w x = P w x.0
 
 -- the bytes of a character after its first, as the reader takes them
 pub data Tail : ℕ → ℕ → ℕ → ℕ → Bytes → ℕ → Type 0 where
-  done : {low high bits : ℕ} → Tail zero low high bits [] bits
+  done : {low high bits c : ℕ} → bits ≡ c → Tail zero low high bits [] c
   more : {n low high bits b c : ℕ} {w : Bytes} → %x low high b → Tail n 0x80 0xBF (bits * 64 + (b - 0x80)) w c → Tail (suc n) low high bits (b ∷ w) c
 
 some_tail : (n low high bits : ℕ) → low ≤ high → Some (Means (Tail n low high bits))
-some_tail zero low high bits l = some [] (bits, 0) done
+some_tail zero low high bits l = some [] (bits, 0) (done refl)
 some_tail (suc n) low high bits l =
     let rest = some_tail n 0x80 0xBF (bits * 64 + (low - 0x80)) (omega arith) in
     some (low ∷ rest.text) rest.meaning (more (omega arith, l) rest.derived)
@@ -40,7 +39,7 @@ some_tail (suc n) low high bits l =
 tail_sound : (n : ℕ) (s : Bytes) (at low high bits : ℕ) → 0 < low → low ≤ high →
     Sound s end at (Means (Tail n low high bits)) (tail n s at low high bits)
 unfolding tail
-tail_sound zero s at low high bits l m = gives (bits, at) refl done
+tail_sound zero s at low high bits l m = gives (bits, at) refl (done refl)
 tail_sound (suc n) s at low high bits l m =
     byte_in_then _ _ low high (at + 1) l refl (some_tail (suc n) low high bits m) λ b i j.
     weaken (λ w x d. more (i, j) d) (tail_sound n s (at + 1) 0x80 0xBF _ (omega arith) (omega arith))
@@ -51,28 +50,28 @@ multi {w} {c} u e r = char.plain {c = c} (subst (UTF8-char w) e u) (unescaped.5D
 
 -- table 3-7 row by row
 row_2 : {a c : ℕ} {w : Bytes} → %x 0xC2 0xDF a → Tail 1 0x80 0xBF (a - 0xC0) w c → char (a ∷ w) c
-row_2 {a} h (more i done) = multi (UTF8-char.of_2 (UTF8-2.C2-DF {a = a} (omega arith) i)) (omega arith) (omega arith)
+row_2 {a} h (more i (done e)) = multi (UTF8-char.of_2 (UTF8-2.C2-DF {a = a} (omega arith) i)) (omega arith) (omega arith)
 
 row_E0 : {c : ℕ} {w : Bytes} → Tail 2 0xA0 0xBF (0xE0 - 0xE0) w c → char (0xE0 ∷ w) c
-row_E0 (more {b = b} h (more i done)) = multi (UTF8-char.of_3 (UTF8-3.E0 {b = b} (omega arith) i)) (omega arith) (omega arith)
+row_E0 (more {b = b} h (more i (done e))) = multi (UTF8-char.of_3 (UTF8-3.E0 {b = b} (omega arith) i)) (omega arith) (omega arith)
 
 row_E1_EC : {a c : ℕ} {w : Bytes} → %x 0xE1 0xEC a → Tail 2 0x80 0xBF (a - 0xE0) w c → char (a ∷ w) c
-row_E1_EC {a} h (more i (more j done)) = multi (UTF8-char.of_3 (UTF8-3.E1-EC {a = a} (omega arith) i j)) (omega arith) (omega arith)
+row_E1_EC {a} h (more i (more j (done e))) = multi (UTF8-char.of_3 (UTF8-3.E1-EC {a = a} (omega arith) i j)) (omega arith) (omega arith)
 
 row_ED : {c : ℕ} {w : Bytes} → Tail 2 0x80 0x9F (0xED - 0xE0) w c → char (0xED ∷ w) c
-row_ED (more {b = b} h (more i done)) = multi (UTF8-char.of_3 (UTF8-3.ED {b = b} (omega arith) i)) (omega arith) (omega arith)
+row_ED (more {b = b} h (more i (done e))) = multi (UTF8-char.of_3 (UTF8-3.ED {b = b} (omega arith) i)) (omega arith) (omega arith)
 
 row_EE_EF : {a c : ℕ} {w : Bytes} → %x 0xEE 0xEF a → Tail 2 0x80 0xBF (a - 0xE0) w c → char (a ∷ w) c
-row_EE_EF {a} h (more i (more j done)) = multi (UTF8-char.of_3 (UTF8-3.EE-EF {a = a} (omega arith) i j)) (omega arith) (omega arith)
+row_EE_EF {a} h (more i (more j (done e))) = multi (UTF8-char.of_3 (UTF8-3.EE-EF {a = a} (omega arith) i j)) (omega arith) (omega arith)
 
 row_F0 : {c : ℕ} {w : Bytes} → Tail 3 0x90 0xBF (0xF0 - 0xF0) w c → char (0xF0 ∷ w) c
-row_F0 (more {b = b} h (more i (more j done))) = multi (UTF8-char.of_4 (UTF8-4.F0 {b = b} (omega arith) i j)) (omega arith) (omega arith)
+row_F0 (more {b = b} h (more i (more j (done e)))) = multi (UTF8-char.of_4 (UTF8-4.F0 {b = b} (omega arith) i j)) (omega arith) (omega arith)
 
 row_F1_F3 : {a c : ℕ} {w : Bytes} → %x 0xF1 0xF3 a → Tail 3 0x80 0xBF (a - 0xF0) w c → char (a ∷ w) c
-row_F1_F3 {a} h (more i (more j (more k done))) = multi (UTF8-char.of_4 (UTF8-4.F1-F3 {a = a} (omega arith) i j k)) (omega arith) (omega arith)
+row_F1_F3 {a} h (more i (more j (more k (done e)))) = multi (UTF8-char.of_4 (UTF8-4.F1-F3 {a = a} (omega arith) i j k)) (omega arith) (omega arith)
 
 row_F4 : {c : ℕ} {w : Bytes} → Tail 3 0x80 0x8F (0xF4 - 0xF0) w c → char (0xF4 ∷ w) c
-row_F4 (more {b = b} h (more i (more j done))) = multi (UTF8-char.of_4 (UTF8-4.F4 {b = b} (omega arith) i j)) (omega arith) (omega arith)
+row_F4 (more {b = b} h (more i (more j (done e)))) = multi (UTF8-char.of_4 (UTF8-4.F4 {b = b} (omega arith) i j)) (omega arith) (omega arith)
 
 some-char : Some (Means char)
 some-char = some (0x20 ∷ []) (0x20, 0) (char.plain (UTF8-char.of_1 (UTF8-1.one (omega arith))) (unescaped.20-21 (omega arith)))

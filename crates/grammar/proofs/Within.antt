@@ -22,9 +22,10 @@ use Rattle.spec.specs.Forest.{size, single, ◌⧺◌}
 use Rattle.spec.specs.Value as Value
 use Rattle.spec.specs.Value.{Label, Members, leaf, named, has, depth, depths, levels, nodes}
 use Rattle.spec.specs.Read as Read
-use Rattle.spec.specs.Read.{blanks, word_at, room_for, literal_value, number_value, string_value, scalar, fresh, name_for, container_label, closing_bracket, items}
+use Rattle.spec.specs.Read.{blanks, word_at, room_for, literal_value, number_value, string_value, scalar, fresh, name_for, container_label}
+use Rattle.spec.specs.Read.{closing_bracket, items}
 use Rattle.spec.specs.Read.{contents, container, read}
-use Rattle.grammar.specs.Grammar.{optional, *DIGIT, minus, int, frac, e, sign}
+use Rattle.grammar.specs.Grammar.{optional, *DIGIT, minus, e, sign}
 use Rattle.grammar.specs.Limits.{NumberFits, DistinctNames, Fits, Everywhere, WithinLimits}
 use Rattle.grammar.proofs.Containers.{container_of}
 use Rattle.grammar.proofs.Places.{From, here, join, cons, bytes}

@@ -59,20 +59,20 @@ module _ {xs : List ℕ} {s limit : ℕ} (v : ℕ) (ends : (x : ℕ) → x < lim
         below = l.below;
       }
 
-  pub meets_kept : {slot : ℕ} {q : Stream} {t : ℕ} → t < limit → Meets xs t slot q → Meets (slot_set xs s v) t slot q
+  pub meets_kept : {t : ℕ} {slot : ℕ} {q : Stream} → t < limit → Meets xs t slot q → Meets (slot_set xs s v) t slot q
   meets_kept h (here l) = here (leads_kept h l)
   meets_kept h (there {q = q} x l m) =
       let f = meets_first m in
       there x (leads_kept (omega (arith, f.low, f.leads.above, owner_branch x (bit_of q) (bit_small q))) l) (meets_kept h m)
 
-  way_kept : {start slot : ℕ} {bits q : Stream} → owner_of slot < limit → Way xs start bits slot q → Way (slot_set xs s v) start bits slot q
+  way_kept : {start : ℕ} {bits : Stream} {slot : ℕ} {q : Stream} → owner_of slot < limit → Way xs start bits slot q → Way (slot_set xs s v) start bits slot q
   way_kept h begun = begun
   way_kept h (further {q = q} x w l) =
       let low : x < limit = omega (arith, owner_branch x (bit_of q) (bit_small q)) in
       further x (way_kept (omega (arith, l.above)) w) (leads_kept low l)
 
 -- a path goes on
-way_then : {xs : List ℕ} {start slot t : ℕ} {bits q : Stream} → Way xs start bits slot q → Meets xs t slot q → Meets xs t start bits
+way_then : {xs : List ℕ} {start t : ℕ} {bits : Stream} {slot : ℕ} {q : Stream} → Way xs start bits slot q → Meets xs t slot q → Meets xs t start bits
 way_then begun m = m
 way_then (further x w l) m = way_then w (there x l m)
 

@@ -90,7 +90,7 @@ fn is_noted<'a>(
     row: usize,
 ) -> bool
     requires { (top ≤ object) × (object ≤ scratch_row) × (row < room) }
-    ensures { result ≡ true → NotedIs (before texts nodes) index.now top object name row }
+    ensures { result ≡ true → NotedIs (before texts nodes.now) index.now top object name row }
 {
     if slots::slot(index, slots::parent(row)) != object - top + 1 {
         return false;
@@ -107,7 +107,7 @@ pub fn lookup<'a>(
     object: usize,
     name: Name,
 ) -> Member
-    ensures { LookupIs (before texts nodes) index.now top object name result }
+    ensures { LookupIs (before texts nodes.now) index.now top object name result }
 {
     if object < top {
         return Member::Missing;

@@ -40,7 +40,7 @@ fn descend<'a>(
     name: Name,
 ) -> Ending
     requires { (base ≤ scratch_row) × (0 < limit) × (limit ≤ room) × (start < room) }
-    ensures { Descended (before texts nodes) index.now base limit start name result }
+    ensures { Descended (before texts nodes.now) index.now base limit start name result }
 {
     let mut at = start;
     let mut last = 0;
@@ -80,7 +80,7 @@ pub fn enter<'a>(
     row: usize,
     name: Name,
 ) -> bool
-    ensures { Entered (before texts nodes) index.old base object row name index.new result }
+    ensures { Entered (before texts nodes.now) index.old base object row name index.new result }
 {
     if layout::SCRATCH < base {
         return true;

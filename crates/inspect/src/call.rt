@@ -14,7 +14,7 @@ use tape::moves::wipe;
 // area, as `json_patch::apply` takes it: at least ROWS records and SLOTS entries, which may hold anything. That many of
 // each are all zero afterwards.
 pub fn inspect<'a>(patch: &'a [u8], nodes: &mut [Node], index: &mut [u16]) -> Answer
-    ensures { InspectIs patch.now (work_before nodes index) (work_after nodes index) result }
+    ensures { InspectIs patch.now (work_before nodes.old index.old) (work_after nodes.new index.new) result }
 {
     if nodes.len() < layout::ROWS {
         return refused(refusal::WORK_TOO_SHORT, 0, 0, 0);

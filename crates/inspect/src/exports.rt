@@ -14,7 +14,7 @@ pub extern "C" fn json_patch_inspect<'a>(
     index: &mut [u16],
     answer: &mut [u64; 10],
 ) -> u32
-    ensures { ExportIs patch.now (work_before nodes index) (work_after nodes index)
+    ensures { ExportIs patch.now (work_before nodes.old index.old) (work_after nodes.new index.new)
         answer.new result }
 {
     let r = inspect(patch, nodes, index);

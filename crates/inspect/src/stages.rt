@@ -15,7 +15,7 @@ use tape::nodes::end_of;
 
 // The operations in the rows from `start` up to `end`, counted.
 fn counted<'a>(texts: Texts<'a>, nodes: &[Node], start: usize, end: usize) -> Counts
-    ensures { CountedIs (before texts nodes) start end result }
+    ensures { CountedIs (before texts nodes.now) start end result }
 {
     let mut row = start;
     let mut counts = none();
@@ -32,7 +32,7 @@ fn counted<'a>(texts: Texts<'a>, nodes: &[Node], start: usize, end: usize) -> Co
 
 // The patch, already read.
 fn shaped<'a>(texts: Texts<'a>, nodes: &[Node]) -> Answer
-    ensures { ShapedIs (before texts nodes) result }
+    ensures { ShapedIs (before texts nodes.now) result }
 {
     let shape = shape_of(texts, nodes, layout::PATCH);
     let Shape::Right = shape else {
@@ -44,7 +44,7 @@ fn shaped<'a>(texts: Texts<'a>, nodes: &[Node]) -> Answer
 
 // All of it, where the work area is long enough. There is no document: the patch stands in its place.
 pub fn checked<'a>(texts: Texts<'a>, nodes: &mut [Node], index: &mut [u16]) -> Answer
-    ensures { CheckedIs (lent texts) (work_before nodes index) result }
+    ensures { CheckedIs (lent texts) (work_before nodes.old index.old) result }
 {
     if limits::MAX_BYTES < texts[1].len() {
         return refused(refusal::INPUT_TOO_LONG, 2, 0, 0);

@@ -1,15 +1,14 @@
 -- The claims on the line of a list, and all of them together.
-use Prim.Native.Nat.{ℕ, ◌+◌, ◌-◌, ◌*◌, ◌≤◌}
+use Prim.Native.Nat.{ℕ, ◌+◌, ◌-◌, ◌≤◌}
 use native.Mathlib.Omega.{arith}
 use mathlib.Core.Path.{◌≡◌, refl, sym, ap, subst, ◌∙◌}
 use mathlib.Core.Bool.{Bool, true, false}
 use mathlib.Core.List.{List, [], ◌∷◌, ◌++◌}
 use lib.ListN.{length}
 use Rattle.spec.specs.Limits.{max_operations}
-use Rattle.spec.specs.Bytes.{ascii}
-use Rattle.inspection.specs.Inspection.{Counts, no_counts, plus, total, inspection}
+use Rattle.inspection.specs.Inspection.{plus, total, inspection}
 use Rattle.inspection.specs.Tally.{Result, unreadable, inspected, File, unread, holding, result_of, results}
-use Rattle.inspection.specs.Tally.{is_refused, counts_in, Tally, both, one, tally, Field, field, fields_of, line}
+use Rattle.inspection.specs.Tally.{is_refused, counts_in, Tally, both, one, tally, fields_of, line}
 use Rattle.inspection.specs.Claims as Claims
 use Rattle.inspection.specs.Claims.{Permuted, empty, same, swap, SameLine, Sums, JoinedSums}
 use Rattle.inspection.specs.Claims.{Refused, LineOf, EveryLine, NothingAdded, CountsAdded, FewTallied, CountStatement}

@@ -6,8 +6,8 @@ use mathlib.Core.Path.{◌≡◌, refl, sym, ap, ap₂, subst, ◌∙◌}
 use mathlib.Core.Bool.{Bool, true, false}
 use mathlib.Core.List.{List, [], ◌∷◌}
 use lib.ListN.{length}
-use lib.Dec.{ltb, leb}
-use borrow.Author.Tests.{lt-ltb, le-ltb, leb-true, le-leb, lt-leb, ltb-true, ltb-false}
+use lib.Dec.{leb}
+use borrow.Author.Tests.{lt-ltb, le-ltb, leb-true}
 use Rattle.spec.specs.Outcome.{Outcome, ok, refused, if◌then◌else◌}
 use Rattle.spec.specs.Refusal.{done, input_too_long, wrong_shape, too_many_operations}
 use Rattle.spec.specs.Limits.{max_bytes, max_operations}
@@ -17,14 +17,14 @@ use Rattle.spec.specs.Value as Value
 use Rattle.spec.specs.Value.{Members, is_array}
 use Rattle.spec.specs.Read.{read}
 use Rattle.spec.specs.Operation as Operation
-use Rattle.spec.specs.Patch.{Stop, stop, Run, finished, stopped, no_pointer, at_op, on_finish, operation, operations, shape, run}
+use Rattle.spec.specs.Patch.{Stop, stop, Run, finished, stopped, no_pointer, at_op, on_finish, operation, operations, shape}
 use Rattle.spec.specs.Answer as Answer
 use Rattle.spec.specs.Answer.{Lent, work_suffices, answer_of, patched, on_patch, on_document, answer_in, answer}
 use Rattle.spec.specs.Shape.{Wrong, no-members, no_path, no_from, into_child, FirstWrong, here, later, NoPatch, not-array, too_many, wrong_element}
 use Rattle.spec.proofs.ShapeTheorem.{shaped_so}
 use Rattle.grammar.proofs.Refusing.{Refusing, refused_so}
 use Rattle.grammar.proofs.Faults.{Fault, by_3, by_4, by_5, by_6, by_7, read_faults}
-use Rattle.inspection.specs.Inspection.{Counts, no_counts, one_of, plus, total, counts_of, Inspection, accepted, refusal, of_shape, of_reading, inspection}
+use Rattle.inspection.specs.Inspection.{no_counts, one_of, total, counts_of, Inspection, accepted, refusal, of_shape, of_reading, inspection}
 use Rattle.inspection.specs.Claims.{RefusedAlike, WellFormed, AcceptedWhole, FewCounted, NoneRefused}
 use Rattle.inspection.proofs.TallyLaws.{none_total, total-plus}
 

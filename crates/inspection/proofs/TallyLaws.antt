@@ -1,10 +1,9 @@
 -- Laws of the counts, and of the sums over a list.
-use Prim.Native.Nat.{ℕ, ◌+◌, ◌≤◌}
+use Prim.Native.Nat.{◌+◌}
 use native.Mathlib.Omega.{arith}
 use mathlib.Core.Path.{◌≡◌, refl, sym, ap, ◌∙◌}
 use mathlib.Core.Bool.{Bool, true, false}
 use mathlib.Core.List.{List, [], ◌∷◌, ◌++◌}
-use lib.ListN.{length}
 use Rattle.inspection.specs.Inspection.{Counts, no_counts, plus, total}
 use Rattle.inspection.specs.Tally.{Result, is_refused, counts_in, Tally, no_tally, both, one, tally}
 

@@ -10,7 +10,7 @@ use Rattle.spec.specs.Operation as Operation
 use Rattle.spec.specs.Patch.{finished, shape}
 use Rattle.spec.specs.Answer as Answer
 use Rattle.spec.specs.Answer.{Lent, work_suffices, answer}
-use Rattle.inspection.specs.Inspection.{Counts, no_counts, total, counts_of, inspection}
+use Rattle.inspection.specs.Inspection.{no_counts, total, counts_of, inspection}
 use Rattle.inspection.specs.Tally.{Result, File, results, is_refused, counts_in, tally, Field, field, line}
 
 -- ---- one patch

@@ -1,7 +1,5 @@
 -- What the call promises, on every input: the whole answer, and all lent memory afterwards, as equations with the definition `answer`.
 use Rattle.std.specs.Prelude.{ℕ, ◌≡◌, Bool, true, false, List, [], ◌∷◌, ◌++◌, length, drop, replicate}
-use Rattle.std.specs.Borrow.{Bor}
-use denote.Triple.Both.{Both}
 use Rattle.spec.specs.Limits.{work_nodes, work_entries}
 use Rattle.spec.specs.Bytes.{Bytes}
 use Rattle.spec.specs.Answer as Spec
@@ -16,24 +14,15 @@ pub record Memory : Type 0 where
   pub nodes : List Row
   pub index : List ℕ
 
-abbrev LentBytes : Type 0
-LentBytes = Both (Bor Bytes) (Bor Bytes)
-
-abbrev LentNodes : Type 0
-LentNodes = Both (Bor (List Row)) (Bor (List Row))
-
-abbrev LentIndex : Type 0
-LentIndex = Both (Bor (List ℕ)) (Bor (List ℕ))
-
 -- the two texts; the memory as it was lent, and as it is given back
-abbrev pub given : LentBytes → LentBytes → Texts
-given document patch = record { document = document.entry.now; patch = patch.entry.now }
+abbrev pub given : Bytes → Bytes → Texts
+given document patch = record { document = document; patch = patch }
 
-abbrev pub memory_before : LentBytes → LentNodes → LentIndex → Memory
-memory_before output nodes index = record { output = output.entry.now; nodes = nodes.entry.now; index = index.entry.now }
+abbrev pub memory_before : Bytes → List Row → List ℕ → Memory
+memory_before output nodes index = record { output = output; nodes = nodes; index = index }
 
-abbrev pub memory_after : LentBytes → LentNodes → LentIndex → Memory
-memory_after output nodes index = record { output = output.exit.now; nodes = nodes.exit.now; index = index.exit.now }
+abbrev pub memory_after : Bytes → List Row → List ℕ → Memory
+memory_after output nodes index = record { output = output; nodes = nodes; index = index }
 
 -- its lengths
 abbrev pub lent_of : Memory → Lent

@@ -15,7 +15,7 @@ pub extern "C" fn json_patch_apply<'a>(
     index: &mut [u16],
     answer: &mut [u64; 6],
 ) -> u32
-    ensures { ExportIs (given document patch) (memory_before output nodes index) (memory_after output nodes index)
+    ensures { ExportIs (given document.now patch.now) (memory_before output.old nodes.old index.old) (memory_after output.new nodes.new index.new)
         answer.new result }
 {
     let r = apply(document, patch, output, nodes, index);

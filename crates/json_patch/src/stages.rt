@@ -15,7 +15,7 @@ use writer::{fits, write};
 
 // The document is written, where the output has room for all of it.
 fn write_out<'a>(texts: Texts<'a>, output: &mut [u8], nodes: &[Node]) -> Answer
-    ensures { WriteOutIs (before texts nodes) output.old output.new result }
+    ensures { WriteOutIs (before texts nodes.now) output.old output.new result }
 {
     if !fits(
         texts,
@@ -38,7 +38,7 @@ fn run_patch<'a>(
     index: &mut [u16],
     used: usize,
 ) -> Answer
-    ensures { RunPatchIs (before texts nodes) output.old output.new used result }
+    ensures { RunPatchIs (before texts nodes.old) output.old output.new used result }
 {
     let shape = shape_of(texts, nodes, layout::PATCH);
     let Shape::Right = shape else {
@@ -58,7 +58,7 @@ pub fn checked<'a>(
     nodes: &mut [Node],
     index: &mut [u16],
 ) -> Answer
-    ensures { CheckedIs (lent texts) (memory_before output nodes index) output.new result }
+    ensures { CheckedIs (lent texts) (memory_before output.old nodes.old index.old) output.new result }
 {
     if limits::MAX_BYTES < texts[0].len() {
         return refused(refusal::INPUT_TOO_LONG, 1, 0, 0);

@@ -1,8 +1,6 @@
 -- What a call that lists origins promises, on every input: the whole answer, and all lent memory afterwards, as equations with the definition
 -- `answer` of crate origin. What becomes of the work area is as in the plain call.
 use Rattle.std.specs.Prelude.{ℕ, ◌≡◌, List, [], ◌∷◌, ◌++◌, length, drop}
-use Rattle.std.specs.Borrow.{Bor}
-use denote.Triple.Both.{Both}
 use Rattle.spec.specs.Limits.{work_nodes, work_entries}
 use Rattle.spec.specs.Bytes.{Bytes}
 use Rattle.spec.specs.Answer as Spec
@@ -22,29 +20,20 @@ pub record ListMemory : Type 0 where
   pub call : Memory
   pub list : List ℕ
 
-abbrev LentBytes : Type 0
-LentBytes = Both (Bor Bytes) (Bor Bytes)
-
-abbrev LentNodes : Type 0
-LentNodes = Both (Bor (List Row)) (Bor (List Row))
-
-abbrev LentNumbers : Type 0
-LentNumbers = Both (Bor (List ℕ)) (Bor (List ℕ))
-
 -- as it was lent, and as it is given back
-abbrev pub outputs_before : LentBytes → LentNumbers → Outputs
-outputs_before output list = record { output = output.entry.now; list = list.entry.now }
+abbrev pub outputs_before : Bytes → List ℕ → Outputs
+outputs_before output list = record { output = output; list = list }
 
-abbrev pub outputs_after : LentBytes → LentNumbers → Outputs
-outputs_after output list = record { output = output.exit.now; list = list.exit.now }
+abbrev pub outputs_after : Bytes → List ℕ → Outputs
+outputs_after output list = record { output = output; list = list }
 
-abbrev pub list_before : LentBytes → LentNumbers → LentNodes → LentNumbers → ListMemory
+abbrev pub list_before : Bytes → List ℕ → List Row → List ℕ → ListMemory
 list_before output list nodes index =
-    record { call = record { output = output.entry.now; nodes = nodes.entry.now; index = index.entry.now }; list = list.entry.now }
+    record { call = record { output = output; nodes = nodes; index = index }; list = list }
 
-abbrev pub list_after : LentBytes → LentNumbers → LentNodes → LentNumbers → ListMemory
+abbrev pub list_after : Bytes → List ℕ → List Row → List ℕ → ListMemory
 list_after output list nodes index =
-    record { call = record { output = output.exit.now; nodes = nodes.exit.now; index = index.exit.now }; list = list.exit.now }
+    record { call = record { output = output; nodes = nodes; index = index }; list = list }
 
 abbrev pub outputs_of : ListMemory → Outputs
 outputs_of m = record { output = m.call.output; list = m.list }

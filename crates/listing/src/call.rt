@@ -20,8 +20,8 @@ pub fn apply_listing<'a>(
     nodes: &mut [Node],
     index: &mut [u16],
 ) -> Answer
-    ensures { ApplyListingIs (given document patch) (list_before output origins nodes index)
-        (list_after output origins nodes index) result }
+    ensures { ApplyListingIs (given document.now patch.now) (list_before output.old origins.old nodes.old index.old)
+        (list_after output.new origins.new nodes.new index.new) result }
 {
     if nodes.len() < layout::ROWS {
         return refused(refusal::WORK_TOO_SHORT, 0, 0, 0);

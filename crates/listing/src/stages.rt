@@ -22,8 +22,8 @@ fn write_listed<'a>(
     nodes: &[Node],
     used: usize,
 ) -> Answer
-    ensures { WriteListedIs (before texts nodes) (outputs_before output origins)
-        (outputs_after output origins) used result }
+    ensures { WriteListedIs (before texts nodes.now) (outputs_before output.old origins.old)
+        (outputs_after output.new origins.new) used result }
 {
     if !fits(
         texts,
@@ -51,8 +51,8 @@ pub fn run_listed<'a>(
     index: &mut [u16],
     used: usize,
 ) -> Answer
-    ensures { RunListedIs (before texts nodes) (outputs_before output origins)
-        (outputs_after output origins) used result }
+    ensures { RunListedIs (before texts nodes.old) (outputs_before output.old origins.old)
+        (outputs_after output.new origins.new) used result }
 {
     stamp_texts(nodes, used);
     let ran = run(texts, nodes, index, used);
@@ -71,8 +71,8 @@ fn run_patch<'a>(
     index: &mut [u16],
     used: usize,
 ) -> Answer
-    ensures { RunPatchIs (before texts nodes) (outputs_before output origins)
-        (outputs_after output origins) used result }
+    ensures { RunPatchIs (before texts nodes.old) (outputs_before output.old origins.old)
+        (outputs_after output.new origins.new) used result }
 {
     let shape = shape_of(texts, nodes, layout::PATCH);
     let Shape::Right = shape else {
@@ -89,7 +89,7 @@ pub fn checked<'a>(
     nodes: &mut [Node],
     index: &mut [u16],
 ) -> Answer
-    ensures { CheckedIs (lent texts) (list_before output origins nodes index) (outputs_after output origins) result }
+    ensures { CheckedIs (lent texts) (list_before output.old origins.old nodes.old index.old) (outputs_after output.new origins.new) result }
 {
     if limits::MAX_BYTES < texts[0].len() {
         return refused(refusal::INPUT_TOO_LONG, 1, 0, 0);

@@ -19,8 +19,8 @@ pub fn merge<'a>(
     nodes: &mut [Node],
     index: &mut [u16],
 ) -> Answer
-    ensures { MergeIs (given document patch) (memory_before output nodes index)
-        (memory_after output nodes index) result }
+    ensures { MergeIs (given document.now patch.now) (memory_before output.old nodes.old index.old)
+        (memory_after output.new nodes.new index.new) result }
 {
     if nodes.len() < layout::ROWS {
         return refused(refusal::WORK_TOO_SHORT, 0, 0, 0);

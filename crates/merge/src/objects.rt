@@ -38,7 +38,7 @@ pub fn merge_object<'a>(
 ) -> usize
     requires patch_row_le_patch { (patch_row ≤ patch) × (patch < scratch_row) × (target ≤ rows) × (slots ≤ length index.old) }
     requires scratch_row_le_to { (scratch_row ≤ to) × (to ≤ full) × (length nodes.old ≡ rows) }
-    ensures { MergeObjectIs (before texts nodes) target patch to levels index.old nodes.new
+    ensures { MergeObjectIs (before texts nodes.old) target patch to levels index.old nodes.new
         index.new result }
 {
     if levels == 0 {

@@ -22,7 +22,7 @@ pub fn partner<'a>(
     name: Name,
 ) -> Member
     requires { (patch_row ≤ patch) × (patch < scratch_row) × (slots ≤ length index.old) }
-    ensures { PartnerIs (before texts nodes) patch name index.old index.new result }
+    ensures { PartnerIs (before texts nodes.now) patch name index.old index.new result }
 {
     let Member::At(row) = lookup(texts, nodes, index, layout::PATCH, patch, name) else {
         if enter_by_hash(nodes, index, layout::PATCH, patch, layout::SCRATCH, name) {

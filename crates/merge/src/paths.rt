@@ -22,7 +22,7 @@ pub fn enter_members<'a>(
     levels: u32,
 )
     requires { (patch_row ≤ object) × (object < scratch_row) × (slots ≤ length index.old) }
-    ensures { EnteredIs (before texts nodes) object levels index.old index.new }
+    ensures { EnteredIs (before texts nodes.now) object levels index.old index.new }
 {
     if kind(nodes, object) != layout::OBJECT {
         return;

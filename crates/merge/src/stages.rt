@@ -18,7 +18,7 @@ use writer::{fits, write};
 
 // The value in a row is written, where the output has room for all of it.
 fn write_at<'a>(texts: Texts<'a>, output: &mut [u8], nodes: &[Node], at: usize) -> Answer
-    ensures { WriteAtIs (before texts nodes) at output.old output.new result }
+    ensures { WriteAtIs (before texts nodes.now) at output.old output.new result }
 {
     if !fits(texts, nodes, at, limits::MAX_DEPTH, output.len()) {
         return refused(refusal::OUTPUT_TOO_SHORT, 0, 0, 0);
@@ -36,7 +36,7 @@ fn run_merge<'a>(
     index: &mut [u16],
 ) -> Answer
     requires { (slots ≤ length index.old) × (length nodes.old ≡ rows) }
-    ensures { RunMergeIs (before texts nodes) output.old output.new result }
+    ensures { RunMergeIs (before texts nodes.old) output.old output.new result }
 {
     if kind(nodes, layout::PATCH) != layout::OBJECT {
         return write_at(texts, output, nodes, layout::PATCH);
@@ -55,7 +55,7 @@ pub fn checked_merge<'a>(
     index: &mut [u16],
 ) -> Answer
     requires { (slots ≤ length index.old) × (length nodes.old ≡ rows) }
-    ensures { CheckedMergeIs (lent texts) (memory_before output nodes index) output.new result }
+    ensures { CheckedMergeIs (lent texts) (memory_before output.old nodes.old index.old) output.new result }
 {
     if limits::MAX_BYTES < texts[0].len() {
         return refused(refusal::INPUT_TOO_LONG, 1, 0, 0);

@@ -49,7 +49,7 @@ pub fn keep<'a>(
     row: usize,
 ) -> Step
     requires { (patch_row ≤ patch) × (patch < scratch_row) × (slots ≤ length index.old) }
-    ensures { KeepIs (before texts nodes) patch row index.old index.new result }
+    ensures { KeepIs (before texts nodes.now) patch row index.old index.new result }
 {
     let name = name_of(load(nodes, row));
     let Member::At(found) = partner(texts, nodes, index, patch, name) else {

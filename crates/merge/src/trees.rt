@@ -16,7 +16,7 @@ use tape::layout::{Node, Texts};
 // answer is the row behind it, or one behind the table.
 pub fn merge_trees<'a>(texts: Texts<'a>, nodes: &mut [Node], index: &mut [u16]) -> usize
     requires { (slots ≤ length index.old) × (length nodes.old ≡ rows) }
-    ensures { MergeTreesIs (before texts nodes) nodes.new result }
+    ensures { MergeTreesIs (before texts nodes.old) nodes.new result }
 {
     empty(index);
     enter_members(texts, nodes, index, layout::PATCH, limits::MAX_DEPTH);
@@ -33,7 +33,7 @@ pub fn merge_trees<'a>(texts: Texts<'a>, nodes: &mut [Node], index: &mut [u16]) 
 
 // As `merge_trees`, for any work area: where its lengths are not the stated ones, nothing is merged.
 pub fn merge_read<'a>(texts: Texts<'a>, nodes: &mut [Node], index: &mut [u16]) -> usize
-    ensures { MergeReadIs (before texts nodes) index.old nodes.new
+    ensures { MergeReadIs (before texts nodes.old) index.old nodes.new
         index.new result }
 {
     if nodes.len() != layout::ROWS {

@@ -18,8 +18,8 @@ pub extern "C" fn json_patch_merge_origins<'a>(
     index: &mut [u16],
     answer: &mut [u64; 6],
 ) -> u32
-    ensures { ExportIs (given document patch) (list_before output origins nodes index)
-        (list_after output origins nodes index) answer.new result }
+    ensures { ExportIs (given document.now patch.now) (list_before output.old origins.old nodes.old index.old)
+        (list_after output.new origins.new nodes.new index.new) answer.new result }
 {
     let r = merge_listing(document, patch, output, origins, nodes, index);
     *answer = [

@@ -29,8 +29,8 @@ fn write_listed<'a>(
     count: usize,
 ) -> Answer
     requires { at ≤ length nodes.now }
-    ensures { WriteListedIs (before texts nodes) (outputs_before output origins)
-        (outputs_after output origins) at count result }
+    ensures { WriteListedIs (before texts nodes.now) (outputs_before output.old origins.old)
+        (outputs_after output.new origins.new) at count result }
 {
     if !fits(texts, nodes, at, limits::MAX_DEPTH, output.len()) {
         return refused(refusal::OUTPUT_TOO_SHORT, 0, 0, 0);
@@ -54,8 +54,8 @@ fn run_listed<'a>(
     used: usize,
 ) -> Answer
     requires { (slots ≤ length index.old) × (length nodes.old ≡ rows) }
-    ensures { RunListedIs (before texts nodes) (outputs_before output origins)
-        (outputs_after output origins) used result }
+    ensures { RunListedIs (before texts nodes.old) (outputs_before output.old origins.old)
+        (outputs_after output.new origins.new) used result }
 {
     stamp_both(nodes, used);
     if kind(nodes, layout::PATCH) != layout::OBJECT {
@@ -79,8 +79,8 @@ pub fn checked_listed<'a>(
     index: &mut [u16],
 ) -> Answer
     requires { (slots ≤ length index.old) × (length nodes.old ≡ rows) }
-    ensures { CheckedListedIs (lent texts) (list_before output origins nodes index)
-        (outputs_after output origins) result }
+    ensures { CheckedListedIs (lent texts) (list_before output.old origins.old nodes.old index.old)
+        (outputs_after output.new origins.new) result }
 {
     if limits::MAX_BYTES < texts[0].len() {
         return refused(refusal::INPUT_TOO_LONG, 1, 0, 0);

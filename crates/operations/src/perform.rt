@@ -21,7 +21,7 @@ fn move_to<'a>(
     at: usize,
     path: Spelling,
 ) -> Performed
-    ensures { MoveGiven (before texts nodes) nodes.new used at path result }
+    ensures { MoveGiven (before texts nodes.old) nodes.new used at path result }
 {
     let Spelled::As(from) = string_in(nodes, at) else {
         return Performed::Refused(refusal::WRONG_SHAPE, 0, 0);
@@ -38,7 +38,7 @@ fn copy<'a>(
     path: Spelling,
     op: u16,
 ) -> Performed
-    ensures { CopyGiven (before texts nodes) nodes.new used at path op result }
+    ensures { CopyGiven (before texts nodes.old) nodes.new used at path op result }
 {
     let Spelled::As(from) = string_in(nodes, at) else {
         return Performed::Refused(refusal::WRONG_SHAPE, 0, 0);
@@ -55,7 +55,7 @@ fn equal_to<'a>(
     path: Spelling,
     value: usize,
 ) -> Altered
-    ensures { EqualToIs (before texts nodes) used path value result }
+    ensures { EqualToIs (before texts nodes.now) used path value result }
 {
     match walk(texts, nodes, layout::DOCUMENT, path) {
         Reached::At(row) => {
@@ -78,7 +78,7 @@ pub fn perform<'a>(
     row: usize,
     op: u16,
 ) -> Performed
-    ensures { PerformIs (before texts nodes) nodes.new used row op result }
+    ensures { PerformIs (before texts nodes.old) nodes.new used row op result }
 {
     let members = members_of(texts, nodes, row);
     let Spelled::As(path) = string_in(nodes, members.path) else {

@@ -27,7 +27,7 @@ fn elements<'a>(
     start: usize,
     end: usize,
 ) -> Ran
-    ensures { ElementsRunIs (before texts nodes) nodes.new used start end result }
+    ensures { ElementsRunIs (before texts nodes.old) nodes.new used start end result }
 {
     let mut rows = used;
     let mut row = start;
@@ -52,7 +52,7 @@ fn elements<'a>(
 
 // The operations of a patch of the right shape, on a document of `used` rows.
 pub fn run<'a>(texts: Texts<'a>, nodes: &mut [Node], index: &mut [u16], used: usize) -> Ran
-    ensures { RunIs (before texts nodes) nodes.new used result }
+    ensures { RunIs (before texts nodes.old) nodes.new used result }
 {
     let end = end_of(nodes, layout::PATCH);
     elements(texts, nodes, index, used, layout::PATCH + 1, end)

@@ -32,7 +32,7 @@ pub fn copy_value<'a>(
     path: Spelling,
     origin: u16,
 ) -> Performed
-    ensures { CopyIs (before texts nodes) nodes.new used from path origin result }
+    ensures { CopyIs (before texts nodes.old) nodes.new used from path origin result }
 {
     match walk(texts, nodes, layout::DOCUMENT, from) {
         Reached::At(row) => {
@@ -52,7 +52,7 @@ fn move_aside<'a>(
     from: Spelling,
     path: Spelling,
 ) -> Altered
-    ensures { MoveAsideIs (before texts nodes) nodes.new used from path result }
+    ensures { MoveAsideIs (before texts nodes.old) nodes.new used from path result }
 {
     let r = change_at(texts, nodes, used, from, Change::Remove);
     let Altered::Done(left) = r else {
@@ -69,7 +69,7 @@ fn move_below<'a>(
     from: Spelling,
     path: Spelling,
 ) -> Performed
-    ensures { MoveBelowIs (before texts nodes) nodes.new used from path result }
+    ensures { MoveBelowIs (before texts nodes.old) nodes.new used from path result }
 {
     if shift_within(texts, nodes, used, from, path) {
         return Performed::Done(used);
@@ -91,7 +91,7 @@ pub fn move_value<'a>(
     from: Spelling,
     path: Spelling,
 ) -> Performed
-    ensures { MoveIs (before texts nodes) nodes.new used from path result }
+    ensures { MoveIs (before texts nodes.old) nodes.new used from path result }
 {
     match first(part(texts, from)) {
         First::Root => return Performed::Done(used),

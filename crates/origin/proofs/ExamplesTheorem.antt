@@ -3,7 +3,8 @@ use mathlib.Core.Path.{refl}
 use Rattle.claims.specs.Pointers.{escape_character, escape_token, pointer_of}
 use Rattle.spec.proofs.Computing.{compute}
 use Rattle.merging.specs.MergePatch.{is_null}
-use Rattle.reversal.specs.Undo.{result_or, value_at, remaining, digits_before, index_token, element_token, parent_tokens, last_token, mended_in, mended, is_replace}
+use Rattle.reversal.specs.Undo.{result_or, value_at, remaining, digits_before, index_token, element_token, parent_tokens, last_token, mended_in}
+use Rattle.reversal.specs.Undo.{mended, is_replace}
 use Rattle.reversal.specs.Undo.{undo_moved, undo_move, undo_of, undo_run}
 use Rattle.reversal.specs.UndoValue.{op_name, value_member, operation_value, operation_values, undo_value}
 use Rattle.reversal.specs.UndoAnswer as PlainUndo

@@ -12,7 +12,7 @@ use Rattle.spec.specs.Value.{is_array, is_object}
 use Rattle.spec.specs.Equality.{equal}
 use Rattle.spec.specs.Pointer as PlainPointer
 use Rattle.spec.specs.Pointer.{Tokens, farther, is_dash, element_below}
-use Rattle.spec.specs.Operation.{Kind, add, remove, replace, move, copy, test, Operation}
+use Rattle.spec.specs.Operation.{Kind, Operation}
 use Rattle.spec.proofs.OutcomeLaws.{refused≢ok, both_ok}
 use Rattle.spec.proofs.FartherLaws.{farther_ok}
 use Rattle.spec.proofs.ChildLaws.{child_there}

@@ -68,6 +68,11 @@ bracket : (l : Label) (e : Plain.Entry) (kids rest : Plain.Members) → Allows l
 unfolding opening ascii
 bracket Label.array e kids rest Allows.array = omega arith
 bracket Label.object e kids rest Allows.object = omega arith
+bracket Label.null_literal e kids rest m = elim m [ ]
+bracket Label.true_literal e kids rest m = elim m [ ]
+bracket Label.false_literal e kids rest m = elim m [ ]
+bracket (Label.number _) e kids rest m = elim m [ ]
+bracket (Label.string _) e kids rest m = elim m [ ]
 
 -- the values in one whose text begins at a place
 inner_ordered : {s : Bytes} (l : Label) (p end : ℕ) (kids : Members) → Allows l (forget_members kids) → p + length (opening l) + 1 ≤ end →

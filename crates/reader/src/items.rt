@@ -47,7 +47,7 @@ fn comma(s: &[u8], at: Cursor, first: bool) -> Scan
 fn item_name(s: &[u8], nodes: &[Node], index: &mut [u16], at: Cursor, container: Container) -> Named
     requires lent { Lent container.source s.now (record { nodes = nodes.now; index = index.old }) }
     requires inside { Inside container }
-    ensures { ItemNameIs s.now container (work_before nodes index) index.new at.at result }
+    ensures { ItemNameIs s.now container (work_before nodes.now index.old) index.new at.at result }
 {
     if container.object {
         return member_name(s, nodes, index, at, container);
@@ -59,7 +59,7 @@ fn item_name(s: &[u8], nodes: &[Node], index: &mut [u16], at: Cursor, container:
 fn next_name(s: &[u8], nodes: &[Node], index: &mut [u16], at: Cursor, container: Container) -> Named
     requires lent { Lent container.source s.now (record { nodes = nodes.now; index = index.old }) }
     requires inside { Inside container }
-    ensures { NextNameIs s.now container (work_before nodes index) index.new at.at result }
+    ensures { NextNameIs s.now container (work_before nodes.now index.old) index.new at.at result }
 {
     let scan = comma(s, at, container.end == container.row + 1);
     let Scan::To(first) = scan else {
@@ -88,7 +88,7 @@ pub fn next_item(
 ) -> Item
     requires lent { Lent container.source s.now (record { nodes = nodes.now; index = index.old }) }
     requires inside { Inside container }
-    ensures { NextItemIs s.now container (work_before nodes index) index.new at.at result }
+    ensures { NextItemIs s.now container (work_before nodes.now index.old) index.new at.at result }
 {
     let place = at.blanks(s);
     let read = place.read(s);

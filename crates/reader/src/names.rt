@@ -34,7 +34,7 @@ fn repeated(
 ) -> bool
     requires lent { Lent object.source s.now (record { nodes = nodes.now; index = index.old }) }
     requires inside { Inside object }
-    ensures { RepeatedIs s.now object (work_before nodes index) index.new name result }
+    ensures { RepeatedIs s.now object (work_before nodes.now index.old) index.new name result }
 {
     let base = object.base;
     let row = object.row;
@@ -74,7 +74,7 @@ pub fn member_name(
 ) -> Named
     requires lent { Lent object.source s.now (record { nodes = nodes.now; index = index.old }) }
     requires inside { Inside object × (object.object ≡ true) }
-    ensures { MemberNameIs s.now object (work_before nodes index) index.new at.at result }
+    ensures { MemberNameIs s.now object (work_before nodes.now index.old) index.new at.at result }
 {
     let read = at.name(s);
     let Name::Read { next, hash, plain } = read else {

@@ -33,9 +33,9 @@ fn empty_index(index: &mut [u16], length: usize)
 
 // JSON-text = ws value ws, stored in the rows from `base` on.
 fn read(s: &[u8], nodes: &mut [Node], index: &mut [u16], source: u16, base: usize) -> Read
-    requires lent { Lent source s.now (record { nodes = nodes.now; index = index.old }) }
+    requires lent { Lent source s.now (record { nodes = nodes.old; index = index.old }) }
     requires max_nodes_bound { base + max_nodes ≤ scratch_row }
-    ensures { ReadIs source s.now base (work_before nodes index) (work_after nodes index) result }
+    ensures { ReadIs source s.now base (work_before nodes.old index.old) (work_after nodes.new index.new) result }
 {
     let first = (Cursor { at: 0 }).blanks(s);
     let r = value(
@@ -61,9 +61,9 @@ fn read(s: &[u8], nodes: &mut [Node], index: &mut [u16], source: u16, base: usiz
 
 // The same. The index is made empty before, unless the text is short.
 fn read_anew(s: &[u8], nodes: &mut [Node], index: &mut [u16], source: u16, base: usize) -> Read
-    requires lent { Lent source s.now (record { nodes = nodes.now; index = index.old }) }
+    requires lent { Lent source s.now (record { nodes = nodes.old; index = index.old }) }
     requires max_nodes_bound { base + max_nodes ≤ scratch_row }
-    ensures { ReadIs source s.now base (work_before nodes index) (work_after nodes index) result }
+    ensures { ReadIs source s.now base (work_before nodes.old index.old) (work_after nodes.new index.new) result }
 {
     empty_index(index, s.len());
     read(s, nodes, index, source, base)
@@ -72,7 +72,7 @@ fn read_anew(s: &[u8], nodes: &mut [Node], index: &mut [u16], source: u16, base:
 // The number of the refusal before a text is read, or 0 for none: the table or the index too short, or the text too
 // long.
 fn refusal_before(s: &[u8], nodes: &[Node], index: &[u16]) -> u8
-    ensures { result ≡ refusal_before (work_before nodes index) s.now }
+    ensures { result ≡ refusal_before (work_before nodes.now index.now) s.now }
 {
     if nodes.len() < layout::ROWS {
         return refusal::WORK_TOO_SHORT;
@@ -89,7 +89,7 @@ fn refusal_before(s: &[u8], nodes: &[Node], index: &[u16]) -> u8
 // The document is read into the rows from DOCUMENT on. Where the table or the index is too short, or the text too
 // long, nothing changes.
 pub fn read_document<'a>(texts: Texts<'a>, nodes: &mut [Node], index: &mut [u16]) -> Read
-    ensures { DocumentIs (lent texts) (work_before nodes index) (work_after nodes index) result }
+    ensures { DocumentIs (lent texts) (work_before nodes.old index.old) (work_after nodes.new index.new) result }
 {
     let s = texts[0];
     let number = refusal_before(s, nodes, index);
@@ -101,7 +101,7 @@ pub fn read_document<'a>(texts: Texts<'a>, nodes: &mut [Node], index: &mut [u16]
 
 // The same for the patch, which is read into the rows from PATCH on.
 pub fn read_patch<'a>(texts: Texts<'a>, nodes: &mut [Node], index: &mut [u16]) -> Read
-    ensures { PatchIs (lent texts) (work_before nodes index) (work_after nodes index) result }
+    ensures { PatchIs (lent texts) (work_before nodes.old index.old) (work_after nodes.new index.new) result }
 {
     let s = texts[1];
     let number = refusal_before(s, nodes, index);

@@ -118,11 +118,11 @@ fn container(
     base: usize,
     row: usize,
 ) -> Read
-    requires lent { Lent source s.now (record { nodes = nodes.now; index = index.old }) }
+    requires lent { Lent source s.now (record { nodes = nodes.old; index = index.old }) }
     requires kind_value { (kind ≡ beginning (byte s.now at.at)) × (array_kind ≤ kind) × (base ≤ row)
         × (base + max_nodes ≤ scratch_row) }
-    ensures { ValueTaken source s.now at.at levels name base row (work_before nodes index)
-        (work_after nodes index) result }
+    ensures { ValueTaken source s.now at.at levels name base row (work_before nodes.old index.old)
+        (work_after nodes.new index.new) result }
 {
     let number = refusal_at(kind, levels, base, row);
     if number != refusal::DONE {
@@ -178,10 +178,10 @@ pub fn value(
     base: usize,
     row: usize,
 ) -> Read
-    requires lent { Lent source s.now (record { nodes = nodes.now; index = index.old }) }
+    requires lent { Lent source s.now (record { nodes = nodes.old; index = index.old }) }
     requires base_le_row { (base ≤ row) × (base + max_nodes ≤ scratch_row) }
-    ensures { ValueTaken source s.now at.at levels name base row (work_before nodes index)
-        (work_after nodes index) result }
+    ensures { ValueTaken source s.now at.at levels name base row (work_before nodes.old index.old)
+        (work_after nodes.new index.new) result }
 {
     let kind = beginning(peek(s, at.at));
     if kind < layout::ARRAY {

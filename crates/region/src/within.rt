@@ -64,7 +64,7 @@ fn element_number<'a>(
     raw: bool,
 ) -> u8
     requires { raw ≡ true → Raw region.now }
-    ensures { ElementIs (before texts nodes) row op region.now result }
+    ensures { ElementIs (before texts nodes.now) row op region.now result }
 {
     let kind = kind_of(texts, nodes, row);
     if !uses_of(kind).known {
@@ -96,7 +96,7 @@ fn elements_within<'a>(
     raw: bool,
 ) -> Shape
     requires { raw ≡ true → Raw region.now }
-    ensures { ElementsAre (before texts nodes) start end region.now result }
+    ensures { ElementsAre (before texts nodes.now) start end region.now result }
 {
     let mut row = start;
     let mut op = 0;
@@ -116,7 +116,7 @@ fn elements_within<'a>(
 
 // The shape of the patch in a row, within a region.
 pub fn shape_within<'a>(texts: Texts<'a>, nodes: &[Node], row: usize, region: &[u8]) -> Shape
-    ensures { PatchWithinIs (before texts nodes) row region.now result }
+    ensures { PatchWithinIs (before texts nodes.now) row region.now result }
 {
     if kind(nodes, row) != layout::ARRAY {
         return Shape::Refused(refusal::WRONG_SHAPE, 0);

@@ -17,8 +17,8 @@ pub extern "C" fn json_patch_apply_within<'a>(
     index: &mut [u16],
     answer: &mut [u64; 6],
 ) -> u32
-    ensures { ExportIs (given document patch) region.now (memory_before output nodes index)
-        (memory_after output nodes index) answer.new result }
+    ensures { ExportIs (given document.now patch.now) region.now (memory_before output.old nodes.old index.old)
+        (memory_after output.new nodes.new index.new) answer.new result }
 {
     let r = apply_within(document, patch, region, output, nodes, index);
     *answer = [

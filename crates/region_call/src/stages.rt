@@ -17,7 +17,7 @@ use writer::{fits, write};
 
 // The document is written, where the output has room for all of it.
 fn write_out<'a>(texts: Texts<'a>, output: &mut [u8], nodes: &[Node]) -> Answer
-    ensures { WriteOutIs (before texts nodes) output.old output.new result }
+    ensures { WriteOutIs (before texts nodes.now) output.old output.new result }
 {
     if !fits(
         texts,
@@ -41,7 +41,7 @@ fn run_within<'a>(
     index: &mut [u16],
     used: usize,
 ) -> Answer
-    ensures { RunWithinIs (before texts nodes) region.now output.old
+    ensures { RunWithinIs (before texts nodes.old) region.now output.old
         output.new used result }
 {
     if !is_region(region) {
@@ -66,7 +66,7 @@ pub fn checked_within<'a>(
     nodes: &mut [Node],
     index: &mut [u16],
 ) -> Answer
-    ensures { CheckedWithinIs (lent texts) region.now (memory_before output nodes index)
+    ensures { CheckedWithinIs (lent texts) region.now (memory_before output.old nodes.old index.old)
         output.new result }
 {
     if limits::MAX_BYTES < texts[0].len() {

@@ -23,8 +23,8 @@ pub fn apply_within_listing<'a>(
     nodes: &mut [Node],
     index: &mut [u16],
 ) -> Answer
-    ensures { ApplyWithinListingIs (given document patch) region.now
-        (list_before output origins nodes index) (list_after output origins nodes index) result }
+    ensures { ApplyWithinListingIs (given document.now patch.now) region.now
+        (list_before output.old origins.old nodes.old index.old) (list_after output.new origins.new nodes.new index.new) result }
 {
     if nodes.len() < layout::ROWS {
         return refused(refusal::WORK_TOO_SHORT, 0, 0, 0);

@@ -23,8 +23,8 @@ fn run_within<'a>(
     index: &mut [u16],
     used: usize,
 ) -> Answer
-    ensures { RunWithinIs (before texts nodes) region.now (outputs_before output origins)
-        (outputs_after output origins) used result }
+    ensures { RunWithinIs (before texts nodes.old) region.now (outputs_before output.old origins.old)
+        (outputs_after output.new origins.new) used result }
 {
     if !is_region(region) {
         return refused(refusal::MALFORMED_POINTER, 0, 0, 0);
@@ -45,8 +45,8 @@ pub fn checked_within<'a>(
     nodes: &mut [Node],
     index: &mut [u16],
 ) -> Answer
-    ensures { CheckedWithinIs (lent texts) region.now (list_before output origins nodes index)
-        (outputs_after output origins) result }
+    ensures { CheckedWithinIs (lent texts) region.now (list_before output.old origins.old nodes.old index.old)
+        (outputs_after output.new origins.new) result }
 {
     if limits::MAX_BYTES < texts[0].len() {
         return refused(refusal::INPUT_TOO_LONG, 1, 0, 0);

@@ -48,7 +48,7 @@ pub fn run<'a>(
     nodes: &mut [Node],
     index: &mut [u16],
 ) -> usize
-    ensures { RunIs (given document patch) (memory_before line nodes index) (memory_after line nodes index) result }
+    ensures { RunIs (given document.now patch.now) (memory_before line.old nodes.old index.old) (memory_after line.new nodes.new index.new) result }
 {
     let room = but_one(line.len());
     let answer = apply(document, patch, &mut line[..room], nodes, index);

@@ -12,7 +12,8 @@ use Rattle.reversal.specs.Examples.{All, undos, Witness, times, nested, letters,
 
 -- the definitions that compute an undo: to unfold one of these names is to unfold all that its line names
 unfoldable compute_mended : Unit {0}
-unfolding escape_character escape_token pointer_of result_or value_at remaining digits_before index_token element_token parent_tokens last_token mended_in mended
+unfolding escape_character escape_token pointer_of result_or value_at remaining digits_before index_token element_token
+    parent_tokens last_token mended_in mended
 compute_mended = tt
 
 unfoldable compute_run : Unit {0}

@@ -12,7 +12,6 @@ use Rattle.spec.specs.Proper as Proper
 use Rattle.spec.specs.Proper.{ProperItems}
 use Rattle.claims.proofs.LabelLaws.{SameLabels, same_refl, same_trans, is_object_same}
 use Rattle.claims.proofs.RemoveAddLaws.{permuted_refl}
-use Rattle.claims.proofs.Alike as Alike
 use Rattle.claims.proofs.Alike.{Inserted, here, there, Alike}
 use Rattle.claims.proofs.Found.{count_inserted, inserted_absent}
 
@@ -71,8 +70,8 @@ module _ {L : Label → Label → Type 0} (laws : Labels L) where
 
   pub like_refl : (object : Bool) (f : Members) → Like L object f f
   like_refl object none = nothing
-  like_refl true (tree e kids f) = member refl (laws.whole _) (like_refl _ kids) here (like_refl true f)
-  like_refl false (tree e kids f) = element refl (laws.whole _) (like_refl _ kids) (like_refl false f)
+  like_refl true (tree e kids f) = member refl (laws.whole _) (like_refl (is_object e.label) kids) here (like_refl true f)
+  like_refl false (tree e kids f) = element refl (laws.whole _) (like_refl (is_object e.label) kids) (like_refl false f)
 
   -- what is put in on the left has a counterpart on the right, which it is like
   pub record Counterpart (e : Entry) (kids f h : Members) : Type 0 where

@@ -12,7 +12,8 @@ use Rattle.spec.specs.Value as Value
 use Rattle.spec.specs.Value.{Label, is_array, is_object, named, value_of, depth, nodes}
 use Rattle.spec.specs.Equality.{equal}
 use Rattle.spec.specs.Pointer.{Tokens, child_at, child, farther, walk, element_below, is_dash}
-use Rattle.spec.specs.Operation.{Kind, Operation, with_kids, at_parent, insert_element, insert_member, insert_child, remove_child, replace_child, add_at, remove_at_path}
+use Rattle.spec.specs.Operation.{Kind, Operation, with_kids, at_parent, insert_element, insert_member, insert_child, remove_child, replace_child}
+use Rattle.spec.specs.Operation.{add_at, remove_at_path}
 use Rattle.spec.specs.Operation.{replace_at_path, move_to, copy_to, test_at, perform, not_too_deep, not_too_large, limited}
 use Rattle.spec.specs.Proper as Proper
 use Rattle.spec.specs.Proper.{Proper}
@@ -77,7 +78,8 @@ module _ {L : Label → Label → Type 0} (laws : Labels L) where
       child_then t v w _ _ q r λ k j h i c.
       let below = child_like laws r c in
       then_like _ _
-      (farther_like (parent_like change change' alike u ts (value_of (child k v)) (value_of (child j w)) (proper_child t k v h p) (proper_child t j w i q) below))
+      (farther_like (parent_like change change' alike u ts (value_of (child k v)) (value_of (child j w))
+      (proper_child t k v h p) (proper_child t j w i q) below))
       λ x y _ _ s. both (put_like laws r c s)
 
   remove_like : ChangesAlike remove_child remove_child

@@ -11,7 +11,8 @@ use Rattle.spec.specs.Forest.{Forest, none, tree, Tree, single, count, before, f
 use Rattle.spec.specs.Value as Value
 use Rattle.spec.specs.Value.{Members, is_array, is_object, named, value_of, has, find}
 use Rattle.spec.specs.Pointer.{Tokens, child_at, child, farther, walk, element_below, is_dash}
-use Rattle.spec.specs.Operation.{Operation, with_kids, put, at_parent, insert_element, insert_member, insert_child, remove_child, replace_child, add_at, remove_at_path}
+use Rattle.spec.specs.Operation.{Operation, with_kids, put, at_parent, insert_element, insert_member, insert_child, remove_child, replace_child}
+use Rattle.spec.specs.Operation.{add_at, remove_at_path}
 use Rattle.spec.specs.Operation.{replace_at_path, perform}
 use Rattle.spec.proofs.OutcomeLaws.{refused≢ok, both_ok}
 use Rattle.spec.proofs.FartherLaws.{farther_ok}
@@ -152,7 +153,8 @@ mended-child x t v w h =
 
 -- the same operation one token farther up
 module _ (t : Text) (k : ℕ) (w v : Value.Value) (h : child_at t v ≡ ok k) where
-  remove_below : (hs : Tokens) (l : Text) → remove_at_path (t ∷ (hs ++ (l ∷ []))) (put k w v) ≡ farther (remove_at_path (hs ++ (l ∷ [])) w) >>= λ y. ok (put k y v)
+  remove_below : (hs : Tokens) (l : Text) →
+      remove_at_path (t ∷ (hs ++ (l ∷ []))) (put k w v) ≡ farther (remove_at_path (hs ++ (l ∷ [])) w) >>= λ y. ok (put k y v)
   unfolding remove_at_path
   remove_below [] l = below_put remove_child t l [] k w v h
   remove_below (s ∷ hs) l = below_put remove_child t s (hs ++ (l ∷ [])) k w v h

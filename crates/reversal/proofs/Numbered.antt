@@ -7,7 +7,8 @@ use lib.ListN.{length}
 use lib.Dec.{leb, ltb, eqb}
 use Rattle.spec.specs.Outcome.{Outcome, ok, refused, ◌>>=◌, if◌then◌else◌, require}
 use Rattle.spec.specs.Bytes.{Bytes, Text, ascii, byte, byte_in, within}
-use Rattle.spec.specs.Strings.{hex_in, low_surrogate, after_high, second_limit, unicode_escape, short_escape, escape, tail, multibyte, character, characters, string}
+use Rattle.spec.specs.Strings.{hex_in, low_surrogate, after_high, second_limit, unicode_escape, short_escape, escape, tail, multibyte, character}
+use Rattle.spec.specs.Strings.{characters, string}
 use Rattle.spec.specs.Strings.{hex_value}
 use Rattle.spec.specs.Numbers as Numbers
 use Rattle.spec.specs.Numbers.{is_digit, is_e, counted, digits, some_digits, int, frac, sign, exponent_digits, signed_digits, exp, minus}
@@ -20,14 +21,17 @@ use Rattle.spec.specs.Read.{blanks, word_at, room_for, literal_value, number_val
 use Rattle.spec.specs.Read.{container, value, read}
 use Rattle.spec.specs.Write.{write}
 use Rattle.spec.specs.Equality.{equal}
-use Rattle.spec.specs.Pointer.{Tokens, segments, tilde, unescape, unescape_all, tokens, is_index, is_dash, element_below, member_named, child_at, child, farther}
+use Rattle.spec.specs.Pointer.{Tokens, segments, tilde, unescape, unescape_all, tokens, is_index, is_dash, element_below, member_named, child_at}
+use Rattle.spec.specs.Pointer.{child, farther}
 use Rattle.spec.specs.Pointer.{walk}
-use Rattle.spec.specs.Operation.{Kind, Operation, at_parent, insert_element, insert_child, remove_child, replace_child, add_at, remove_at_path, replace_at_path, move_to}
+use Rattle.spec.specs.Operation.{Kind, Operation, at_parent, insert_element, insert_child, remove_child, replace_child, add_at, remove_at_path}
+use Rattle.spec.specs.Operation.{replace_at_path, move_to}
 use Rattle.spec.specs.Operation.{copy_to, test_at, perform, not_too_deep, not_too_large, limited}
 use Rattle.spec.specs.Patch.{member, string_of, string_member, kind_named, uses_value, uses_from, is_move, value_for, from_for, members_for, operation_members}
-use Rattle.spec.specs.Patch.{proper_prefix, with_pointers, operation, Stop, Run, finished, stopped, no_pointer, at_op, on_finish, operations, shape, which_pointer}
+use Rattle.spec.specs.Patch.{proper_prefix, with_pointers, operation, Stop, Run, finished, stopped, no_pointer, at_op, on_finish, operations}
+use Rattle.spec.specs.Patch.{shape, which_pointer}
 use Rattle.spec.specs.Patch.{run}
-use Rattle.spec.specs.Answer.{Answer, Lent, answer, answer_in, success, refusal, work_suffices, fitting, answer_of, patched, on_patch, on_document}
+use Rattle.spec.specs.Answer.{Answer, Lent, answer, answer_in, success, work_suffices, fitting, answer_of, patched, on_patch, on_document}
 
 pub data Numbered {A : Type 0} : Outcome A → Type 0 where
   result : {a : A} → Numbered (ok a)

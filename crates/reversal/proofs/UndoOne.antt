@@ -6,11 +6,11 @@ use Prim.Native.Nat.{ℕ}
 use native.Mathlib.Omega.{arith}
 use Rattle.spec.specs.Outcome.{Outcome, ok, ◌>>=◌}
 use Rattle.spec.specs.Bytes.{Text}
-use Rattle.spec.specs.Forest.{from}
 use Rattle.spec.specs.Value as Value
 use Rattle.spec.specs.Value.{is_array, value_of, has, find, same_text}
 use Rattle.spec.specs.Pointer.{Tokens, child_at, child, farther, walk}
-use Rattle.spec.specs.Operation.{Kind, Operation, put, at_parent, insert_member, insert_child, remove_child, replace_child, add_at, remove_at_path, replace_at_path}
+use Rattle.spec.specs.Operation.{Kind, Operation, put, at_parent, insert_member, insert_child, remove_child, replace_child, add_at}
+use Rattle.spec.specs.Operation.{remove_at_path, replace_at_path}
 use Rattle.spec.specs.Operation.{move_to, copy_to, perform, limited}
 use Rattle.spec.specs.Patch.{proper_prefix}
 use Rattle.spec.proofs.OutcomeLaws.{refused≢ok, both_ok}
@@ -44,8 +44,8 @@ replaced_parent x t (u ∷ ts) v w h =
     let (y, f, j) = both_ok (farther (at_parent (replace_child x) u ts (value_of (child k v)))) _ w i in
     let same : put k y v ≡ w = cc in
     let ih = replaced_parent x u ts (value_of (child k v)) y (farther_ok _ f) in
-    rw (← same, value_on t (u ∷ ts) v k e, replace_below t k y v e (value_at (u ∷ ts) (value_of (child k v))) u ts, ih)
-    (ap ok (put-child k v (child_there t v k e)))
+    rw (← same) (subst (λ z. replace_at_path (t ∷ u ∷ ts) z (put k y v) ≡ ok v) (sym (value_on t (u ∷ ts) v k e))
+    (rw (replace_below t k y v e (value_at (u ∷ ts) (value_of (child k v))) u ts, ih) (ap ok (put-child k v (child_there t v k e)))))
 
 replaced_path : (path : Tokens) (x v w : Value.Value) → replace_at_path path x v ≡ ok w → replace_at_path path (value_at path v) w ≡ ok v
 unfolding replace_at_path value_at walk result_or
@@ -62,7 +62,9 @@ below_again : (t u : Text) (ts : Tokens) (v : Value.Value) (k : ℕ) → child_a
     at_parent (replace_child (value_at (u ∷ ts) (value_of (child k v)))) u ts (value_of (child k v)) ≡ ok (value_of (child k v)) →
     at_parent (replace_child (value_at (t ∷ u ∷ ts) v)) t (u ∷ ts) v ≡ ok v
 unfolding at_parent farther ◌>>=◌
-below_again t u ts v k e ih = rw (value_on t (u ∷ ts) v k e, e, ih) (ap ok (put-child k v (child_there t v k e)))
+below_again t u ts v k e ih =
+    subst (λ x. at_parent (replace_child x) t (u ∷ ts) v ≡ ok v) (sym (value_on t (u ∷ ts) v k e))
+    (rw (e, ih) (ap ok (put-child k v (child_there t v k e))))
 
 same_again : (t : Text) (ts : Tokens) (v w : Value.Value) → at_parent remove_child t ts v ≡ ok w → at_parent (replace_child (value_at (t ∷ ts) v)) t ts v ≡ ok v
 unfolding at_parent remove_child
@@ -99,7 +101,8 @@ kind_below t hs l p =
     rw (mended_new (t ∷ hs) l p a b, mended_new hs l p a b)
 
 -- what was replaced is the child that the token names
-put_old : (x : Value.Value) (t : Text) (v w : Value.Value) (k : ℕ) → is_replace (mended_in [] t v).kind ≡ true → insert_child x t v ≡ ok w → child_at t v ≡ ok k →
+put_old : (x : Value.Value) (t : Text) (v w : Value.Value) (k : ℕ) →
+    is_replace (mended_in [] t v).kind ≡ true → insert_child x t v ≡ ok w → child_at t v ≡ ok k →
     put k x v ≡ w
 unfolding is_replace insert_member
 put_old x t v w k r h e =
@@ -141,7 +144,8 @@ module _ (x : Value.Value) (t : Text) (v c : Value.Value) (k : ℕ) (e : child_a
       rw (← same, value_on t (s ∷ ss) v k e, replace_below t k y v e (value_at (s ∷ ss) (value_of (child k v))) s ss, ih y kind (farther_ok _ f))
       (ap ok (put-child k v (child_there t v k e)))
 
-ancestor_parent : (x : Value.Value) (t : Text) (ps us : Tokens) (v left w : Value.Value) → proper_prefix ps us ≡ true → at_parent remove_child t us v ≡ ok left →
+ancestor_parent : (x : Value.Value) (t : Text) (ps us : Tokens) (v left w : Value.Value) → proper_prefix ps us ≡ true →
+    at_parent remove_child t us v ≡ ok left →
     is_replace (mended (t ∷ ps) left).kind ≡ true → at_parent (insert_child x) t ps left ≡ ok w → replace_at_path (t ∷ ps) (value_at (t ∷ ps) v) w ≡ ok v
 unfolding proper_prefix at_parent
 ancestor_parent x t [] [] v left w q h r i = absurd (false≢true q)
@@ -161,7 +165,8 @@ ancestor_parent x t (p ∷ ps) (u ∷ us) v left w q h r i =
     (λ y kind j. ancestor_parent x p ps us (value_of (child k v)) c y rest (token ∙ farther_ok _ f) kind j)
 
 ancestor_back : (x : Value.Value) (path : Tokens) (t : Text) (ts : Tokens) (v left w : Value.Value) → proper_prefix path (t ∷ ts) ≡ true →
-    remove_at_path (t ∷ ts) v ≡ ok left → is_replace (mended path left).kind ≡ true → add_at path x left ≡ ok w → replace_at_path path (value_at path v) w ≡ ok v
+    remove_at_path (t ∷ ts) v ≡ ok left → is_replace (mended path left).kind ≡ true → add_at path x left ≡ ok w →
+    replace_at_path path (value_at path v) w ≡ ok v
 unfolding proper_prefix remove_at_path add_at replace_at_path value_at walk result_or
 ancestor_back x [] t ts v left w q h r i = refl
 ancestor_back x (p ∷ ps) t ts v left w q h r i =

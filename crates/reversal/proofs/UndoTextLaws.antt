@@ -57,7 +57,8 @@ members-text o =
     let op = string_member_lem true (ascii "op") (op_name o.kind) _ in
     let whole = op ∙ ap (λ t. ascii "\"op\":" ++ (write_string (op_name o.kind) ++ t)) path in
     ap (λ t. t ++ ascii "}") whole ∙
-    ap₂ (λ x y. (ascii "\"op\":" ++ ((34 ∷ (x ++ (34 ∷ []))) ++ (ascii ",\"path\":" ++ (pointer ++ y)))) ++ ascii "}") (name_text_lem o.kind) (value_text_lem o) ∙
+    ap₂ (λ x y. (ascii "\"op\":" ++ ((34 ∷ (x ++ (34 ∷ []))) ++ (ascii ",\"path\":" ++ (pointer ++ y)))) ++ ascii "}")
+    (name_text_lem o.kind) (value_text_lem o) ∙
     regroup (ascii "\"op\":") (op_name o.kind) (ascii ",\"path\":") pointer (value_text o) (ascii "}")
 
 -- an operation's object

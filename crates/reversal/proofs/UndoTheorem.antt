@@ -1,13 +1,12 @@
 -- The undo's theorem, over whole texts.
 use mathlib.Core.Path.{◌≡◌, refl, ap, sym, ◌∙◌}
 use mathlib.Core.Bool.{Bool, true, false, true≢false}
-use mathlib.Core.List.{List, []}
+use mathlib.Core.List.{[]}
 use Prim.Native.Nat.{ℕ, ◌≤◌}
 use lib.ListN.{length}
 use lib.Dec.{leb, eqb}
 use borrow.Author.Tests.{leb-true, eq-eqb}
 use Rattle.spec.specs.Outcome.{ok, if◌then◌else◌}
-use Rattle.spec.specs.Refusal.{output_too_short}
 use Rattle.spec.specs.Limits.{max_bytes, max_depth, max_nodes, max_operations}
 use Rattle.spec.specs.Bytes.{Bytes}
 use Rattle.spec.specs.Forest.{count}
@@ -18,8 +17,8 @@ use Rattle.spec.specs.Read.{read}
 use Rattle.spec.specs.Write.{write}
 use Rattle.spec.specs.Operation.{Operation, limited}
 use Rattle.spec.specs.Patch.{finished, run}
-use Rattle.spec.specs.Answer.{Answer, Lent, answer, success, refusal, fitting, answer_of}
-use Rattle.spec.specs.Region.{Accepted, WellFormed, Enough}
+use Rattle.spec.specs.Answer.{Answer, Lent, answer, success, refusal, answer_of}
+use Rattle.spec.specs.Region.{WellFormed, Enough}
 use Rattle.spec.proofs.RegionTheorem.{called, work_enough, fits}
 use Rattle.spec.specs.Proper.{Proper, Readable}
 use Rattle.spec.specs.Distinct.{Distinct}
@@ -73,7 +72,8 @@ record BothWritten (a : Answer) (u : Value.Value) (text undo : Bytes) : Type 0 w
   plain : a ≡ success text
   fitting_undo : Fitting u undo
 
-written_fits : (room : ℕ) (t : Bytes) (u : Value.Value) (text undo : Bytes) → undo_written room t u ≡ undo_success text undo → BothWritten (success t) u text undo
+written_fits : (room : ℕ) (t : Bytes) (u : Value.Value) (text undo : Bytes) → undo_written room t u ≡ undo_success text undo →
+    BothWritten (success t) u text undo
 unfolding undo_written undo_fitting
 written_fits room t u text undo h =
     if_written (leb (count u.kids) max_operations) h

@@ -91,7 +91,7 @@ fn all_noted<'a>(texts: Texts<'a>, own: Name, at: usize, so_far: Members) -> Mem
 
 // The rows of the members, of the object in a row.
 pub fn members_of<'a>(texts: Texts<'a>, nodes: &[Node], row: usize) -> Members
-    ensures { MembersFound (before texts nodes) row result }
+    ensures { MembersFound (before texts nodes.now) row result }
 {
     let mut found = Members {
         op: 0,

@@ -19,7 +19,7 @@ pub enum Spelled {
 
 // The row of the member with that name, in the object in a row.
 pub fn member<'a>(texts: Texts<'a>, nodes: &[Node], row: usize, name: &[u8]) -> Member
-    ensures { MemberIs (before texts nodes) row name.now result }
+    ensures { MemberIs (before texts nodes.now) row name.now result }
 {
     if nodes.len() <= row {
         return Member::Missing;
@@ -30,7 +30,7 @@ pub fn member<'a>(texts: Texts<'a>, nodes: &[Node], row: usize, name: &[u8]) -> 
 
 // The string that is the member with that name.
 pub fn string_member<'a>(texts: Texts<'a>, nodes: &[Node], row: usize, name: &[u8]) -> Spelled
-    ensures { StringIs (before texts nodes) row name.now result }
+    ensures { StringIs (before texts nodes.now) row name.now result }
 {
     let Member::At(at) = member(texts, nodes, row, name) else {
         return Spelled::Not;

@@ -16,7 +16,7 @@ use tape::nodes::kind;
 
 // The kind of the operation in a row, given the row of its `op`.
 fn kind_at<'a>(texts: Texts<'a>, nodes: &[Node], row: usize, op: usize) -> Kind
-    ensures { KindGiven (before texts nodes) row op result }
+    ensures { KindGiven (before texts nodes.now) row op result }
 {
     if kind(nodes, row) != layout::OBJECT {
         return Kind::Unknown;
@@ -29,7 +29,7 @@ fn kind_at<'a>(texts: Texts<'a>, nodes: &[Node], row: usize, op: usize) -> Kind
 
 // The kind of the operation in a row. It is known only for an object whose `op` names one.
 pub fn kind_of<'a>(texts: Texts<'a>, nodes: &[Node], row: usize) -> Kind
-    ensures { KindIs (before texts nodes) row result }
+    ensures { KindIs (before texts nodes.now) row result }
 {
     kind_at(texts, nodes, row, members_of(texts, nodes, row).op)
 }
@@ -88,7 +88,7 @@ fn others_in<'a>(
     kind: Kind,
     path: Spelling,
 ) -> u8
-    ensures { OthersGiven (before texts nodes) members kind path result }
+    ensures { OthersGiven (before texts nodes.now) members kind path result }
 {
     let uses = uses_of(kind);
     let number = value_number(members.value, uses.value);
@@ -112,14 +112,14 @@ pub fn others_number<'a>(
     kind: Kind,
     path: Spelling,
 ) -> u8
-    ensures { OthersAre (before texts nodes) row kind path result }
+    ensures { OthersAre (before texts nodes.now) row kind path result }
 {
     others_in(texts, nodes, members_of(texts, nodes, row), kind, path)
 }
 
 // Refused where a member other than `op` is wrong, or a pointer is. The operation's kind and its members are given.
 fn members_number<'a>(texts: Texts<'a>, nodes: &[Node], members: Members, kind: Kind) -> u8
-    ensures { MembersGiven (before texts nodes) members kind result }
+    ensures { MembersGiven (before texts nodes.now) members kind result }
 {
     let Spelled::As(path) = string_in(nodes, members.path) else {
         return refusal::WRONG_SHAPE;
@@ -129,7 +129,7 @@ fn members_number<'a>(texts: Texts<'a>, nodes: &[Node], members: Members, kind: 
 
 // Refused where the operation in a row is malformed.
 pub fn operation_number<'a>(texts: Texts<'a>, nodes: &[Node], row: usize) -> u8
-    ensures { OperationIs (before texts nodes) row result }
+    ensures { OperationIs (before texts nodes.now) row result }
 {
     let members = members_of(texts, nodes, row);
     let kind = kind_at(texts, nodes, row, members.op);

@@ -17,7 +17,7 @@ pub enum Shape {
 
 // The operations in the rows from `start` up to `end`, the first of which is operation 1.
 fn elements<'a>(texts: Texts<'a>, nodes: &[Node], start: usize, end: usize) -> Shape
-    ensures { ElementsAre (before texts nodes) start end result }
+    ensures { ElementsAre (before texts nodes.now) start end result }
 {
     let mut row = start;
     let mut op = 0;
@@ -37,7 +37,7 @@ fn elements<'a>(texts: Texts<'a>, nodes: &[Node], start: usize, end: usize) -> S
 
 // The patch in a row.
 pub fn shape_of<'a>(texts: Texts<'a>, nodes: &[Node], row: usize) -> Shape
-    ensures { PatchIs (before texts nodes) row result }
+    ensures { PatchIs (before texts nodes.now) row result }
 {
     if kind(nodes, row) != layout::ARRAY {
         return Shape::Refused(refusal::WRONG_SHAPE, 0);

@@ -74,7 +74,7 @@ fn shift<'a>(
     other: Name,
 ) -> bool
     requires { used ≤ 2048 }
-    ensures { ChildShiftIs (before texts nodes) nodes.new used parent token other result }
+    ensures { ChildShiftIs (before texts nodes.old) nodes.new used parent token other result }
 {
     if kind(nodes, parent) != layout::ARRAY {
         return false;
@@ -127,7 +127,7 @@ fn siblings<'a>(
     path: Spelling,
     other: usize,
 ) -> Pair
-    ensures { Paired (before texts nodes) from path start other 0 result }
+    ensures { Paired (before texts nodes.now) from path start other 0 result }
 {
     let a = part(texts, from);
     let b = part(texts, path);
@@ -180,7 +180,7 @@ pub fn shift_within<'a>(
     from: Spelling,
     path: Spelling,
 ) -> bool
-    ensures { ShiftIs (before texts nodes) nodes.new used from path result }
+    ensures { ShiftIs (before texts nodes.old) nodes.new used from path result }
 {
     if limits::MAX_NODES < used {
         return false;

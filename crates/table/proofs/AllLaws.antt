@@ -19,13 +19,13 @@ module _ {A : Type 0} {Q : A → Type 0} where
   all_⧺ all_none n = n
   all_⧺ (all_tree q k r) n = all_tree q k (all_⧺ r n)
 
-  pub all_before : {f : Forest A} (k : ℕ) → All Q f → All Q (before k f)
+  pub all_before : (k : ℕ) {f : Forest A} → All Q f → All Q (before k f)
   unfolding before
   all_before zero m = all_none
   all_before (suc n) all_none = all_none
   all_before (suc n) (all_tree q k r) = all_tree q k (all_before n r)
 
-  pub all_from : {f : Forest A} (k : ℕ) → All Q f → All Q (from k f)
+  pub all_from : (k : ℕ) {f : Forest A} → All Q f → All Q (from k f)
   unfolding from
   all_from zero m = m
   all_from (suc n) all_none = all_none

@@ -65,7 +65,7 @@ fn quiet(nodes: &[Node], row: usize, stop: usize, hash: u16) -> bool
 
 // The first of the trees in the rows from `start` up to `end` that has the name.
 pub fn find<'a>(texts: Texts<'a>, nodes: &[Node], start: usize, end: usize, name: Name) -> Member
-    ensures { FindIs (before texts nodes) start end name result }
+    ensures { FindIs (before texts nodes.now) start end name result }
 {
     let stop = limit(nodes, end);
     let mut row = start;
@@ -125,7 +125,7 @@ pub fn find_ascii<'a>(
     end: usize,
     name: &[u8],
 ) -> Member
-    ensures { FindAsciiIs (before texts nodes) start end name.now result }
+    ensures { FindAsciiIs (before texts nodes.now) start end name.now result }
 {
     let h = short(hash_ascii(name));
     let stop = limit(nodes, end);

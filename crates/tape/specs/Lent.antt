@@ -14,12 +14,9 @@ pub record Table : Type 0 where
   pub texts : Texts
   pub nodes : List Row
 
--- ---- parameters: `texts: Texts` and `nodes: &[Node]` or `nodes: &mut [Node]`
+-- ---- a parameter `texts: Texts`
 abbrev LentTexts : Type 0
 LentTexts = Both (List (Bor Bytes)) (List (Bor Bytes))
-
-abbrev LentNodes : Type 0
-LentNodes = Both (Bor (List Row)) (Bor (List Row))
 
 abbrev pub text_at : List (Bor Bytes) → ℕ → Bytes
 text_at texts n = (get_or texts n (record { ref_ptr = (0, 0); now = [] })).now
@@ -31,12 +28,12 @@ both texts = record { document = text_at texts 0; patch = text_at texts 1 }
 abbrev pub table_of : List (Bor Bytes) → List Row → Table
 table_of texts nodes = record { texts = both texts; nodes = nodes }
 
--- as they were lent, and as they are given back
+-- as they were lent, and with the nodes as they were lent or as they are given back
 abbrev pub lent : LentTexts → Texts
 lent texts = both texts.entry
 
-abbrev pub before : LentTexts → LentNodes → Table
-before texts nodes = table_of texts.entry nodes.entry.now
+abbrev pub before : LentTexts → List Row → Table
+before texts nodes = table_of texts.entry nodes
 
-abbrev pub after : LentTexts → LentNodes → Table
-after texts nodes = table_of texts.entry nodes.exit.now
+abbrev pub after : LentTexts → List Row → Table
+after texts nodes = table_of texts.entry nodes

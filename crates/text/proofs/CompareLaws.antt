@@ -95,18 +95,18 @@ module _ {form other : ℕ} {a b : Bytes} (known : within 1 3 form ≡ true) (to
       more r (λ z. letter_not_zero (byte a i) t (sym p ∙ z)) (p ∙ sym e ∙ sym q)
 
 -- the texts are the same exactly if what is left of them is
-pub common_texts : {form other n : ℕ} {a b : Bytes} → Common form a other b n
+pub common_texts : {form other : ℕ} {a b : Bytes} {n : ℕ} → Common form a other b n
     → same_text (text_from form a n) (text_from other b n) ≡ same_text (text_of form a) (text_of other b)
 unfolding text_of
 common_texts none = refl
-common_texts {form} {other} {a = a} {b} (more {i} r n e) =
+common_texts {form} {other} {a} {b} (more {i} r n e) =
     sym (heads_same (plain_text form a i refl n) (plain_text other b i refl (λ z. n (e ∙ z))) e) ∙ common_texts r
 
 -- the same for a word that is given by its bytes
-pub common_word : {form n : ℕ} {a l : Bytes} → Common form a 1 l n → (n ≤ length l) × (same_text (text_from form a n) (drop n l) ≡ same_text (text_of form a) l)
+pub common_word : {form : ℕ} {a l : Bytes} {n : ℕ} → Common form a 1 l n → (n ≤ length l) × (same_text (text_from form a n) (drop n l) ≡ same_text (text_of form a) l)
 unfolding text_of byte
 common_word none = (omega arith, refl)
-common_word {form} {a = a} {l} (more {i} r n e) =
+common_word {form} {a} {l} (more {i} r n e) =
     let m : plain_at 1 l i ≡ 0 → ⊥ = λ z. n (e ∙ z) in
     let h = plain_inside 1 l i refl m in
     (omega arith, sym (heads_same (plain_text form a i refl n) (front l i h) (e ∙ plain_is 1 l i m)) ∙ (common_word r).1)

@@ -1,7 +1,5 @@
 -- What the call promises, on every input: the whole answer, and all lent memory afterwards, as equations with the definition `undo_answer`.
 use Rattle.std.specs.Prelude.{ℕ, ◌≡◌, Bool, ◌&&◌, List, [], ◌∷◌, ◌++◌, leb, length, drop}
-use Rattle.std.specs.Borrow.{Bor}
-use denote.Triple.Both.{Both}
 use Rattle.spec.specs.Limits.{max_bytes, work_nodes, work_entries}
 use Rattle.spec.specs.Bytes.{Bytes}
 use Rattle.spec.specs.Answer.{work_suffices}
@@ -18,15 +16,12 @@ pub record UndoMemory : Type 0 where
   pub undo : Bytes
   pub work : Bytes
 
-abbrev LentBytes : Type 0
-LentBytes = Both (Bor Bytes) (Bor Bytes)
-
 -- as it was lent, and as it is given back
-abbrev pub with_before : Memory → LentBytes → LentBytes → UndoMemory
-with_before m undo work = record { patch = m; undo = undo.entry.now; work = work.entry.now }
+abbrev pub with_before : Memory → Bytes → Bytes → UndoMemory
+with_before m undo work = record { patch = m; undo = undo; work = work }
 
-abbrev pub with_after : Memory → LentBytes → LentBytes → UndoMemory
-with_after m undo work = record { patch = m; undo = undo.exit.now; work = work.exit.now }
+abbrev pub with_after : Memory → Bytes → Bytes → UndoMemory
+with_after m undo work = record { patch = m; undo = undo; work = work }
 
 -- its lengths
 abbrev pub undo_lent_of : UndoMemory → UndoLent

@@ -24,8 +24,8 @@ pub fn apply_with_undo<'a>(
     index: &mut [u16],
     work: &mut [u8],
 ) -> UndoAnswer
-    ensures { UndoIs (given document patch) (with_before (memory_before output nodes index) undo work)
-        (with_after (memory_after output nodes index) undo work) result }
+    ensures { UndoIs (given document.now patch.now) (with_before (memory_before output.old nodes.old index.old) undo.old work.old)
+        (with_after (memory_after output.new nodes.new index.new) undo.new work.new) result }
 {
     if nodes.len() < layout::ROWS {
         return without(refused(refusal::WORK_TOO_SHORT, 0, 0, 0));

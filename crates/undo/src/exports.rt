@@ -18,8 +18,8 @@ pub extern "C" fn json_patch_apply_with_undo<'a>(
     work: &mut [u8],
     answer: &mut [u64; 7],
 ) -> u32
-    ensures { ExportIs (given document patch) (with_before (memory_before output nodes index) undo work)
-        (with_after (memory_after output nodes index) undo work) answer.new result }
+    ensures { ExportIs (given document.now patch.now) (with_before (memory_before output.old nodes.old index.old) undo.old work.old)
+        (with_after (memory_after output.new nodes.new index.new) undo.new work.new) answer.new result }
 {
     let r = apply_with_undo(document, patch, output, undo, nodes, index, work);
     let plain = r.answer;

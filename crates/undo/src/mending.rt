@@ -26,7 +26,7 @@ pub fn note_removed<'a>(
     path: Spelling,
     work: &mut [u8],
 ) -> Log
-    ensures { NoteRemovedIs (before texts nodes) log path work.old work.new result }
+    ensures { NoteRemovedIs (before texts nodes.now) log path work.old work.new result }
 {
     let Reached::At(row) = walk(texts, nodes, layout::DOCUMENT, path) else {
         return log;
@@ -42,7 +42,7 @@ pub fn note_replaced<'a>(
     path: Spelling,
     work: &mut [u8],
 ) -> Log
-    ensures { NoteReplacedIs (before texts nodes) log path work.old work.new result }
+    ensures { NoteReplacedIs (before texts nodes.now) log path work.old work.new result }
 {
     let Reached::At(row) = walk(texts, nodes, layout::DOCUMENT, path) else {
         return log;
@@ -80,7 +80,7 @@ fn mend_element<'a>(
     name: Name,
     work: &mut [u8],
 ) -> Log
-    ensures { MendElementIs (before texts nodes) log path next parent name
+    ensures { MendElementIs (before texts nodes.now) log path next parent name
         work.old work.new result }
 {
     if is_dash(part(texts, name.text)) {
@@ -101,7 +101,7 @@ fn mend_member<'a>(
     name: Name,
     work: &mut [u8],
 ) -> Log
-    ensures { MendMemberIs (before texts nodes) log path next parent name
+    ensures { MendMemberIs (before texts nodes.now) log path next parent name
         work.old work.new result }
 {
     let Child::At(row) = step(texts, nodes, parent, name) else {
@@ -128,7 +128,7 @@ fn mend_child<'a>(
     name: Name,
     work: &mut [u8],
 ) -> Log
-    ensures { MendChildIs (before texts nodes) log path next parent name
+    ensures { MendChildIs (before texts nodes.now) log path next parent name
         work.old work.new result }
 {
     if kind(nodes, parent) == layout::ARRAY {
@@ -145,7 +145,7 @@ fn mend_below<'a>(
     path: Spelling,
     work: &mut [u8],
 ) -> Log
-    ensures { MendBelowIs (before texts nodes) log path work.old work.new result }
+    ensures { MendBelowIs (before texts nodes.now) log path work.old work.new result }
 {
     let pointer = part(texts, path);
     let cut = last_slash(pointer);
@@ -158,7 +158,7 @@ fn mend_below<'a>(
 
 // The undo of a value that is put in at `path`, noted before it is put in.
 pub fn mend<'a>(texts: Texts<'a>, nodes: &[Node], log: Log, path: Spelling, work: &mut [u8]) -> Log
-    ensures { MendIs (before texts nodes) log path work.old work.new result }
+    ensures { MendIs (before texts nodes.now) log path work.old work.new result }
 {
     match first(part(texts, path)) {
         First::Root => return note(

@@ -29,7 +29,7 @@ pub struct Stepped {
 
 // Whether the parent of the location that `path` names is an object.
 fn in_object<'a>(texts: Texts<'a>, nodes: &[Node], path: Spelling) -> bool
-    ensures { InObjectIs (before texts nodes) path result }
+    ensures { InObjectIs (before texts nodes.now) path result }
 {
     let cut = last_slash(part(texts, path));
     let Reached::At(parent) = walk(texts, nodes, layout::DOCUMENT, shortened(path, cut.end)) else {
@@ -40,7 +40,7 @@ fn in_object<'a>(texts: Texts<'a>, nodes: &[Node], path: Spelling) -> bool
 
 // Whether a value that holds `from` is replaced at `path`: the root, or a member.
 fn holds<'a>(texts: Texts<'a>, nodes: &[Node], path: Spelling, from: Spelling) -> bool
-    ensures { HoldsIs (before texts nodes) path from result }
+    ensures { HoldsIs (before texts nodes.now) path from result }
 {
     let to = part(texts, path);
     if !proper_prefix(to, part(texts, from)) {
@@ -64,7 +64,7 @@ fn move_apart<'a>(
     log: Log,
     work: &mut [u8],
 ) -> Stepped
-    ensures { MoveApartIs (before texts nodes) nodes.new work.old work.new
+    ensures { MoveApartIs (before texts nodes.old) nodes.new work.old work.new
         used from path row log result }
 {
     set_aside(nodes, row);
@@ -93,7 +93,7 @@ pub fn plain<'a>(
     op: u16,
     log: Log,
 ) -> Stepped
-    ensures { PlainIs (before texts nodes) nodes.new used row op log result }
+    ensures { PlainIs (before texts nodes.old) nodes.new used row op log result }
 {
     let outcome = perform(texts, nodes, index, used, row, op);
     Stepped { outcome, log }
@@ -113,7 +113,7 @@ fn move_from<'a>(
     log: Log,
     work: &mut [u8],
 ) -> Stepped
-    ensures { MoveFromIs (before texts nodes) nodes.new work.old work.new used
+    ensures { MoveFromIs (before texts nodes.old) nodes.new work.old work.new used
         row op from path at log result }
 {
     if holds(texts, nodes, path, from) {
@@ -137,7 +137,7 @@ fn move_below<'a>(
     log: Log,
     work: &mut [u8],
 ) -> Stepped
-    ensures { MoveBelowIs (before texts nodes) nodes.new work.old work.new
+    ensures { MoveBelowIs (before texts nodes.old) nodes.new work.old work.new
         used row op from path log result }
 {
     let Reached::At(at) = walk(texts, nodes, layout::DOCUMENT, from) else {
@@ -160,7 +160,7 @@ pub fn move_step<'a>(
     log: Log,
     work: &mut [u8],
 ) -> Stepped
-    ensures { MoveStepIs (before texts nodes) nodes.new work.old
+    ensures { MoveStepIs (before texts nodes.old) nodes.new work.old
         work.new used row op path log result }
 {
     let Spelled::As(from) = string_member(texts, nodes, row, b"from") else {

@@ -29,7 +29,7 @@ fn elements<'a>(
     log: Log,
     work: &mut [u8],
 ) -> Logged
-    ensures { ElementsLoggedIs (before texts nodes) nodes.new work.old
+    ensures { ElementsLoggedIs (before texts nodes.old) nodes.new work.old
         work.new used start end log result }
 {
     let mut rows = used;
@@ -75,7 +75,7 @@ pub fn run<'a>(
     log: Log,
     work: &mut [u8],
 ) -> Logged
-    ensures { LoggedIs (before texts nodes) nodes.new work.old
+    ensures { LoggedIs (before texts nodes.old) nodes.new work.old
         work.new used log result }
 {
     let end = end_of(nodes, layout::PATCH);

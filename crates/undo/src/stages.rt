@@ -25,7 +25,7 @@ fn write_both<'a>(
     log: Log,
     work: &[u8],
 ) -> UndoAnswer
-    ensures { WriteBothIs (before texts nodes)
+    ensures { WriteBothIs (before texts nodes.now)
         (record { document = output.old; undo = undo.old })
         (record { document = output.new; undo = undo.new }) work.now log result }
 {
@@ -64,7 +64,7 @@ fn run_patch<'a>(
     work: &mut [u8],
     used: usize,
 ) -> UndoAnswer
-    ensures { RunPatchIs (before texts nodes)
+    ensures { RunPatchIs (before texts nodes.old)
         (record { document = output.old; undo = undo.old })
         (record { document = output.new; undo = undo.new }) work.old used result }
 {
@@ -90,7 +90,7 @@ pub fn checked<'a>(
     index: &mut [u16],
     work: &mut [u8],
 ) -> UndoAnswer
-    ensures { CheckedIs (lent texts) (with_before (memory_before output nodes index) undo work)
+    ensures { CheckedIs (lent texts) (with_before (memory_before output.old nodes.old index.old) undo.old work.old)
         (record { document = output.new; undo = undo.new }) result }
 {
     if limits::MAX_BYTES < texts[0].len() {

@@ -19,7 +19,7 @@ fn note_before<'a>(
     log: Log,
     work: &mut [u8],
 ) -> Log
-    ensures { NoteBeforeIs (before texts nodes) work.old work.new kind path log result }
+    ensures { NoteBeforeIs (before texts nodes.now) work.old work.new kind path log result }
 {
     match kind {
         Kind::Add => return mend(texts, nodes, log, path, work),
@@ -43,7 +43,7 @@ pub fn step<'a>(
     log: Log,
     work: &mut [u8],
 ) -> Stepped
-    ensures { StepIs (before texts nodes) nodes.new work.old
+    ensures { StepIs (before texts nodes.old) nodes.new work.old
         work.new used row op log result }
 {
     let Spelled::As(path) = string_member(texts, nodes, row, b"path") else {

@@ -1,8 +1,6 @@
 -- What the call with an undo that lists origins promises, on every input: the whole answer, and all lent memory afterwards, as equations with the
 -- definition `undo_answer` of crate origin. What becomes of the work area and the buffer is as in the call with an undo.
 use Rattle.std.specs.Prelude.{ℕ, ◌≡◌, List, [], ◌∷◌, ◌++◌, length, drop}
-use Rattle.std.specs.Borrow.{Bor}
-use denote.Triple.Both.{Both}
 use Rattle.spec.specs.Limits.{max_bytes, work_nodes, work_entries}
 use Rattle.spec.specs.Bytes.{Bytes}
 use Rattle.tape.specs.Fields.{Row, no_node}
@@ -25,44 +23,35 @@ pub record Outputs : Type 0 where
   pub texts : Undo.Outputs
   pub list : List ℕ
 
-abbrev LentBytes : Type 0
-LentBytes = Both (Bor Bytes) (Bor Bytes)
-
-abbrev LentNodes : Type 0
-LentNodes = Both (Bor (List Row)) (Bor (List Row))
-
-abbrev LentNumbers : Type 0
-LentNumbers = Both (Bor (List ℕ)) (Bor (List ℕ))
-
 -- as it was lent, and as it is given back
-abbrev pub outputs_before : LentBytes → LentBytes → LentNumbers → Outputs
-outputs_before output undo list = record { texts = record { document = output.entry.now; undo = undo.entry.now }; list = list.entry.now }
+abbrev pub outputs_before : Bytes → Bytes → List ℕ → Outputs
+outputs_before output undo list = record { texts = record { document = output; undo = undo }; list = list }
 
-abbrev pub outputs_after : LentBytes → LentBytes → LentNumbers → Outputs
-outputs_after output undo list = record { texts = record { document = output.exit.now; undo = undo.exit.now }; list = list.exit.now }
+abbrev pub outputs_after : Bytes → Bytes → List ℕ → Outputs
+outputs_after output undo list = record { texts = record { document = output; undo = undo }; list = list }
 
-abbrev pub memory_before : LentBytes → LentBytes → LentNumbers → LentNodes → LentNumbers → LentBytes → UndoListMemory
+abbrev pub memory_before : Bytes → Bytes → List ℕ → List Row → List ℕ → Bytes → UndoListMemory
 memory_before output undo list nodes index work =
     record {
       call =
           record {
-            patch = record { output = output.entry.now; nodes = nodes.entry.now; index = index.entry.now };
-            undo = undo.entry.now;
-            work = work.entry.now;
+            patch = record { output = output; nodes = nodes; index = index };
+            undo = undo;
+            work = work;
           };
-      list = list.entry.now;
+      list = list;
     }
 
-abbrev pub memory_after : LentBytes → LentBytes → LentNumbers → LentNodes → LentNumbers → LentBytes → UndoListMemory
+abbrev pub memory_after : Bytes → Bytes → List ℕ → List Row → List ℕ → Bytes → UndoListMemory
 memory_after output undo list nodes index work =
     record {
       call =
           record {
-            patch = record { output = output.exit.now; nodes = nodes.exit.now; index = index.exit.now };
-            undo = undo.exit.now;
-            work = work.exit.now;
+            patch = record { output = output; nodes = nodes; index = index };
+            undo = undo;
+            work = work;
           };
-      list = list.exit.now;
+      list = list;
     }
 
 abbrev pub outputs_of : UndoListMemory → Outputs

@@ -19,8 +19,8 @@ pub extern "C" fn json_patch_apply_with_undo_origins<'a>(
     work: &mut [u8],
     answer: &mut [u64; 7],
 ) -> u32
-    ensures { ExportIs (given document patch) (memory_before output undo origins nodes index work)
-        (memory_after output undo origins nodes index work) answer.new result }
+    ensures { ExportIs (given document.now patch.now) (memory_before output.old undo.old origins.old nodes.old index.old work.old)
+        (memory_after output.new undo.new origins.new nodes.new index.new work.new) answer.new result }
 {
     let r = apply_with_undo_listing(document, patch, output, undo, origins, nodes, index, work);
     let plain = r.answer;

@@ -27,8 +27,8 @@ fn write_all<'a>(
     log: Log,
     work: &[u8],
 ) -> UndoAnswer
-    ensures { WriteAllIs (before texts nodes) (outputs_before output undo origins)
-        (outputs_after output undo origins) used work.now log result }
+    ensures { WriteAllIs (before texts nodes.now) (outputs_before output.old undo.old origins.old)
+        (outputs_after output.new undo.new origins.new) used work.now log result }
 {
     let number = verdict(log);
     let length = text_length(log);
@@ -70,8 +70,8 @@ fn run_patch<'a>(
     work: &mut [u8],
     used: usize,
 ) -> UndoAnswer
-    ensures { RunPatchIs (before texts nodes) (outputs_before output undo origins)
-        (outputs_after output undo origins) work.old used result }
+    ensures { RunPatchIs (before texts nodes.old) (outputs_before output.old undo.old origins.old)
+        (outputs_after output.new undo.new origins.new) work.old used result }
 {
     let shape = shape_of(texts, nodes, layout::PATCH);
     let Shape::Right = shape else {
@@ -97,8 +97,8 @@ pub fn checked<'a>(
     index: &mut [u16],
     work: &mut [u8],
 ) -> UndoAnswer
-    ensures { CheckedIs (lent texts) (memory_before output undo origins nodes index work)
-        (outputs_after output undo origins) result }
+    ensures { CheckedIs (lent texts) (memory_before output.old undo.old origins.old nodes.old index.old work.old)
+        (outputs_after output.new undo.new origins.new) result }
 {
     if limits::MAX_BYTES < texts[0].len() {
         return without(refused(refusal::INPUT_TOO_LONG, 1, 0, 0));

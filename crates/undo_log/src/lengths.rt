@@ -62,13 +62,13 @@ fn head_length(action: Action) -> usize
 
 // The value of a row with its name, and the closing brace.
 fn value_length<'a>(texts: Texts<'a>, nodes: &[Node], row: usize) -> usize
-    ensures { ValueLengthIs (before texts nodes) row result }
+    ensures { ValueLengthIs (before texts nodes.now) row result }
 {
     joined(measure(texts, nodes, row, limits::MAX_DEPTH), 10)
 }
 
 fn ending_length<'a>(texts: Texts<'a>, nodes: &[Node], action: Action) -> usize
-    ensures { EndingLengthIs (before texts nodes) action result }
+    ensures { EndingLengthIs (before texts nodes.now) action result }
 {
     match action {
         Action::Add(row) => return value_length(texts, nodes, row),
@@ -78,7 +78,7 @@ fn ending_length<'a>(texts: Texts<'a>, nodes: &[Node], action: Action) -> usize
 }
 
 fn operation_length<'a>(texts: Texts<'a>, nodes: &[Node], action: Action, target: Target) -> usize
-    ensures { OperationLengthIs (before texts nodes) action target result }
+    ensures { OperationLengthIs (before texts nodes.now) action target result }
 {
     let first = joined(head_length(action), path_length(texts, target));
     joined(first, ending_length(texts, nodes, action))
@@ -92,7 +92,7 @@ pub fn more_bytes<'a>(
     action: Action,
     target: Target,
 ) -> usize
-    ensures { MoreBytesIs (before texts nodes) bytes action target result }
+    ensures { MoreBytesIs (before texts nodes.now) bytes action target result }
 {
     if limits::MAX_BYTES < bytes {
         return limits::MAX_BYTES + 1;

@@ -72,7 +72,7 @@ fn lay_down<'a>(
     target: Target,
     work: &mut [u8],
 )
-    ensures { LayDownIs (before texts nodes) action target bytes work.old work.new }
+    ensures { LayDownIs (before texts nodes.now) action target bytes work.old work.new }
 {
     if work.len() < bytes {
         return;
@@ -90,7 +90,7 @@ pub fn note<'a>(
     target: Target,
     work: &mut [u8],
 ) -> Log
-    ensures { NoteIs (before texts nodes) log action target work.old work.new result }
+    ensures { NoteIs (before texts nodes.now) log action target work.old work.new result }
 {
     let bytes = more_bytes(texts, nodes, log.bytes, action, target);
     lay_down(texts, nodes, bytes, action, target, work);

@@ -58,7 +58,7 @@ fn put_path<'a>(texts: Texts<'a>, target: Target, out: &mut [u8]) -> usize
 
 // The value of a row with its name, and the closing brace.
 fn put_value<'a>(texts: Texts<'a>, nodes: &[Node], row: usize, out: &mut [u8]) -> usize
-    ensures { PutValueIs (before texts nodes) row out.old out.new result }
+    ensures { PutValueIs (before texts nodes.now) row out.old out.new result }
 {
     let mut put = put_part(PLAIN_STRING, b",\"value\":", out);
     let n = write(texts, nodes, row, limits::MAX_DEPTH, &mut out[put..]);
@@ -69,7 +69,7 @@ fn put_value<'a>(texts: Texts<'a>, nodes: &[Node], row: usize, out: &mut [u8]) -
 
 // What stands behind the path.
 fn put_ending<'a>(texts: Texts<'a>, nodes: &[Node], action: Action, out: &mut [u8]) -> usize
-    ensures { PutEndingIs (before texts nodes) action out.old out.new result }
+    ensures { PutEndingIs (before texts nodes.now) action out.old out.new result }
 {
     match action {
         Action::Add(row) => return put_value(texts, nodes, row, out),
@@ -86,7 +86,7 @@ pub fn put_operation<'a>(
     target: Target,
     out: &mut [u8],
 ) -> usize
-    ensures { PutOperationIs (before texts nodes) action target out.old out.new result }
+    ensures { PutOperationIs (before texts nodes.now) action target out.old out.new result }
 {
     let mut put = put_head(action, out);
     let n = put_path(texts, target, &mut out[put..]);

@@ -26,7 +26,7 @@ fn walk_from<'a>(
     path: Spelling,
     first: usize,
 ) -> Reached
-    ensures { WalkFromIs (before texts nodes) start path first result }
+    ensures { WalkFromIs (before texts nodes.now) start path first result }
 {
     let pointer = part(texts, path);
     let mut at = first;
@@ -52,7 +52,7 @@ fn walk_from<'a>(
 // From the node in the row `start`, along the pointer that `path` spells. A text that is no pointer is refused with
 // 10.
 pub fn walk<'a>(texts: Texts<'a>, nodes: &[Node], start: usize, path: Spelling) -> Reached
-    ensures { WalkIs (before texts nodes) start path result }
+    ensures { WalkIs (before texts nodes.now) start path result }
 {
     let pointer = part(texts, path);
     if !is_pointer(pointer) {

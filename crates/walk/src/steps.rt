@@ -21,7 +21,7 @@ pub enum Child {
 
 // The child at a position.
 fn nth<'a>(texts: Texts<'a>, nodes: &[Node], row: usize, k: usize) -> Child
-    ensures { NthIs (before texts nodes) row k result }
+    ensures { NthIs (before texts nodes.now) row k result }
 {
     let Located::At(at) = nodes::child(nodes, row, k) else {
         return Child::Refused(refusal::LOCATION_MISSING);
@@ -31,7 +31,7 @@ fn nth<'a>(texts: Texts<'a>, nodes: &[Node], row: usize, k: usize) -> Child
 
 // An array's element.
 fn element<'a>(texts: Texts<'a>, nodes: &[Node], row: usize, token: Name) -> Child
-    ensures { ElementIs (before texts nodes) row token result }
+    ensures { ElementIs (before texts nodes.now) row token result }
 {
     let i = index(part(texts, token.text));
     match i {
@@ -44,7 +44,7 @@ fn element<'a>(texts: Texts<'a>, nodes: &[Node], row: usize, token: Name) -> Chi
 
 // An object's member.
 fn member<'a>(texts: Texts<'a>, nodes: &[Node], row: usize, token: Name) -> Child
-    ensures { MemberIs (before texts nodes) row token result }
+    ensures { MemberIs (before texts nodes.now) row token result }
 {
     if nodes.len() <= row {
         return Child::Refused(refusal::LOCATION_MISSING);
@@ -57,7 +57,7 @@ fn member<'a>(texts: Texts<'a>, nodes: &[Node], row: usize, token: Name) -> Chil
 
 // The child of the node in a row that a token names; the token is given as a name, with its hash.
 pub fn step<'a>(texts: Texts<'a>, nodes: &[Node], row: usize, token: Name) -> Child
-    ensures { StepIs (before texts nodes) row token result }
+    ensures { StepIs (before texts nodes.now) row token result }
 {
     let k = nodes::kind(nodes, row);
     if k == layout::ARRAY {

@@ -37,7 +37,7 @@ fn surely_fits(nodes: &[Node], at: usize, room: usize) -> bool
 // Whether the text of the tree in the row `at`, which nests at most `levels` containers, has at most `room` bytes.
 // The text is measured only where that is not sure.
 pub fn fits<'a>(texts: Texts<'a>, nodes: &[Node], at: usize, levels: u32, room: usize) -> bool
-    ensures { FitsIs (before texts nodes) at levels room result }
+    ensures { FitsIs (before texts nodes.now) at levels room result }
 {
     if surely_fits(nodes, at, room) {
         return true;

@@ -16,7 +16,7 @@ const LENGTH_LIMIT: usize = 0x4_0000_0000;
 // The length of the text of the tree in the row `at`, which nests at most `levels` containers, or the limit where the
 // text is longer.
 pub fn measure<'a>(texts: Texts<'a>, nodes: &[Node], at: usize, levels: u32) -> usize
-    ensures { MeasureIs (before texts nodes) at levels result }
+    ensures { MeasureIs (before texts nodes.now) at levels result }
 {
     if nodes.len() <= at {
         return 0;
@@ -49,7 +49,7 @@ pub fn measure<'a>(texts: Texts<'a>, nodes: &[Node], at: usize, levels: u32) -> 
 // which is the rest of the output: as much of it as there is room for. That is all of it where `fits` says so. The
 // answer is how many bytes are laid down.
 pub fn write<'a>(texts: Texts<'a>, nodes: &[Node], at: usize, levels: u32, out: &mut [u8]) -> usize
-    ensures { WriteIs (before texts nodes) at levels out.old out.new result }
+    ensures { WriteIs (before texts nodes.now) at levels out.old out.new result }
 {
     if nodes.len() <= at {
         return 0;

@@ -8,4 +8,5 @@ pub returns-else-at-s : goal.returns-else-at-s
 returns-else-at-s c = sym (byte_past _ _ c.if-at-s.false)
 
 pub returns-then-at-s : goal.returns-then-at-s
+unfolding byte
 returns-then-at-s c = search auto

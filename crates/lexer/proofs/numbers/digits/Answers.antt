@@ -14,13 +14,6 @@ use Rattle.lexer.proofs.NumberLoop.{not_digit, counted_next, digits_more, digits
 use Rattle.lexer.proofs.Auto.{auto}
 use Rattle.lexer.proofs.numbers.digits.Goals as goal
 
--- a digit stands at the place, which lies within the text
-digit : (c : tie.Then1 invariant-loop decreases-loop) → let h = c.before.before.before in is_digit (byte h.before.before.args.s.now h.loop.at) ≡ true
-digit c = cc
-
-within : (c : tie.Then1 invariant-loop decreases-loop) → let h = c.before.before.before in h.loop.at < length h.before.before.args.s.now
-within c = inside is_digit not_digit _ _ (digit c)
-
 pub loop-digit-init : goal.loop-digit-init
 unfolding scan_outcome
 loop-digit-init c = starts (λ fuel. digits fuel _ _) _ _
@@ -33,29 +26,30 @@ pub is_digit-requires : goal.is_digit-requires
 unfolding scan_outcome
 is_digit-requires c = tt
 
--- TODO bare place t
--- TODO bare place t
 pub returns-in_default : goal.returns-in_default
 unfolding scan_outcome
 returns-in_default c =
+    let digit_here : is_digit (byte c.args.s.now c.loop-digit.at) ≡ true = cc in
+    let inner = inside is_digit not_digit _ _ digit_here in
     let e = scan_refused _ _ c.counted-digit.ensures c.in_default.is in
     ap scan_outcome c.in_default.is ∙
-    ends (λ l. absurd (omega (arith, within t))) (digits_stopped _ _ _ _ _ (digit t) e) c.loop-digit.invariant
+    ends (λ l. absurd (omega (arith, inner))) (digits_stopped _ _ _ _ _ digit_here e) c.loop-digit.invariant
 
--- TODO bare place counts.before
 pub loop-digit-smaller : goal.loop-digit-smaller
 unfolding scan_outcome
 loop-digit-smaller c =
+    let digit_here : is_digit (byte c.args.s.now c.loop-digit.at) ≡ true = cc in
+    let inner = inside is_digit not_digit _ _ digit_here in
     let e = counted_next _ _ _ (to_ok _ c.counted-digit.ensures c.in-To.is) in
-    omega (arith, within counts.before)
+    omega (arith, inner)
 
--- TODO bare place t
--- TODO bare place t
 pub loop-digit-preserved : goal.loop-digit-preserved
 unfolding scan_outcome
 loop-digit-preserved c =
+    let digit_here : is_digit (byte c.args.s.now c.loop-digit.at) ≡ true = cc in
+    let inner = inside is_digit not_digit _ _ digit_here in
     let e = to_ok _ c.counted-digit.ensures c.in-To.is in
-    goes_on _ _ (within t) (omega (arith, counted_next _ _ _ e)) (digits_more _ _ _ _ (digit t) e) c.loop-digit.invariant
+    goes_on _ _ inner (omega (arith, counted_next _ _ _ e)) (digits_more _ _ _ _ digit_here e) c.loop-digit.invariant
 
 pub returns : goal.returns
 unfolding scan_outcome

@@ -19,23 +19,6 @@ use Rattle.lexer.proofs.NumberLoop.{not_digit, digit_bounds, counted_next}
 use Rattle.lexer.proofs.Auto.{auto}
 use Rattle.lexer.proofs.numbers.exponent_digits.Goals as goal
 
--- a digit stands at the place, which lies within the text
-digit : (c : tie.Else1 invariant-loop decreases-loop) → is_digit c.before.before.peek.result ≡ true
-digit c = told c.before.is_digit.ensures (not-false _ c.if1.false)
-
-digit-here : (c : tie.Else1 invariant-loop decreases-loop) →
-    let h = c.before.before.before in
-    is_digit (byte h.before.before.args.s.now h.loop.at) ≡ true
-digit-here c = rw (← c.before.before.peek.ensures) (digit c)
-
-within : (c : tie.Else1 invariant-loop decreases-loop) → let h = c.before.before.before in h.loop.at < length h.before.before.args.s.now
-within c = inside is_digit not_digit _ _ (digit-here c)
-
-small : (c : tie.Else2 invariant-loop decreases-loop) →
-    let h = c.before.before.before.before in
-    leb (h.loop.size * 10 + (byte h.before.before.args.s.now h.loop.at - 48)) max_exponent ≡ true
-small c = rw (← c.before.before.before.peek.ensures) (le-leb _ _ c.if2.false)
-
 pub loop-start-init : goal.loop-start-init
 unfolding scan_outcome
 loop-start-init c = (omega arith, starts (λ fuel. exponent_digits fuel _ _ 0) _ _)
@@ -55,59 +38,68 @@ returns-then-not-is_digit c =
     (exponent_end _ _ _ _ (rw (← c.peek-b.ensures) (told c.is_digit.ensures c.if-not-is_digit.true)))
     c.loop-start.invariant.1
 
--- TODO bare place c
 pub overflow_sub-size : goal.overflow_sub-size
 unfolding scan_outcome
-overflow_sub-size c = omega (arith, digit_bounds _ (digit c))
+overflow_sub-size c =
+    let digit_told = told c.is_digit.ensures c.if-not-is_digit.false in
+    omega (arith, digit_bounds _ digit_told)
 
--- TODO bare place c
 pub overflow_cast-size : goal.overflow_cast-size
 unfolding scan_outcome
-overflow_cast-size c = omega (arith, digit_bounds _ (digit c))
+overflow_cast-size c =
+    let digit_told = told c.is_digit.ensures c.if-not-is_digit.false in
+    omega (arith, digit_bounds _ digit_told)
 
--- TODO bare place c
 pub overflow_add-size : goal.overflow_add-size
 unfolding scan_outcome
-overflow_add-size c = omega (arith, digit_bounds _ (digit c))
+overflow_add-size c =
+    let digit_told = told c.is_digit.ensures c.if-not-is_digit.false in
+    omega (arith, digit_bounds _ digit_told)
 
--- TODO bare place t
--- TODO bare place t
 pub returns-then-size-gt-MAX_EXPONENT : goal.returns-then-size-gt-MAX_EXPONENT
 unfolding scan_outcome
 returns-then-size-gt-MAX_EXPONENT c =
-    ends (λ l. absurd (omega (arith, within t)))
-    (exponent_large _ _ _ _ (digit-here t) (rw (← c.peek-b.ensures) (lt-leb _ _ c.if-size-gt-MAX_EXPONENT.true)))
+    let digit_told = told c.is_digit.ensures c.if-not-is_digit.false in
+    let digit_here : is_digit (byte c.args.s.now c.loop-start.at) ≡ true = rw (← c.peek-b.ensures) digit_told in
+    let inner = inside is_digit not_digit _ _ digit_here in
+    ends (λ l. absurd (omega (arith, inner)))
+    (exponent_large _ _ _ _ digit_here (rw (← c.peek-b.ensures) (lt-leb _ _ c.if-size-gt-MAX_EXPONENT.true)))
     c.loop-start.invariant.1
 
--- TODO bare place l
--- TODO bare place t
--- TODO bare place t
--- TODO bare place l
 pub returns-in_default : goal.returns-in_default
 unfolding scan_outcome
 returns-in_default c =
+    let digit_told = told c.is_digit.ensures c.if-not-is_digit.false in
+    let digit_here : is_digit (byte c.args.s.now c.loop-start.at) ≡ true = rw (← c.peek-b.ensures) digit_told in
+    let inner = inside is_digit not_digit _ _ digit_here in
+    let small : leb (c.loop-start.size * 10 + (byte c.args.s.now c.loop-start.at - 48)) max_exponent ≡ true =
+    rw (← c.peek-b.ensures) (le-leb _ _ c.if-size-gt-MAX_EXPONENT.false) in
     let e = scan_refused _ _ c.counted-digit.ensures c.in_default.is in
     ap scan_outcome c.in_default.is ∙
-    ends (λ l. absurd (omega (arith, within t)))
-    (exponent_stopped _ _ _ _ _ _ (digit-here t) (small l) e)
+    ends (λ l. absurd (omega (arith, inner)))
+    (exponent_stopped _ _ _ _ _ _ digit_here small e)
     c.loop-start.invariant.1
 
--- TODO bare place counts.before.before
 pub loop-start-smaller : goal.loop-start-smaller
 unfolding scan_outcome
 loop-start-smaller c =
+    let digit_told = told c.is_digit.ensures c.if-not-is_digit.false in
+    let digit_here : is_digit (byte c.args.s.now c.loop-start.at) ≡ true = rw (← c.peek-b.ensures) digit_told in
+    let inner = inside is_digit not_digit _ _ digit_here in
     let e = counted_next _ _ _ (to_ok _ c.counted-digit.ensures c.in-To.is) in
-    omega (arith, within counts.before.before)
+    omega (arith, inner)
 
--- TODO bare place t
--- TODO bare place t
--- TODO bare place l
 pub loop-start-preserved : goal.loop-start-preserved
 unfolding scan_outcome
 loop-start-preserved c =
+    let digit_told = told c.is_digit.ensures c.if-not-is_digit.false in
+    let digit_here : is_digit (byte c.args.s.now c.loop-start.at) ≡ true = rw (← c.peek-b.ensures) digit_told in
+    let inner = inside is_digit not_digit _ _ digit_here in
+    let small : leb (c.loop-start.size * 10 + (byte c.args.s.now c.loop-start.at - 48)) max_exponent ≡ true =
+    rw (← c.peek-b.ensures) (le-leb _ _ c.if-size-gt-MAX_EXPONENT.false) in
     let e = to_ok _ c.counted-digit.ensures c.in-To.is in (
       c.if-size-gt-MAX_EXPONENT.false,
-      goes_on _ _ (within t) (omega (arith, counted_next _ _ _ e))
-          (rw (← c.peek-b.ensures) at (exponent_more _ _ _ _ _ (digit-here t) (small l) e))
+      goes_on _ _ inner (omega (arith, counted_next _ _ _ e))
+          (rw (← c.peek-b.ensures) at (exponent_more _ _ _ _ _ digit_here small e))
           c.loop-start.invariant.1,
     )

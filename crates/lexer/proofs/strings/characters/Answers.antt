@@ -15,30 +15,27 @@ use Rattle.lexer.proofs.VerbatimLaws.{verbatim_self}
 use Rattle.lexer.proofs.NameLaws.{passing_starts, passing_verbatim, passing_quote}
 use Rattle.lexer.proofs.strings.characters.Goals as goal
 
--- the byte at the place stands for itself
-self : (c : tie.Then1 invariant-loop decreases-loop) →
-    let loop = c.before.before.before in
-    stands_for_itself (byte loop.before.before.args.s.now loop.loop.at) ≡ true
-self c = cc
-
 pub loop-at-init : goal.loop-at-init
 unfolding quoted_outcome
 loop-at-init c = none
 
--- TODO bare place c
 pub overflow_add-at : goal.overflow_add-at
 unfolding quoted_outcome
-overflow_add-at c = omega (arith, self_inside _ _ (self c))
+overflow_add-at c =
+    let own : stands_for_itself (byte c.args.s.now c.loop-at.at) ≡ true = cc in
+    omega (arith, self_inside _ _ own)
 
--- TODO bare place c
 pub loop-at-smaller : goal.loop-at-smaller
 unfolding quoted_outcome
-loop-at-smaller c = omega (arith, self_inside _ _ (self c))
+loop-at-smaller c =
+    let own : stands_for_itself (byte c.args.s.now c.loop-at.at) ≡ true = cc in
+    omega (arith, self_inside _ _ own)
 
--- TODO bare place c
 pub loop-at-preserved : goal.loop-at-preserved
 unfolding quoted_outcome
-loop-at-preserved c = verbatim_self c.loop-at.invariant (self c)
+loop-at-preserved c =
+    let own : stands_for_itself (byte c.args.s.now c.loop-at.at) ≡ true = cc in
+    verbatim_self c.loop-at.invariant own
 
 pub overflow_add-result : goal.overflow_add-result
 unfolding quoted_outcome

@@ -17,19 +17,6 @@ use Rattle.lexer.proofs.NameLaws.{no_more, Passing, passing_starts, passing_verb
 use Rattle.lexer.proofs.Auto.{auto}
 use Rattle.lexer.proofs.strings.mixed_characters.Goals as goal
 
--- what was passed by the tables
-passed : (c : tie.After-verbatim-end invariant-loop decreases-loop) →
-    let loop = c.before in
-    let start = loop.before.before in
-    let s = start.args.s.now in
-    Passing s start.args.start c.verbatim-end.result loop.loop.plain (plain_of s start.args.start (characters (length s) s start.args.start))
-passed c = passing_verbatim c.verbatim-end.ensures.passed (not-true _) c.before.loop.invariant
-
-no_quote : (c : tie.Else1 invariant-loop decreases-loop) →
-    let passed = c.before.before in
-    byte passed.before.before.before.args.s.now passed.verbatim-end.result ≡ 0x22 → ⊥
-no_quote c e = c.if1.false (c.before.peek.ensures ∙ e)
-
 pub loop-start-init : goal.loop-start-init
 unfolding quoted_outcome
 loop-start-init c = passing_verbatim c.requires (λ e. absurd (true≢false (sym e))) (passing_starts _ _)
@@ -38,18 +25,19 @@ pub overflow_add-result : goal.overflow_add-result
 unfolding quoted_outcome
 overflow_add-result c = omega (arith, here _ _ _ (sym c.peek.ensures) (omega arith))
 
--- TODO bare place c.before.before
 pub returns-then-peek-eq34 : goal.returns-then-peek-eq34
 unfolding quoted_outcome
-returns-then-peek-eq34 c = passing_quote (sym c.peek.ensures ∙ c.if-peek-eq34.true) (passed c.before.before)
+returns-then-peek-eq34 c =
+    let before_this = passing_verbatim c.verbatim_end-at.ensures.passed (not-true _) c.loop-start.invariant in
+    passing_quote (sym c.peek.ensures ∙ c.if-peek-eq34.true) before_this
 
--- TODO bare place read.before
--- TODO bare place read.before.before.before
 pub returns-in_default : goal.returns-in_default
 unfolding quoted_outcome
 returns-in_default c =
-    passing_refused _ _ (no_quote read.before) (character-refused_at _ c.character-read.ensures c.in_default.is c.refused_at.ensures)
-    (passed read.before.before.before)
+    let before_this = passing_verbatim c.verbatim_end-at.ensures.passed (not-true _) c.loop-start.invariant in
+    let no_quote : byte c.args.s.now c.verbatim_end-at.result ≡ 0x22 → ⊥ = λ e. c.if-peek-eq34.false (c.peek.ensures ∙ e) in
+    passing_refused _ _ no_quote (character-refused_at _ c.character-read.ensures c.in_default.is c.refused_at.ensures)
+    before_this
 
 pub loop-start-smaller : goal.loop-start-smaller
 unfolding quoted_outcome
@@ -60,11 +48,11 @@ loop-start-smaller c =
       verbatim_past c.verbatim_end-at.ensures.passed,
     )
 
--- TODO bare place read.before
--- TODO bare place end
 pub loop-start-preserved : goal.loop-start-preserved
 unfolding quoted_outcome
 loop-start-preserved c =
+    let before_this = passing_verbatim c.verbatim_end-at.ensures.passed (not-true _) c.loop-start.invariant in
+    let no_quote : byte c.args.s.now c.verbatim_end-at.result ≡ 0x22 → ⊥ = λ e. c.if-peek-eq34.false (c.peek.ensures ∙ e) in
     let e = scalar_ok _ _ c.character-read.ensures c.in-Scalar.is in
-    let n = no_quote read.before in
-    passing_more _ n e (no_more _ _ c.loop-start.plain (ends_backslash c.verbatim_end-at.ensures.ends n e)) (passed end)
+    let n = no_quote in
+    passing_more _ n e (no_more _ _ c.loop-start.plain (ends_backslash c.verbatim_end-at.ensures.ends n e)) before_this

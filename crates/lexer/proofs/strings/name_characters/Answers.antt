@@ -16,36 +16,27 @@ use Rattle.lexer.proofs.NameLaws.{Keeping, keeping_starts, keeping_self, keeping
 use Rattle.lexer.proofs.Auto.{auto}
 use Rattle.lexer.proofs.strings.name_characters.Goals as goal
 
--- the byte at the place stands for itself; it is no quotation mark
-self : (c : tie.Then1 invariant-loop decreases-loop) →
-    let loop = c.before.before.before in
-    stands_for_itself (byte loop.before.before.args.s.now loop.loop.at) ≡ true
-self c = cc
-
-no_quote : (c : tie.Else2 invariant-loop decreases-loop) →
-    let loop = c.before.before.before.before in
-    byte loop.before.before.args.s.now loop.loop.at ≡ 0x22 → ⊥
-no_quote c e = c.if2.false (c.before.before.before.peek.ensures ∙ e)
-
 pub loop-hash-init : goal.loop-hash-init
 unfolding name_outcome
 loop-hash-init c = keeping_starts _ _
 
--- TODO bare place c.before
 pub overflow_add-at : goal.overflow_add-at
 unfolding name_outcome
-overflow_add-at c = omega (arith, self_inside _ _ (self c.before))
+overflow_add-at c =
+    let own : stands_for_itself (byte c.args.s.now c.loop-hash.at) ≡ true = cc in
+    omega (arith, self_inside _ _ own)
 
--- TODO bare place c.before
 pub loop-hash-smaller-then-stands_for_itself : goal.loop-hash-smaller-then-stands_for_itself
 unfolding name_outcome
-loop-hash-smaller-then-stands_for_itself c = omega (arith, self_inside _ _ (self c.before))
+loop-hash-smaller-then-stands_for_itself c =
+    let own : stands_for_itself (byte c.args.s.now c.loop-hash.at) ≡ true = cc in
+    omega (arith, self_inside _ _ own)
 
--- TODO bare place c.before
 pub loop-hash-preserved-then-stands_for_itself : goal.loop-hash-preserved-then-stands_for_itself
 unfolding name_outcome
 loop-hash-preserved-then-stands_for_itself c =
-    keeping_self (self c.before) (rw (← c.peek-b.ensures) c.mix-hash.ensures) c.loop-hash.invariant
+    let own : stands_for_itself (byte c.args.s.now c.loop-hash.at) ≡ true = cc in
+    keeping_self own (rw (← c.peek-b.ensures) c.mix-hash.ensures) c.loop-hash.invariant
 
 pub overflow_add-result : goal.overflow_add-result
 unfolding name_outcome
@@ -56,11 +47,11 @@ unfolding name_outcome
 returns-then-b-eq34 c =
     keeping_quote (sym c.peek-b.ensures ∙ c.if-b-eq34.true) c.loop-hash.invariant
 
--- TODO bare place read.before
 pub returns-in_default : goal.returns-in_default
 unfolding name_outcome
 returns-in_default c =
-    keeping_refused _ _ (no_quote read.before)
+    let no_quote : byte c.args.s.now c.loop-hash.at ≡ 0x22 → ⊥ = λ e. c.if-b-eq34.false (c.peek-b.ensures ∙ e) in
+    keeping_refused _ _ no_quote
     (character-refused_at _ c.character-read.ensures c.in_default.is c.refused_at.ensures) c.loop-hash.invariant
 
 pub loop-hash-smaller : goal.loop-hash-smaller
@@ -68,9 +59,9 @@ unfolding name_outcome
 loop-hash-smaller c =
     omega (arith, character_ok_past _ _ _ (scalar_ok _ _ c.character-read.ensures c.in-Scalar.is))
 
--- TODO bare place read.before
 pub loop-hash-preserved : goal.loop-hash-preserved
 unfolding name_outcome
 loop-hash-preserved c =
-    keeping_more _ (no_quote read.before) (scalar_ok _ _ c.character-read.ensures c.in-Scalar.is) c.mix-hash-in-loop-hash.ensures
+    let no_quote : byte c.args.s.now c.loop-hash.at ≡ 0x22 → ⊥ = λ e. c.if-b-eq34.false (c.peek-b.ensures ∙ e) in
+    keeping_more _ no_quote (scalar_ok _ _ c.character-read.ensures c.in-Scalar.is) c.mix-hash-in-loop-hash.ensures
     (rw (← c.peek-b.ensures) c.still_plain-plain.ensures) c.loop-hash.invariant

@@ -42,12 +42,14 @@ next_item-requires t c = record {
   inside = record { from_base = c.requires.kind_value.2; grows = omega (arith, c.loop-first.invariant.filled.ends); room = c.loop-first.invariant.room; low = c.requires.kind_value.3 };
 }
 
--- TODO scalar_value-r-requires wants ['kind_value', 'source_lt_sources']
 pub scalar_value-r-requires : goal.scalar_value-r-requires
 scalar_value-r-requires t c =
     let kind_is = c.beginning-item.ensures ∙ ap beginning c.peek.ensures in
     let l = lent_filling c.requires.lent c.loop-first.invariant in
-    ((kind_is, c.if-item-lt-ARRAY.true, omega (arith, c.loop-first.invariant.filled.ends, c.requires.kind_value.2), c.requires.kind_value.3), (l.source<, l.short, l.nodes_long))
+    record {
+      kind_value = (kind_is, c.if-item-lt-ARRAY.true, omega (arith, c.loop-first.invariant.filled.ends, c.requires.kind_value.2), c.requires.kind_value.3);
+      source_lt_sources = (l.source<, l.short, l.nodes_long);
+    }
 
 pub returns-in_default : goal.returns-in_default
 returns-in_default t c =
@@ -68,8 +70,13 @@ loop-first-preserved-then-item-lt-ARRAY t c =
 pub container-r-requires : goal.container-r-requires
 container-r-requires t c =
     let t = turn c.loop-first.invariant c.next_item.ensures c.next_item.auto.index in
-    let kind_is = c.beginning-item.ensures ∙ ap beginning c.peek.ensures in
-    (omega (arith, c.requires.0, turn_levels t), (lent_turn c.requires.lent t, (kind_is, c.if-item-lt-ARRAY.false, omega (arith, c.loop-first.invariant.filled.ends, c.requires.kind_value.2), c.requires.kind_value.3)))
+    let kind_is = c.beginning-item.ensures ∙ ap beginning c.peek.ensures in (
+      omega (arith, turn_levels t),
+      (
+        lent_turn c.requires.lent t,
+        (kind_is, c.if-item-lt-ARRAY.false, omega (arith, c.loop-first.invariant.filled.ends, c.requires.kind_value.2), c.requires.kind_value.3),
+      ),
+    )
 
 pub returns-in_default-r : goal.returns-in_default-r
 returns-in_default-r t c =

@@ -14,8 +14,8 @@ returns-then-so_far-ne0 c = noted-before _ _ _ _ _ _ c.if-so_far-ne0.true
 
 pub returns-then-says : goal.returns-then-says
 returns-then-says c =
-    noted_here _ _ _ _ _ _ c.if-so_far-ne0.false (sym c.if-says.true ∙ hash-named _ c.args.own_val _ _ c.if-own-hash.false c.says.ensures)
+    noted_here _ _ _ _ _ _ c.if-so_far-ne0.false (sym c.if-says.true ∙ hash-named _ c.args.own _ _ c.if-own-hash.false c.says.ensures)
 
 pub returns : goal.returns
 returns c =
-    noted_other _ _ _ _ _ _ (sym c.if-says.false ∙ hash-named _ c.args.own_val _ _ c.if-own-hash.false c.says.ensures)
+    noted_other _ _ _ _ _ _ (sym c.if-says.false ∙ hash-named _ c.args.own _ _ c.if-own-hash.false c.says.ensures)

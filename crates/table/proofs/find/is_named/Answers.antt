@@ -9,5 +9,5 @@ pub returns-then-own-h : goal.returns-then-own-h
 returns-then-own-h c = other-named _ _ _ _ (λ e. omega (arith, c.if-own-h.true, e))
 
 pub returns : goal.returns
-returns c = hash-named (both c.args.texts) c.args.own_val _ _
+returns c = hash-named (both c.args.texts) c.args.own _ _
     (omega (arith, c.if-own-h.false)) c.spells.ensures

@@ -1,3 +1,4 @@
+use Rattle.std.proofs.Common.{ℕ, ◌≡◌, eqb, false, arith}
 use borrow.Author.Tests.{ne_eqb}
 use Rattle.text.specs.Written.{short_letter}
 use Rattle.text.proofs.escapes.short_letter.Goals as goal
@@ -33,12 +34,13 @@ returns-in-13 c = rw c.in-13.is
 pub returns-in_default : goal.returns-in_default
 unfolding short_letter
 returns-in_default c =
+    let other : (b : ℕ) → (c.args.c ≡ b → ⊥) → eqb c.args.c b ≡ false = λ b n. ne_eqb c.args.c b n in
     rw (
-      ne_eqb _ _ c.in_default.rest.0.0.0.0.0.0.1,
-      ne_eqb _ _ c.in_default.rest.0.0.0.0.0.1,
-      ne_eqb _ _ c.in_default.rest.0.0.0.0.1,
-      ne_eqb _ _ c.in_default.rest.0.0.0.1,
-      ne_eqb _ _ c.in_default.rest.0.0.1,
-      ne_eqb _ _ c.in_default.rest.0.1,
-      ne_eqb _ _ c.in_default.rest.1,
+      other 0x22 (λ e. omega (arith, e)),
+      other 0x5C (λ e. omega (arith, e)),
+      other 0x08 (λ e. omega (arith, e)),
+      other 0x09 (λ e. omega (arith, e)),
+      other 0x0A (λ e. omega (arith, e)),
+      other 0x0C (λ e. omega (arith, e)),
+      other 0x0D (λ e. omega (arith, e)),
     )

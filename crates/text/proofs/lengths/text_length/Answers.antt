@@ -25,3 +25,7 @@ loop-c-smaller c = scalar_less _ _ _ c.letter.ensures _ _ c.in-Scalar.is
 pub loop-c-preserved : goal.loop-c-preserved
 unfolding text_of
 loop-c-preserved c = omega (arith, length_more (scalar_text _ _ _ c.letter.ensures _ _ c.in-Scalar.is))
+
+pub loop-c-init : goal.loop-c-init
+unfolding text_of
+loop-c-init c = omega arith

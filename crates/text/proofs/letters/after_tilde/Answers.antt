@@ -1,3 +1,4 @@
+use Rattle.std.proofs.Common.{arith}
 use borrow.Author.Tests.{eq-eqb, ne_eqb}
 use Rattle.lexer.proofs.AnswerLaws.{scalar_ok, character_refused}
 use Rattle.text.proofs.Auto.{auto}
@@ -20,4 +21,4 @@ returns-in-49 c = rw (scalar_ok _ _ c.string_letter.ensures c.in-Scalar.is, c.in
 pub returns-in_default-c : goal.returns-in_default-c
 unfolding after_tilde character_outcome
 returns-in_default-c c =
-    rw (scalar_ok _ _ c.string_letter.ensures c.in-Scalar.is, ne_eqb _ _ c.in_default-c.rest.0.1, ne_eqb _ _ c.in_default-c.rest.1)
+    rw (scalar_ok _ _ c.string_letter.ensures c.in-Scalar.is, ne_eqb c.in-Scalar.c 0x30 (λ e. omega (arith, e)), ne_eqb c.in-Scalar.c 0x31 (λ e. omega (arith, e)))

@@ -11,13 +11,6 @@ use Rattle.lexer.proofs.ByteLaws.{inside}
 use Rattle.lexer.proofs.BlankLaws.{not_blank, blanks_more, blanks_none, blanks_end}
 use Rattle.lexer.proofs.cursor.Cursor.blanks.Goals as goal
 
--- a blank stands at the place, which lies within the text
-blank : (c : tie.Then1 invariant-loop decreases-loop) → let h = c.before.before.before in is_blank (byte h.before.before.args.s.now h.loop.at) ≡ true
-blank c = cc
-
-within : (c : tie.Then1 invariant-loop decreases-loop) → let h = c.before.before.before in h.loop.at < length h.before.before.args.s.now
-within c = inside is_blank not_blank _ _ (blank c)
-
 pub loop-at-init : goal.loop-at-init
 unfolding blanks
 loop-at-init c = starts _ _ _
@@ -30,21 +23,26 @@ pub is_blank-requires : goal.is_blank-requires
 unfolding blanks
 is_blank-requires c = tt
 
--- TODO bare place c
 pub overflow_add-at : goal.overflow_add-at
 unfolding blanks
-overflow_add-at c = omega (arith, within c)
+overflow_add-at c =
+    let blank_here : is_blank (byte c.args.s.now c.loop-at.at) ≡ true = cc in
+    let inner = inside is_blank not_blank _ _ blank_here in
+    omega (arith, inner)
 
--- TODO bare place c
 pub loop-at-smaller : goal.loop-at-smaller
 unfolding blanks
-loop-at-smaller c = omega (arith, within c)
+loop-at-smaller c =
+    let blank_here : is_blank (byte c.args.s.now c.loop-at.at) ≡ true = cc in
+    let inner = inside is_blank not_blank _ _ blank_here in
+    omega (arith, inner)
 
--- TODO bare place c
--- TODO bare place c
 pub loop-at-preserved : goal.loop-at-preserved
 unfolding blanks
-loop-at-preserved c = goes_on _ _ (within c) (omega arith) (λ fuel. blanks_more _ _ fuel (blank c)) c.loop-at.invariant
+loop-at-preserved c =
+    let blank_here : is_blank (byte c.args.s.now c.loop-at.at) ≡ true = cc in
+    let inner = inside is_blank not_blank _ _ blank_here in
+    goes_on _ _ inner (omega arith) (λ fuel. blanks_more _ _ fuel blank_here) c.loop-at.invariant
 
 pub returns : goal.returns
 unfolding blanks

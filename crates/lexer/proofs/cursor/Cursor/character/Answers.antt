@@ -12,6 +12,7 @@ use Rattle.lexer.proofs.Tests.{below_within, above_within}
 use Rattle.lexer.proofs.ByteLaws.{here}
 use Rattle.lexer.proofs.Auto.{auto}
 use Rattle.lexer.proofs.cursor.Cursor.character.Goals as goal
+use Rattle.lexer.proofs.cursor.Cursor.character.Goals.{in_default-via-then-b-lt32, in_default-via-else-b-lt32+else-b-lt128}
 
 -- a byte that is neither a backslash nor ASCII
 other : (s : Bytes) (at : ℕ) → (byte s at ≡ code "\\" → ⊥) → within 0x20 0x7F (byte s at) ≡ false →
@@ -39,6 +40,9 @@ pub returns-in_default : goal.returns-in_default
 unfolding character character_outcome within
 returns-in_default c =
     let b = byte c.args.s.now c.args.self.at in
-    let o : within 0x20 0x7F b ≡ false =
-    ⊎_elim (λ w. below_within 0x20 0x7F b (omega arith)) (λ w. above_within 0x20 0x7F b (omega arith)) c.in_default.branch in
-    c.multibyte.ensures ∙ sym (other _ _ (λ e. c.in_default-1.rest.1 (c.peek-b.ensures ∙ e)) o)
+    let not_ascii : within 0x20 0x7F b ≡ false → (b ≡ 92 → ⊥) → character_outcome c.multibyte.result ≡ character c.args.s.now c.args.self.at =
+    λ w n. c.multibyte.ensures ∙ sym (other _ _ n w) in
+    elim c.in_default.branch [
+      | in_default-via-then-b-lt32 w ↦ not_ascii (below_within 0x20 0x7F b (omega arith)) (λ e. omega (arith, e))
+      | in_default-via-else-b-lt32+else-b-lt128 w ↦ not_ascii (above_within 0x20 0x7F b (omega arith)) (λ e. omega (arith, e))
+    ]
