@@ -1,5 +1,4 @@
 -- `lend` lends a part of the output that is in it.
-use borrow.Author.Rules.{rules}
 use native.Mathlib.Omega.{arith}
 use mathlib.Core.Path.{sym}
 use lib.Seq.{length-take-le}

@@ -1,5 +1,4 @@
 -- `lend_both` lends parts of the outputs that are in them.
-use borrow.Author.Rules.{rules}
 use native.Mathlib.Omega.{arith}
 use mathlib.Core.Path.{sym}
 use lib.Seq.{length-take-le}

@@ -1,10 +1,7 @@
+-- `print_entries` ends: each turn leaves fewer entries.
 use Prim.Native.Nat.{◌-◌}
-use borrow.Author.Rules.{rules}
 use lib.ListN.{length}
 use Rattle.origin_vectors.proofs.lines.print_entries.Given as goal
 
-abbrev pub invariant-loop-i : goal.invariant-loop-i
-invariant-loop-i l = Unit {0}
-
 abbrev pub decreases-loop-i : goal.decreases-loop-i
-decreases-loop-i l = length l.rt - l.initial.i
+decreases-loop-i g l = length l.origins - l.i
