@@ -38,7 +38,7 @@ VERSION := $(shell sed -n 's/.*JSON_PATCH_VERSION "\(.*\)"/\1/p' include/json_pa
 # function or a struct of the header changes after a release.
 ABI := 0
 
-# The folder of the proved archives, if it is not the one that rt makes here.
+# The folder of the proved archives, if it is not the one that tools/staticlib.sh fills here.
 ifdef JSON_PATCH_LIB
 prebuilt := yes
 endif
@@ -46,7 +46,7 @@ override JSON_PATCH_LIB := $(abspath $(or $(JSON_PATCH_LIB),target/staticlib))
 export JSON_PATCH_LIB
 
 out := target/make
-# As rt makes them: the call, the call with a region, the functions on one record,
+# As tools/staticlib.sh makes them: the call, the call with a region, the functions on one record,
 # the links, Intel HEX, the inspection, the call with an undo, that for merge patches,
 # the comparison, and the four calls that list origins.
 proved_call := $(JSON_PATCH_LIB)/libjson_patch.a
@@ -70,7 +70,7 @@ soname := libjson_patch.so.$(ABI)
 command := $(out)/json-patch
 completions := $(out)/json-patch.bash $(out)/_json-patch $(out)/json-patch.fish
 
-proved := crates.txt $(shell find crates -path '*/must-fail' -prune -o -name '*.rt' -print -o -name '*.antt' -print)
+proved := crates.txt $(shell find crates '(' -path '*/must-fail' -o -path '*/out' ')' -prune -o -name '*.rt' -print -o -name '*.antt' -print)
 rust := $(shell find rust/src rust/cli/src -name '*.rs') rust/build.rs rust/Cargo.toml rust/Cargo.lock rust/cli/Cargo.toml
 
 all: $(static) $(links) $(hex) $(inspect) $(compare) $(out)/$(soname) $(command) $(completions)
@@ -78,56 +78,44 @@ all: $(static) $(links) $(hex) $(inspect) $(compare) $(out)/$(soname) $(command)
 ifndef prebuilt
 $(proved_call): $(proved)
 	@command -v rt >/dev/null || { echo "no rt: the Rattle toolchain proves and makes $@" >&2; exit 1; }
-	rt staticlib json_patch
-	@touch $@
+	tools/staticlib.sh json_patch
 
 # One after another: they prove the crates that they share.
 $(proved_region): $(proved_call)
-	rt staticlib region_call
-	@touch $@
+	tools/staticlib.sh region_call
 
 $(proved_record): $(proved_region)
-	rt staticlib record
-	@touch $@
+	tools/staticlib.sh record
 
 $(links): $(proved_record)
-	rt staticlib fragment
-	@touch $@
+	tools/staticlib.sh fragment
 
 $(hex): $(links)
-	rt staticlib hex
-	@touch $@
+	tools/staticlib.sh hex
 
 $(inspect): $(hex)
-	rt staticlib inspect
-	@touch $@
+	tools/staticlib.sh inspect
 
 $(proved_undo): $(inspect)
-	rt staticlib undo
-	@touch $@
+	tools/staticlib.sh undo
 
 $(compare): $(proved_undo)
-	rt staticlib compare
+	tools/staticlib.sh compare
 
 $(proved_merge): $(compare)
-	rt staticlib merge
-	@touch $@
+	tools/staticlib.sh merge
 
 $(proved_listing): $(proved_merge)
-	rt staticlib listing
-	@touch $@
+	tools/staticlib.sh listing
 
 $(proved_region_listing): $(proved_listing)
-	rt staticlib region_listing
-	@touch $@
+	tools/staticlib.sh region_listing
 
 $(proved_merge_listing): $(proved_region_listing)
-	rt staticlib merge_listing
-	@touch $@
+	tools/staticlib.sh merge_listing
 
 $(proved_undo_listing): $(proved_merge_listing)
-	rt staticlib undo_listing
-	@touch $@
+	tools/staticlib.sh undo_listing
 endif
 
 # The proved objects, unchanged, in one archive.
@@ -171,7 +159,7 @@ check: all
 	cd python && JSON_PATCH_LIBRARY=$(CURDIR)/$(out)/$(soname) PYTHONDONTWRITEBYTECODE=1 \
 		$(PYTHON) -W error -m unittest discover -s tests
 	@echo "== the count over patch files"
-	@if command -v rt >/dev/null; then rt check patch_count && tests/count.sh; else echo "left out: no rt to make the program"; fi
+	@if command -v rt >/dev/null; then tools/program.sh patch_count && tests/count.sh; else echo "left out: no rt to make the program"; fi
 	@echo "== installed, used and removed"
 	MAKE="$(MAKE)" CC="$(CC)" PYTHON="$(PYTHON)" tests/installed.sh
 	@echo "check: all passed"

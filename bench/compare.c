@@ -4,7 +4,7 @@
  * fixed disorder; two shapes: one object of n members, and n / 8 objects of 7
  * members in an array.
  *
- *     rt staticlib json_patch && rt staticlib compare
+ *     tools/staticlib.sh json_patch && tools/staticlib.sh compare
  *     cc -O2 -Iinclude bench/compare.c target/staticlib/libcompare.a \
  *         target/staticlib/libjson_patch.a -o target/compare && target/compare */
 #include "json_patch_compare.h"

@@ -1,6 +1,6 @@
 /* What Intel HEX costs: nanoseconds for each KiB of text, written and read, beside plain C of the same work.
  *
- *     rt staticlib hex
+ *     tools/staticlib.sh hex
  *     gcc -O2 -Iinclude bench/hex.c target/staticlib/libhex.a -o target/hex-bench && target/hex-bench
  *
  * Plain C does what the library does and no more is asked of it than an honest

@@ -2,14 +2,14 @@
 # Intel HEX against the tools that people use, srec_cat (Debian's srecord) and
 # objcopy (binutils): they read what the library writes, and the library reads
 # what they write with records of types 00 and 01. Not a part of the gate.
-#   rt staticlib hex && bench/hex_tools.sh
+#   tools/staticlib.sh hex && bench/hex_tools.sh
 set -eu
 root=$(cd "$(dirname "$0")/.." && pwd)
 library=${JSON_PATCH_LIB:-$root/target/staticlib}/libhex.a
 for tool in srec_cat objcopy cc; do
     command -v "$tool" >/dev/null || { echo "no $tool" >&2; exit 2; }
 done
-[ -f "$library" ] || { echo "no $library: run 'rt staticlib hex' first" >&2; exit 2; }
+[ -f "$library" ] || { echo "no $library: run 'tools/staticlib.sh hex' first" >&2; exit 2; }
 work=$(mktemp -d)
 trap 'rm -rf "$work"' EXIT
 cc -O2 -Wall -Wextra -Werror -I"$root/include" "$root/bench/hex_tool.c" "$library" -o "$work/hex"

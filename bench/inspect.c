@@ -2,7 +2,7 @@
  * document 0: nanoseconds of processor time for a call, least of 200 rounds, the
  * two in turn. The plain call ends at the first operation that fails.
  *
- *     rt staticlib json_patch && rt staticlib inspect
+ *     tools/staticlib.sh json_patch && tools/staticlib.sh inspect
  *     cc -O2 -Iinclude bench/inspect.c target/staticlib/libinspect.a \
  *         target/staticlib/libjson_patch.a -o target/inspect
  *     cd crates/patch_count/data && ../../../target/inspect none.json six.json most.json longest.json */

@@ -1,6 +1,6 @@
 /* What a link costs: nanoseconds for each KiB of pointer, written and read.
  *
- *     rt staticlib fragment
+ *     tools/staticlib.sh fragment
  *     gcc -O2 -Iinclude bench/links.c target/staticlib/libfragment.a -o target/links && target/links
  *
  * The least of many rounds of processor time. */

@@ -3,7 +3,7 @@
 call without, on the seven workloads of workloads.py.
 
     for name in json_patch region_call merge undo listing region_listing merge_listing undo_listing; do
-        rt staticlib $name; done
+        tools/staticlib.sh $name; done
     python3 bench/origins.py [CALL..]        JSON_PATCH_LIB=DIR for archives elsewhere
 
 Instructions a call, in thousands, by callgrind; nanoseconds of processor time, the least
@@ -87,7 +87,7 @@ def main():
     archives = [str(LIBRARY / f"lib{name}.a") for name in ARCHIVES]
     for archive in archives:
         if not os.path.exists(archive):
-            sys.exit(f"no {archive}: run 'rt staticlib' first")
+            sys.exit(f"no {archive}: run tools/staticlib.sh first")
     compiler = [os.environ.get("CC", "gcc"), "-O2", "-std=c99", "-Wall", "-Wextra", "-I%s" % (ROOT / "include")]
     subprocess.run([*compiler, str(ROOT / "bench" / "origins.c"), *archives, "-o", program], check=True)
     with open(os.devnull, "w", encoding="utf-8") as nothing:

@@ -1,6 +1,6 @@
 """The call with a region against the plain call: instructions a call, by callgrind.
 
-    rt staticlib json_patch && rt staticlib region_call
+    tools/staticlib.sh json_patch && tools/staticlib.sh region_call
     python3 bench/region.py            JSON_PATCH_LIB=DIR for archives elsewhere
 
 The same document and the same maker's patch are put to both. A run with few calls

@@ -36,7 +36,7 @@ if [ "${1:-}" = versus ]; then
     exit
 fi
 if [ ! -f "$library" ]; then
-    echo "no $library: run 'rt staticlib json_patch' first" >&2
+    echo "no $library: run 'tools/staticlib.sh json_patch' first" >&2
     exit 2
 fi
 
@@ -136,7 +136,7 @@ stack)
         echo "with an undo:"
         "$bin/stack-undo" <"$out/stack.cases"
     else
-        echo "left out: the call with an undo (no $undo: run 'rt staticlib undo')"
+        echo "left out: the call with an undo (no $undo: run 'tools/staticlib.sh undo')"
     fi
     compare=${library%/*}/libcompare.a
     if [ -f "$compare" ]; then
@@ -144,7 +144,7 @@ stack)
         echo "two texts compared:"
         { "$second" equal-cases; "$second" equal-generate 1 "${COUNT:-3000}"; } | "$bin/stack-compared"
     else
-        echo "left out: the comparison (no $compare: run 'rt staticlib compare')"
+        echo "left out: the comparison (no $compare: run 'tools/staticlib.sh compare')"
     fi
     ;;
 *)

@@ -2,7 +2,7 @@
 # What an undo costs, on the seven workloads of bench/workloads.py and on two more:
 # 256 operations that each replace a large value, an object (nodes) or a string
 # (bytes), so that the undo is over its limit early and is only counted from there on.
-#   rt staticlib json_patch && rt staticlib undo && bench/undo.sh
+#   tools/staticlib.sh json_patch && tools/staticlib.sh undo && bench/undo.sh
 #   JSON_PATCH_LIB=DIR   where the archives are, if not in target/staticlib
 set -eu
 here=$(cd "$(dirname "$0")" && pwd)
@@ -11,7 +11,7 @@ folder=${JSON_PATCH_LIB:-$root/target/staticlib}
 work=$root/target/bench/work
 mkdir -p "$work"
 for name in json_patch undo; do
-    [ -f "$folder/lib$name.a" ] || { echo "no $folder/lib$name.a: run 'rt staticlib $name' first" >&2; exit 2; }
+    [ -f "$folder/lib$name.a" ] || { echo "no $folder/lib$name.a: run 'tools/staticlib.sh $name' first" >&2; exit 2; }
 done
 ${CC:-gcc} -O2 -std=c99 -Wall -Wextra -I"$root/include" "$here/undo.c" "$folder/libundo.a" "$folder/libjson_patch.a" ${LDLIBS:-} \
     -o "$root/target/bench/undo"

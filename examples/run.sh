@@ -16,7 +16,7 @@ out=$root/target/examples
 for archive in "$library" "$links" "$undos" "$listing" "$merge_listing"; do
     name=${archive##*/lib}
     if [ ! -f "$archive" ]; then
-        echo "no $archive: run 'rt staticlib ${name%.a}' first" >&2
+        echo "no $archive: run 'tools/staticlib.sh ${name%.a}' first" >&2
         exit 2
     fi
 done

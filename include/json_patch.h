@@ -17,13 +17,13 @@
  * in place of buffers, words for an answer, the parts of a record's tags.
  *
  * Link with -ljson_patch (`pkg-config --cflags --libs json_patch`), which has all
- * of them. As `rt staticlib` makes them, json_patch_apply is in
- * target/staticlib/libjson_patch.a (`rt staticlib json_patch`),
- * json_patch_apply_with_undo in target/staticlib/libundo.a (`rt staticlib undo`),
- * json_patch_merge in target/staticlib/libmerge.a (`rt staticlib merge`), the four
- * that list origins in liblisting.a, libregion_listing.a, libmerge_listing.a and
- * libundo_listing.a, and json_patch_node_read, _store and _clear are in
- * target/staticlib/librecord.a (`rt staticlib record`). The library needs memcpy
+ * of them. As tools/staticlib.sh makes them, json_patch_apply is in
+ * target/staticlib/libjson_patch.a (`tools/staticlib.sh json_patch`),
+ * json_patch_apply_with_undo in target/staticlib/libundo.a (`tools/staticlib.sh undo`),
+ * json_patch_merge in target/staticlib/libmerge.a (`tools/staticlib.sh merge`), the
+ * four that list origins in liblisting.a, libregion_listing.a, libmerge_listing.a
+ * and libundo_listing.a, and json_patch_node_read, _store and _clear are in
+ * target/staticlib/librecord.a (`tools/staticlib.sh record`). The library needs memcpy
  * and memset and nothing else. examples/apply.c, examples/undo.c and
  * examples/origins.c are worked examples, json_patch(3) is the manual.
  *
@@ -149,7 +149,7 @@ uint32_t json_patch_apply(const uint8_t *document, size_t document_length,
  * texts' lengths; 10 with op 0 for a region that is malformed or not UTF-8, after
  * both texts are read; 17 where the rule is broken, with the op of that operation,
  * after its 8, 10 and 14, or with op 0 for a patch without operations. All else
- * is as above. In libregion_call.a (`rt staticlib region_call`), and in
+ * is as above. In libregion_call.a (`tools/staticlib.sh region_call`), and in
  * -ljson_patch. */
 uint32_t json_patch_apply_within(const uint8_t *document, size_t document_length,
                                  const uint8_t *patch, size_t patch_length,
@@ -168,7 +168,7 @@ uint32_t json_patch_apply_within(const uint8_t *document, size_t document_length
  * Order of refusals: 1, 2, the whole document read, the whole patch read (3 to 7),
  * then 6 for a result of more than 2,048 nodes, with all other fields 0, then 16.
  * Nesting never passes its limit: a result is no deeper than the deeper of the two.
- * All else is as with json_patch_apply. In libmerge.a (`rt staticlib merge`), and
+ * All else is as with json_patch_apply. In libmerge.a (`tools/staticlib.sh merge`), and
  * in -ljson_patch. */
 uint32_t json_patch_merge(const uint8_t *document, size_t document_length,
                           const uint8_t *patch, size_t patch_length,
@@ -234,7 +234,7 @@ typedef struct json_patch_undo_work {
  * (json_patch_values counts them), and the rest is unchanged; after a refusal all of it
  * is unchanged. A list that is too short is refused with 16, as a short output is, and
  * nothing is written then.
- * In liblisting.a (`rt staticlib listing`), and in -ljson_patch. */
+ * In liblisting.a (`tools/staticlib.sh listing`), and in -ljson_patch. */
 uint32_t json_patch_apply_origins(const uint8_t *document, size_t document_length,
                                   const uint8_t *patch, size_t patch_length,
                                   uint8_t *output, size_t output_length,
@@ -244,7 +244,8 @@ uint32_t json_patch_apply_origins(const uint8_t *document, size_t document_lengt
                                   json_patch_answer *answer);
 
 /* The same for the patch of a pack maker: json_patch_apply_within with the origins
- * listed. In libregion_listing.a (`rt staticlib region_listing`), and in -ljson_patch. */
+ * listed. In libregion_listing.a (`tools/staticlib.sh region_listing`), and in
+ * -ljson_patch. */
 uint32_t json_patch_apply_within_origins(const uint8_t *document, size_t document_length,
                                          const uint8_t *patch, size_t patch_length,
                                          const uint8_t *region, size_t region_length,
@@ -256,8 +257,8 @@ uint32_t json_patch_apply_within_origins(const uint8_t *document, size_t documen
 
 /* The same for a merge patch: json_patch_merge with the origins listed. A merge patch
  * counts as operation 1, also for the objects that it makes; an object of the document
- * that is merged into keeps its 0. In libmerge_listing.a (`rt staticlib merge_listing`),
- * and in -ljson_patch. */
+ * that is merged into keeps its 0. In libmerge_listing.a
+ * (`tools/staticlib.sh merge_listing`), and in -ljson_patch. */
 uint32_t json_patch_merge_origins(const uint8_t *document, size_t document_length,
                                   const uint8_t *patch, size_t patch_length,
                                   uint8_t *output, size_t output_length,
@@ -269,7 +270,7 @@ uint32_t json_patch_merge_origins(const uint8_t *document, size_t document_lengt
 /* The same with an undo: json_patch_apply_with_undo with the origins of the result
  * listed. 16 for a short list comes with that for a short output, before the undo's own
  * refusals; each refusal leaves both outputs and the list unchanged. In
- * libundo_listing.a (`rt staticlib undo_listing`), and in -ljson_patch. */
+ * libundo_listing.a (`tools/staticlib.sh undo_listing`), and in -ljson_patch. */
 uint32_t json_patch_apply_with_undo_origins(const uint8_t *document, size_t document_length,
                                             const uint8_t *patch, size_t patch_length,
                                             uint8_t *output, size_t output_length,

@@ -9,7 +9,7 @@
  * The function is proved to answer as the definitions say on every input. It
  * allocates nothing, keeps no state and may be called from several threads at
  * once, each with buffers of its own. Link with target/staticlib/libcompare.a
- * (made by `rt staticlib compare`), beside libjson_patch.a or without it.
+ * (made by `tools/staticlib.sh compare`), beside libjson_patch.a or without it.
  *
  * C99, and C++. */
 #ifndef JSON_PATCH_COMPARE_H

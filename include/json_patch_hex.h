@@ -7,7 +7,7 @@
  * Two functions, proved to answer as the definitions say on every input. They
  * allocate nothing, keep no state, need no work area and may be called from
  * several threads at once, each with an output of its own. Link with
- * target/staticlib/libhex.a (made by `rt staticlib hex`), beside libjson_patch.a
+ * target/staticlib/libhex.a (made by `tools/staticlib.sh hex`), beside libjson_patch.a
  * or without it.
  *
  * C99, and C++. */

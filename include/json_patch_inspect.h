@@ -9,7 +9,7 @@
  * The function is proved to answer as the definitions say on every input. It
  * allocates nothing, keeps no state and may be called from several threads at
  * once, each with buffers of its own. Link with target/staticlib/libinspect.a
- * (made by `rt staticlib inspect`), beside libjson_patch.a or without it.
+ * (made by `tools/staticlib.sh inspect`), beside libjson_patch.a or without it.
  *
  * C99, and C++. */
 #ifndef JSON_PATCH_INSPECT_H

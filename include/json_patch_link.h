@@ -7,7 +7,7 @@
  * Two functions, proved to answer as the definitions say on every input. They
  * allocate nothing, keep no state, need no work area and may be called from
  * several threads at once, each with an output of its own. Link with
- * target/staticlib/libfragment.a (made by `rt staticlib fragment`), beside
+ * target/staticlib/libfragment.a (made by `tools/staticlib.sh fragment`), beside
  * libjson_patch.a or without it; examples/link.c is a worked example.
  *
  * C99, and C++. */

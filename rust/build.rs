@@ -1,5 +1,5 @@
 //! Finds the static libraries: in target/staticlib of the repository, where
-//! `rt staticlib NAME` puts that of crate NAME, or in the folder that
+//! `tools/staticlib.sh NAME` puts that of crate NAME, or in the folder that
 //! JSON_PATCH_LIB names.
 
 use std::path::PathBuf;
@@ -19,7 +19,7 @@ fn main() {
         let library = folder.join(format!("lib{name}.a"));
         println!("cargo:rerun-if-changed={}", library.display());
         if !library.is_file() {
-            eprintln!("no {}: run 'rt staticlib {name}' first", library.display());
+            eprintln!("no {}: run 'tools/staticlib.sh {name}' first", library.display());
             process::exit(1);
         }
         println!("cargo:rustc-link-lib=static={name}");

@@ -9,7 +9,7 @@ program=${PROGRAM:-$root/target/bin/patch_count}
 second=${SECOND:-$root/second/target/release/second}
 place=$(mktemp -d)
 trap 'rm -rf "$place"' EXIT
-[ -x "$program" ] || { echo "no $program: run 'rt check patch_count' first" >&2; exit 1; }
+[ -x "$program" ] || { echo "no $program: run 'tools/program.sh patch_count' first" >&2; exit 1; }
 [ -x "$second" ] || (cd "$root/second" && cargo build --release --offline --quiet)
 cd "$place"
 "$second" count-cases . >all

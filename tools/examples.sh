@@ -14,7 +14,7 @@ set -eu
 root=$(cd "$(dirname "$0")/.." && pwd)
 tool=${PATCH_TOOL:-$root/target/bin/patch_tool}
 if [ ! -x "$tool" ]; then
-    echo "no $tool: run 'rt check patch_tool' first" >&2
+    echo "no $tool: run 'tools/program.sh patch_tool' first" >&2
     exit 2
 fi
 [ $# -gt 0 ] || set -- "$root/docs/SPECIFICATION.md" "$root/docs/REFUSALS.md"

@@ -46,7 +46,7 @@ def declarations():
     """For each file's stem, for each crate and for each record: the names declared there. '' has all of them."""
     known = {"": set()}
     for path in glob.glob(f"{ROOT}/crates/*/**/*", recursive=True):
-        if not path.endswith((".antt", ".rt")) or "/must-fail/" in path:
+        if not path.endswith((".antt", ".rt")) or "/must-fail/" in path or "/out/" in path:
             continue
         text = read(path)
         names = {n for pattern in DECLARED for group in pattern.findall(text) for n in group.split()}
@@ -86,7 +86,7 @@ def sections():
     checked = missing = 0
     paths = [p for folder in ("crates", "docs") for p in glob.glob(f"{ROOT}/{folder}/**/*", recursive=True)]
     for path in sorted(paths):
-        if not path.endswith((".antt", ".rt", ".edit", ".md")):
+        if not path.endswith((".antt", ".rt", ".edit", ".md")) or "/out/" in path:
             continue
         for number, line in enumerate(read(path).split("\n"), 1):
             for cited in CITED.findall(line):

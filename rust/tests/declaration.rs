@@ -154,14 +154,14 @@ const ORIGINS: &str = "rust/src/origins.rs";
 #[test]
 fn the_functions_are_declared_alike() {
     let calls = [
-        ("json_patch_apply", "crates/json_patch/src/exports.rt", "rust/src/raw.rs", 11),
-        ("json_patch_apply_within", "crates/region_call/src/exports.rt", "rust/src/raw.rs", 13),
-        ("json_patch_apply_with_undo", "crates/undo/src/exports.rt", "rust/src/undo.rs", 15),
-        ("json_patch_merge", "crates/merge/src/exports.rt", "rust/src/raw.rs", 11),
-        ("json_patch_apply_origins", "crates/listing/src/exports.rt", ORIGINS, 13),
-        ("json_patch_apply_within_origins", "crates/region_listing/src/exports.rt", ORIGINS, 15),
-        ("json_patch_merge_origins", "crates/merge_listing/src/exports.rt", ORIGINS, 13),
-        ("json_patch_apply_with_undo_origins", "crates/undo_listing/src/exports.rt", ORIGINS, 17),
+        ("json_patch_apply", "crates/json_patch_c/src/lib.rt", "rust/src/raw.rs", 11),
+        ("json_patch_apply_within", "crates/region_call_c/src/lib.rt", "rust/src/raw.rs", 13),
+        ("json_patch_apply_with_undo", "crates/undo_c/src/lib.rt", "rust/src/undo.rs", 15),
+        ("json_patch_merge", "crates/merge_c/src/lib.rt", "rust/src/raw.rs", 11),
+        ("json_patch_apply_origins", "crates/listing_c/src/lib.rt", ORIGINS, 13),
+        ("json_patch_apply_within_origins", "crates/region_listing_c/src/lib.rt", ORIGINS, 15),
+        ("json_patch_merge_origins", "crates/merge_listing_c/src/lib.rt", ORIGINS, 13),
+        ("json_patch_apply_with_undo_origins", "crates/undo_listing_c/src/lib.rt", ORIGINS, 17),
     ];
     for (name, source, rust, parameters) in calls {
         let source = of_source(name, source);
@@ -176,7 +176,7 @@ fn the_undos_length_is_the_last_field() {
     let header = header();
     let fields = "\n    json_patch_answer answer;\n    uint64_t undo;\n";
     assert_eq!(between(&header, "typedef struct json_patch_undo_answer {", "}"), fields);
-    let export = file("crates/undo/src/exports.rt");
+    let export = file("crates/undo_c/src/lib.rt");
     let laid_down: Vec<&str> = items(between(&export, "*answer = [", "]"))
         .into_iter()
         .map(|item| between(item, ".", " as u64"))
@@ -204,7 +204,7 @@ fn the_answers_fields_are_those_of_the_call() {
         .map(|field| typed(field).0)
         .collect();
     assert_eq!(of_call, fields);
-    let export = file("crates/json_patch/src/exports.rt");
+    let export = file("crates/json_patch_c/src/lib.rt");
     let laid_down: Vec<&str> = items(between(&export, "*answer = [", "]"))
         .into_iter()
         .map(|item| between(item, "r.", " as u64"))
@@ -268,7 +268,7 @@ fn the_work_area_has_the_rows_of_the_table_and_the_slots_of_the_index() {
 /// record, both in C's words.
 #[test]
 fn the_functions_on_a_record_are_declared_alike() {
-    let (header, source) = (header(), file("crates/record/src/exports.rt"));
+    let (header, source) = (header(), file("crates/record_c/src/lib.rt"));
     let c = |name: &str, kind: &str| match kind {
         "&[Node]" => format!("const json_patch_node *{name}, size_t {name}_count"),
         "&mut [Node]" => format!("json_patch_node *{name}, size_t {name}_count"),

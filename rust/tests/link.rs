@@ -46,7 +46,7 @@ fn of_header(call: &str) -> Parameters {
 
 /// As the library's source has them.
 fn of_source(call: &str) -> Parameters {
-    let source = file("crates/fragment/src/exports.rt");
+    let source = file("crates/fragment_c/src/lib.rt");
     items(between(&source, &format!("fn {call}("), ") -> u32"))
         .into_iter()
         .filter_map(|item| item.split_once(':'))
@@ -96,7 +96,7 @@ fn the_answers_fields_are_in_the_same_order() {
         .filter_map(|line| line.trim().strip_prefix("pub ")?.strip_suffix(": u64,"))
         .collect();
     assert_eq!(of_rust, of_header);
-    let exports = file("crates/fragment/src/exports.rt");
+    let exports = file("crates/fragment_c/src/lib.rt");
     let laid_down = items(between(&exports, "*answer = [", "]"));
     assert_eq!(laid_down, ["r.number as u64", "0", "0", "0", "0", "r.length as u64"]);
     assert_eq!((of_header[0], of_header[5], of_header.len()), ("number", "length", 6));
@@ -111,7 +111,7 @@ fn refusals_have_the_numbers_of_the_header_and_the_definitions() {
         .collect();
     assert_eq!(numbers.remove(0), 0);
     assert_eq!(numbers, Refused::ALL.map(Refused::number));
-    assert!(file("crates/fragment/specs/Link.antt").contains("bad-link = 22\n"));
+    assert!(file("crates/fragment/specs/Link.antt").contains("bad_link = 22\n"));
     assert!(header.contains(&format!("#define JSON_PATCH_MAX_LINK {MAX_LINK}\n")));
 }
 

@@ -1,4 +1,5 @@
 -- Entries changed in a table that follows a rule.
+use Rattle.std.specs.Prelude.{if◌then◌else◌}
 use Prim.Native.Nat.{ℕ, suc, ◌+◌, ◌≤◌, ◌<◌}
 use Prim.Native.Char.{code}
 use mathlib.Core.Path.{◌≡◌, refl, ◌∙◌, subst}
@@ -9,7 +10,6 @@ use borrow.Author.Tests.{eqb-true, eqb-false, leb-true, leb-false}
 use lib.Dec.{eqb, leb}
 use lib.ListN.{length, get_or, set, length-set}
 use lib.Seq.{get_or-set_same, get_or-set_other}
-use Rattle.spec.specs.Outcome.{if◌then◌else◌}
 use Rattle.spec.specs.Bytes.{within}
 use Rattle.byte_class.specs.Class.{Follows, ClassRule}
 use Rattle.byte_class.specs.Column.{from_80, from_90, first_E0, first_ED, first_F0, first_F4, kept_escape_lem}

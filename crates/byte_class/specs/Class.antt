@@ -1,8 +1,7 @@
 -- The classes of bytes in a JSON string: which bytes may stand there, start an escape or continue a character. RFC 8259, section 7, says it
 -- of ASCII; RFC 3629, section 4, of the bytes of a character beyond ASCII.
-use Rattle.std.specs.Prelude.{ℕ, ◌<◌, ◌≡◌, List, length, get_or, eqb}
+use Rattle.std.specs.Prelude.{ℕ, ◌<◌, ◌≡◌, List, length, get_or, eqb, if◌then◌else◌}
 use Prim.Native.Char.{code}
-use Rattle.spec.specs.Outcome.{if◌then◌else◌}
 use Rattle.spec.specs.Bytes.{within}
 
 pub data Class : Type 0 where

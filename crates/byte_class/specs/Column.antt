@@ -1,8 +1,7 @@
 -- What needs more than a class: each byte's column in the table of steps, by which a string is read byte by byte, from state to state. The column is
 -- the symbol of the byte's class, except for the bytes named here.
-use Rattle.std.specs.Prelude.{ℕ, List, eqb}
+use Rattle.std.specs.Prelude.{ℕ, List, eqb, if◌then◌else◌}
 use Prim.Native.Char.{code}
-use Rattle.spec.specs.Outcome.{if◌then◌else◌}
 use Rattle.spec.specs.Bytes.{within}
 use Rattle.byte_class.specs.Class.{class_of, symbol, Follows}
 

@@ -26,7 +26,7 @@ use Rattle.tape.specs.declared.fields.Name.{Name}
 use Rattle.tape.specs.declared.fields.Cell.{Cell}
 use Rattle.tape.specs.Cell.{row_of, Fit, formed_tree, deep}
 use Rattle.tape.specs.Rows.{child_row}
-use Rattle.tape.specs.Lent.{Texts, Table}
+use Rattle.tape.specs.Lent.{Table}
 use Rattle.tape.proofs.Forests.{size-replace_at}
 use Rattle.tape.proofs.Cells.{blank, span_row, formed_kids, formed_rest, formed_child, formed_replace_at, container_fit, fit_container}
 use Rattle.tape.proofs.Depth.{level-container}
@@ -36,18 +36,16 @@ use Rattle.table.specs.Sound.{CellFits}
 use Rattle.table.proofs.MeaningLaws.{depth-meant}
 use Rattle.table.proofs.AllLaws.{all_first, all_kids, all_single, all_replace_at}
 use Rattle.pointer.specs.declared.answers.Token.{Token}
-use Rattle.pointer.specs.declared.answers.Token.TheVariants as Token
 use Rattle.pointer.proofs.WalkLaws.{next_order}
 use Rattle.walk.specs.Bearing.{borne}
 use Rattle.walk.specs.Path.{farther_by}
 use Rattle.walk.specs.Step.{StepIs}
 use Rattle.walk.specs.declared.steps.Child.{Child}
-use Rattle.walk.specs.declared.steps.Child.TheVariants as Child
 use Rattle.walk.proofs.Children.{forget-borne, child-meant, child-borne, child_at-borne, sound_child}
 use Rattle.walk.proofs.StepLaws.{child-scalar}
 use Rattle.changes.specs.Limited.{limited_to}
 use Rattle.changes.specs.Site.{Surroundings, Standing, Site}
-use Rattle.changes.specs.Rows.{SameBehind, Frame, framed, unchanged, walked_to, resized}
+use Rattle.changes.specs.Rows.{SameBehind, framed, unchanged, walked_to, resized}
 use Rattle.changes.specs.Change.{ByToken, ChangeAnswers, done, refusal, SiteOf, Makes, adds, removes, replaces, ChangeChildIs, Alters, AlterIs}
 use Rattle.changes.specs.declared.trees.Parent.{Parent}
 use Rattle.changes.specs.declared.answers.Change.{Change}

@@ -1,11 +1,12 @@
 -- Laws of a child changed by its token: each way in which the code answers is what the definitions say.
+use Rattle.std.specs.Prelude.{if◌then◌else◌}
 use Prim.Native.Nat.{ℕ, suc, ◌+◌, ◌≤◌, ◌<◌}
 use native.Mathlib.Omega.{arith}
 use mathlib.Core.Path.{◌≡◌, refl, ap, sym, ◌∙◌, subst}
 use mathlib.Core.List.{List, []}
 use lib.ListN.{get_or}
 use borrow.Author.Tests.{lt-ltb, le-ltb, eq-eqb, ne_eqb}
-use Rattle.spec.specs.Outcome.{Outcome, ok, refused, ◌>>=◌, if◌then◌else◌}
+use Rattle.spec.specs.Outcome.{Outcome, ok, refused, ◌>>=◌}
 use Rattle.spec.specs.Refusal.{location_missing, no_index}
 use Rattle.spec.specs.Bytes.{Text}
 use Rattle.spec.specs.Forest.{Forest, count, before, from, nth, insert_at, remove_at, replace_at}
@@ -24,7 +25,6 @@ use Rattle.tape.specs.Cell.{Fit, Node, Told}
 use Rattle.tape.specs.Rows.{end_of, child_row, ChildIs}
 use Rattle.tape.specs.Lent.{Texts, Table}
 use Rattle.tape.specs.declared.nodes.Located.{Located}
-use Rattle.tape.specs.declared.nodes.Located.TheVariants as Located
 use Rattle.tape.proofs.Cells.{blank, container_fit}
 use Rattle.tape.proofs.Rows.{kind_here, end_here, child_row_end, child_of_at, child_of_fewer}
 use Rattle.tape.proofs.Held.{held_node}
@@ -33,22 +33,19 @@ use Rattle.table.specs.Meaning.{name_text, entry_of, members, meant}
 use Rattle.walk.specs.Bearing.{bearing, borne_members, borne}
 use Rattle.table.specs.Find.{Found, found, missing, FindIs}
 use Rattle.table.specs.declared.find.Member.{Member}
-use Rattle.table.specs.declared.find.Member.TheVariants as Member
 use Rattle.table.proofs.MeaningLaws.{is_array_label, is_object_label}
 use Rattle.pointer.specs.Index.{index_of, element_at, insertion_at}
 use Rattle.pointer.specs.declared.answers.Index.{Index}
-use Rattle.pointer.specs.declared.answers.Index.TheVariants as Index
 use Rattle.pointer.proofs.IndexLaws.{insertion}
 use Rattle.walk.specs.Names.{IsToken, no_name}
 use Rattle.walk.specs.Path.{farther_by}
 use Rattle.walk.specs.Step.{Stepped, stepped, missed, StepIs}
 use Rattle.walk.specs.declared.steps.Child.{Child}
-use Rattle.walk.specs.declared.steps.Child.TheVariants as Child
 use Rattle.walk.proofs.Children.{child_at-borne}
 use Rattle.walk.proofs.StepLaws.{few_children, asked}
 use Rattle.changes.specs.Cut.{renamed}
-use Rattle.changes.specs.Site.{Site, Offered, table}
-use Rattle.changes.specs.Rows.{Frame, unchanged, walked_to}
+use Rattle.changes.specs.Site.{Site, Offered}
+use Rattle.changes.specs.Rows.{unchanged, walked_to}
 use Rattle.changes.specs.Limited.{limited_to}
 use Rattle.changes.specs.Change.{ByToken, ChangeAnswers, refusal, SiteOf, PutIs, TakeOutIs, ChildPlaced, placed, unplaced, InsertionIs}
 use Rattle.changes.specs.Change.{Replaced, ReplaceTreeIs}

@@ -31,7 +31,6 @@ use Rattle.walk.specs.Bearing.{borne}
 use Rattle.walk.specs.Path.{PathIs, WalkedBy, Walked, WalkedBearing, reached, lost, WalkIs}
 use Rattle.walk.proofs.Children.{forget-borne}
 use Rattle.walk.specs.declared.path.Reached.{Reached}
-use Rattle.walk.specs.declared.path.Reached.TheVariants as Reached
 use Rattle.changes.specs.Site.{Surroundings, Standing, Site, table}
 use Rattle.changes.specs.Rows.{Frame}
 use Rattle.changes.specs.Change.{ChangeAnswers, done, refusal}

@@ -2,7 +2,7 @@
 use Prim.Native.Nat.{ℕ, ◌+◌, ◌-◌, ◌≤◌, ◌<◌}
 use native.Mathlib.Omega.{arith}
 use native.Mathlib.Decide.{dec_lt}
-use mathlib.Core.Path.{◌≡◌, refl, ap, sym, ◌∙◌, subst}
+use mathlib.Core.Path.{◌≡◌, ap, sym, ◌∙◌}
 use mathlib.Core.List.{List, ◌∷◌, ◌++◌, append_assoc}
 use lib.ListN.{length, take, drop, set, length-drop, take-append-drop}
 use lib.Seq.{take-take, take_at, drop-drop, drop-set-lt}
@@ -15,7 +15,7 @@ use Rattle.tape.specs.Tape.{tape, Holds}
 use Rattle.tape.specs.declared.fields.Cell.{Cell}
 use Rattle.tape.specs.Cell.{row_of, Formed, Held}
 use Rattle.tape.specs.Lent.{Table}
-use Rattle.tape.proofs.Columns.{Room, drop-spliced, spliced_not_used, spliced_no_room, spliced_no_source}
+use Rattle.tape.proofs.Columns.{drop-spliced, spliced_not_used, spliced_no_room, spliced_no_source}
 use Rattle.tape.proofs.Cells.{formed_fit, formed_kids, formed_single}
 use Rattle.tape.proofs.Tape.{length-tape, tape_tree, tape-single}
 use Rattle.changes.specs.Site.{Offered, table}

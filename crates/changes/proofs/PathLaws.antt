@@ -1,12 +1,12 @@
 -- Laws of a change of the document at a location, which may be the root.
 use Prim.Native.Nat.{ℕ, suc, ◌+◌, ◌≤◌, ◌<◌}
 use native.Mathlib.Omega.{arith}
-use mathlib.Core.Path.{◌≡◌, refl, ap, sym, ◌∙◌, subst}
+use mathlib.Core.Path.{◌≡◌, refl, ap, sym, ◌∙◌}
 use mathlib.Core.Bool.{Bool, true, false}
 use mathlib.Core.List.{List, [], ◌∷◌}
 use lib.ListN.{take, drop, get_or}
 use borrow.Author.Tests.{leb-true, leb-false}
-use Rattle.spec.specs.Outcome.{Outcome, ok, ◌>>=◌}
+use Rattle.spec.specs.Outcome.{ok, ◌>>=◌}
 use Rattle.spec.specs.Refusal.{too_deep, too_many_nodes, malformed_pointer, remove_of_root}
 use Rattle.spec.specs.Limits.{max_depth, max_nodes}
 use Rattle.spec.specs.Bytes.{Bytes, Text}
@@ -32,7 +32,6 @@ use Rattle.tape.proofs.Held.{held_node}
 use Rattle.table.specs.Meaning.{part_of}
 use Rattle.pointer.specs.Tokens.{tokens_from, FirstOf}
 use Rattle.pointer.specs.declared.answers.First.{First}
-use Rattle.pointer.specs.declared.answers.First.TheVariants as First
 use Rattle.pointer.proofs.WalkLaws.{first_root, first_at, first-inside, first_malformed}
 use Rattle.walk.specs.Bearing.{borne}
 use Rattle.walk.proofs.PathLaws.{farther_none, first_of}

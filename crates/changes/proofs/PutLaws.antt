@@ -9,10 +9,10 @@ use borrow.Author.Tests.{leb-true, leb-false}
 use Rattle.spec.specs.Outcome.{Outcome, ok, refused}
 use Rattle.spec.specs.Refusal.{too_deep, too_many_nodes}
 use Rattle.spec.specs.Limits.{max_nodes}
-use Rattle.spec.specs.Forest.{Forest, none, tree, single, count, size, before, from, remove_at, ◌⧺◌}
+use Rattle.spec.specs.Forest.{Forest, none, single, count, size, before, from, remove_at, ◌⧺◌}
 use Rattle.origin.specs.Value as Value
 use Rattle.origin.specs.Value.{depth}
-use Rattle.tape.specs.Layout.{array_kind, values, rows}
+use Rattle.tape.specs.Layout.{array_kind, values}
 use Rattle.tape.specs.Fields.{Row, no_node, span_of, with_span, cell_of, row_with}
 use Rattle.tape.specs.Columns.{used_after, spliced}
 use Rattle.tape.specs.Tape.{tape, Laid}
@@ -20,7 +20,7 @@ use Rattle.tape.specs.declared.fields.Name.{Name}
 use Rattle.tape.specs.declared.fields.Cell.{Cell}
 use Rattle.tape.specs.Cell.{row_of, Told, Fit, Formed, formed_none, formed_tree, level, deep}
 use Rattle.tape.specs.Rows.{child_row, WithinIs}
-use Rattle.tape.specs.Lent.{Texts, Table}
+use Rattle.tape.specs.Lent.{Table}
 use Rattle.tape.proofs.Columns.{Room}
 use Rattle.tape.proofs.Cells.{span_row, formed_fit, formed_kids, formed_rest, fit_container, container_fit}
 use Rattle.tape.proofs.Depth.{level-container}

@@ -1,9 +1,9 @@
 -- Laws of a node that stands among the rows in use.
 use Prim.Native.Nat.{ℕ, suc, ◌+◌, ◌%◌, ◌≤◌, ◌<◌}
 use native.Mathlib.Omega.{arith}
-use mathlib.Core.Path.{◌≡◌, refl, ap, sym, ◌∙◌}
+use mathlib.Core.Path.{◌≡◌, ap, sym, ◌∙◌}
 use mathlib.Core.List.{List, [], ◌++◌, append_assoc}
-use lib.ListN.{length, get_or, set, length-append}
+use lib.ListN.{length, get_or, length-append}
 use Rattle.spec.specs.Forest.{Forest, tree, single, count, size, nth, ◌⧺◌}
 use Rattle.tape.specs.Layout.{array_kind, values}
 use Rattle.tape.specs.Fields.{Row, no_node, span_of, name_of, row_with}
@@ -12,7 +12,7 @@ use Rattle.tape.specs.Tape.{tape, Laid}
 use Rattle.tape.specs.declared.fields.Name.{Name}
 use Rattle.tape.specs.declared.fields.Cell.{Cell}
 use Rattle.tape.specs.Cell.{row_of, Told, Fit, deep}
-use Rattle.tape.specs.Lent.{Texts, Table}
+use Rattle.tape.specs.Lent.{Table}
 use Rattle.tape.proofs.Cells.{blank, formed_fit, formed_kids, span_row, cell_row, made_row}
 use Rattle.tape.proofs.Depth.{level-container}
 use Rattle.tape.proofs.Tape.{tape_⧺, length-tape}

@@ -1,4 +1,5 @@
 -- Laws of a pointer's tokens, one after another.
+use Rattle.std.specs.Prelude.{if◌then◌else◌}
 use Prim.Native.Nat.{ℕ, ◌≤◌}
 use Prim.Native.Char.{code}
 use mathlib.Core.Path.{◌≡◌, refl, ap, sym, ◌∙◌, subst}
@@ -6,7 +7,7 @@ use mathlib.Core.Bool.{Bool, true, false}
 use mathlib.Core.List.{List, [], ◌∷◌}
 use lib.Dec.{eqb}
 use lib.ListN.{length}
-use Rattle.spec.specs.Outcome.{ok, if◌then◌else◌}
+use Rattle.spec.specs.Outcome.{ok}
 use Rattle.spec.specs.Bytes.{Bytes, Text}
 use Rattle.spec.specs.Pointer.{Tokens, prepend, segments, unescape_all}
 use Rattle.text.specs.Decode.{text_of, decode_from}
@@ -16,7 +17,6 @@ use Rattle.tape.specs.Lent.{Texts}
 use Rattle.table.specs.Meaning.{part_of, name_text}
 use Rattle.pointer.specs.Tokens.{tokens_from, token_bytes, TokenAt}
 use Rattle.pointer.specs.declared.answers.Token.{Token}
-use Rattle.pointer.specs.declared.answers.Token.TheVariants as Token
 use Rattle.pointer.proofs.WalkLaws.{unescaped, last_token_lem, next_token}
 use Rattle.walk.specs.Names.{Short, TokenNameIs}
 use Rattle.walk.specs.Path.{TokensFrom}

@@ -19,7 +19,6 @@ use Rattle.table.specs.Sound.{NameFits}
 use Rattle.pointer.specs.Index.{insertion_at}
 use Rattle.pointer.specs.declared.answers.Index.{Index}
 use Rattle.walk.specs.declared.steps.Child.{Child}
-use Rattle.walk.specs.declared.steps.Child.TheVariants as Child
 use Rattle.walk.specs.Bearing.{borne}
 use Rattle.walk.specs.Names.{IsToken, Short}
 use Rattle.walk.specs.Path.{farther_by, TokensFrom}

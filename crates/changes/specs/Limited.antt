@@ -1,7 +1,7 @@
 -- The limits after an operation, on a part of the document: how many containers a node's value may nest, and how many nodes it may have. Of
 -- the whole document these are the two limits of `limited`. The values bear their origins.
-use Rattle.std.specs.Prelude.{ℕ, leb}
-use Rattle.spec.specs.Outcome.{Outcome, ok, refused, ◌>>=◌, if◌then◌else◌}
+use Rattle.std.specs.Prelude.{ℕ, leb, if◌then◌else◌}
+use Rattle.spec.specs.Outcome.{Outcome, ok, refused, ◌>>=◌}
 use Rattle.spec.specs.Refusal.{too_deep, too_many_nodes}
 use Rattle.origin.specs.Value as Value
 use Rattle.origin.specs.Value.{depth, nodes}

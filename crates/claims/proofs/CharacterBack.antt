@@ -1,4 +1,5 @@
 -- A character that is written is read back.
+use Rattle.std.specs.Prelude.{if◌then◌else◌}
 use mathlib.Core.Path.{◌≡◌, refl, ◌∙◌}
 use mathlib.Core.List.{[], ◌∷◌, ◌++◌}
 use mathlib.Core.Bool.{Bool, true, false}
@@ -8,7 +9,7 @@ use native.Mathlib.Decide.{dec_lt}
 use lib.Dec.{eqb, leb, ltb}
 use lib.ListN.{length}
 use borrow.Author.Tests.{eqb-true, ne_eqb, leb-true, leb-false, ltb-true, ltb-false}
-use Rattle.spec.specs.Outcome.{ok, ◌>>=◌, if◌then◌else◌}
+use Rattle.spec.specs.Outcome.{ok, ◌>>=◌}
 use Rattle.spec.specs.Bytes.{Bytes, byte, within, ascii}
 use Rattle.spec.specs.Strings.{hex_value, hex_in, second_limit, unicode_escape, short_escape, escape, tail, multibyte, character}
 use Rattle.spec.specs.Write.{utf8, hex_digit, write_character}

@@ -1,4 +1,5 @@
 -- A string is read as Unicode scalar values.
+use Rattle.std.specs.Prelude.{if◌then◌else◌}
 use mathlib.Core.Path.{◌≡◌, refl, sym, subst}
 use mathlib.Core.Bool.{Bool, true, false}
 use Prim.Native.Nat.{ℕ, zero, suc, ◌+◌, ◌-◌, ◌*◌, ◌≤◌, ◌<◌}
@@ -7,7 +8,7 @@ use native.Mathlib.Decide.{dec_lt}
 use lib.Dec.{eqb, leb}
 use lib.ListN.{length}
 use borrow.Author.Tests.{leb-true, leb-false, le-leb}
-use Rattle.spec.specs.Outcome.{Outcome, ok, if◌then◌else◌}
+use Rattle.spec.specs.Outcome.{Outcome, ok}
 use Rattle.spec.specs.Bytes.{Bytes, Text, byte, byte_in, within}
 use Rattle.spec.specs.Strings.{hex_value, hex_in, low_surrogate, after_high, second_limit, unicode_escape, short_escape, escape, tail, multibyte, character}
 use Rattle.spec.specs.Strings.{characters, string}

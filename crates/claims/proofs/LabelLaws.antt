@@ -1,10 +1,10 @@
 -- Labels that test the same: a relation that is reflexive, symmetric and transitive.
+use Rattle.std.specs.Prelude.{if◌then◌else◌}
 use mathlib.Core.Path.{◌≡◌, refl, ap, sym, ◌∙◌}
 use mathlib.Core.Bool.{Bool, true, false, true≢false}
 use lib.Dec.{eqb}
 use lib.IntN.{ℤ, pos, negsuc}
 use borrow.Author.Tests.{eqb-true, eq-eqb}
-use Rattle.spec.specs.Outcome.{if◌then◌else◌}
 use Rattle.spec.specs.Worth.{Worth, worth}
 use Rattle.spec.specs.Value.{Label, tag, is_number, is_object, content, same_text}
 use Rattle.spec.specs.Equality.{same_bool, same_integer, same_worth, same_label}

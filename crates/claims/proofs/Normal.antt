@@ -1,4 +1,5 @@
 -- Digits without zeros at either end and a power of ten: each number has one such form, so two numbers are equal where their forms are.
+use Rattle.std.specs.Prelude.{if◌then◌else◌}
 use mathlib.Core.Path.{◌≡◌, refl, ap, ap₂, sym, ◌∙◌}
 use mathlib.Core.Logic.Iff
 use mathlib.Core.Logic.{◌↔◌}
@@ -11,7 +12,6 @@ use lib.Dec.{eqb, leb, ltb}
 use lib.ListN.{length, replicate, length-append, length-replicate}
 use lib.IntN.{ℤ, pos, ◌+ℤ◌, ◌-ℤ◌, +ℤ_assoc}
 use borrow.Author.Tests.{eqb-true, eqb-false, leb-true, le-leb, lt-ltb}
-use Rattle.spec.specs.Outcome.{if◌then◌else◌}
 use Rattle.spec.specs.Bytes.{Bytes, within}
 use Rattle.spec.specs.Numbers.{is_digit, is_e}
 use Rattle.spec.specs.Worth.{decimal, drop_zeros, trimmed, unless_zero}

@@ -1,11 +1,12 @@
 -- A pointer's tokens and its text determine each other.
+use Rattle.std.specs.Prelude.{if◌then◌else◌}
 use mathlib.Core.Path.{◌≡◌, refl, ap, sym, ◌∙◌}
 use mathlib.Core.Bool.{Bool, true, false}
 use mathlib.Core.List.{List, [], ◌∷◌, ◌++◌, append-nil, append_assoc}
 use Prim.Native.Nat.{ℕ}
 use lib.Dec.{eqb}
 use borrow.Author.Tests.{eqb-true}
-use Rattle.spec.specs.Outcome.{ok, refused, ◌>>=◌, if◌then◌else◌}
+use Rattle.spec.specs.Outcome.{ok, refused, ◌>>=◌}
 use Rattle.spec.specs.Bytes.{Text, ascii}
 use Rattle.spec.specs.Pointer.{Tokens, prepend, segments, tilde, unescape, unescape_all, tokens}
 use Rattle.spec.proofs.OutcomeLaws.{refused≢ok, both_ok}

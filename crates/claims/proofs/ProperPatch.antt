@@ -1,4 +1,5 @@
 -- The operations of a patch that is read, and the documents that they lead to.
+use Rattle.std.specs.Prelude.{if◌then◌else◌}
 use mathlib.Core.Path.{◌≡◌, refl, ap, sym, subst}
 use mathlib.Core.Bool.{Bool, true, false, ◌&&◌, not}
 use mathlib.Core.List.{List, [], ◌∷◌, ◌++◌}
@@ -6,7 +7,7 @@ use Prim.Native.Nat.{ℕ, ◌+◌, ◌<◌, ◌≤◌}
 use native.Mathlib.Omega.{arith}
 use lib.Dec.{leb}
 use borrow.Author.Tests.{ltb-true, leb-true}
-use Rattle.spec.specs.Outcome.{Outcome, ok, refused, ◌>>=◌, if◌then◌else◌, require}
+use Rattle.spec.specs.Outcome.{Outcome, ok, refused, ◌>>=◌, require}
 use Rattle.spec.specs.Bytes.{Text, ascii}
 use Rattle.spec.specs.Limits.{max_depth, max_nodes}
 use Rattle.spec.specs.Forest.{none, tree, count}

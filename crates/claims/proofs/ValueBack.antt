@@ -1,4 +1,5 @@
 -- A value that is written is read back.
+use Rattle.std.specs.Prelude.{if◌then◌else◌}
 use mathlib.Core.Path.{◌≡◌, refl, ap, sym, ◌∙◌}
 use mathlib.Core.List.{[], ◌∷◌, ◌++◌, append-nil, append_assoc}
 use mathlib.Core.Bool.{Bool, true, false, true≢false}
@@ -8,7 +9,7 @@ use native.Mathlib.Omega.{arith}
 use lib.Dec.{eqb}
 use lib.ListN.{length, length-append}
 use borrow.Author.Tests.{eq-eqb}
-use Rattle.spec.specs.Outcome.{Outcome, ok, ◌>>=◌, if◌then◌else◌}
+use Rattle.spec.specs.Outcome.{Outcome, ok, ◌>>=◌}
 use Rattle.spec.specs.Bytes.{Bytes, Text, ascii, byte, byte_in, within}
 use Rattle.spec.specs.Numbers.{is_digit, is_e}
 use Rattle.spec.specs.Forest.{none, tree, single, count, size, ◌⧺◌}

@@ -1,9 +1,8 @@
 -- What comparing two numbers by their worth means: SPECIFICATION 7.3, and RFC 6902, section 4.6, "numbers: are
 -- considered equal if their values are numerically equal". The exact value of a number's text is read off RFC 8259's grammar, with no
 -- digit dropped and nothing rounded. No rule speaks of zero: an integer has one zero, so minus zero is zero (SPECIFICATION 7.4, T-04).
-use Rattle.std.specs.Prelude.{◌≡◌, ◌↔◌, ℕ, ◌+◌, ◌-◌, ◌*◌, ◌^◌, [], ◌∷◌, ◌++◌, Bool, true, false, length, eqb, ℤ, pos, negsuc, neg_ℤ, ◌-ℤ◌, ◌*ℤ◌}
+use Rattle.std.specs.Prelude.{◌≡◌, ◌↔◌, ℕ, ◌+◌, ◌-◌, ◌*◌, ◌^◌, [], ◌∷◌, ◌++◌, Bool, true, false, length, eqb, ℤ, pos, negsuc, neg_ℤ, ◌-ℤ◌, ◌*ℤ◌, if◌then◌else◌}
 use Prim.Native.Char.{code}
-use Rattle.spec.specs.Outcome.{if◌then◌else◌}
 use Rattle.spec.specs.Bytes.{Bytes}
 use Rattle.spec.specs.Proper.{NumberText}
 use Rattle.spec.specs.Worth.{worth}

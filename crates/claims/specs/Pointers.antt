@@ -1,8 +1,8 @@
 -- JSON Pointer, RFC 6901, section 3: "json-pointer = *( "/" reference-token )", where a `~` in a token is written `~0` and a `/` `~1`.
 -- Every list of tokens is written as one pointer, and every pointer is so written.
-use Rattle.std.specs.Prelude.{◌≡◌, ℕ, [], ◌∷◌, ◌++◌, eqb}
+use Rattle.std.specs.Prelude.{◌≡◌, ℕ, [], ◌∷◌, ◌++◌, eqb, if◌then◌else◌}
 use Prim.Native.Char.{code}
-use Rattle.spec.specs.Outcome.{ok, if◌then◌else◌}
+use Rattle.spec.specs.Outcome.{ok}
 use Rattle.spec.specs.Bytes.{Text, ascii}
 use Rattle.spec.specs.Pointer.{Tokens, tokens}
 

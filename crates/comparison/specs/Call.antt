@@ -1,6 +1,6 @@
 -- The answer of the call that compares two texts: SPECIFICATION 17.1. T-10: "Demand 2 covers the count".
-use Rattle.std.specs.Prelude.{ℕ, ◌*◌, ◌≤◌, ◌≡◌, Bool, false, not, ltb, length}
-use Rattle.spec.specs.Outcome.{Outcome, ok, refused, if◌then◌else◌}
+use Rattle.std.specs.Prelude.{ℕ, ◌*◌, ◌≤◌, ◌≡◌, Bool, false, not, ltb, length, if◌then◌else◌}
+use Rattle.spec.specs.Outcome.{Outcome, ok, refused}
 use Rattle.spec.specs.Refusal as Refusal
 use Rattle.spec.specs.Refusal.{work_too_short, input_too_long}
 use Rattle.spec.specs.Limits.{max_bytes}

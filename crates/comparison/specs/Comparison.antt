@@ -1,6 +1,5 @@
 -- How many names equality compares: SPECIFICATION 17.2. T-10: "Equality shall report its count of name comparisons".
-use Rattle.std.specs.Prelude.{ℕ, ◌+◌, ◌*◌, ◌≤◌, ◌≡◌, Bool, true, false, eqb}
-use Rattle.spec.specs.Outcome.{if◌then◌else◌}
+use Rattle.std.specs.Prelude.{ℕ, ◌+◌, ◌*◌, ◌≤◌, ◌≡◌, Bool, true, false, eqb, if◌then◌else◌}
 use Rattle.spec.specs.Bytes.{Text}
 use Rattle.spec.specs.Forest.{none, tree, count}
 use Rattle.spec.specs.Value as Value

@@ -1,6 +1,6 @@
 -- What `partner` answers, with the place of what it found.
+use Rattle.std.specs.Prelude.{if◌then◌else◌}
 use Rattle.std.proofs.Common.{◌≡◌, ℕ, suc, ◌+◌, ◌<◌, Bool, true, false, sym, refl, ap, ◌∙◌, subst, arith}
-use Rattle.spec.specs.Outcome.{if◌then◌else◌}
 use Rattle.spec.specs.Bytes.{Text}
 use Rattle.spec.specs.Forest.{Forest, none, tree, Tree, count, from, nth, ◌⧺◌}
 use Rattle.spec.specs.Value.{Members, find}

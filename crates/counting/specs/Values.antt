@@ -1,6 +1,5 @@
 -- What the comparison of two values in the table answers, with the count of names compared.
-use Rattle.std.specs.Prelude.{◌≡◌, ℕ, ◌+◌, ◌%◌, ◌^◌, ◌<◌, ◌≤◌, Bool, true, ◌&&◌, List, length, ◌==◌}
-use Rattle.spec.specs.Outcome.{if◌then◌else◌}
+use Rattle.std.specs.Prelude.{◌≡◌, ℕ, ◌+◌, ◌%◌, ◌^◌, ◌<◌, ◌≤◌, Bool, true, ◌&&◌, List, length, ◌==◌, if◌then◌else◌}
 use Rattle.spec.specs.Forest.{Forest, count}
 use Rattle.spec.specs.Value.{depth}
 use Rattle.spec.specs.Equality.{same_label}

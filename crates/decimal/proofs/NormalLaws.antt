@@ -1,4 +1,5 @@
 -- The normal form says what a number is worth, and two normal forms say whether the numbers are equal.
+use Rattle.std.specs.Prelude.{if◌then◌else◌}
 use Prim.Native.Nat.{ℕ, suc, ◌+◌, ◌-◌, ◌≤◌, ◌<◌, min}
 use Prim.Native.Char.{code}
 use mathlib.Core.Path.{◌≡◌, refl, sym, ◌∙◌, ap}
@@ -12,7 +13,6 @@ use lib.ListN.{length, take, drop, length-reverse}
 use lib.Seq.{take-append-le, take_all}
 use lib.Dec.{eqb, leb, ltb, eqb-suc-zero}
 use lib.IntN.{ℤ, pos, neg_ℤ, nat_abs, ◌+ℤ◌, ◌-ℤ◌}
-use Rattle.spec.specs.Outcome.{if◌then◌else◌}
 use Rattle.spec.specs.Limits.{max_number, max_exponent}
 use Rattle.spec.specs.Bytes.{Bytes, within}
 use Rattle.spec.specs.Numbers.{is_digit, is_e}

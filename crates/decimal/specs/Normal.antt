@@ -1,8 +1,7 @@
 -- A number's normal form as the code holds it: SPECIFICATION 7.3, without the zeros on both ends of the digits, and with a signed power of
 -- ten. No digit is copied: the form says where in the text the significant digits begin, and how many they are.
-use Rattle.std.specs.Prelude.{ℕ, suc, [], ◌∷◌, Bool, ◌&&◌, length, leb, nat_abs}
+use Rattle.std.specs.Prelude.{ℕ, suc, [], ◌∷◌, Bool, ◌&&◌, length, leb, nat_abs, if◌then◌else◌}
 use Prim.Native.Char.{code}
-use Rattle.spec.specs.Outcome.{if◌then◌else◌}
 use Rattle.spec.specs.Limits.{max_number, max_exponent}
 use Rattle.spec.specs.Bytes.{Bytes, within}
 use Rattle.spec.specs.Numbers.{is_e}

@@ -95,7 +95,7 @@ module _ {w : Table} where
     span_next = let n = held_node s.left.held in omega (arith, span_here n, end_here n)
 
   -- a row among them is that of a tree
-  pub siblings_among : {C : Type 0} {start end row : ℕ} {f : Forest Cell} → Among w.nodes end row start → Siblings w start end f
+  pub siblings_among : {C : Type 0} {end row start : ℕ} {f : Forest Cell} → Among w.nodes end row start → Siblings w start end f
       → ((k : ℕ) (c : Cell) (kids after : Forest Cell) → from k f ≡ tree c kids after → Siblings w row end (tree c kids after) → C) → C
   unfolding from
   siblings_among (first h) s then-it = siblings_first s h (then-it 0)

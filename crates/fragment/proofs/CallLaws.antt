@@ -1,14 +1,15 @@
 -- Laws of answers, and what the verdicts say of them.
+use Rattle.std.specs.Prelude.{if◌then◌else◌}
 use Prim.Native.Nat.{ℕ, ◌≤◌, ◌<◌}
 use Prim.Native.Char.{code}
 use mathlib.Core.Path.{◌≡◌, refl, sym, ap, subst, ◌∙◌}
-use mathlib.Core.Bool.{Bool, true, false, not, true≢false}
+use mathlib.Core.Bool.{Bool, true, false, true≢false}
 use mathlib.Core.List.{[], ◌∷◌}
 use native.Mathlib.Omega.{arith}
 use borrow.Author.Tests.{eq-eqb, ne_eqb, le-leb, lt-leb, leb-true, leb-false}
 use lib.ListN.{length, drop}
 use lib.Dec.{leb}
-use Rattle.spec.specs.Outcome.{Outcome, ok, refused, ◌>>=◌, if◌then◌else◌}
+use Rattle.spec.specs.Outcome.{Outcome, ok, refused, ◌>>=◌}
 use Rattle.spec.specs.Refusal.{input_too_long, malformed_pointer, output_too_short}
 use Rattle.spec.specs.Limits.{max_bytes}
 use Rattle.spec.specs.Bytes.{Bytes, byte}
@@ -23,9 +24,7 @@ use Rattle.fragment.specs.Scan.{verdict, counted, fragment_of, OctetsPut}
 use Rattle.fragment.specs.Call.{Answered, SuccessIs, RefusalIs, OctetsFit}
 use Rattle.fragment.specs.declared.answer.Answer.{Answer}
 use Rattle.fragment.specs.declared.scan.Verdict.{Verdict}
-use Rattle.fragment.specs.declared.scan.Verdict.TheVariants as Verdict
 use Rattle.fragment.specs.declared.octets.Fragment.{Fragment}
-use Rattle.fragment.specs.declared.octets.Fragment.TheVariants as Fragment
 
 -- ---- a refusal leaves the output as it was; a success has the text in front
 
@@ -142,21 +141,13 @@ octets_whole {n = n} {before = before} h p is = record { fits = λ t e l. succee
 
 -- ---- the ways out of the calls
 
-not_true : (b : Bool) → not b ≡ true → b ≡ false
-not_true true e = sym e
-not_true false e = refl
-
-not_false : (b : Bool) → not b ≡ false → b ≡ true
-not_false true e = refl
-not_false false e = sym e
-
 -- no room for a link, and room
-pub link_short : (t out : Bytes) {f : Bool} {r : Answer} → f ≡ leb (length t) (length out) → not f ≡ true → RefusalIs output_too_short r →
+pub link_short : (t out : Bytes) {f : Bool} {r : Answer} → f ≡ leb (length t) (length out) → f ≡ false → RefusalIs output_too_short r →
     Answered (fitting (length out) t) out out r
-link_short t out {f} e n is = refuses output_too_short (fitting_short (length out) t (leb-false _ _ (sym e ∙ not_true f n))) is
+link_short t out {f} e n is = refuses output_too_short (fitting_short (length out) t (leb-false _ _ (sym e ∙ n))) is
 
-pub link_fits : (t out : Bytes) {f : Bool} → f ≡ leb (length t) (length out) → not f ≡ false → length t ≤ length out
-link_fits t out {f} e n = leb-true _ _ (sym e ∙ not_false f n)
+pub link_fits : (t out : Bytes) {f : Bool} → f ≡ leb (length t) (length out) → f ≡ true → length t ≤ length out
+link_fits t out {f} e n = leb-true _ _ (sym e ∙ n)
 
 -- a link that begins with `#`, by what its fragment is
 module _ (s : Bytes) {b : ℕ} (e : b ≡ byte s 0) (h : b ≡ code "#") where

@@ -1,4 +1,5 @@
 -- The claims of specs/Claims, proved.
+use Rattle.std.specs.Prelude.{if◌then◌else◌}
 use Prim.Native.Nat.{ℕ, suc, ◌+◌, ◌-◌, ◌*◌, ◌/◌, ◌%◌, ◌≤◌, ◌<◌}
 use Prim.Native.Char.{code}
 use mathlib.Core.Path.{◌≡◌, refl, sym, ap, subst, ◌∙◌}
@@ -9,7 +10,7 @@ use native.Mathlib.Decide.{dec_lt, ℕ_discrete}
 use borrow.Author.Tests.{ne_eqb, eqb-true, lt-ltb, le-ltb}
 use lib.ListN.{length}
 use lib.Dec.{leb, ltb, eqb}
-use Rattle.spec.specs.Outcome.{Outcome, ok, refused, ◌>>=◌, if◌then◌else◌}
+use Rattle.spec.specs.Outcome.{Outcome, ok, refused, ◌>>=◌}
 use Rattle.spec.specs.Limits.{max_bytes}
 use Rattle.spec.specs.Bytes.{Bytes, ascii, within}
 use Rattle.spec.specs.Numbers.{is_digit}
@@ -26,9 +27,7 @@ use Rattle.fragment.specs.Claims.{KeptSet, RoundTrip, Written, raw, percents, Sp
 use Rattle.fragment.specs.Scan.{awaiting, between, broken, lowest, highest, first_byte, next_byte, awaited, syntax, may_end, judge, verdict}
 use Rattle.fragment.specs.declared.scan.Awaited.{Awaited}
 use Rattle.fragment.specs.declared.scan.Syntax.{Syntax}
-use Rattle.fragment.specs.declared.scan.Syntax.TheVariants as Syntax
 use Rattle.fragment.specs.declared.scan.Verdict.{Verdict}
-use Rattle.fragment.specs.declared.scan.Verdict.TheVariants as Verdict
 use Rattle.fragment.proofs.ByteLaws.{first_above, next_first, next_outside}
 use Rattle.fragment.proofs.ScanLaws.{broken_stays, judged}
 use Rattle.fragment.proofs.CallLaws.{no_text-no_pointer, fitting_whole, not_too_long}

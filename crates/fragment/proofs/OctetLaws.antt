@@ -18,7 +18,6 @@ use Rattle.fragment.specs.Kept.{is_kept}
 use Rattle.fragment.specs.Link.{bad_link, percent, digit, is_hex, octets}
 use Rattle.fragment.specs.Scan.{octets_after, Onward, OctetAt, PercentAt}
 use Rattle.fragment.specs.declared.octets.Octet.{Octet}
-use Rattle.fragment.specs.declared.octets.Octet.TheVariants as Octet
 
 -- ---- the rest of a text, from a place on
 

@@ -1,5 +1,6 @@
 -- Bytes looked at one after another: they end between characters exactly where they are UTF-8, and then what was read of a pointer is what its
 -- characters come to.
+use Rattle.std.specs.Prelude.{if◌then◌else◌}
 use Prim.Native.Nat.{ℕ, zero, suc, ◌+◌, ◌-◌, ◌*◌, ◌≤◌, ◌<◌}
 use mathlib.Core.Path.{◌≡◌, refl, sym, ap, ◌∙◌}
 use mathlib.Core.Bool.{Bool, true, false}
@@ -9,7 +10,7 @@ use native.Mathlib.Decide.{dec_lt}
 use borrow.Author.Tests.{eq-eqb, ne_eqb, leb-true, leb-false, ltb-true, ltb-false}
 use lib.ListN.{length, drop}
 use lib.Dec.{leb, ltb}
-use Rattle.spec.specs.Outcome.{Outcome, ok, refused, ◌>>=◌, if◌then◌else◌}
+use Rattle.spec.specs.Outcome.{Outcome, ok, refused, ◌>>=◌}
 use Rattle.spec.specs.Refusal.{not_json}
 use Rattle.spec.specs.Bytes.{Bytes, Text, byte, within, byte_in}
 use Rattle.spec.specs.Strings.{tail, multibyte}
@@ -21,11 +22,8 @@ use Rattle.fragment.specs.Scan.{awaiting, between, broken, lowest, highest, firs
 use Rattle.fragment.specs.Scan.{octets_after, Onward, OctetAt, counted, fragment_of}
 use Rattle.fragment.specs.declared.scan.Awaited.{Awaited}
 use Rattle.fragment.specs.declared.scan.Syntax.{Syntax}
-use Rattle.fragment.specs.declared.scan.Syntax.TheVariants as Syntax
 use Rattle.fragment.specs.declared.octets.Octet.{Octet}
-use Rattle.fragment.specs.declared.octets.Octet.TheVariants as Octet
 use Rattle.fragment.specs.declared.octets.Fragment.{Fragment}
-use Rattle.fragment.specs.declared.octets.Fragment.TheVariants as Fragment
 use Rattle.fragment.proofs.ByteLaws.{first-ascii, first_below, first_two, first_three, first-four, first_above, next_first, next_outside, next_inside}
 use Rattle.fragment.proofs.OctetLaws.{from_here, at_end}
 use Rattle.fragment.proofs.SyntaxLaws.{Settled, settles, stays, alike, ends_accepted}

@@ -14,7 +14,6 @@ use Rattle.pointer.specs.Tokens.{accepted}
 use Rattle.pointer.proofs.ScanLaws.{segments_slash, segments_more}
 use Rattle.fragment.specs.Scan.{next_syntax, syntax, may_end}
 use Rattle.fragment.specs.declared.scan.Syntax.{Syntax}
-use Rattle.fragment.specs.declared.scan.Syntax.TheVariants as Syntax
 
 -- ---- a character above ASCII is a part of a token, or makes the text malformed
 

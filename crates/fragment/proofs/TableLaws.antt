@@ -31,7 +31,8 @@ every i (x ∷ xs) = same (eqb x i) (is_kept i) && every (suc i) xs
 from : (xs : List ℕ) (i : ℕ) → every i xs ≡ true → (k : ℕ) → k < length xs → eqb (get_or xs k 0) (i + k) ≡ is_kept (i + k)
 unfolding every
 from [] i t k h = absurd (not-suc-le-zero h)
-from (x ∷ xs) i t zero h = subst (λ (m : ℕ). eqb x m ≡ is_kept m) (sym (add-zero i)) (same_is _ _ (and_both (same (eqb x i) (is_kept i)) (every (suc i) xs) t).0)
+from (x ∷ xs) i t zero h =
+    subst (λ (m : ℕ). eqb x m ≡ is_kept m) (sym (add-zero i)) (same_is _ _ (and_both (same (eqb x i) (is_kept i)) (every (suc i) xs) t).0)
 from (x ∷ xs) i t (suc k) h =
     subst (λ (m : ℕ). eqb (get_or xs k 0) m ≡ is_kept m) (suc-add i k ∙ sym (add-suc i k))
     (from xs (suc i) (and_both (same (eqb x i) (is_kept i)) (every (suc i) xs) t).1 k (le_of_suc-le-suc h))

@@ -3,22 +3,21 @@ use Prim.Native.Nat.{ℕ, suc, ◌+◌, ◌-◌, ◌/◌, ◌%◌, ◌≤◌, �
 use Prim.Native.Char.{code}
 use mathlib.Core.Path.{◌≡◌, refl, sym, ap, ◌∙◌}
 use mathlib.Core.Bool.{true, false}
-use mathlib.Core.List.{[], ◌∷◌, ◌++◌, append-nil, append_assoc}
+use mathlib.Core.List.{[], ◌∷◌, ◌++◌}
 use native.Mathlib.Omega.{arith}
 use borrow.Author.Tests.{lt-ltb, le-ltb}
 use lib.ListN.{length, drop, set, length-set, length-append}
-use lib.Seq.{sets, length-sets}
+use lib.Seq.{sets}
 use Rattle.spec.specs.Outcome.{Outcome, ok, refused, ◌>>=◌}
 use Rattle.spec.specs.Bytes.{Bytes, byte}
 use Rattle.text.specs.Written.{Stored, LaidDown}
-use Rattle.text.proofs.StoreLaws.{stores_on, stored, front}
+use Rattle.text.proofs.StoreLaws.{stored, front}
 use Rattle.text.proofs.LaidLaws.{Laid, laid_starts, laid_on, laid_ends}
 use Rattle.fragment.specs.Kept.{is_kept}
 use Rattle.text.specs.UpperHex.{upper_hex}
 use Rattle.fragment.specs.Link.{bad_link, encoded, encode_all, link, nothing, octets, precede}
 use Rattle.fragment.specs.Scan.{octets_after, Onward, OctetAt, OctetsPut}
 use Rattle.fragment.specs.declared.octets.Octet.{Octet}
-use Rattle.fragment.specs.declared.octets.Octet.TheVariants as Octet
 use Rattle.fragment.proofs.OctetLaws.{from_here, at_end}
 
 -- ---- an octet in a link

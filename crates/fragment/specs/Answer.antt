@@ -1,6 +1,6 @@
 -- The answers of the two calls: SPECIFICATION 12.1. T-14: "Refusals, each leaving the output unchanged and the other fields 0."
-use Rattle.std.specs.Prelude.{ℕ, [], length, leb}
-use Rattle.spec.specs.Outcome.{Outcome, ok, refused, if◌then◌else◌}
+use Rattle.std.specs.Prelude.{ℕ, [], length, leb, if◌then◌else◌}
+use Rattle.spec.specs.Outcome.{Outcome, ok, refused}
 use Rattle.spec.specs.Refusal.{done, input_too_long, malformed_pointer, output_too_short}
 use Rattle.spec.specs.Limits.{max_bytes}
 use Rattle.spec.specs.Bytes.{Bytes}

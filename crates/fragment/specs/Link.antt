@@ -1,8 +1,8 @@
 -- A pointer as a URI's fragment: RFC 6901, section 6. "The pointer is .. encoded in UTF-8 [RFC3629] octets, while percent-encoding those
 -- characters not allowed by the fragment rule in [RFC3986]." A link is `#` and that fragment.
-use Rattle.std.specs.Prelude.{ℕ, zero, suc, ◌+◌, ◌-◌, ◌*◌, ◌/◌, ◌%◌, [], ◌∷◌, ◌++◌, Bool, length, leb, ltb, eqb}
+use Rattle.std.specs.Prelude.{ℕ, zero, suc, ◌+◌, ◌-◌, ◌*◌, ◌/◌, ◌%◌, [], ◌∷◌, ◌++◌, Bool, length, leb, ltb, eqb, if◌then◌else◌}
 use Prim.Native.Char.{code}
-use Rattle.spec.specs.Outcome.{Outcome, ok, refused, ◌>>=◌, if◌then◌else◌}
+use Rattle.spec.specs.Outcome.{Outcome, ok, refused, ◌>>=◌}
 use Rattle.spec.specs.Bytes.{Bytes, Text, byte}
 use Rattle.spec.specs.Strings.{hex_value, multibyte}
 use Rattle.spec.specs.Pointer.{tokens}

@@ -1,8 +1,8 @@
 -- How the code goes through octets, one after another: what of a character is to come, and how far a pointer has been read. proofs/ScanLaws
 -- proves that this is UTF-8 and RFC 6901's syntax as Link has them.
-use Rattle.std.specs.Prelude.{ℕ, ◌-◌, ◌<◌, ◌≤◌, ◌≡◌, List, [], ◌∷◌, Bool, true, false, length, get_or, drop, ltb, eqb}
+use Rattle.std.specs.Prelude.{ℕ, ◌-◌, ◌<◌, ◌≤◌, ◌≡◌, List, [], ◌∷◌, Bool, true, false, length, get_or, drop, ltb, eqb, if◌then◌else◌}
 use Prim.Native.Char.{code}
-use Rattle.spec.specs.Outcome.{Outcome, ok, refused, if◌then◌else◌}
+use Rattle.spec.specs.Outcome.{Outcome, ok, refused}
 use Rattle.spec.specs.Bytes.{Bytes, within}
 use Rattle.text.specs.Written.{LaidDown}
 use Rattle.fragment.specs.Kept.{is_kept}

@@ -1,4 +1,5 @@
 -- What stands at the place of a refusal by 4, 5, 6 or 7: each reader, given the bytes before its place.
+use Rattle.std.specs.Prelude.{if◌then◌else◌}
 use Prim.Native.Nat.{ℕ, zero, suc, ◌+◌, ◌-◌, ◌<◌, ◌≤◌}
 use Prim.Native.Char.{code}
 use mathlib.Core.Path.{◌≡◌, refl, ap, subst, sym, ◌∙◌}
@@ -9,7 +10,7 @@ use native.Mathlib.Decide.{dec_lt}
 use lib.ListN.{length, drop}
 use lib.Dec.{eqb, ltb}
 use borrow.Author.Tests.{eqb-true, ltb-true, ltb-false}
-use Rattle.spec.specs.Outcome.{Outcome, ok, refused, ◌>>=◌, if◌then◌else◌}
+use Rattle.spec.specs.Outcome.{Outcome, ok, refused, ◌>>=◌}
 use Rattle.spec.specs.Refusal.{not_json, repeated_name, too_deep, too_many_nodes, number_over_limit}
 use Rattle.spec.specs.Limits.{max_depth, max_nodes}
 use Rattle.spec.specs.Bytes.{Bytes, Text, ascii, byte}

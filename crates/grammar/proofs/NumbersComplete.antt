@@ -1,4 +1,5 @@
 -- The reader of numbers is complete: it reads a number that fits, up to a byte that does not continue it.
+use Rattle.std.specs.Prelude.{if◌then◌else◌}
 use Prim.Native.Nat.{ℕ, zero, suc, ◌+◌, ◌-◌, ◌*◌, ◌<◌, ◌≤◌}
 use mathlib.Core.Path.{◌≡◌, refl, ap, subst, sym, ◌∙◌}
 use mathlib.Core.Bool.{Bool, true, false, ◌||◌}
@@ -8,7 +9,7 @@ use lib.ListN.{length}
 use lib.IntN.{pos, neg_ℤ, nat_abs}
 use lib.Dec.{eqb, leb, ltb}
 use borrow.Author.Tests.{ne_eqb, ltb-false, leb-false}
-use Rattle.spec.specs.Outcome.{Outcome, ok, refused, ◌>>=◌, if◌then◌else◌}
+use Rattle.spec.specs.Outcome.{Outcome, ok, refused, ◌>>=◌}
 use Rattle.spec.specs.Refusal.{number_over_limit}
 use Rattle.spec.specs.Limits.{max_number, max_exponent}
 use Rattle.spec.specs.Bytes.{Bytes, byte, within}

@@ -1,4 +1,5 @@
 -- The reader of strings is complete: what the grammar derives it reads, with the same meaning.
+use Rattle.std.specs.Prelude.{if◌then◌else◌}
 use Prim.Native.Nat.{ℕ, zero, suc, ◌+◌, ◌-◌, ◌*◌, ◌<◌, ◌≤◌}
 use mathlib.Core.Path.{◌≡◌, refl, ap, ap₂, sym, ◌∙◌}
 use mathlib.Core.Bool.{Bool, true, false}
@@ -8,7 +9,7 @@ use native.Mathlib.Decide.{dec_lt}
 use lib.ListN.{length}
 use lib.Dec.{eqb}
 use borrow.Author.Tests.{eqb-true, ne_eqb}
-use Rattle.spec.specs.Outcome.{ok, ◌>>=◌, if◌then◌else◌}
+use Rattle.spec.specs.Outcome.{ok, ◌>>=◌}
 use Rattle.spec.specs.Bytes.{Bytes, Text, byte, within, byte_in}
 use Rattle.spec.specs.Strings as Strings
 use Rattle.spec.specs.Strings.{hex_value, hex_in, low_surrogate, after_high, second_limit, unicode_escape, short_escape, escape, tail, multibyte, character}

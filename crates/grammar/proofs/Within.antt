@@ -1,4 +1,5 @@
 -- What is read is within the limits.
+use Rattle.std.specs.Prelude.{if◌then◌else◌}
 use Prim.Native.Nat.{ℕ, zero, suc, ◌+◌, ◌-◌, ◌*◌, ◌<◌, ◌≤◌}
 use Prim.Native.Char.{code}
 use mathlib.Core.Path.{◌≡◌, refl, subst, sym, ◌∙◌}
@@ -9,7 +10,7 @@ use lib.ListN.{length, take, drop}
 use lib.IntN.{nat_abs}
 use lib.Dec.{eqb, leb, ltb}
 use borrow.Author.Tests.{eqb-true, leb-true, ltb-true}
-use Rattle.spec.specs.Outcome.{Outcome, ok, refused, ◌>>=◌, if◌then◌else◌}
+use Rattle.spec.specs.Outcome.{Outcome, ok, refused, ◌>>=◌}
 use Rattle.spec.specs.Refusal.{repeated_name, too_many_nodes}
 use Rattle.spec.specs.Limits.{max_depth, max_nodes, max_number, max_exponent}
 use Rattle.spec.specs.Bytes.{Bytes, Text, byte, byte_in}

@@ -4,10 +4,8 @@ use native.Mathlib.Omega.{arith}
 use mathlib.Core.Path.{◌≡◌, refl, sym, ap, ◌∙◌, subst}
 use mathlib.Core.Bool.{Bool, true, false, ◌||◌, true≢false}
 use mathlib.Core.List.{List}
-use lib.Dec.{ltb}
-use lib.ListN.{length, drop, get_or}
+use lib.ListN.{get_or}
 use borrow.Author.Tests.{lt-ltb, le-ltb}
-use Rattle.spec.specs.Outcome.{if◌then◌else◌}
 use Rattle.tape.specs.Layout.{scratch_row}
 use Rattle.tape.specs.Fields.{Row, no_node, name_of}
 use Rattle.tape.specs.declared.fields.Name.{Name}
@@ -17,8 +15,8 @@ use Rattle.table.specs.Find.{same_name}
 use Rattle.table.proofs.Search.{other-named}
 use Rattle.index.specs.Slots.{room, branches, parents, slots, bucket_slot, branch_slot, slot_at, slot_set}
 use Rattle.index.specs.Bits.{hash_bits, Stream, refill, bit_of, rest_of, stream_of}
-use Rattle.index.specs.Ways.{owner_of, Leads, Meets, here, there, Way, begun, further, bits_of, MeetsName, NoneNamed, Descended}
-use Rattle.index.specs.Ways.{DescendedByHash, Kept, Entered, EnteredByHash}
+use Rattle.index.specs.Ways.{owner_of, Leads, Meets, here, there, Way, begun, further, bits_of, MeetsName, Descended}
+use Rattle.index.specs.Ways.{DescendedByHash, Entered, EnteredByHash}
 use Rattle.index.specs.declared.bits.Bits.{Bits}
 use Rattle.index.specs.declared.ways.Ending.{Ending}
 use Rattle.index.proofs.SlotLaws.{slot_put, slot_other, slot_behind}

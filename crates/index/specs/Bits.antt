@@ -1,6 +1,5 @@
 -- The bits of a text.
-use Rattle.std.specs.Prelude.{ℕ, ◌+◌, ◌*◌, ◌/◌, ◌%◌, [], ◌∷◌, ltb}
-use Rattle.spec.specs.Outcome.{if◌then◌else◌}
+use Rattle.std.specs.Prelude.{ℕ, ◌+◌, ◌*◌, ◌/◌, ◌%◌, [], ◌∷◌, ltb, if◌then◌else◌}
 use Rattle.spec.specs.Bytes.{Text}
 use Rattle.text.specs.Decode.{text_from}
 use Rattle.tape.specs.declared.fields.Name.{Name}

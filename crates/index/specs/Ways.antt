@@ -1,7 +1,6 @@
 -- The search paths of names: which rows they lead to, and what entering a row comes to. They are the paths of a digital search tree: in each row
 -- the next bit of the name chooses one of two branches.
-use Rattle.std.specs.Prelude.{ℕ, ◌+◌, ◌-◌, ◌/◌, ◌<◌, ◌≤◌, ◌≡◌, Bool, true, false, List, ltb, length, get_or, drop}
-use Rattle.spec.specs.Outcome.{if◌then◌else◌}
+use Rattle.std.specs.Prelude.{ℕ, ◌+◌, ◌-◌, ◌/◌, ◌<◌, ◌≤◌, ◌≡◌, Bool, true, false, List, ltb, length, get_or, drop, if◌then◌else◌}
 use Rattle.tape.specs.Layout.{scratch_row}
 use Rattle.tape.specs.Fields.{Row, no_node, name_of}
 use Rattle.tape.specs.declared.fields.Name.{Name}

@@ -1,6 +1,6 @@
 -- What a patch comes to without a document: SPECIFICATION 14.1. T-12: "reads and shapes each as 01 does, without a document".
-use Rattle.std.specs.Prelude.{ℕ, ◌+◌, List, [], ◌∷◌, Bool, length, ltb}
-use Rattle.spec.specs.Outcome.{Outcome, ok, refused, if◌then◌else◌}
+use Rattle.std.specs.Prelude.{ℕ, ◌+◌, List, [], ◌∷◌, Bool, length, ltb, if◌then◌else◌}
+use Rattle.spec.specs.Outcome.{Outcome, ok, refused}
 use Rattle.spec.specs.Refusal as Refusal
 use Rattle.spec.specs.Refusal.{work_too_short, input_too_long}
 use Rattle.spec.specs.Limits.{max_bytes}

@@ -1,6 +1,5 @@
 -- The count over a list of patch files: SPECIFICATION 14.2 and 14.3, T-12.
-use Rattle.std.specs.Prelude.{ℕ, ◌+◌, ◌-◌, List, [], ◌∷◌, Bool, true, not, eqb}
-use Rattle.spec.specs.Outcome.{if◌then◌else◌}
+use Rattle.std.specs.Prelude.{ℕ, ◌+◌, ◌-◌, List, [], ◌∷◌, Bool, true, not, eqb, if◌then◌else◌}
 use Rattle.spec.specs.Refusal.{done}
 use Rattle.spec.specs.Bytes.{Bytes, Text, ascii}
 use Rattle.inspection.specs.Inspection.{Counts, no_counts, plus, total, Inspection, inspection}

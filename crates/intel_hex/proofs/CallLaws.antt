@@ -14,7 +14,6 @@ use Rattle.intel_hex.specs.Steps.{measured, Accepted, text_of}
 use Rattle.intel_hex.specs.Call.{Answered, SuccessIs, RefusalIs}
 use Rattle.intel_hex.specs.declared.answer.Answer.{Answer}
 use Rattle.intel_hex.specs.declared.reading.Measure.{Measure}
-use Rattle.intel_hex.specs.declared.reading.Measure.TheVariants as Measure
 
 -- ---- a refusal leaves the output as it was; a success has the text in front
 

@@ -1,14 +1,18 @@
 -- The claims of specs/Claims, proved.
-use Rattle.std.proofs.Common.{◌≡◌, ℕ, zero, suc, ◌+◌, ◌*◌, ◌/◌, ◌%◌, ◌<◌, ◌≤◌, Bool, true, false, eqb, leb, [], ◌∷◌, ◌++◌, length, take, drop, sym, refl, ap, ◌∙◌, subst, append_assoc, append-nil, arith, length-append, length-drop, take-append-drop, drop_of_length-le, length-take, drop-drop, eq-eqb, ne_eqb, eqb-true, le-leb, leb-true}
+use Rattle.std.specs.Prelude.{if◌then◌else◌}
+use Rattle.std.proofs.Common.{◌≡◌, ℕ, zero, suc, ◌+◌, ◌*◌, ◌/◌, ◌%◌, ◌<◌, ◌≤◌, Bool, true, false, eqb, leb, [], ◌∷◌, ◌++◌, length, take, drop, sym, refl, ap}
+use Rattle.std.proofs.Common.{◌∙◌, subst, append_assoc, append-nil, arith, length-append, length-drop, take-append-drop, drop_of_length-le, length-take}
+use Rattle.std.proofs.Common.{drop-drop, eq-eqb, ne_eqb, eqb-true, le-leb, leb-true}
 use Prim.Native.Char.{code}
 use mathlib.Core.Bool.{or-true}
 use native.Mathlib.Decide.{dec_lt, ℕ_discrete}
-use Rattle.spec.specs.Outcome.{Outcome, ok, refused, ◌>>=◌, if◌then◌else◌}
+use Rattle.spec.specs.Outcome.{Outcome, ok, refused, ◌>>=◌}
 use Rattle.spec.specs.Bytes.{Bytes, byte, ascii}
 use Rattle.text.specs.UpperHex.{upper_hex}
 use Rattle.intel_hex.specs.Record.{max_text, line_feed, data_type, end_type, total, body, check, record_bytes, digits, digits_of, line_of, records_from}
 use Rattle.intel_hex.specs.Record.{end_line, hex_of}
-use Rattle.intel_hex.specs.Reading.{hex_byte, bytes_at, all_hex, count, address_of, type_of, data_of, record_end, ending, line_length, is_line, is_data, is_end}
+use Rattle.intel_hex.specs.Reading.{hex_byte, bytes_at, all_hex, count, address_of, type_of, data_of, record_end, ending, line_length, is_line, is_data}
+use Rattle.intel_hex.specs.Reading.{is_end}
 use Rattle.intel_hex.specs.Reading.{is_record, has_sum, is_next, bytes_of, precede, by_type, read_line, read_from, read_text, not_a_record, wrong_sum}
 use Rattle.intel_hex.specs.Reading.{wrong_address, wrong_end}
 use Rattle.intel_hex.specs.Answer as Spec

@@ -1,9 +1,10 @@
 -- Laws of a line: digits, its ending, and where it lies in the text.
-use Rattle.std.proofs.Common.{◌≡◌, ℕ, zero, suc, ◌+◌, ◌*◌, ◌%◌, ◌<◌, ◌≤◌, Bool, true, false, ◌&&◌, eqb, ltb, leb, length, sym, refl, ap, ◌∙◌, arith, ltb-true, le-ltb, lt-ltb, eq-eqb, ne_eqb, eqb-true, leb-false}
+use Rattle.std.specs.Prelude.{if◌then◌else◌}
+use Rattle.std.proofs.Common.{◌≡◌, ℕ, zero, suc, ◌+◌, ◌*◌, ◌%◌, ◌<◌, ◌≤◌, Bool, true, false, ◌&&◌, eqb, ltb, leb, length, sym, refl, ap, ◌∙◌, arith}
+use Rattle.std.proofs.Common.{ltb-true, le-ltb, lt-ltb, eq-eqb, ne_eqb, eqb-true, leb-false}
 use Prim.Native.Char.{code}
 use mathlib.Core.Bool.{and-false}
 use native.Mathlib.Nat.{mod-add-mod}
-use Rattle.spec.specs.Outcome.{if◌then◌else◌}
 use Rattle.spec.specs.Bytes.{Bytes, byte, within}
 use Rattle.spec.specs.Strings.{hex_value}
 use Rattle.lexer.proofs.ByteLaws.{inside, here}
@@ -12,7 +13,6 @@ use Rattle.intel_hex.specs.Record.{total, line_feed, carriage_return}
 use Rattle.intel_hex.specs.Reading.{hex_byte, is_hex_byte, bytes_at, all_hex, count, record_end, ending, line_length, is_line, bytes_of}
 use Rattle.intel_hex.specs.Steps.{ScanIs, LineIs}
 use Rattle.intel_hex.specs.declared.lines.Scanned.{Scanned}
-use Rattle.intel_hex.specs.declared.lines.Scanned.TheVariants as Scanned
 
 -- ---- digits stand within the text
 

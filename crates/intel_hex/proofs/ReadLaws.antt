@@ -1,19 +1,20 @@
 -- The lines of a text, one after another.
-use Rattle.std.proofs.Common.{◌≡◌, ℕ, zero, suc, ◌+◌, ◌-◌, ◌*◌, ◌<◌, ◌≤◌, Bool, true, false, ◌&&◌, ◌||◌, eqb, leb, [], ◌++◌, length, take, drop, sym, refl, ap, ◌∙◌, subst, true≢false, arith, length-append, length-drop, take_all, drop-drop, eq-eqb, ne_eqb, eqb-true, leb-true}
-use Rattle.spec.specs.Outcome.{Outcome, ok, refused, ◌>>=◌, if◌then◌else◌}
+use Rattle.std.specs.Prelude.{if◌then◌else◌}
+use Rattle.std.proofs.Common.{◌≡◌, ℕ, zero, suc, ◌+◌, ◌-◌, ◌*◌, ◌<◌, ◌≤◌, Bool, true, false, ◌&&◌, ◌||◌, eqb, leb, [], ◌++◌, length, take, drop, sym, refl}
+use Rattle.std.proofs.Common.{ap, ◌∙◌, subst, true≢false, arith, length-append, length-drop, take_all, drop-drop, eq-eqb, ne_eqb, eqb-true, leb-true}
+use Rattle.spec.specs.Outcome.{Outcome, ok, refused, ◌>>=◌}
 use Rattle.spec.specs.Bytes.{Bytes}
 use Rattle.text.specs.Written.{Stored, LaidDown}
 use Rattle.text.proofs.StoreLaws.{front}
 use Rattle.text.proofs.LaidLaws.{Laid, laid_starts, laid_on, laid_ends}
 use Rattle.lexer.proofs.Tests.{and_both}
 use Rattle.intel_hex.specs.Record.{max_text}
-use Rattle.intel_hex.specs.Reading.{hex_byte, bytes_at, all_hex, count, address_of, type_of, data_of, line_length, is_line, is_data, is_end, is_record, has_sum, is_next}
+use Rattle.intel_hex.specs.Reading.{hex_byte, bytes_at, all_hex, count, address_of, type_of, data_of, line_length, is_line, is_data, is_end, is_record}
+use Rattle.intel_hex.specs.Reading.{has_sum, is_next}
 use Rattle.intel_hex.specs.Reading.{precede, by_type, read_line, read_from, read_text, wrong_sum, not_a_record, wrong_address, wrong_end}
 use Rattle.intel_hex.specs.Steps.{stepped, Onward, StepIs, measured, Accepted, text_of}
 use Rattle.intel_hex.specs.declared.lines.Step.{Step}
-use Rattle.intel_hex.specs.declared.lines.Step.TheVariants as Step
 use Rattle.intel_hex.specs.declared.reading.Measure.{Measure}
-use Rattle.intel_hex.specs.declared.reading.Measure.TheVariants as Measure
 use Rattle.intel_hex.proofs.LineLaws.{all_first, line-room, line-within, parts}
 
 -- what is lent of a text from a place on
@@ -145,7 +146,8 @@ measured_missing {s} {at} {line} {n} m h =
 
 pub data First (fuel : ℕ) (t : Bytes) (line next : ℕ) (text : Bytes) : Type 0 where
   last : is_line t ≡ true → has_sum t ≡ true → is_end t ≡ true → length t ≤ line_length t → text ≡ [] → First fuel t line next text
-  more : (behind : ℕ) (rest : Bytes) → fuel ≡ suc behind → is_line t ≡ true → has_sum t ≡ true → is_data t ≡ true → address_of t ≡ next → next + count t ≤ max_text →
+  more : (behind : ℕ) (rest : Bytes) → fuel ≡ suc behind → is_line t ≡ true → has_sum t ≡ true → is_data t ≡ true → address_of t ≡ next →
+      next + count t ≤ max_text →
       read_from behind (drop (line_length t) t) (line + 1) (next + count t) ≡ ok rest → text ≡ data_of t ++ rest → First fuel t line next text
 
 or_left : (a b : Bool) → (a || b) ≡ true → b ≡ false → a ≡ true
@@ -169,7 +171,8 @@ pub first : (fuel : ℕ) (t : Bytes) (line next : ℕ) (text : Bytes) → 0 < le
 unfolding read_from read_line by_type precede ◌>>=◌
 first zero t line next text h e = absurd (no_ok e)
 first (suc fuel) t line next text h e =
-    go (is_record t) (has_sum t) (is_end t) (leb (length t) (line_length t)) (is_next t next) (read_from fuel (drop (line_length t) t) (line + 1) (next + count t))
+    go (is_record t) (has_sum t) (is_end t) (leb (length t) (line_length t)) (is_next t next)
+    (read_from fuel (drop (line_length t) t) (line + 1) (next + count t))
     refl refl refl refl refl refl (sym (read_line_lem fuel t line next h) ∙ e)
   where
     go : (a b c d f : Bool) (o : Outcome Bytes) → is_record t ≡ a → has_sum t ≡ b → is_end t ≡ c → leb (length t) (line_length t) ≡ d → is_next t next ≡ f →

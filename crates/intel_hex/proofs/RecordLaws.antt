@@ -1,9 +1,11 @@
 -- Laws of records: sums, lines, and their lengths.
-use Rattle.std.proofs.Common.{◌≡◌, ℕ, zero, suc, ◌+◌, ◌-◌, ◌*◌, ◌/◌, ◌%◌, ◌<◌, ◌≤◌, [], ◌∷◌, ◌++◌, length, take, drop, refl, ap, append_assoc, add-one, arith, length-append, length-drop, drop_of_length-le, length-take, drop-cons, le-ltb, lt-ltb}
+use Rattle.std.proofs.Common.{◌≡◌, ℕ, zero, suc, ◌+◌, ◌-◌, ◌*◌, ◌/◌, ◌%◌, ◌<◌, ◌≤◌, [], ◌∷◌, ◌++◌, length, take, drop, refl, ap, append_assoc, add-one}
+use Rattle.std.proofs.Common.{arith, length-append, length-drop, drop_of_length-le, length-take, drop-cons, le-ltb, lt-ltb}
 use Prim.Native.Char.{code}
 use native.Mathlib.Decide.{dec_lt}
 use Rattle.spec.specs.Bytes.{Bytes, byte}
-use Rattle.intel_hex.specs.Record.{total, body, check, record_bytes, digits, digits_of, line_of, records_from, end_line, hex_of, data_type, end_type, line_feed}
+use Rattle.intel_hex.specs.Record.{total, body, check, record_bytes, digits, digits_of, line_of, records_from, end_line, hex_of, data_type, end_type}
+use Rattle.intel_hex.specs.Record.{line_feed}
 
 -- ---- the rest of a text, from a place on
 

@@ -8,11 +8,8 @@ use Rattle.intel_hex.specs.Reading.{hex_byte, count, address_of, type_of, record
 use Rattle.intel_hex.specs.Reading.{is_next, bytes_of, by_type, read_line, not_a_record}
 use Rattle.intel_hex.specs.Steps.{LineIs, FormIs, Summed, stepped, Onward, StepIs}
 use Rattle.intel_hex.specs.declared.lines.Scanned.{Scanned}
-use Rattle.intel_hex.specs.declared.lines.Scanned.TheVariants as Scanned
 use Rattle.intel_hex.specs.declared.lines.Form.{Form}
-use Rattle.intel_hex.specs.declared.lines.Form.TheVariants as Form
 use Rattle.intel_hex.specs.declared.lines.Step.{Step}
-use Rattle.intel_hex.specs.declared.lines.Step.TheVariants as Step
 use Rattle.intel_hex.proofs.LineLaws.{line-room, line-within}
 
 pub length_is : (t : Bytes) {n e : ℕ} → n ≡ hex_byte t 1 → e ≡ ending t (2 * n + 11) → 2 * n + 11 + e ≡ line_length t

@@ -1,10 +1,8 @@
 -- Texts laid down piece by piece.
-use Rattle.std.proofs.Common.{◌≡◌, ℕ, zero, suc, ◌+◌, ◌*◌, ◌/◌, ◌%◌, ◌<◌, ◌≤◌, true, [], ◌∷◌, ◌++◌, length, set, sym, refl, ap, ◌∙◌, append_assoc, append-nil, arith, length-append}
+use Rattle.std.proofs.Common.{◌≡◌, ℕ, zero, suc, ◌+◌, ◌*◌, ◌/◌, ◌%◌, ◌<◌, ◌≤◌, true, [], ◌∷◌, length, set, sym, refl, ap, ◌∙◌, arith}
 use Prim.Native.Char.{code}
-use lib.Seq.{sets, length-sets}
 use Rattle.spec.specs.Bytes.{Bytes, byte}
 use Rattle.text.specs.Written.{Stored}
-use Rattle.text.proofs.StoreLaws.{stores_on}
 use Rattle.spec.specs.Strings.{hex_value}
 use Rattle.text.proofs.LaidLaws.{Laid, laid_starts, laid_on, laid_ends}
 use Rattle.text.specs.UpperHex.{upper_hex}
@@ -44,7 +42,8 @@ pub line_stored : (kind address : ℕ) (d : Bytes) (at : ℕ) {x y z a b e : ℕ
 unfolding head
 line_stored kind address d at {z = z} {e = e} {o = o} {r = r} {s} i j k l first second third fourth fifth =
     let same : z ≡ check (body kind address d) = last_byte kind address d i j k l in
-    let one = laid_on (laid_starts at (line_of (record_bytes kind address d)) o) (code ":" ∷ []) (line_pieces kind address d) (byte_stored (code ":") at first) in
+    let one =
+    laid_on (laid_starts at (line_of (record_bytes kind address d)) o) (code ":" ∷ []) (line_pieces kind address d) (byte_stored (code ":") at first) in
     let two = laid_on one (digits_of (length d ∷ address / 256 ∷ address % 256 ∷ kind ∷ [])) refl second in
     let three = laid_on two (digits_of d) refl third in
     let four = laid_on three (digits (check (body kind address d))) refl (rw same at fourth) in

@@ -1,6 +1,6 @@
 -- The answers of the two calls: SPECIFICATION 13.1. T-07: "2 and 16 have place 0; text and op are always 0."
-use Rattle.std.specs.Prelude.{ℕ, [], length, nat_le}
-use Rattle.spec.specs.Outcome.{Outcome, ok, refused, if◌then◌else◌}
+use Rattle.std.specs.Prelude.{ℕ, [], length, nat_le, if◌then◌else◌}
+use Rattle.spec.specs.Outcome.{Outcome, ok, refused}
 use Rattle.spec.specs.Refusal.{done, input_too_long, output_too_short}
 use Rattle.spec.specs.Bytes.{Bytes}
 use Rattle.intel_hex.specs.Record.{max_text, hex_of}

@@ -1,9 +1,9 @@
 -- Intel HEX read, line by line: SPECIFICATION 13.4. T-07: "Read back data records of 1 to 255 bytes that follow on from address 0, either case, line
 -- feed or carriage return and line feed; the last line may lack its ending." Each definition is of what is left of the text, which begins with
 -- a line.
-use Rattle.std.specs.Prelude.{ℕ, zero, suc, ◌+◌, ◌*◌, ◌%◌, Bool, true, ◌&&◌, ◌||◌, leb, [], ◌∷◌, ◌++◌, length, drop, ◌==◌, nat_le, nat_lt}
+use Rattle.std.specs.Prelude.{ℕ, zero, suc, ◌+◌, ◌*◌, ◌%◌, Bool, true, ◌&&◌, ◌||◌, leb, [], ◌∷◌, ◌++◌, length, drop, ◌==◌, nat_le, nat_lt, if◌then◌else◌}
 use Prim.Native.Char.{code}
-use Rattle.spec.specs.Outcome.{Outcome, ok, refused, ◌>>=◌, if◌then◌else◌}
+use Rattle.spec.specs.Outcome.{Outcome, ok, refused, ◌>>=◌}
 use Rattle.spec.specs.Bytes.{Bytes, byte}
 use Rattle.spec.specs.Strings.{hex_value}
 use Rattle.intel_hex.specs.Record.{max_text, line_feed, carriage_return, data_type, end_type, total}

@@ -1,7 +1,6 @@
 -- A record of Intel HEX, its line, and a text written as records: SPECIFICATION 13.2 and 13.3, T-07.
-use Rattle.std.specs.Prelude.{ℕ, zero, suc, ◌+◌, ◌-◌, ◌/◌, ◌%◌, [], ◌∷◌, ◌++◌, length, take, drop, nat_lt}
+use Rattle.std.specs.Prelude.{ℕ, zero, suc, ◌+◌, ◌-◌, ◌/◌, ◌%◌, [], ◌∷◌, ◌++◌, length, take, drop, nat_lt, if◌then◌else◌}
 use Prim.Native.Char.{code}
-use Rattle.spec.specs.Outcome.{if◌then◌else◌}
 use Rattle.spec.specs.Bytes.{Bytes}
 use Rattle.text.specs.UpperHex.{upper_hex}
 

@@ -10,7 +10,7 @@ use Rattle.spec.specs.Forest.{none, tree, count, before, from, replace_at, ◌�
 use Rattle.spec.specs.Value as Value
 use Rattle.spec.specs.Value.{Members, is_object, named, value_of}
 use Rattle.spec.specs.Pointer.{Tokens, child_at, child, walk}
-use Rattle.spec.specs.Operation.{with_kids, put}
+use Rattle.spec.specs.Operation.{put}
 use Rattle.spec.specs.Write.{opening, closing, comma, write_name, write_items, write}
 use Rattle.spec.proofs.OutcomeLaws.{refused≢ok}
 use Rattle.spec.proofs.FartherLaws.{farther_ok}

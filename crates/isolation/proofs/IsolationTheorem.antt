@@ -10,7 +10,7 @@ use Rattle.spec.specs.Write.{write}
 use Rattle.spec.specs.Operation.{limited}
 use Rattle.spec.specs.Patch.{Stop, Run, finished, stopped, run}
 use Rattle.spec.specs.Answer.{Answer, Lent, answer, answer_of, success, failure}
-use Rattle.spec.specs.Region.{bare, bare_run, all_inside, first_too_large, Enough}
+use Rattle.spec.specs.Region.{bare_run, all_inside, first_too_large, Enough}
 use Rattle.spec.proofs.ShapeTheorem.{shaped_so}
 use Rattle.spec.proofs.LimitTheorem.{large_at, limited-run}
 use Rattle.spec.proofs.RegionTheorem.{called, work_enough, fits}

@@ -13,7 +13,7 @@ use Rattle.spec.proofs.OutcomeLaws.{refused≢ok}
 use Rattle.spec.proofs.FartherLaws.{farther_ok}
 use Rattle.spec.proofs.ChildLaws.{child_there, depth-child}
 use Rattle.spec.proofs.PlaceLaws.{walk_on, walk_off}
-use Rattle.spec.specs.Proper.{Proper, Readable}
+use Rattle.spec.specs.Proper.{Readable}
 use Rattle.claims.proofs.OperationsTheorem.{proper_child}
 
 size-nth : (z : Tree Entry) (k : ℕ) (f : Members) → k < count f → nodes (value_of (nth z k f)) ≤ size f

@@ -3,12 +3,12 @@ use mathlib.Core.Path.{◌≡◌, refl, ap, sym, subst, ◌∙◌}
 use mathlib.Core.List.{[], ◌∷◌, ◌++◌}
 use Prim.Native.Nat.{ℕ}
 use Rattle.spec.specs.Outcome.{Outcome, ok, refused, ◌>>=◌}
-use Rattle.spec.specs.Bytes.{Bytes, Text}
+use Rattle.spec.specs.Bytes.{Text}
 use Rattle.spec.specs.Value as Value
 use Rattle.spec.specs.Value.{value_of}
 use Rattle.spec.specs.Write.{write}
 use Rattle.spec.specs.Pointer.{Tokens, child_at, child, farther, walk}
-use Rattle.spec.specs.Operation.{put, at_parent, replace_child, replace_at_path}
+use Rattle.spec.specs.Operation.{at_parent, replace_child, replace_at_path}
 use Rattle.spec.proofs.OutcomeLaws.{refused≢ok}
 use Rattle.spec.proofs.FartherLaws.{farther_ok}
 use Rattle.spec.proofs.PlaceLaws.{plant, plant_on, plant_plant, plant_walk, walk_plant, walk_on, walk_off}

@@ -1,4 +1,4 @@
--- Nobody else's shelf decides, said of the calls themselves: T-06. Crate `isolation` speaks of the definition `answerWithin`; this speaks
+-- Nobody else's shelf decides, said of the calls themselves: T-06. Crate `isolation` speaks of the definition `answer_within`; this speaks
 -- of whatever two calls of `apply_within` answer, and of the outputs that they leave. Every call promises `ApplyWithinIs`.
 use Rattle.std.specs.Prelude.{◌≡◌, ◌≤◌}
 use Rattle.spec.specs.Outcome.{ok}

@@ -27,7 +27,7 @@ pub record Writes (text before after : Bytes) (r : Answer) : Type 0 where
 pub record CallStatement {D P Q Z : Bytes} {lent : Lent} {R S : Tokens} {document : Value.Value} {xs ys zs : List Operation}
     (c : Situation D P Q Z lent R S document xs ys zs) (before after : Bytes) (r : Answer) : Type 0 where
   -- the bare runs: "If both succeed alone, the shuffle's bare run succeeds. [..] Otherwise the shuffle's bare run ends at the first operation [..]":
-  -- its fields `both-succeed` and `otherwise`
+  -- its fields `both_succeed` and `otherwise`
   pub runs : RegionStatement c
   -- "If an operation of the shuffle's bare run leaves more than 2,048 nodes, the call on the shuffle answers 6 with the op of the first such one."
   pub too_large : (op : ℕ) → first_too_large 1 zs document ≡ some op → Refuses (stop too_many_nodes op 0 0) before after r

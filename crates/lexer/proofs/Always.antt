@@ -1,8 +1,9 @@
 -- Always P o: P holds of the result of an outcome, if it has one. A rule for each way in which readers are put together.
+use Rattle.std.specs.Prelude.{if◌then◌else◌}
 use Prim.Native.Nat.{ℕ}
 use mathlib.Core.Path.{◌≡◌, refl}
 use mathlib.Core.Bool.{Bool, true, false}
-use Rattle.spec.specs.Outcome.{Outcome, ok, refused, ◌>>=◌, if◌then◌else◌}
+use Rattle.spec.specs.Outcome.{Outcome, ok, refused, ◌>>=◌}
 
 pub data Always {A : Type 0} (P : A → Type 0) : Outcome A → Type 0 where
   refuses : {number place : ℕ} → Always P (refused number place)

@@ -1,20 +1,18 @@
 -- What an answer of the code says of the definition that it is held to, and of the text.
+use Rattle.std.specs.Prelude.{if◌then◌else◌}
 use Prim.Native.Nat.{ℕ, ◌≤◌, ◌<◌}
 use mathlib.Core.Path.{◌≡◌, refl, sym, ◌∙◌, ap}
 use mathlib.Core.Bool.{Bool, true, false}
 use native.Mathlib.Omega.{arith}
 use lib.ListN.{length}
-use Rattle.spec.specs.Outcome.{Outcome, ok, refused, ◌>>=◌, if◌then◌else◌}
+use Rattle.spec.specs.Outcome.{Outcome, ok, refused, ◌>>=◌}
 use Rattle.spec.specs.Refusal.{not_json}
 use Rattle.spec.specs.Bytes.{Bytes, byte, within, byte_in}
 use Rattle.spec.specs.Strings.{hex_value, hex_in}
 use Rattle.lexer.specs.declared.cursor.Cursor.{Cursor}
 use Rattle.lexer.specs.declared.cursor.Bounded.{Bounded}
-use Rattle.lexer.specs.declared.cursor.Bounded.TheVariants as Bounded
 use Rattle.lexer.specs.declared.cursor.Scan.{Scan}
-use Rattle.lexer.specs.declared.cursor.Scan.TheVariants as Scan
 use Rattle.lexer.specs.declared.characters.Character.{Character}
-use Rattle.lexer.specs.declared.characters.Character.TheVariants as Character
 use Rattle.lexer.specs.Answers.{bounded_outcome, character_outcome, refused_at, scan_outcome}
 use Rattle.lexer.proofs.Tests.{within_bounds, below_within, above_within}
 use Rattle.lexer.proofs.ByteLaws.{inside}

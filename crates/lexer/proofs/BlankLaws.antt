@@ -1,10 +1,10 @@
 -- Where blanks end, and the turns of the definition's loop over them.
+use Rattle.std.specs.Prelude.{if◌then◌else◌}
 use Prim.Native.Nat.{ℕ, zero, suc, ◌+◌, ◌≤◌}
 use mathlib.Core.Path.{◌≡◌, refl}
 use mathlib.Core.Bool.{Bool, true, false}
 use native.Mathlib.Omega.{arith}
 use lib.ListN.{length}
-use Rattle.spec.specs.Outcome.{if◌then◌else◌}
 use Rattle.spec.specs.Bytes.{Bytes, byte}
 use Rattle.spec.specs.Read.{is_blank, blanks_from, blanks}
 use Rattle.lexer.proofs.ByteLaws.{inside}

@@ -6,7 +6,6 @@ use native.Mathlib.Decide.{dec_lt}
 use native.Mathlib.Omega.{arith}
 use lib.ListN.{length, get_or-eq_default}
 use borrow.Author.Tests.{lt-ltb, le-ltb}
-use Rattle.spec.specs.Outcome.{if◌then◌else◌}
 use Rattle.spec.specs.Bytes.{Bytes, byte}
 use Rattle.lexer.specs.Answers.{after_byte, ReadIs}
 use Rattle.lexer.specs.declared.cursor.ByteRead.{ByteRead}

@@ -1,12 +1,13 @@
 -- A character by the class of its first byte.
-use Prim.Native.Nat.{ℕ, ◌+◌, ◌-◌, ◌≤◌, ◌<◌}
+use Rattle.std.specs.Prelude.{if◌then◌else◌}
+use Prim.Native.Nat.{ℕ, ◌+◌, ◌≤◌, ◌<◌}
 use Prim.Native.Char.{code}
 use mathlib.Core.Path.{◌≡◌, refl, sym, ◌∙◌}
 use mathlib.Core.Bool.{Bool, true, false, true≢false}
 use native.Mathlib.Omega.{arith}
 use borrow.Author.Tests.{eqb-true, eqb-false, ne_eqb, leb-true, leb-false}
 use lib.Dec.{eqb, leb}
-use Rattle.spec.specs.Outcome.{Outcome, ok, refused, if◌then◌else◌}
+use Rattle.spec.specs.Outcome.{Outcome, ok, refused}
 use Rattle.spec.specs.Refusal.{not_json}
 use Rattle.spec.specs.Bytes.{Bytes, byte, within}
 use Rattle.spec.specs.Strings.{escape, multibyte, character}

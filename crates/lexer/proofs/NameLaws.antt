@@ -17,9 +17,7 @@ use Rattle.spec.specs.Bytes.{Bytes, Text, byte, within}
 use Rattle.spec.specs.Strings.{tail, multibyte, character, characters, string}
 use Rattle.lexer.specs.declared.cursor.Cursor.{Cursor}
 use Rattle.lexer.specs.declared.strings.Name.{Name}
-use Rattle.lexer.specs.declared.strings.Name.TheVariants as Name
 use Rattle.lexer.specs.declared.strings.Quoted.{Quoted}
-use Rattle.lexer.specs.declared.strings.Quoted.TheVariants as Quoted
 use Rattle.lexer.specs.Answers.{quoted_outcome, name_outcome}
 use Rattle.lexer.specs.Hash.{mix, hash_from, hash}
 use Rattle.lexer.specs.Names.{stands_for_itself, no_backslash, part, plain_of, kept, kept_of}

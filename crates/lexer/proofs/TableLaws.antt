@@ -13,7 +13,7 @@ use Rattle.byte_class.specs.Column.{continued, lettered, column_of, ColumnRule}
 use Rattle.byte_class.proofs.TableLaws.{below, below_each}
 use Rattle.lexer.specs.Names.{stands_for_itself}
 use Rattle.lexer.specs.Verbatim.{kept_escape}
-use Rattle.lexer.specs.States.{Awaits, one, two, three, after_E0, after_ED, after_F0, after_F4, first, begins, later, escaped, look, Tables, Steps}
+use Rattle.lexer.specs.States.{Awaits, one, two, three, after_E0, after_ED, after_F0, after_F4, first, begins, later, escaped, look, Steps}
 use Rattle.lexer.proofs.Tests.{and_both}
 
 unfoldable all : List Bool → Bool

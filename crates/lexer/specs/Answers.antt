@@ -1,19 +1,14 @@
 -- What each answer of the code stands for: the outcome of the definition that it is held to.
-use Rattle.std.specs.Prelude.{ℕ, ◌+◌, ◌≡◌, Bool, ltb, length}
-use Rattle.spec.specs.Outcome.{Outcome, ok, refused, if◌then◌else◌}
+use Rattle.std.specs.Prelude.{ℕ, ◌+◌, ◌≡◌, Bool, ltb, length, if◌then◌else◌}
+use Rattle.spec.specs.Outcome.{Outcome, ok, refused}
 use Rattle.spec.specs.Refusal.{not_json}
 use Rattle.spec.specs.Bytes.{Bytes, byte}
 use Rattle.lexer.specs.declared.cursor.Bounded.{Bounded}
-use Rattle.lexer.specs.declared.cursor.Bounded.TheVariants as Bounded
 use Rattle.lexer.specs.declared.cursor.ByteRead.{ByteRead}
 use Rattle.lexer.specs.declared.cursor.Scan.{Scan}
-use Rattle.lexer.specs.declared.cursor.Scan.TheVariants as Scan
 use Rattle.lexer.specs.declared.characters.Character.{Character}
-use Rattle.lexer.specs.declared.characters.Character.TheVariants as Character
 use Rattle.lexer.specs.declared.strings.Name.{Name}
-use Rattle.lexer.specs.declared.strings.Name.TheVariants as Name
 use Rattle.lexer.specs.declared.strings.Quoted.{Quoted}
-use Rattle.lexer.specs.declared.strings.Quoted.TheVariants as Quoted
 
 -- the place after a byte; past the end of the text there is none, and the place stays
 unfoldable pub after_byte : Bytes → ℕ → ℕ

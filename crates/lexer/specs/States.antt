@@ -1,9 +1,8 @@
 -- The end of verbatim characters is found byte by byte, from state to state. The states by number: 0 between characters; 6, 12 and 18 with one,
 -- two and three bytes of a character to come, each 80 to BF; 24 after E0, 30 after ED, 36 after F0 and 42 after F4, whose second bytes have
 -- bounds of their own; 48 after a backslash; 54 where no character goes on.
-use Rattle.std.specs.Prelude.{ℕ, zero, suc, ◌+◌, ◌*◌, ◌/◌, ◌%◌, ◌^◌, ◌<◌, List, ◌≡◌, Bool, get_or, eqb}
+use Rattle.std.specs.Prelude.{ℕ, zero, suc, ◌+◌, ◌*◌, ◌/◌, ◌%◌, ◌^◌, ◌<◌, List, ◌≡◌, Bool, get_or, eqb, if◌then◌else◌}
 use Prim.Native.Char.{code}
-use Rattle.spec.specs.Outcome.{if◌then◌else◌}
 use Rattle.spec.specs.Bytes.{Bytes, byte, within}
 use Rattle.byte_class.specs.Column.{ColumnRule}
 use Rattle.lexer.specs.Names.{stands_for_itself}

@@ -1,7 +1,6 @@
 // Characters that stand in a text as they are written, passed by tables. Mixed text defeats branch prediction, so every
 // byte takes the same few steps, whether it is a character or a part of one.
-ghost use Rattle.std.specs.Prelude.{◌≡◌, Bool, ◌+◌, ◌≤◌, ◌<◌, length, eqb};
-ghost use Rattle.spec.specs.Outcome.{if◌then◌else◌};
+ghost use Rattle.std.specs.Prelude.{◌≡◌, Bool, ◌+◌, ◌≤◌, ◌<◌, length, eqb, if◌then◌else◌};
 ghost use Rattle.lexer.specs.Verbatim.{Verbatim, VerbatimTo};
 ghost use Rattle.lexer.specs.States.{look, block, look_over, Tables, Steps};
 

@@ -1,12 +1,10 @@
 -- Members by their names: looked up, set and dropped.
+use Rattle.std.specs.Prelude.{if◌then◌else◌}
 use mathlib.Core.Path.{◌≡◌, refl, ap, sym, ◌∙◌}
 use mathlib.Core.Bool.{Bool, true, false, true≢false}
 use mathlib.Core.List.{[]}
 use mathlib.Core.Option.{Option, none, some}
-use Prim.Native.Nat.{ℕ, zero, suc, ◌<◌}
-use native.Mathlib.Omega.{arith}
-use lib.Dec.{ltb}
-use Rattle.spec.specs.Outcome.{if◌then◌else◌}
+use Prim.Native.Nat.{suc}
 use Rattle.spec.specs.Bytes.{Text}
 use Rattle.spec.specs.Forest as Forest
 use Rattle.spec.specs.Forest.{tree, Tree, count, before, from, insert_at, remove_at, replace_at, nth, ◌⧺◌}

@@ -1,11 +1,12 @@
 -- What a merge patch comes to: specs/Claims.
+use Rattle.std.specs.Prelude.{if◌then◌else◌}
 use mathlib.Core.Path.{◌≡◌, refl, ap, sym, subst, ◌∙◌}
 use mathlib.Core.Bool.{Bool, true, false, true≢false}
 use mathlib.Core.List.{[], ◌∷◌}
 use mathlib.Core.Option.{Option, none, some}
-use Prim.Native.Nat.{ℕ, zero, suc, ◌≤◌, max}
+use Prim.Native.Nat.{ℕ, suc, ◌≤◌, max}
 use native.Mathlib.Omega.{arith}
-use Rattle.spec.specs.Outcome.{Outcome, ok, refused, ◌>>=◌, if◌then◌else◌}
+use Rattle.spec.specs.Outcome.{Outcome, ok, refused, ◌>>=◌}
 use Rattle.spec.specs.Bytes.{Text}
 use Rattle.spec.specs.Forest as Forest
 use Rattle.spec.specs.Forest.{tree, ◌⧺◌}
@@ -14,7 +15,7 @@ use Rattle.spec.specs.Value.{Label, Entry, Members, leaf, tag, is_array, is_obje
 use Rattle.spec.specs.Pointer.{child_at, member_named, child, farther, walk}
 use Rattle.spec.specs.Operation.{with_kids}
 use Rattle.spec.proofs.OutcomeLaws.{refused≢ok}
-use Rattle.spec.proofs.TextLaws.{same_text_true, same_text_refl, same_text_false, same_text-apart}
+use Rattle.spec.proofs.TextLaws.{same_text_true, same_text_false, same_text-apart}
 use Rattle.spec.specs.Proper as Proper
 use Rattle.spec.specs.Proper.{Proper, ProperItems}
 use Rattle.spec.proofs.NameLaws.{absent_parts}

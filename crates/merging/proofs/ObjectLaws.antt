@@ -1,17 +1,13 @@
 -- Two values of which the second is an object: the merge by its members.
-use mathlib.Core.Path.{◌≡◌, refl, ap, ap₂, sym, ◌∙◌}
-use mathlib.Core.Bool.{Bool, true, false}
-use mathlib.Core.Option as Option
-use Rattle.spec.specs.Outcome.{if◌then◌else◌}
-use Rattle.spec.specs.Bytes.{Text}
-use Rattle.spec.specs.Forest.{none, tree}
+use mathlib.Core.Path.{◌≡◌, ◌∙◌}
+use mathlib.Core.Bool.{true, false}
+use Rattle.spec.specs.Forest.{none}
 use Rattle.spec.specs.Value as Value
 use Rattle.spec.specs.Value.{Label, Entry, Members, leaf, is_object, same_text, has}
-use Rattle.spec.proofs.TextLaws.{same_text_refl}
 use Rattle.spec.specs.Distinct as Repeats
 use Rattle.spec.specs.Distinct.{NoRepeats}
 use Rattle.merging.specs.MergePatch.{as_object, merge_members, merge_patch}
-use Rattle.merging.specs.Parts.{get, merged_members}
+use Rattle.merging.specs.Parts.{merged_members}
 use Rattle.merging.proofs.MemberLaws.{Single, no_member, one-member, absent}
 use Rattle.merging.proofs.PartLaws.{parts}
 use Rattle.merging.proofs.MergeTheorem.{label_kept, depth-as_object}

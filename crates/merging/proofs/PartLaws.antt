@@ -1,8 +1,8 @@
 -- The members that the procedure leaves, position by position: those of specs/Parts.
+use Rattle.std.specs.Prelude.{if◌then◌else◌}
 use mathlib.Core.Path.{◌≡◌, refl, ap, ap₂, sym, ◌∙◌}
 use mathlib.Core.Bool.{Bool, true, false, true≢false}
 use mathlib.Core.Option.{Option, none, some}
-use Rattle.spec.specs.Outcome.{if◌then◌else◌}
 use Rattle.spec.specs.Bytes.{Text}
 use Rattle.spec.specs.Forest as Forest
 use Rattle.spec.specs.Forest.{tree, single, ◌⧺◌}
@@ -12,7 +12,7 @@ use Rattle.spec.specs.Operation.{with_kids}
 use Rattle.spec.proofs.TextLaws.{same_text_true, same_text_refl, same_text_false, same_text-apart}
 use Rattle.merging.specs.MergePatch.{is_null, member_of, merge_members, merge_patch}
 use Rattle.merging.specs.Parts.{get, gather, kept_by, kept, appended, merged_members}
-use Rattle.merging.proofs.MemberLaws.{set, drop, or_else, is_some, has-get, Single, no_member, one-member, get-member, get_set_other, get-drop-other}
+use Rattle.merging.proofs.MemberLaws.{set, drop, or_else, is_some, has-get, Single, one-member, get-member, get_set_other, get-drop-other}
 use Rattle.merging.proofs.StepLaws.{value_in, stepped, merge_step, step_single}
 
 some_same : {A : Type 0} {a b : A} → some a ≡ some b → a ≡ b

@@ -1,8 +1,8 @@
 -- One pair of the patch: what it makes of the target's members.
-use mathlib.Core.Path.{◌≡◌, refl, ap, sym, ◌∙◌}
+use Rattle.std.specs.Prelude.{if◌then◌else◌}
+use mathlib.Core.Path.{◌≡◌, ap}
 use mathlib.Core.Bool.{Bool, true, false}
-use mathlib.Core.Option.{Option, none, some}
-use Rattle.spec.specs.Outcome.{if◌then◌else◌}
+use mathlib.Core.Option.{none, some}
 use Rattle.spec.specs.Bytes.{Text}
 use Rattle.spec.specs.Forest.{tree}
 use Rattle.spec.specs.Value as Value

@@ -1,6 +1,6 @@
 -- JSON Merge Patch: RFC 7396, section 2, its procedure MergePatch(Target, Patch) line by line; positions as in SPECIFICATION 18.2, T-02.
-use Rattle.std.specs.Prelude.{ℕ, Bool, not, length, leb, ltb, eqb}
-use Rattle.spec.specs.Outcome.{Outcome, ok, refused, if◌then◌else◌}
+use Rattle.std.specs.Prelude.{ℕ, Bool, not, length, leb, ltb, eqb, if◌then◌else◌}
+use Rattle.spec.specs.Outcome.{Outcome, ok, refused}
 use Rattle.spec.specs.Refusal.{work_too_short, input_too_long, too_many_nodes}
 use Rattle.spec.specs.Limits.{max_bytes, max_nodes}
 use Rattle.spec.specs.Bytes.{Bytes, Text}

@@ -1,7 +1,7 @@
 -- What a merge makes of the members, position by position. SPECIFICATION 18.2, T-02: "Existing members keep their position, new ones go last." First stand
 -- the target's members, each as it was, merged, or not at all; then those of the patch that the target does not have.
+use Rattle.std.specs.Prelude.{if◌then◌else◌}
 use Rattle.std.proofs.Math.Option.{Option, none, some}
-use Rattle.spec.specs.Outcome.{if◌then◌else◌}
 use Rattle.spec.specs.Bytes.{Text}
 use Rattle.spec.specs.Forest as Forest
 use Rattle.spec.specs.Forest.{tree, single, ◌⧺◌}

@@ -1,9 +1,10 @@
 -- Laws of what an operation answers: which pointer a refusal is of.
+use Rattle.std.specs.Prelude.{if◌then◌else◌}
 use Prim.Native.Nat.{ℕ}
 use mathlib.Core.Path.{◌≡◌, refl, ap, sym, ◌∙◌, subst}
 use mathlib.Core.Bool.{Bool, true, false, ◌&&◌, ◌||◌}
 use borrow.Author.Tests.{eq-eqb, ne_eqb}
-use Rattle.spec.specs.Outcome.{Outcome, ok, refused, is_refused, if◌then◌else◌}
+use Rattle.spec.specs.Outcome.{Outcome, ok, refused, is_refused}
 use Rattle.spec.specs.Refusal.{location_missing, no_index}
 use Rattle.spec.specs.Value as Value
 use Rattle.spec.specs.Pointer.{Tokens, walk}

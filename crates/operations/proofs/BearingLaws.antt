@@ -1,11 +1,12 @@
 -- Laws of an operation of the patch on values that bear origins: forgetting them gives the plain operation, and values that bear the operation's
 -- number give that of crate origin.
+use Rattle.std.specs.Prelude.{if◌then◌else◌}
 use Prim.Native.Nat.{ℕ, ◌+◌}
 use mathlib.Core.Path.{◌≡◌, refl, ap, ◌∙◌}
 use mathlib.Core.Bool.{Bool, true, false}
 use mathlib.Core.List.{List}
 use lib.Dec.{ltb}
-use Rattle.spec.specs.Outcome.{ok, refused, if◌then◌else◌}
+use Rattle.spec.specs.Outcome.{ok, refused}
 use Rattle.spec.specs.Refusal.{wrong_shape}
 use Rattle.spec.specs.Bytes.{Text, ascii}
 use Rattle.spec.specs.Forest.{Forest, count, nth}

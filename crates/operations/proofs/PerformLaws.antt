@@ -1,11 +1,12 @@
 -- Laws of one operation of the patch.
+use Rattle.std.specs.Prelude.{if◌then◌else◌}
 use Prim.Native.Nat.{ℕ, ◌+◌, ◌≤◌, ◌<◌}
 use native.Mathlib.Omega.{arith}
 use native.Mathlib.Decide.{ℕ_discrete}
 use mathlib.Core.Path.{◌≡◌, refl, ap, sym, ◌∙◌, subst}
 use mathlib.Core.Bool.{Bool, true, false}
 use mathlib.Core.List.{List}
-use Rattle.spec.specs.Outcome.{Outcome, ok, refused, ◌>>=◌, require, if◌then◌else◌}
+use Rattle.spec.specs.Outcome.{Outcome, ok, refused, ◌>>=◌, require}
 use Rattle.spec.specs.Refusal.{wrong_shape, test_differs}
 use Rattle.spec.specs.Limits.{max_depth}
 use Rattle.spec.specs.Bytes.{Text, ascii}

@@ -1,6 +1,6 @@
 -- What an operation answers: the document's rows then, or the refusal with its place and its pointer.
-use Rattle.std.specs.Prelude.{ℕ, ◌≡◌, ◌||◌, List, eqb}
-use Rattle.spec.specs.Outcome.{Outcome, ok, refused, is_refused, if◌then◌else◌}
+use Rattle.std.specs.Prelude.{ℕ, ◌≡◌, ◌||◌, List, eqb, if◌then◌else◌}
+use Rattle.spec.specs.Outcome.{Outcome, ok, refused, is_refused}
 use Rattle.spec.specs.Refusal.{location_missing, no_index}
 use Rattle.spec.specs.Value as Value
 use Rattle.spec.specs.Pointer.{Tokens, walk}

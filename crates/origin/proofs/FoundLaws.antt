@@ -1,11 +1,12 @@
 -- What an operation puts in is found where it put it, with its origins.
+use Rattle.std.specs.Prelude.{if◌then◌else◌}
 use mathlib.Core.Path.{◌≡◌, refl, ap, ap₂, sym, subst, ◌∙◌}
 use mathlib.Core.Bool.{Bool, true, false}
 use mathlib.Core.List.{[], ◌∷◌}
 use Prim.Native.Nat.{ℕ, suc, ◌<◌, ◌≤◌}
 use Prim.Native.Char.{code}
 use native.Mathlib.Omega.{arith}
-use Rattle.spec.specs.Outcome.{ok, ◌>>=◌, if◌then◌else◌}
+use Rattle.spec.specs.Outcome.{ok, ◌>>=◌}
 use Rattle.spec.specs.Bytes.{Text, ascii}
 use Rattle.spec.specs.Forest.{none, single, count, before, from, nth, insert_at, ◌⧺◌}
 use Rattle.spec.specs.Value as Plain

@@ -1,10 +1,11 @@
 -- A merge, member by member: what the patch does not name keeps its origins, and what it names is merged in turn.
+use Rattle.std.specs.Prelude.{if◌then◌else◌}
 use mathlib.Core.Path.{◌≡◌, refl, ap, sym, subst, ◌∙◌}
 use mathlib.Core.Bool.{Bool, true, false, true≢false}
 use mathlib.Core.List.{[], ◌∷◌}
 use mathlib.Core.Option.{some}
 use Prim.Native.Nat.{suc}
-use Rattle.spec.specs.Outcome.{ok, refused, ◌>>=◌, if◌then◌else◌}
+use Rattle.spec.specs.Outcome.{ok, refused, ◌>>=◌}
 use Rattle.spec.specs.Bytes.{Text}
 use Rattle.spec.specs.Forest as Forest
 use Rattle.spec.specs.Forest.{tree, Tree, count, nth}

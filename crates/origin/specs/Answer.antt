@@ -1,7 +1,7 @@
 -- The answers of the calls that list origins: SPECIFICATION 19.4. T-11: "Each call that applies a patch, merge and undo included, lists the origins
 -- too, one for each value in the order of their first written bytes, in a lent list; its rest stays, and all of it on a refusal."
-use Rattle.std.specs.Prelude.{ℕ, List, [], not, length, leb, ltb, eqb}
-use Rattle.spec.specs.Outcome.{Outcome, ok, refused, if◌then◌else◌}
+use Rattle.std.specs.Prelude.{ℕ, List, [], not, length, leb, ltb, eqb, if◌then◌else◌}
+use Rattle.spec.specs.Outcome.{Outcome, ok, refused}
 use Rattle.spec.specs.Refusal.{done, work_too_short, input_too_long, too_many_nodes, output_too_short}
 use Rattle.spec.specs.Limits.{max_bytes, max_nodes}
 use Rattle.spec.specs.Bytes.{Bytes}

@@ -1,7 +1,7 @@
 -- With origins forgotten, each definition of this crate is the plain one, results and refusals alike. So what is proved of the plain calls stands as it is:
 -- T-11: "Demand 3 speaks of texts and not of origins."
-use Rattle.std.specs.Prelude.{◌≡◌, ℕ, ◌≤◌, List, length, leb, eqb}
-use Rattle.spec.specs.Outcome.{Outcome, ok, refused, if◌then◌else◌}
+use Rattle.std.specs.Prelude.{◌≡◌, ℕ, ◌≤◌, List, length, leb, eqb, if◌then◌else◌}
+use Rattle.spec.specs.Outcome.{Outcome, ok, refused}
 use Rattle.spec.specs.Refusal.{done, output_too_short}
 use Rattle.spec.specs.Limits.{max_nodes}
 use Rattle.spec.specs.Bytes.{Bytes}

@@ -1,7 +1,6 @@
 -- The merge patch on a target with origins: SPECIFICATION 19.2. T-11: "A merge patch counts as operation 1, also for the empty objects it makes."
 -- Each definition is that of the crate merging.
-use Rattle.std.specs.Prelude.{ℕ}
-use Rattle.spec.specs.Outcome.{if◌then◌else◌}
+use Rattle.std.specs.Prelude.{ℕ, if◌then◌else◌}
 use Rattle.spec.specs.Bytes.{Text}
 use Rattle.spec.specs.Forest.{none, tree, remove_at}
 use Rattle.spec.specs.Value as Plain

@@ -1,7 +1,7 @@
 -- The six operations on values with origins: SPECIFICATION 19.1. T-11: "k for a value put in by operation k, add, replace or copy, all nodes of it; a
 -- moved value keeps its own, and a container keeps its origin when a child changes". Each definition is that of the plain operation.
-use Rattle.std.specs.Prelude.{ℕ, suc, [], ◌∷◌, leb}
-use Rattle.spec.specs.Outcome.{Outcome, ok, refused, ◌>>=◌, if◌then◌else◌}
+use Rattle.std.specs.Prelude.{ℕ, suc, [], ◌∷◌, leb, if◌then◌else◌}
+use Rattle.spec.specs.Outcome.{Outcome, ok, refused, ◌>>=◌}
 use Rattle.spec.specs.Refusal.{location_missing, remove_of_root, test_differs, too_deep, too_many_nodes}
 use Rattle.spec.specs.Limits.{max_depth, max_nodes}
 use Rattle.spec.specs.Bytes.{Text}

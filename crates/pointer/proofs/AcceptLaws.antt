@@ -1,11 +1,12 @@
 -- What it means that a text is accepted as a pointer, and that it is not: there are tokens, or there is one refusal, 10.
+use Rattle.std.specs.Prelude.{if◌then◌else◌}
 use mathlib.Core.Path.{◌≡◌, refl, sym}
 use mathlib.Core.Bool.{Bool, true, false, true≢false}
 use mathlib.Core.List.{List, [], ◌∷◌}
 use Prim.Native.Nat.{ℕ}
 use Prim.Native.Char.{code}
 use lib.Dec.{eqb}
-use Rattle.spec.specs.Outcome.{Outcome, ok, refused, ◌>>=◌, if◌then◌else◌}
+use Rattle.spec.specs.Outcome.{Outcome, ok, refused, ◌>>=◌}
 use Rattle.spec.specs.Refusal.{malformed_pointer}
 use Rattle.spec.specs.Bytes.{Text}
 use Rattle.spec.specs.Pointer.{segments, tilde, unescape, unescape_all, tokens}

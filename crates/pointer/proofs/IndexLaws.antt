@@ -1,4 +1,5 @@
 -- A token as an index: what its first character tells, what each further digit does, and which element it names.
+use Rattle.std.specs.Prelude.{if◌then◌else◌}
 use mathlib.Core.Path.{◌≡◌, refl, sym, ap, ◌∙◌}
 use mathlib.Core.Bool.{Bool, true, false}
 use mathlib.Core.List.{[], ◌∷◌}
@@ -7,7 +8,7 @@ use Prim.Native.Char.{code}
 use native.Mathlib.Omega.{arith}
 use lib.Dec.{ltb}
 use borrow.Author.Tests.{ne_eqb, le-ltb, ltb-true, ltb-false}
-use Rattle.spec.specs.Outcome.{ok, refused, if◌then◌else◌}
+use Rattle.spec.specs.Outcome.{ok, refused}
 use Rattle.spec.specs.Refusal.{location_missing, no_index}
 use Rattle.spec.specs.Bytes.{Text, ascii, within}
 use Rattle.spec.specs.Numbers.{is_digit}
@@ -16,7 +17,6 @@ use Rattle.spec.specs.Value.{same_text}
 use Rattle.spec.specs.Pointer.{is_index, is_dash, all_digits, element_below}
 use Rattle.lexer.proofs.Tests.{between-within, below_within, above_within}
 use Rattle.pointer.specs.declared.answers.Index.{Index}
-use Rattle.pointer.specs.declared.answers.Index.TheVariants as Index
 use Rattle.pointer.specs.Index.{index_limit, index_at, index_of, element_at, insertion_at, digits_after, capped, if_last}
 
 -- ---- digits

@@ -1,20 +1,19 @@
 -- Proper prefixes, token by token.
+use Rattle.std.specs.Prelude.{if◌then◌else◌}
 use mathlib.Core.Path.{◌≡◌, refl, sym, ap, ap₂, ◌∙◌}
 use mathlib.Core.Bool.{Bool, true, false, ◌&&◌}
 use mathlib.Core.List.{List, [], ◌∷◌}
 use Prim.Native.Nat.{ℕ}
 use Prim.Native.Char.{code}
 use lib.Dec.{eqb}
-use Rattle.spec.specs.Outcome.{Outcome, ok, if◌then◌else◌}
+use Rattle.spec.specs.Outcome.{Outcome, ok}
 use Rattle.spec.specs.Bytes.{Bytes, Text}
 use Rattle.spec.specs.Value.{same_text}
 use Rattle.spec.specs.Pointer.{Tokens, tokens, prepend, segments, unescape_all}
 use Rattle.spec.specs.Patch.{proper_prefix}
 use Rattle.text.specs.Decode.{decode, decode_from, text_of}
 use Rattle.pointer.specs.declared.answers.First.{First}
-use Rattle.pointer.specs.declared.answers.First.TheVariants as First
 use Rattle.pointer.specs.declared.answers.Token.{Token}
-use Rattle.pointer.specs.declared.answers.Token.TheVariants as Token
 use Rattle.pointer.specs.Tokens.{tokens_from, token_bytes, segments_after, FirstOf, TokenAt}
 use Rattle.pointer.specs.Prefix.{is_next, is_at, PrefixOf}
 use Rattle.pointer.proofs.WalkLaws.{Unfolds, unescaped, first_root, first_at, first_malformed, tokens_behind, first-token, behind_last, behind_next}

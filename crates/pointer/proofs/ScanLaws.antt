@@ -20,7 +20,6 @@ use Rattle.text.specs.Decode.{character_in, decode, decode_from, decode_loop}
 use Rattle.text.proofs.DecodeLaws.{in_past, decode_more, decode_ends, Reads, nothing, one_more, reads_past, reads_part}
 use Rattle.pointer.specs.declared.answers.First.TheVariants as First
 use Rattle.pointer.specs.declared.answers.Token.{Token}
-use Rattle.pointer.specs.declared.answers.Token.TheVariants as Token
 use Rattle.pointer.specs.Tokens.{tokens_from, tokens_after, Inside, FirstOf, end_of, token_bytes, segments_after, InOrder, TokenAt, continues}
 
 -- ---- a test that is negated

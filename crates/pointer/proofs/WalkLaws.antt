@@ -2,7 +2,7 @@
 use mathlib.Core.Path.{◌≡◌, refl, sym, ap, ◌∙◌}
 use mathlib.Core.Bool.{false}
 use mathlib.Core.List.{List, [], ◌∷◌}
-use Prim.Native.Nat.{ℕ, ◌-◌, ◌<◌, ◌≤◌}
+use Prim.Native.Nat.{ℕ, ◌<◌, ◌≤◌}
 use lib.ListN.{length}
 use Rattle.spec.specs.Outcome.{Outcome, ok}
 use Rattle.spec.specs.Bytes.{Bytes, Text}
@@ -12,9 +12,7 @@ use Rattle.lexer.specs.Names.{part}
 use Rattle.text.specs.Decode.{decode, unescape_token, text_from, text_of}
 use Rattle.text.proofs.TokenLaws.{unescape_token_lem}
 use Rattle.pointer.specs.declared.answers.First.{First}
-use Rattle.pointer.specs.declared.answers.First.TheVariants as First
 use Rattle.pointer.specs.declared.answers.Token.{Token}
-use Rattle.pointer.specs.declared.answers.Token.TheVariants as Token
 use Rattle.pointer.specs.Tokens.{tokens_from, tokens_after, Inside, FirstOf, token_bytes, segments_after, InOrder, TokenAt}
 
 -- ---- where the tokens begin

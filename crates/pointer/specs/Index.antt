@@ -1,12 +1,11 @@
 -- What a token is to an array.
-use Rattle.std.specs.Prelude.{ℕ, suc, [], ◌∷◌, ltb}
-use Rattle.spec.specs.Outcome.{Outcome, ok, refused, if◌then◌else◌}
+use Rattle.std.specs.Prelude.{ℕ, suc, [], ◌∷◌, ltb, if◌then◌else◌}
+use Rattle.spec.specs.Outcome.{Outcome, ok, refused}
 use Rattle.spec.specs.Refusal.{location_missing, no_index}
 use Rattle.spec.specs.Bytes.{Text}
 use Rattle.spec.specs.Worth.{decimal}
 use Rattle.spec.specs.Pointer.{is_index, is_dash, all_digits}
 use Rattle.pointer.specs.declared.answers.Index.{Index}
-use Rattle.pointer.specs.declared.answers.Index.TheVariants as Index
 
 -- An index below this limit is given by its number. No array has that many elements.
 abbrev pub index_limit : ℕ
@@ -20,7 +19,7 @@ index_of t =
     if is_dash t then Index.Dash else
     if is_index t then index_at (decimal 0 t) else Index.Not
 
--- The element of an array that is named, given how many elements it has, at most the limit: `elementBelow` of Pointer.
+-- The element of an array that is named, given how many elements it has, at most the limit: `element_below` of Pointer.
 unfoldable pub element_at : ℕ → Index → Outcome ℕ
 element_at elements Index.Dash = refused location_missing 0
 element_at elements (Index.At n) = if ltb n elements then ok n else refused location_missing 0

@@ -4,9 +4,7 @@ use Rattle.spec.specs.Outcome.{Outcome, ok}
 use Rattle.spec.specs.Pointer.{Tokens}
 use Rattle.spec.specs.Patch.{proper_prefix}
 use Rattle.pointer.specs.declared.answers.First.{First}
-use Rattle.pointer.specs.declared.answers.First.TheVariants as First
 use Rattle.pointer.specs.declared.answers.Token.{Token}
-use Rattle.pointer.specs.declared.answers.Token.TheVariants as Token
 
 -- The answer on the tokens of two pointers. Where there are none, since a text is malformed, it is free.
 pub record PrefixOf (of to : Outcome Tokens) (r : Bool) : Type 0 where

@@ -8,9 +8,7 @@ use Rattle.spec.specs.Pointer.{Tokens, tokens, segments, unescape_all}
 use Rattle.lexer.specs.Names.{part}
 use Rattle.text.specs.Decode.{decode, decode_from}
 use Rattle.pointer.specs.declared.answers.First.{First}
-use Rattle.pointer.specs.declared.answers.First.TheVariants as First
 use Rattle.pointer.specs.declared.answers.Token.{Token}
-use Rattle.pointer.specs.declared.answers.Token.TheVariants as Token
 
 -- whether there is a result
 unfoldable pub accepted : {A : Type 0} → Outcome A → Bool

@@ -1,4 +1,5 @@
 -- Laws of rows that are filled: another item behind those so far, and a node's own row before those of its children; and of the index.
+use Rattle.std.specs.Prelude.{if◌then◌else◌}
 use Prim.Native.Nat.{ℕ, ◌+◌, ◌-◌, ◌≤◌, ◌<◌, ◌%◌}
 use native.Mathlib.Omega.{arith}
 use native.Mathlib.Nat.{add-zero}
@@ -8,7 +9,6 @@ use mathlib.Core.List.{List, ◌∷◌, ◌++◌, append-nil}
 use lib.ListN.{length, drop, set}
 use lib.Dec.{eqb}
 use lib.Seq.{drop-drop}
-use Rattle.spec.specs.Outcome.{if◌then◌else◌}
 use Rattle.spec.specs.Bytes.{Bytes, Text}
 use Rattle.spec.specs.Forest.{none, tree, single, size, ◌⧺◌}
 use Rattle.spec.specs.Value.{Label, Members, named}
@@ -28,7 +28,7 @@ use Rattle.tape.proofs.Map.{map_⧺, size-map}
 use Rattle.table.specs.Meaning.{source_text, entry_of}
 use Rattle.table.specs.All.{all_none, all_tree}
 use Rattle.table.proofs.AllLaws.{all_⧺}
-use Rattle.index.specs.Slots.{room, parents, slots}
+use Rattle.index.specs.Slots.{room, parents}
 use Rattle.index.specs.Ways.{Entered}
 use Rattle.reader.specs.Words.{Labels, Titles}
 use Rattle.reader.specs.Filled.{Between, SameBeyond, Noted, Filled}

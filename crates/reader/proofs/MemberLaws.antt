@@ -1,4 +1,5 @@
 -- Laws of an object's members: whether a name is among them, by the index and by a search.
+use Rattle.std.specs.Prelude.{if◌then◌else◌}
 use Prim.Native.Nat.{ℕ, suc, ◌+◌, ◌-◌, ◌≤◌, ◌<◌}
 use Prim.Native.Char.{code}
 use native.Mathlib.Omega.{arith}
@@ -8,7 +9,7 @@ use mathlib.Core.List.{List, []}
 use lib.Dec.{eqb}
 use lib.ListN.{length, get_or}
 use borrow.Author.Tests.{eq-eqb, ne_eqb, lt-ltb, le-ltb}
-use Rattle.spec.specs.Outcome.{Outcome, ok, refused, ◌>>=◌, if◌then◌else◌}
+use Rattle.spec.specs.Outcome.{Outcome, ok, refused, ◌>>=◌}
 use Rattle.spec.specs.Refusal.{repeated_name}
 use Rattle.spec.specs.Bytes.{Bytes, Text, byte, byte_in}
 use Rattle.spec.specs.Strings.{string}
@@ -19,7 +20,6 @@ use Rattle.spec.proofs.OutcomeLaws.{>>=_assoc}
 use Rattle.spec.proofs.TextLaws.{same_text_true}
 use Rattle.lexer.specs.Hash.{hash}
 use Rattle.lexer.specs.declared.cursor.Cursor.{Cursor}
-use Rattle.tape.specs.Layout.{scratch_row}
 use Rattle.tape.specs.Fields.{Row, no_node, name_of}
 use Rattle.tape.specs.declared.fields.Name.{Name}
 use Rattle.tape.specs.declared.fields.Cell.{Cell}
@@ -37,12 +37,12 @@ use Rattle.table.specs.Sound.{RowsHeld, Sound, CellFits}
 use Rattle.table.specs.declared.find.Member.{Member}
 use Rattle.table.specs.declared.find.Member.TheVariants.{At, Missing}
 use Rattle.table.proofs.Search.{named_hashed}
-use Rattle.index.specs.Slots.{slots, bucket_slot}
+use Rattle.index.specs.Slots.{bucket_slot}
 use Rattle.index.specs.Ways.{MeetsName, NoneNamed, Entered}
 use Rattle.reader.specs.Work.{Work}
 use Rattle.reader.specs.Words.{nameless, Titles}
 use Rattle.reader.specs.Filled.{Noted, Filled, Reached, Marked, marked_none, marked_tree}
-use Rattle.reader.specs.Names.{Lent, Inside, after_colon, Holding, Leading, LeadsNext, RepeatedIs, NameIs, name_read, name_refused, Having, NamedIs}
+use Rattle.reader.specs.Names.{Lent, Inside, after_colon, Holding, Leading, LeadsNext, RepeatedIs, NameIs, name_read, name_refused, NamedIs}
 use Rattle.reader.specs.Items.{closed, after_comma, next_name, begun, item_of, next_item, ItemIs, item_begins, item_closed, item_refused, NextItemIs}
 use Rattle.reader.specs.declared.names.Container.{Container}
 use Rattle.reader.specs.declared.words.Named.{Named}

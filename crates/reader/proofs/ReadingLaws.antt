@@ -24,17 +24,14 @@ use Rattle.table.specs.Meaning.{label_of}
 use Rattle.reader.specs.Begins.{beginning, room_refusal, refusal_for, scalar_of}
 use Rattle.reader.specs.Work.{Work}
 use Rattle.reader.specs.Words.{no_spelling, Titles, ScalarIs, scalar_read, scalar_refused}
-use Rattle.reader.specs.Filled.{Between, SameBeyond, Noted, Filled, Reached, Marked, marked_none}
+use Rattle.reader.specs.Filled.{Between, SameBeyond, Noted, Filled, Marked, marked_none}
 use Rattle.reader.specs.Names.{Lent, LeadsNext}
 use Rattle.reader.specs.Items.{Next, closed, begins, next_item, ItemIs, item_begins, item_closed, item_refused, NextItemIs}
-use Rattle.reader.specs.Taken.{read_to, scalar_cell, container_cell, Ahead, Taken, taken, refusal, Closing, ScalarTaken, ValueTaken}
+use Rattle.reader.specs.Taken.{read_to, scalar_cell, Ahead, Taken, taken, refusal, Closing, ScalarTaken, ValueTaken}
 use Rattle.reader.specs.declared.names.Container.{Container}
 use Rattle.reader.specs.declared.words.Spelled.{Spelled}
-use Rattle.reader.specs.declared.words.Spelled.TheVariants as Spelled
 use Rattle.reader.specs.declared.items.Item.{Item}
-use Rattle.reader.specs.declared.items.Item.TheVariants as Item
 use Rattle.reader.specs.declared.values.Read.{Read}
-use Rattle.reader.specs.declared.values.Read.TheVariants as Read
 use Rattle.reader.proofs.ValueLaws.{whole, refusal-scalar, value-refused, value_room, value-inside, value-kind, value-scalar, value-level}
 use Rattle.reader.proofs.ValueLaws.{value-container}
 use Rattle.reader.proofs.ItemLaws.{rest, after, contents_rest, rest_step}

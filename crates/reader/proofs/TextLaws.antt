@@ -1,4 +1,5 @@
 -- Laws of reading a whole text.
+use Rattle.std.specs.Prelude.{if◌then◌else◌}
 use Prim.Native.Nat.{ℕ, ◌+◌, ◌-◌, ◌≤◌, ◌<◌}
 use native.Mathlib.Omega.{arith}
 use mathlib.Core.Path.{◌≡◌, refl, sym, ap, ap₂, ◌∙◌}
@@ -7,7 +8,7 @@ use mathlib.Core.List.{List, []}
 use lib.Dec.{ltb}
 use lib.ListN.{length}
 use borrow.Author.Tests.{eq-eqb, ne_eqb, ltb-false}
-use Rattle.spec.specs.Outcome.{Outcome, ok, refused, ◌>>=◌, if◌then◌else◌}
+use Rattle.spec.specs.Outcome.{ok, refused, ◌>>=◌}
 use Rattle.spec.specs.Refusal.{not_json, work_too_short, input_too_long}
 use Rattle.spec.specs.Limits.{max_bytes, max_depth, max_nodes}
 use Rattle.spec.specs.Bytes.{Bytes}
@@ -31,9 +32,8 @@ use Rattle.reader.specs.Words.{nameless}
 use Rattle.reader.specs.Filled.{SameBeyond, Filled}
 use Rattle.reader.specs.Names.{Lent}
 use Rattle.reader.specs.Taken.{Taken, taken, refusal, ValueTaken}
-use Rattle.reader.specs.Texts.{reading, refusal_before, Rooted, TextRead, text_read, text_refused, ReadIs, TextIs}
+use Rattle.reader.specs.Texts.{reading, refusal_before, Rooted, text_read, text_refused, ReadIs, TextIs}
 use Rattle.reader.specs.declared.values.Read.{Read}
-use Rattle.reader.specs.declared.values.Read.TheVariants as Read
 use Rattle.reader.proofs.WordLaws.{no_titles}
 use Rattle.reader.proofs.RowLaws.{unchanged, change_wider}
 use Rattle.reader.proofs.FilledLaws.{beyond_none, beyond_then, filled_held}

@@ -4,7 +4,7 @@ use mathlib.Core.Path.{◌≡◌, refl, sym, ◌∙◌, ap, ap₂}
 use mathlib.Core.Bool.{Bool, true, false}
 use mathlib.Core.List.{[]}
 use native.Mathlib.Omega.{arith}
-use lib.ListN.{length, take, drop}
+use lib.ListN.{take, drop}
 use Rattle.spec.specs.Outcome.{Outcome, ok, refused, ◌>>=◌}
 use Rattle.spec.specs.Refusal.{not_json}
 use Rattle.spec.specs.Bytes.{Bytes, Text}
@@ -19,31 +19,25 @@ use Rattle.lexer.specs.Names.{no_backslash, part, plain_of, kept, kept_of}
 use Rattle.lexer.specs.Answers.{name_outcome, quoted_outcome, scan_outcome}
 use Rattle.lexer.specs.declared.cursor.Cursor.{Cursor}
 use Rattle.lexer.specs.declared.cursor.Scan.{Scan}
-use Rattle.lexer.specs.declared.cursor.Scan.TheVariants as Scan
 use Rattle.lexer.specs.declared.strings.Name as Lexed
 use Rattle.lexer.specs.declared.strings.Name.TheVariants as Lex
 use Rattle.lexer.specs.declared.strings.Quoted.{Quoted}
-use Rattle.lexer.specs.declared.strings.Quoted.TheVariants as Quoted
 use Rattle.lexer.proofs.AnswerLaws.{scan_refused}
 use Rattle.lexer.proofs.NameLaws.{QuotedRead, quoted_refused}
 use Rattle.lexer.proofs.StringLaws.{Closed, string-ok_closed}
-use Rattle.lexer.proofs.NumberLaws.{number-ok_past}
 use Rattle.text.specs.Decode.{decode, text_from, text_of}
 use Rattle.text.proofs.DecodeLaws.{decode-string}
 use Rattle.text.proofs.PlainLaws.{string-same}
-use Rattle.tape.specs.Layout.{values, forms, sources, plain_string, escaped_string, numeral, number_kind, string_kind}
+use Rattle.tape.specs.Layout.{forms, sources, plain_string, escaped_string, numeral, number_kind, string_kind}
 use Rattle.tape.specs.declared.fields.Spelling.{Spelling}
-use Rattle.tape.specs.declared.fields.Name.{Name}
 use Rattle.tape.specs.Lent.{Texts}
 use Rattle.table.specs.Meaning.{part_of, spelled, label_of, short_hash}
-use Rattle.table.specs.Sound.{Verbatim, StringFits}
+use Rattle.table.specs.Sound.{Verbatim}
 use Rattle.table.proofs.NumberLaws.{number_fits, other_fits}
 use Rattle.reader.specs.Words.{InText, no_spelling, nameless, number_spelling, string_form, string_spelling, Labels, Titles}
 use Rattle.reader.specs.Words.{unspelled, unquoted, unnamed, untitled, ScalarIs, scalar_read, scalar_refused}
 use Rattle.reader.specs.declared.words.Spelled.{Spelled}
-use Rattle.reader.specs.declared.words.Spelled.TheVariants as Spelled
 use Rattle.reader.specs.declared.words.Named.{Named}
-use Rattle.reader.specs.declared.words.Named.TheVariants as Named
 
 -- ---- what the reader of names tells: the text, its hash, and whether it is written without escapes
 pub record NameRead (s : Bytes) (at next h : ℕ) (plain : Bool) : Type 0 where

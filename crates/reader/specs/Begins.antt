@@ -1,7 +1,7 @@
 -- A value by its first byte: which kind it is, and whether it may begin there.
-use Rattle.std.specs.Prelude.{ℕ, ◌||◌, ltb, eqb}
+use Rattle.std.specs.Prelude.{ℕ, ◌||◌, ltb, eqb, if◌then◌else◌}
 use Prim.Native.Char.{code}
-use Rattle.spec.specs.Outcome.{Outcome, if◌then◌else◌}
+use Rattle.spec.specs.Outcome.{Outcome}
 use Rattle.spec.specs.Refusal.{not_json, too_deep, too_many_nodes}
 use Rattle.spec.specs.Limits.{max_nodes}
 use Rattle.spec.specs.Bytes.{Bytes, ascii}

@@ -1,7 +1,7 @@
 -- What comes next in a container.
-use Rattle.std.specs.Prelude.{ℕ, ◌+◌, ◌≡◌, Bool, true, List, eqb}
+use Rattle.std.specs.Prelude.{ℕ, ◌+◌, ◌≡◌, Bool, true, List, eqb, if◌then◌else◌}
 use Prim.Native.Char.{code}
-use Rattle.spec.specs.Outcome.{Outcome, ok, refused, ◌>>=◌, if◌then◌else◌}
+use Rattle.spec.specs.Outcome.{Outcome, ok, refused, ◌>>=◌}
 use Rattle.spec.specs.Bytes.{Bytes, Text, byte, byte_in}
 use Rattle.spec.specs.Forest.{count}
 use Rattle.spec.specs.Value.{Members}
@@ -14,7 +14,6 @@ use Rattle.reader.specs.Filled.{Noted}
 use Rattle.reader.specs.Names.{LeadsNext, Having, NamedIs}
 use Rattle.reader.specs.declared.names.Container.{Container}
 use Rattle.reader.specs.declared.words.Named.{Named}
-use Rattle.reader.specs.declared.words.Named.TheVariants as Named
 use Rattle.reader.specs.declared.items.Item.{Item}
 use Rattle.reader.specs.declared.items.Item.TheVariants.{Begins, Closed, Refused}
 

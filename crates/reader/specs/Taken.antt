@@ -17,7 +17,6 @@ use Rattle.reader.specs.Work.{Work}
 use Rattle.reader.specs.Words.{no_spelling, Titles}
 use Rattle.reader.specs.Filled.{Between, SameBeyond, Noted, Filled}
 use Rattle.reader.specs.declared.words.Spelled.{Spelled}
-use Rattle.reader.specs.declared.words.Spelled.TheVariants as Spelled
 use Rattle.reader.specs.declared.values.Read as Declared
 use Rattle.reader.specs.declared.values.Read.TheVariants as Read
 

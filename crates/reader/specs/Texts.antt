@@ -1,6 +1,6 @@
 -- What reading a whole text comes to.
-use Rattle.std.specs.Prelude.{ℕ, ◌+◌, ◌≤◌, ◌≡◌, List, [], ltb, length}
-use Rattle.spec.specs.Outcome.{Outcome, ok, refused, if◌then◌else◌}
+use Rattle.std.specs.Prelude.{ℕ, ◌+◌, ◌≤◌, ◌≡◌, List, [], ltb, length, if◌then◌else◌}
+use Rattle.spec.specs.Outcome.{Outcome, ok, refused}
 use Rattle.spec.specs.Refusal.{work_too_short, input_too_long}
 use Rattle.spec.specs.Limits.{max_bytes, max_nodes}
 use Rattle.spec.specs.Bytes.{Bytes}

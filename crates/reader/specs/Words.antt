@@ -1,17 +1,15 @@
 -- What is read of a text: of a scalar its label, of a name its text.
-use Rattle.std.specs.Prelude.{ℕ, ◌+◌, ◌-◌, ◌≡◌, Bool}
-use Rattle.spec.specs.Outcome.{Outcome, ok, refused, if◌then◌else◌}
+use Rattle.std.specs.Prelude.{ℕ, ◌-◌, ◌≡◌, Bool, if◌then◌else◌}
+use Rattle.spec.specs.Outcome.{Outcome, ok, refused}
 use Rattle.spec.specs.Refusal.{not_json}
 use Rattle.spec.specs.Bytes.{Bytes, Text}
 use Rattle.spec.specs.Value as Value
 use Rattle.spec.specs.Value.{Label, leaf}
 use Rattle.lexer.specs.declared.cursor.Cursor.{Cursor}
 use Rattle.lexer.specs.declared.cursor.Scan.{Scan}
-use Rattle.lexer.specs.declared.cursor.Scan.TheVariants as Scan
 use Rattle.lexer.specs.declared.strings.Name as Lexed
 use Rattle.lexer.specs.declared.strings.Name.TheVariants as Name
 use Rattle.lexer.specs.declared.strings.Quoted.{Quoted}
-use Rattle.lexer.specs.declared.strings.Quoted.TheVariants as Quoted
 use Rattle.tape.specs.Layout.{no_text, plain_string, escaped_string, numeral}
 use Rattle.tape.specs.declared.fields.Spelling.{Spelling}
 use Rattle.tape.specs.declared.fields.Name.{Name}
@@ -20,9 +18,7 @@ use Rattle.tape.specs.Lent.{Texts}
 use Rattle.table.specs.Meaning.{source_text, label_of, name_text}
 use Rattle.table.specs.Sound.{NameFits, LabelFits}
 use Rattle.reader.specs.declared.words.Spelled.{Spelled}
-use Rattle.reader.specs.declared.words.Spelled.TheVariants as Spelled
 use Rattle.reader.specs.declared.words.Named.{Named}
-use Rattle.reader.specs.declared.words.Named.TheVariants as Named
 
 -- what holds whatever the two texts are, provided that the source names this one
 abbrev pub InText : ℕ → Bytes → (Texts → Type 0) → Type 0

@@ -1,3 +1,2 @@
--- What the proofs share, and the theorem on rows.
-pub mod InMemory
+-- The theorem on rows.
 pub mod RowsTheorem

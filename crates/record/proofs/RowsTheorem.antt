@@ -1,10 +1,10 @@
 -- specs/Rows, proved: records and rows of eight fields are the same, and so is what is done to them.
-use Prim.Native.Nat.{ℕ, zero, suc, ◌+◌, ◌≤◌, ◌<◌}
+use Prim.Native.Nat.{ℕ, zero, suc, ◌<◌}
 use native.Mathlib.Omega.{arith}
 use native.Mathlib.Decide.{dec_lt}
 use mathlib.Core.Path.{◌≡◌, refl, sym, ◌∙◌, ap}
 use mathlib.Core.List.{List, [], ◌∷◌}
-use lib.ListN.{length, get_or, set, get_or-map}
+use lib.ListN.{length, set, get_or-map}
 use lib.Seq.{set_out}
 use Rattle.tape.specs.Fields.{Row, no_node}
 use Rattle.tape.specs.Columns.{wiped}

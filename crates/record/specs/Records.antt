@@ -1,5 +1,5 @@
 -- A node's record and its row: the same fields, by name and by position.
-use Rattle.std.specs.Prelude.{ℕ, List, [], ◌∷◌, map}
+use Rattle.std.specs.Prelude.{List, [], ◌∷◌, map}
 use Rattle.tape.specs.Fields.{Row, name_start_of, name_length_of, start_of, length_of, span_of, hash_of, tags_of, origin_of}
 use Rattle.record.specs.declared.Node.{Node}
 

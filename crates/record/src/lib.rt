@@ -8,11 +8,6 @@
 ghost use Rattle.std.specs.Prelude.{◌≡◌, set, get_or};
 ghost use Rattle.record.specs.Records.{no_record};
 
-// the functions for C
-mod exports;
-
-pub use exports::{json_patch_node_clear, json_patch_node_read, json_patch_node_store};
-
 #[repr(C)]
 #[derive(Clone, Copy)]
 pub struct Node {

@@ -1,4 +1,5 @@
 -- The loop over a region's characters and those of a path.
+use Rattle.std.specs.Prelude.{if◌then◌else◌}
 use mathlib.Core.Path.{◌≡◌, refl, ap, sym, ◌∙◌}
 use mathlib.Core.Bool.{Bool, true, false, not, true≢false}
 use mathlib.Core.List.{[], ◌∷◌}
@@ -9,7 +10,7 @@ use native.Mathlib.Decide.{dec_lt}
 use lib.ListN.{length}
 use lib.Dec.{eqb}
 use borrow.Author.Tests.{eq-eqb, ne_eqb, le-leb, lt-leb, lt-ltb, le-ltb, not-true}
-use Rattle.spec.specs.Outcome.{Outcome, ok, refused, ◌>>=◌, if◌then◌else◌}
+use Rattle.spec.specs.Outcome.{Outcome, ok, refused, ◌>>=◌}
 use Rattle.spec.specs.Bytes.{Bytes, Text, byte, within}
 use Rattle.spec.specs.Strings.{character}
 use Rattle.spec.specs.Pointer.{tokens}
@@ -25,7 +26,6 @@ use Rattle.pointer.specs.Prefix.{PrefixOf}
 use Rattle.fragment.specs.Link.{character_at, characters_from, characters, is_utf8, is_pointer}
 use Rattle.fragment.specs.Scan.{verdict}
 use Rattle.fragment.specs.declared.scan.Verdict.{Verdict}
-use Rattle.fragment.specs.declared.scan.Verdict.TheVariants as Verdict
 use Rattle.region.specs.Answer.{region_tokens}
 use Rattle.region.specs.Begins.{begins, SameByte}
 use Rattle.region.proofs.SpellLaws.{begins-tokens}

@@ -1,14 +1,14 @@
 -- What the definitions come to: specs/Claims.
+use Rattle.std.specs.Prelude.{if◌then◌else◌}
 use mathlib.Core.Path.{◌≡◌, refl, ap, sym, subst, ◌∙◌}
 use mathlib.Core.Bool.{Bool, true, false, ◌&&◌, ◌||◌, not, true≢false}
-use mathlib.Core.List.{List, [], ◌∷◌}
-use Prim.Native.Nat.{ℕ, ◌+◌, ◌≤◌, ◌<◌}
+use mathlib.Core.List.{List}
+use Prim.Native.Nat.{ℕ, ◌≤◌, ◌<◌}
 use native.Mathlib.Omega.{arith}
 use lib.ListN.{length}
-use lib.Dec.{leb, ltb}
+use lib.Dec.{leb}
 use borrow.Author.Tests.{leb-true, leb-false, le-leb, lt-leb, le-ltb}
-use Rattle.spec.specs.Outcome.{Outcome, ok, refused, if◌then◌else◌}
-use Rattle.spec.specs.Refusal.{work_too_short, input_too_long, not_permitted}
+use Rattle.spec.specs.Outcome.{Outcome, ok, refused}
 use Rattle.spec.specs.Limits.{max_bytes}
 use Rattle.spec.specs.Bytes.{Bytes}
 use Rattle.spec.specs.Forest.{none, tree, count}
@@ -16,16 +16,15 @@ use Rattle.spec.specs.Value as Value
 use Rattle.spec.specs.Value.{Label, Members, tag, is_array}
 use Rattle.spec.specs.Read.{read}
 use Rattle.spec.specs.Pointer.{Tokens}
-use Rattle.spec.specs.Operation.{Kind, Operation, limited}
-use Rattle.spec.specs.Patch.{proper_prefix, uses_from, Stop, stop, Run, finished, stopped, on_finish, run, shape}
+use Rattle.spec.specs.Operation.{Kind, Operation}
+use Rattle.spec.specs.Patch.{proper_prefix, uses_from, Stop, stop, Run, finished, stopped, shape}
 use Rattle.spec.specs.Shape.{ProperPrefix, AreOperations, IsPatch, Wrong}
 use Rattle.spec.specs.Shape as Shape
-use Rattle.spec.specs.Answer.{Lent, work_suffices, answer_of, patched, on_patch, on_document, answer_in, answer, refusal}
-use Rattle.spec.specs.Region.{strictly_inside, all_inside, WellFormed}
-use Rattle.spec.proofs.TextLaws.{both_true}
+use Rattle.spec.specs.Answer.{patched, on_patch, on_document, answer_in, answer}
+use Rattle.spec.specs.Region.{strictly_inside, all_inside}
 use Rattle.spec.proofs.RunTheorem.{finished≢stopped}
 use Rattle.spec.proofs.ShapeTheorem.{shaped_so}
-use Rattle.region.specs.Rule.{operations_within, elements_within, shape_within}
+use Rattle.region.specs.Rule.{elements_within, shape_within}
 use Rattle.region.specs.Answer.{region_tokens, patched_within, on_patch_within, on_document_within, answer_within}
 use Rattle.region.specs.Claims as Claims
 use Rattle.region.specs.Claims.{Makers, Permitted, AllPermitted, no_more, one_more, KeepsRule, keeps, IsPatchWithin, FirstFault, NoPatchWithin}

@@ -1,12 +1,12 @@
 -- The rule by its tests and by its relation, of one operation and of all elements.
+use Rattle.std.specs.Prelude.{if◌then◌else◌}
 use mathlib.Core.Path.{◌≡◌, refl, ap, sym, subst, ◌∙◌}
-use mathlib.Core.Bool.{Bool, true, false, ◌&&◌, true≢false}
-use mathlib.Core.List.{List, [], ◌∷◌}
+use mathlib.Core.Bool.{Bool, true, false, true≢false}
+use mathlib.Core.List.{List, ◌∷◌}
 use Prim.Native.Nat.{ℕ, ◌+◌}
-use native.Mathlib.Omega.{arith}
 use lib.Dec.{eqb}
 use borrow.Author.Tests.{eqb-true, eqb-false}
-use Rattle.spec.specs.Outcome.{Outcome, ok, refused, ◌>>=◌, if◌then◌else◌, require}
+use Rattle.spec.specs.Outcome.{Outcome, ok, refused, ◌>>=◌, require}
 use Rattle.spec.specs.Refusal.{not_permitted}
 use Rattle.spec.specs.Forest.{none, tree}
 use Rattle.spec.specs.Value as Value
@@ -147,7 +147,8 @@ unfolding on_finish
 rest_stopped (finished others) o h = absurd (finished≢stopped h)
 rest_stopped (stopped t) o h = h
 
-pub elements-to : (R : Tokens) (op : ℕ) (f : Members) (os : List Operation) → operations_within R op f ≡ finished os → AreOperations f os × AllPermitted R op os
+pub elements-to : (R : Tokens) (op : ℕ) (f : Members) (os : List Operation) → operations_within R op f ≡ finished os →
+    AreOperations f os × AllPermitted R op os
 unfolding operations_within
 elements-to R op none os h =
     (subst (AreOperations none) (finished_same h) no_element, subst (AllPermitted R op) (finished_same h) no_more)
@@ -159,11 +160,13 @@ elements-to R op (tree e kids rest) os h =
     (subst (AreOperations (tree e kids rest)) same (element i are), subst (AllPermitted R op) same (one_more p all)))
     (λ n q w. absurd (finished≢stopped (sym h ∙ element_refused R op e kids rest q)))
 
-pub to-elements : {R : Tokens} {op : ℕ} {f : Members} {os : List Operation} → AreOperations f os → AllPermitted R op os → operations_within R op f ≡ finished os
+pub to-elements : {R : Tokens} {f : Members} {op : ℕ} {os : List Operation} → AreOperations f os → AllPermitted R op os →
+    operations_within R op f ≡ finished os
 unfolding operations_within on_finish
 to-elements no_element no_more = refl
-to-elements {R} {op} (element {e} {kids} {rest} {o} i are) (one_more p all) =
-    next_element R op e kids rest (within_ok R op (element_of e kids) (to_operation (element_of e kids) o i) (to_permitted R op o p)) ∙ rw (to-elements are all)
+to-elements {R} {op = op} (element {e} {kids} {rest} {o} i are) (one_more p all) =
+    next_element R op e kids rest (within_ok R op (element_of e kids) (to_operation (element_of e kids) o i) (to_permitted R op o p))
+    ∙ rw (to-elements are all)
 
 fault_here : {R : Tokens} {op n : ℕ} {e : Entry} {kids rest : Members} → Faulty R op (element_of e kids) n → FirstFault R op (tree e kids rest) n op
 fault_here (misshapen w) = Claims.no_operation w

@@ -1,13 +1,12 @@
 -- Laws of the shape with the rule, each for one way out of a function.
 use Prim.Native.Nat.{ℕ, ◌+◌, ◌≤◌, ◌<◌}
 use native.Mathlib.Omega.{arith}
-use mathlib.Core.Path.{◌≡◌, refl, sym, ap, ◌∙◌, subst}
+use mathlib.Core.Path.{◌≡◌, refl, sym, ap, ◌∙◌}
 use mathlib.Core.Bool.{Bool, true, false, ◌&&◌, not}
-use mathlib.Core.List.{List, [], ◌∷◌}
-use lib.Dec.{eqb}
+use mathlib.Core.List.{[], ◌∷◌}
 use lib.ListN.{length, get_or}
 use borrow.Author.Tests.{eq-eqb, ne_eqb, le-leb, lt-leb}
-use Rattle.spec.specs.Outcome.{Outcome, ok, refused, ◌>>=◌, require}
+use Rattle.spec.specs.Outcome.{Outcome, ok, refused, require}
 use Rattle.spec.specs.Refusal.{wrong_shape, move_into_child, not_permitted}
 use Rattle.spec.specs.Bytes.{Bytes, Text, ascii}
 use Rattle.spec.specs.Forest.{Forest, none, tree, count}
@@ -16,7 +15,7 @@ use Rattle.spec.specs.Value.{is_array}
 use Rattle.spec.specs.Pointer.{Tokens, tokens}
 use Rattle.spec.specs.Operation as Operation
 use Rattle.spec.specs.Patch.{string_member, is_move, OperationMembers, value_for, from_for, members_for, proper_prefix, with_pointers, operation}
-use Rattle.spec.specs.Patch.{stop, Run, finished, stopped, at_op, no_pointer, on_finish}
+use Rattle.spec.specs.Patch.{stop, finished, stopped, at_op, no_pointer, on_finish}
 use Rattle.spec.proofs.OutcomeLaws.{both_ok}
 use Rattle.text.specs.Decode.{decode}
 use Rattle.pointer.specs.Prefix.{PrefixOf}
@@ -32,16 +31,14 @@ use Rattle.tape.proofs.Held.{held_node}
 use Rattle.table.specs.Meaning.{part_of, members, meant}
 use Rattle.table.specs.Sound.{NodeHeld, RowsHeld}
 use Rattle.shape.specs.Kinds.{kind_outcome, answered, asks}
-use Rattle.shape.specs.Members.{ForMeant, TextIs, StringIs}
+use Rattle.shape.specs.Members.{ForMeant, StringIs}
 use Rattle.shape.specs.Operation as Shapes
 use Rattle.shape.specs.Operation.{Answers, OperationNumber, Knows, KindIs, MembersAre}
 use Rattle.shape.specs.Patch.{ShapeIs}
 use Rattle.shape.specs.Patch as Patch
 use Rattle.shape.specs.declared.kinds.Kind.{Kind}
 use Rattle.shape.specs.declared.members.Spelled.{Spelled}
-use Rattle.shape.specs.declared.members.Spelled.TheVariants as Spelled
 use Rattle.shape.specs.declared.patch.Shape.{Shape}
-use Rattle.shape.specs.declared.patch.Shape.TheVariants as Shape
 use Rattle.shape.proofs.KindLaws.{asks_known}
 use Rattle.shape.proofs.AnswerLaws.{answers_ok, answers_refused, text_decoded, operation_kind, kind_refused, kind_known}
 use Rattle.shape.proofs.RunLaws.{rows_children, rows-first, first-node, rows_next, one_more, array-here, counted}

@@ -1,6 +1,6 @@
 -- The answer of the call with a region: SPECIFICATION 15.3. T-05: "The region is a pointer given with the call."
-use Rattle.std.specs.Prelude.{ℕ, not, length, ltb}
-use Rattle.spec.specs.Outcome.{Outcome, ok, refused, ◌>>=◌, if◌then◌else◌}
+use Rattle.std.specs.Prelude.{ℕ, not, length, ltb, if◌then◌else◌}
+use Rattle.spec.specs.Outcome.{Outcome, ok, refused, ◌>>=◌}
 use Rattle.spec.specs.Refusal.{work_too_short, input_too_long, malformed_pointer}
 use Rattle.spec.specs.Limits.{max_bytes}
 use Rattle.spec.specs.Bytes.{Bytes}

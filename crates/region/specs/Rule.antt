@@ -1,6 +1,6 @@
 -- The rule for pack makers: SPECIFICATION 15.2, T-05. It is one more test on each operation, last in its shape.
-use Rattle.std.specs.Prelude.{ℕ, ◌+◌, List, [], ◌∷◌, Bool, true, false, ◌&&◌, leb, eqb}
-use Rattle.spec.specs.Outcome.{Outcome, ok, ◌>>=◌, if◌then◌else◌, require}
+use Rattle.std.specs.Prelude.{ℕ, ◌+◌, List, [], ◌∷◌, Bool, true, false, ◌&&◌, leb, eqb, if◌then◌else◌}
+use Rattle.spec.specs.Outcome.{Outcome, ok, ◌>>=◌, require}
 use Rattle.spec.specs.Refusal.{wrong_shape, too_many_operations, not_permitted}
 use Rattle.spec.specs.Limits.{max_operations}
 use Rattle.spec.specs.Forest.{none, tree, count}

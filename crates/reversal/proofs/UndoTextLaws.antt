@@ -1,8 +1,8 @@
 -- The undo's value, written, to the byte.
+use Rattle.std.specs.Prelude.{if◌then◌else◌}
 use mathlib.Core.Path.{◌≡◌, refl, ap, ap₂, ◌∙◌}
 use mathlib.Core.Bool.{Bool, true, false}
 use mathlib.Core.List.{List, [], ◌∷◌, ◌++◌, append-nil, append_assoc}
-use Rattle.spec.specs.Outcome.{if◌then◌else◌}
 use Rattle.spec.specs.Bytes.{Bytes, Text, ascii}
 use Rattle.spec.specs.Forest.{none, tree}
 use Rattle.spec.specs.Value.{Label, Members, tag, is_object}

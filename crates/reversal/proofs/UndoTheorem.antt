@@ -1,4 +1,5 @@
 -- The undo's theorem, over whole texts.
+use Rattle.std.specs.Prelude.{if◌then◌else◌}
 use mathlib.Core.Path.{◌≡◌, refl, ap, sym, ◌∙◌}
 use mathlib.Core.Bool.{Bool, true, false, true≢false}
 use mathlib.Core.List.{[]}
@@ -6,7 +7,7 @@ use Prim.Native.Nat.{ℕ, ◌≤◌}
 use lib.ListN.{length}
 use lib.Dec.{leb, eqb}
 use borrow.Author.Tests.{leb-true, eq-eqb}
-use Rattle.spec.specs.Outcome.{ok, if◌then◌else◌}
+use Rattle.spec.specs.Outcome.{ok}
 use Rattle.spec.specs.Limits.{max_bytes, max_depth, max_nodes, max_operations}
 use Rattle.spec.specs.Bytes.{Bytes}
 use Rattle.spec.specs.Forest.{count}

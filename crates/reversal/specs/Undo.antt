@@ -1,7 +1,7 @@
 -- The undo of a patch, as operations: SPECIFICATION 16.1 and 16.2, and T-09 sentence by sentence.
-use Rattle.std.specs.Prelude.{ℕ, zero, suc, ◌+◌, ◌/◌, ◌%◌, List, [], ◌∷◌, ◌++◌, Bool, true, false, ◌&&◌, ltb}
+use Rattle.std.specs.Prelude.{ℕ, zero, suc, ◌+◌, ◌/◌, ◌%◌, List, [], ◌∷◌, ◌++◌, Bool, true, false, ◌&&◌, ltb, if◌then◌else◌}
 use Prim.Native.Char.{code}
-use Rattle.spec.specs.Outcome.{Outcome, ok, refused, if◌then◌else◌}
+use Rattle.spec.specs.Outcome.{Outcome, ok, refused}
 use Rattle.spec.specs.Bytes.{Text}
 use Rattle.spec.specs.Forest.{count}
 use Rattle.spec.specs.Value as Value

@@ -1,6 +1,6 @@
 -- The answer of the call that writes the undo beside the document: SPECIFICATION 16.4, T-09.
-use Rattle.std.specs.Prelude.{ℕ, List, [], length, leb, eqb}
-use Rattle.spec.specs.Outcome.{Outcome, ok, refused, if◌then◌else◌}
+use Rattle.std.specs.Prelude.{ℕ, List, [], length, leb, eqb, if◌then◌else◌}
+use Rattle.spec.specs.Outcome.{Outcome, ok, refused}
 use Rattle.spec.specs.Refusal.{done, work_too_short, input_too_long, too_deep, too_many_nodes, too_many_operations, output_too_short}
 use Rattle.spec.specs.Limits.{max_bytes, max_depth, max_nodes, max_operations}
 use Rattle.spec.specs.Bytes.{Bytes}

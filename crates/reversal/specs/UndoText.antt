@@ -1,7 +1,6 @@
 -- The undo's text, to the byte: SPECIFICATION 16.3. T-09: "The undo is compact, each operation's members being op, path and, where used, value,
 -- in that order". It is the undo's value written: `text` of specs/Statement.
-use Rattle.std.specs.Prelude.{Bool, true, false, List, [], ◌∷◌, ◌++◌}
-use Rattle.spec.specs.Outcome.{if◌then◌else◌}
+use Rattle.std.specs.Prelude.{Bool, true, false, List, [], ◌∷◌, ◌++◌, if◌then◌else◌}
 use Rattle.spec.specs.Bytes.{Bytes, ascii}
 use Rattle.spec.specs.Write.{write_string, comma, write}
 use Rattle.spec.specs.Operation.{Operation}

@@ -1,7 +1,6 @@
 -- The undo of a patch, as a JSON value. Its text is that value written: SPECIFICATION 16.3. T-09: "The undo is compact, each operation's members being op,
 -- path and, where used, value, in that order; pointers are written from their tokens".
-use Rattle.std.specs.Prelude.{List, [], ◌∷◌}
-use Rattle.spec.specs.Outcome.{if◌then◌else◌}
+use Rattle.std.specs.Prelude.{List, [], ◌∷◌, if◌then◌else◌}
 use Rattle.spec.specs.Bytes.{Text, ascii}
 use Rattle.spec.specs.Forest.{none, tree}
 use Rattle.spec.specs.Value as Value

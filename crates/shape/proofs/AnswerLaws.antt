@@ -36,9 +36,7 @@ use Rattle.shape.specs.Members.{Sought, found_at, text_outcome, TextIs, StringIs
 use Rattle.shape.specs.Operation as OperationNumber
 use Rattle.shape.specs.Operation.{Answers, right, wrong, kind_of, KindRows, no-object, object, KindIs, OthersAre, MembersAre}
 use Rattle.shape.specs.declared.kinds.Kind.{Kind}
-use Rattle.shape.specs.declared.kinds.Kind.TheVariants as Kind
 use Rattle.shape.specs.declared.members.Spelled.{Spelled}
-use Rattle.shape.specs.declared.members.Spelled.TheVariants as Spelled
 use Rattle.shape.proofs.MemberLaws.{found_none, found_row, sought_missing, sought_at}
 use Rattle.tape.specs.Lent.{Texts, Table}
 

@@ -13,7 +13,6 @@ use Rattle.shape.specs.Kinds.{kind_outcome, answered, asks, uses_of}
 use Rattle.shape.specs.Operation.{Knows}
 use Rattle.shape.specs.declared.kinds.Uses.{Uses}
 use Rattle.shape.specs.declared.kinds.Kind.{Kind}
-use Rattle.shape.specs.declared.kinds.Kind.TheVariants as Kind
 
 module _ (t : Text) where
   pub add_named : same_text t (ascii "add") ≡ true → ok add ≡ kind_named t

@@ -31,13 +31,11 @@ use Rattle.table.specs.Sound.{NodeHeld, RowsHeld}
 use Rattle.table.specs.Find as Find
 use Rattle.table.specs.Find.{Found, Between, FindAsciiIs}
 use Rattle.table.specs.declared.find.Member.{Member}
-use Rattle.table.specs.declared.find.Member.TheVariants as Member
 use Rattle.table.proofs.AllLaws.{all_first, all_kids, all_nth}
 use Rattle.table.proofs.MeaningLaws.{is_string_label}
 use Rattle.table.proofs.Search.{finds_ascii}
 use Rattle.shape.specs.Members.{Sought, found, missing, MemberIs, found_at, text_outcome, TextIs, string_in, string_at, StringIs}
 use Rattle.shape.specs.declared.members.Spelled.{Spelled}
-use Rattle.shape.specs.declared.members.Spelled.TheVariants as Spelled
 use Rattle.tape.specs.Lent.{Texts, Table}
 
 -- ---- a member

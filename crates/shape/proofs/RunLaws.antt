@@ -27,7 +27,6 @@ use Rattle.table.proofs.MeaningLaws.{is_array_label}
 use Rattle.shape.specs.Operation.{OperationIs}
 use Rattle.shape.specs.Patch.{ShapeIs, right, wrong, all_right, one_wrong, ElementsAre, no-array, too_many, judged, PatchIs}
 use Rattle.shape.specs.declared.patch.Shape.{Shape}
-use Rattle.shape.specs.declared.patch.Shape.TheVariants as Shape
 use Rattle.shape.proofs.AnswerLaws.{answers_ok, answers_refused}
 use Rattle.tape.specs.Lent.{Texts, Table}
 
@@ -63,7 +62,8 @@ module _ (T : Texts) (op : ℕ) (c : Cell) (kids rest : Forest Cell) where
   first_right e = rw e
 
 -- the same answer with one operation more before
-pub one_more : (o : Operation.Operation) {run : Run (List Operation.Operation)} {r : Shape} → ShapeIs run r → ShapeIs (on_finish run (λ os. finished (o ∷ os))) r
+pub one_more : (o : Operation.Operation) {run : Run (List Operation.Operation)} {r : Shape}
+    → ShapeIs run r → ShapeIs (on_finish run (λ os. finished (o ∷ os))) r
 unfolding on_finish
 one_more o (right os) = right (o ∷ os)
 one_more o (wrong number op) = wrong number op

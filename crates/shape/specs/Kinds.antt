@@ -6,7 +6,6 @@ use Rattle.spec.specs.Operation as Operation
 use Rattle.spec.specs.Patch.{uses_value, uses_from, is_move}
 use Rattle.pointer.specs.Tokens.{accepted}
 use Rattle.shape.specs.declared.kinds.Kind.{Kind}
-use Rattle.shape.specs.declared.kinds.Kind.TheVariants as Kind
 use Rattle.shape.specs.declared.kinds.Uses.{Uses}
 
 unfoldable pub kind_outcome : Kind → Outcome Operation.Kind

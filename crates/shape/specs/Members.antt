@@ -1,6 +1,6 @@
 -- What a search for a member of an operation answers.
-use Rattle.std.specs.Prelude.{ℕ, zero, suc, ◌+◌, ◌<◌, ◌≤◌, ◌≡◌, List, [], eqb, get_or}
-use Rattle.spec.specs.Outcome.{Outcome, ok, refused, if◌then◌else◌}
+use Rattle.std.specs.Prelude.{ℕ, zero, suc, ◌+◌, ◌<◌, ◌≤◌, ◌≡◌, List, [], eqb, get_or, if◌then◌else◌}
+use Rattle.spec.specs.Outcome.{Outcome, ok, refused}
 use Rattle.spec.specs.Refusal.{wrong_shape}
 use Rattle.spec.specs.Bytes.{Text, ascii}
 use Rattle.spec.specs.Forest.{Forest, size}
@@ -19,10 +19,8 @@ use Rattle.table.specs.Meaning.{part_of, spelled, meant, short_hash}
 use Rattle.table.specs.Sound.{NodeHeld, ForHeld}
 use Rattle.table.specs.Find.{is_named, FindAsciiIs}
 use Rattle.table.specs.declared.find.Member.{Member}
-use Rattle.table.specs.declared.find.Member.TheVariants as Member
 use Rattle.shape.specs.declared.all_members.Members.{Members}
 use Rattle.shape.specs.declared.members.Spelled.{Spelled}
-use Rattle.shape.specs.declared.members.Spelled.TheVariants as Spelled
 
 -- what holds of the value of whatever node the table holds in a row
 abbrev pub ForMeant : Table → ℕ → (Value.Value → Type 0) → Type 0

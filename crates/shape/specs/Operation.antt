@@ -24,7 +24,7 @@ pub data Answers {A : Type 0} : Outcome A → ℕ → Type 0 where
   right : (a : A) → Answers (ok a) 0
   wrong : (number : ℕ) → 0 < number → Answers (refused number 0) number
 
--- the kind of an operation, which must be an object with an op: the first steps of `operationMembers`
+-- the kind of an operation, which must be an object with an op: the first steps of `operation_members`
 unfoldable pub kind_of : Value.Value → Outcome Operation.Kind
 kind_of v = require wrong_shape (is_object v.label) >>= λ _. string_member (ascii "op") v >>= kind_named
 

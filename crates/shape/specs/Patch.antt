@@ -13,7 +13,6 @@ use Rattle.table.specs.Sound.{RowsHeld}
 use Rattle.shape.specs.Members.{ForMeant}
 use Rattle.shape.specs.Operation.{OperationNumber}
 use Rattle.shape.specs.declared.patch.Shape.{Shape}
-use Rattle.shape.specs.declared.patch.Shape.TheVariants as Shape
 
 -- whether there are operations, or the refusal and the op at which it is given
 pub data ShapeIs : Run (List Operation.Operation) → Shape → Type 0 where

@@ -1,10 +1,11 @@
 -- Laws of a move between two children of one node, by the definitions: at the node itself, and at each node above it.
+use Rattle.std.specs.Prelude.{if◌then◌else◌}
 use Prim.Native.Nat.{ℕ, suc, ◌<◌, ◌≤◌}
 use mathlib.Core.Path.{◌≡◌, refl, ap, sym, ◌∙◌}
 use mathlib.Core.Bool.{Bool, true, false}
 use mathlib.Core.List.{[], ◌∷◌}
 use borrow.Author.Tests.{eq-eqb}
-use Rattle.spec.specs.Outcome.{ok, ◌>>=◌, if◌then◌else◌}
+use Rattle.spec.specs.Outcome.{ok, ◌>>=◌}
 use Rattle.spec.specs.Bytes.{Text}
 use Rattle.spec.specs.Forest.{Forest, Tree, count, nth, insert_at, remove_at}
 use Rattle.spec.specs.Value.{Label}

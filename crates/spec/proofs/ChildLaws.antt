@@ -1,4 +1,5 @@
 -- A value's children by the tokens that name them: what `put` leaves, and what it changes.
+use Rattle.std.specs.Prelude.{if◌then◌else◌}
 use mathlib.Core.Path.{◌≡◌, refl, ap, ap₂, sym}
 use mathlib.Core.Bool.{Bool, true, false}
 use mathlib.Core.List.{[]}
@@ -6,7 +7,7 @@ use Prim.Native.Nat.{ℕ, suc, ◌<◌, ◌≤◌, max}
 use native.Mathlib.Omega.{arith}
 use lib.Dec.{ltb}
 use borrow.Author.Tests.{ltb-true}
-use Rattle.spec.specs.Outcome.{Outcome, ok, refused, if◌then◌else◌}
+use Rattle.spec.specs.Outcome.{Outcome, ok, refused}
 use Rattle.spec.specs.Bytes.{Text}
 use Rattle.spec.specs.Worth.{decimal}
 use Rattle.spec.specs.Forest.{none, count, replace_at}

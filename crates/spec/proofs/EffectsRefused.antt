@@ -1,4 +1,5 @@
 -- Refusals: `walk` and `perform` are refused exactly as SPECIFICATION 6 says, specs/Effects.
+use Rattle.std.specs.Prelude.{if◌then◌else◌}
 use mathlib.Core.Path.{◌≡◌, refl, ap, sym, subst, ◌∙◌}
 use mathlib.Core.Logic.{◌↔◌}
 use mathlib.Core.Bool.{Bool, true, false, ◌&&◌, true≢false}
@@ -8,7 +9,7 @@ use Prim.Native.Char.{code}
 use native.Mathlib.Omega.{arith}
 use lib.Dec.{ltb}
 use borrow.Author.Tests.{ltb-false, le-ltb, ne_eqb}
-use Rattle.spec.specs.Outcome.{Outcome, ok, refused, is_refused, ◌>>=◌, if◌then◌else◌}
+use Rattle.spec.specs.Outcome.{Outcome, ok, refused, is_refused, ◌>>=◌}
 use Rattle.spec.specs.Bytes.{Text, ascii}
 use Rattle.spec.specs.Worth.{decimal}
 use Rattle.spec.specs.Forest.{count}

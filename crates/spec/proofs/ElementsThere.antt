@@ -1,5 +1,6 @@
 -- The elements of a text that is read as an array: where each begins and ends, that the text is laid out in them, and that each is alone the
 -- value that it is in the array.
+use Rattle.std.specs.Prelude.{if◌then◌else◌}
 use mathlib.Core.Path.{◌≡◌, refl, ap, ap₂, subst, sym, ◌∙◌}
 use mathlib.Core.Bool.{Bool, true, false, ◌||◌, true≢false}
 use mathlib.Core.List.{List, [], ◌∷◌, ◌++◌, append_assoc, append-nil}
@@ -13,7 +14,7 @@ use lib.ListN.{take-append-drop, length, take, drop, length-take, length-drop}
 use lib.Seq.{drop-length, drop-cons, get_or-take, get_or-drop, take-take, drop-drop}
 use lib.Dec.{eqb, leb}
 use borrow.Author.Tests.{eqb-true, leb-true}
-use Rattle.spec.specs.Outcome.{if◌then◌else◌, Outcome, ok, refused, ◌>>=◌}
+use Rattle.spec.specs.Outcome.{Outcome, ok, refused, ◌>>=◌}
 use Rattle.spec.specs.Bytes.{Bytes, byte, byte_in, within}
 use Rattle.spec.specs.Numbers.{is_digit}
 use Rattle.spec.specs.Limits.{max_depth}

@@ -1,5 +1,6 @@
 -- The elements of a text that is an array are those in which it is laid out. No other texts that are values alone, with commas, brackets and
 -- blanks around them, make up the text.
+use Rattle.std.specs.Prelude.{if◌then◌else◌}
 use mathlib.Core.Path.{◌≡◌, refl, ap, ap₂, sym, ◌∙◌}
 use mathlib.Core.Bool.{Bool, true, false, ◌||◌, true≢false}
 use mathlib.Core.List.{List, [], ◌∷◌, ◌++◌}
@@ -12,7 +13,7 @@ use lib.ListN.{length, take, drop, get_or, length-append, length-drop, get_or-ap
 use lib.Seq.{get_or-drop, drop-drop, take-append-le, drop-append-le, get_or-append_seam, take-append_seam, drop-append_seam}
 use lib.Dec.{eqb}
 use borrow.Author.Tests.{eqb-true}
-use Rattle.spec.specs.Outcome.{if◌then◌else◌, ok, ◌>>=◌}
+use Rattle.spec.specs.Outcome.{ok, ◌>>=◌}
 use Rattle.spec.specs.Bytes.{Bytes, byte, byte_in, within}
 use Rattle.spec.specs.Numbers.{is_digit, is_e}
 use Rattle.spec.specs.Forest.{none, single, size, ◌⧺◌}

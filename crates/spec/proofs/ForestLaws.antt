@@ -1,9 +1,9 @@
 -- Laws of a forest's trees by their place: what `replace_at` leaves, and what it changes.
+use Rattle.std.specs.Prelude.{if◌then◌else◌}
 use mathlib.Core.Path.{◌≡◌, refl, ap}
 use mathlib.Core.Bool.{Bool, true, false}
 use Prim.Native.Nat.{ℕ, zero, suc, ◌<◌, ◌≤◌, max}
 use native.Mathlib.Omega.{arith}
-use Rattle.spec.specs.Outcome.{if◌then◌else◌}
 use Rattle.spec.specs.Bytes.{Text}
 use Rattle.spec.specs.Forest.{Forest, none, tree, Tree, count, before, from, replace_at, nth, ◌⧺◌}
 use Rattle.spec.specs.Value.{Members, Entry, find, named, value_of, depths, depth, same_text}

@@ -1,4 +1,5 @@
 -- An operation strictly inside a region is a change of what stands at the region.
+use Rattle.std.specs.Prelude.{if◌then◌else◌}
 use mathlib.Core.Path.{◌≡◌, refl, ap, ap₂, sym, ◌∙◌, fun_ext}
 use mathlib.Core.Bool.{Bool, true, false, ◌||◌, not, false≢true}
 use mathlib.Core.List.{List, [], ◌∷◌, ◌++◌}
@@ -7,7 +8,7 @@ use native.Mathlib.Omega.{arith}
 use lib.ListN.{length}
 use lib.Dec.{leb}
 use borrow.Author.Tests.{leb-true, leb-false}
-use Rattle.spec.specs.Outcome.{Outcome, ok, refused, ◌>>=◌, if◌then◌else◌}
+use Rattle.spec.specs.Outcome.{Outcome, ok, refused, ◌>>=◌}
 use Rattle.spec.specs.Bytes.{Text}
 use Rattle.spec.specs.Value.{value_of, depth, same_text}
 use Rattle.spec.specs.Equality.{equal}

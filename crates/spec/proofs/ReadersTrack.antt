@@ -1,4 +1,5 @@
 -- Each reader of a text does the same on a part of it that holds all that it takes.
+use Rattle.std.specs.Prelude.{if◌then◌else◌}
 use mathlib.Core.Path.{◌≡◌, refl, ap, sym, ◌∙◌}
 use mathlib.Core.Bool.{Bool, true, false, ◌||◌, true≢false}
 use mathlib.Core.List.{[], ◌∷◌}
@@ -9,7 +10,7 @@ use native.Mathlib.Omega.{arith}
 use lib.ListN.{length, take, drop}
 use lib.Dec.{eqb, leb, ltb}
 use borrow.Author.Tests.{ltb-true, ltb-false, lt-ltb, le-ltb}
-use Rattle.spec.specs.Outcome.{if◌then◌else◌, Outcome, ok, refused, ◌>>=◌}
+use Rattle.spec.specs.Outcome.{Outcome, ok, refused, ◌>>=◌}
 use Rattle.spec.specs.Bytes.{Bytes, Text, byte, within, byte_in}
 use Rattle.spec.specs.Strings.{hex_value, hex_in, low_surrogate, after_high, unicode_escape, short_escape, escape, tail, multibyte, character, characters}
 use Rattle.spec.specs.Strings.{string}

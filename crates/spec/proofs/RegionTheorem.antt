@@ -1,6 +1,7 @@
 -- The region statement of SPECIFICATION 9.4, proved: specs/Region, `RegionStatement`, for every `Situation`.
 -- From texts to operations: a shuffle of elements' bytes is a shuffle of the values that they are, and so of the operations that they mean. The runs of
 -- operations are RunTheorem's, the limit on nodes is LimitTheorem's, and here they are put together for the whole call.
+use Rattle.std.specs.Prelude.{if◌then◌else◌}
 use mathlib.Core.Path.{◌≡◌, refl, ap, sym, ◌∙◌}
 use mathlib.Core.Bool.{Bool, true, false}
 use mathlib.Core.List.{List, [], ◌∷◌}
@@ -9,7 +10,7 @@ use Prim.Native.Nat.{ℕ, ◌+◌}
 use lib.ListN.{length}
 use lib.Dec.{leb}
 use borrow.Author.Tests.{le-ltb}
-use Rattle.spec.specs.Outcome.{Outcome, ok, refused, if◌then◌else◌}
+use Rattle.spec.specs.Outcome.{Outcome, ok, refused}
 use Rattle.spec.specs.Refusal.{too_many_operations, wrong_shape, output_too_short}
 use Rattle.spec.specs.Limits.{max_bytes, max_operations}
 use Rattle.spec.specs.Bytes.{Bytes}

@@ -2,6 +2,7 @@
 -- the readers that it calls, by the rules below, one for each way of putting readers together. It is said in two ways. Strictly, of a text and a part of
 -- it: the part has the result if the text has it. Otherwise of a text and one that goes on after it: the longer one may be refused by a limit, and has no
 -- other result.
+use Rattle.std.specs.Prelude.{if◌then◌else◌}
 use mathlib.Core.Path.{◌≡◌, refl, ap, sym, ◌∙◌}
 use mathlib.Core.Bool.{Bool, true, false, ◌||◌}
 use Prim.Native.Nat.{ℕ, suc, ◌+◌, ◌-◌, ◌<◌, ◌≤◌}
@@ -10,7 +11,7 @@ use native.Mathlib.Omega.{arith}
 use native.Mathlib.Decide.{dec_lt}
 use lib.ListN.{length, take, drop, get_or-eq_default}
 use lib.Dec.{eqb}
-use Rattle.spec.specs.Outcome.{if◌then◌else◌, Outcome, ok, refused, ◌>>=◌}
+use Rattle.spec.specs.Outcome.{Outcome, ok, refused, ◌>>=◌}
 use Rattle.spec.specs.Bytes.{Bytes, byte, within}
 use Rattle.spec.specs.Numbers.{is_digit, is_e}
 use Rattle.spec.proofs.OutcomeLaws.{refused≢ok, both_ok}

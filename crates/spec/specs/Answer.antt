@@ -1,6 +1,6 @@
 -- The answer of the whole call: SPECIFICATION 2.
-use Rattle.std.specs.Prelude.{ℕ, [], Bool, ◌&&◌, not, length, leb, ltb}
-use Rattle.spec.specs.Outcome.{Outcome, ok, refused, if◌then◌else◌}
+use Rattle.std.specs.Prelude.{ℕ, [], Bool, ◌&&◌, not, length, leb, ltb, if◌then◌else◌}
+use Rattle.spec.specs.Outcome.{Outcome, ok, refused}
 use Rattle.spec.specs.Refusal as Refusal
 use Rattle.spec.specs.Refusal.{work_too_short, input_too_long, output_too_short}
 use Rattle.spec.specs.Limits.{max_bytes, work_nodes, work_entries}

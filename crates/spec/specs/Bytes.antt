@@ -1,9 +1,9 @@
 -- A text as it is lent is the list of its bytes. Past its end stands 0, which no JSON text holds, so that the end of the text is refused
 -- as any other byte out of place is, and no reader tests a length.
-use Rattle.std.specs.Prelude.{ℕ, List, [], ◌∷◌, Bool, ◌&&◌, get_or, leb}
+use Rattle.std.specs.Prelude.{ℕ, List, [], ◌∷◌, Bool, ◌&&◌, get_or, leb, if◌then◌else◌}
 use Prim.Native.Char.{code}
 use Prim.Native.String as Str
-use Rattle.spec.specs.Outcome.{Outcome, ok, refused, if◌then◌else◌}
+use Rattle.spec.specs.Outcome.{Outcome, ok, refused}
 use Rattle.spec.specs.Refusal.{not_json}
 
 abbrev pub Bytes : Type 0

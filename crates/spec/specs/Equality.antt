@@ -1,6 +1,5 @@
 -- Equality of values: RFC 6902, section 4.6; SPECIFICATION 7. Zeros: SPECIFICATION 7.4, T-04.
-use Rattle.std.specs.Prelude.{Bool, true, false, ◌&&◌, not, eqb, ℤ, pos, negsuc}
-use Rattle.spec.specs.Outcome.{if◌then◌else◌}
+use Rattle.std.specs.Prelude.{Bool, true, false, ◌&&◌, not, eqb, ℤ, pos, negsuc, if◌then◌else◌}
 use Rattle.spec.specs.Bytes.{Text}
 use Rattle.spec.specs.Worth.{Worth, worth}
 use Rattle.spec.specs.Forest.{none, tree, count}

@@ -1,8 +1,8 @@
 -- JSON's numbers: RFC 8259, section 6, production by production, within the limits of SPECIFICATION 1.3. `start` is where the number begins. Each
 -- reader gives the place after what it read, 3 at the first byte that no valid text has there, or 7 at the first byte past a limit.
-use Rattle.std.specs.Prelude.{ℕ, zero, suc, ◌+◌, ◌-◌, ◌*◌, Bool, ◌||◌, length, leb, ltb, eqb}
+use Rattle.std.specs.Prelude.{ℕ, zero, suc, ◌+◌, ◌-◌, ◌*◌, Bool, ◌||◌, length, leb, ltb, eqb, if◌then◌else◌}
 use Prim.Native.Char.{code}
-use Rattle.spec.specs.Outcome.{Outcome, ok, refused, ◌>>=◌, if◌then◌else◌}
+use Rattle.spec.specs.Outcome.{Outcome, ok, refused, ◌>>=◌}
 use Rattle.spec.specs.Refusal.{number_over_limit}
 use Rattle.spec.specs.Limits.{max_number, max_exponent}
 use Rattle.spec.specs.Bytes.{Bytes, byte, byte_in, within}

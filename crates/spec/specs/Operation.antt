@@ -1,6 +1,6 @@
 -- The six operations: RFC 6902, section 4; SPECIFICATION 6.
-use Rattle.std.specs.Prelude.{ℕ, suc, [], ◌∷◌, leb}
-use Rattle.spec.specs.Outcome.{Outcome, ok, refused, ◌>>=◌, if◌then◌else◌}
+use Rattle.std.specs.Prelude.{ℕ, suc, [], ◌∷◌, leb, if◌then◌else◌}
+use Rattle.spec.specs.Outcome.{Outcome, ok, refused, ◌>>=◌}
 use Rattle.spec.specs.Refusal.{location_missing, remove_of_root, test_differs, too_deep, too_many_nodes}
 use Rattle.spec.specs.Limits.{max_depth, max_nodes}
 use Rattle.spec.specs.Bytes.{Text}

@@ -1,10 +1,7 @@
 -- What a step of the work gives: a result, or a refusal with its number and its place.
 use Rattle.std.specs.Prelude.{ℕ, Bool, true, false}
 
-infixr 10 if◌then◌else◌
-abbrev pub if◌then◌else◌ : {A : Type 0} → Bool → A → A → A
-if◌then◌else◌ true a b = a
-if◌then◌else◌ false a b = b
+pub use Rattle.std.specs.Prelude.{if◌then◌else◌}
 
 -- A refusal's number is that of the table in Refusal. Its place is a byte offset in a text that is read, the count of tokens walked along a
 -- pointer that leads nowhere, and 0 where the table has no place.

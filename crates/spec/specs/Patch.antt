@@ -1,6 +1,6 @@
 -- A patch: SPECIFICATION 4; and the run of its operations: SPECIFICATION 6.9.
-use Rattle.std.specs.Prelude.{ℕ, ◌+◌, List, [], ◌∷◌, Bool, true, false, ◌&&◌, ◌||◌, not, leb, eqb}
-use Rattle.spec.specs.Outcome.{Outcome, ok, refused, ◌>>=◌, if◌then◌else◌, require, is_refused}
+use Rattle.std.specs.Prelude.{ℕ, ◌+◌, List, [], ◌∷◌, Bool, true, false, ◌&&◌, ◌||◌, not, leb, eqb, if◌then◌else◌}
+use Rattle.spec.specs.Outcome.{Outcome, ok, refused, ◌>>=◌, require, is_refused}
 use Rattle.spec.specs.Refusal.{wrong_shape, too_many_operations, move_into_child, location_missing, no_index}
 use Rattle.spec.specs.Limits.{max_operations}
 use Rattle.spec.specs.Bytes.{Text, ascii}

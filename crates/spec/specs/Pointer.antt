@@ -1,7 +1,7 @@
 -- JSON Pointer, RFC 6901: a pointer's tokens, and the value that they lead to.
-use Rattle.std.specs.Prelude.{ℕ, suc, List, [], ◌∷◌, Bool, true, false, ◌&&◌, ltb, eqb}
+use Rattle.std.specs.Prelude.{ℕ, suc, List, [], ◌∷◌, Bool, true, false, ◌&&◌, ltb, eqb, if◌then◌else◌}
 use Prim.Native.Char.{code}
-use Rattle.spec.specs.Outcome.{Outcome, ok, refused, ◌>>=◌, if◌then◌else◌}
+use Rattle.spec.specs.Outcome.{Outcome, ok, refused, ◌>>=◌}
 use Rattle.spec.specs.Refusal.{malformed_pointer, location_missing, no_index}
 use Rattle.spec.specs.Bytes.{Text, ascii, within}
 use Rattle.spec.specs.Numbers.{is_digit}

@@ -1,9 +1,9 @@
 -- Reading JSON text: RFC 8259, section 2, within the limits; SPECIFICATION 3. The reader goes from left to right and refuses at the first
 -- byte that causes a refusal: a reader's outcome is what it read with the place after it, or the refusal. On one byte the order is 3, 5, 6, 7.
 -- `nodes` is the number of values that have begun before.
-use Rattle.std.specs.Prelude.{ℕ, zero, suc, ◌+◌, ◌-◌, [], ◌∷◌, Bool, true, false, ◌||◌, length, take, drop, ltb, eqb}
+use Rattle.std.specs.Prelude.{ℕ, zero, suc, ◌+◌, ◌-◌, [], ◌∷◌, Bool, true, false, ◌||◌, length, take, drop, ltb, eqb, if◌then◌else◌}
 use Prim.Native.Char.{code}
-use Rattle.spec.specs.Outcome.{Outcome, ok, refused, ◌>>=◌, if◌then◌else◌}
+use Rattle.spec.specs.Outcome.{Outcome, ok, refused, ◌>>=◌}
 use Rattle.spec.specs.Refusal.{not_json, repeated_name, too_deep, too_many_nodes}
 use Rattle.spec.specs.Limits.{max_depth, max_nodes}
 use Rattle.spec.specs.Bytes.{Bytes, Text, ascii, byte, byte_in}

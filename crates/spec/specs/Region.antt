@@ -1,8 +1,8 @@
 -- Two makers' patches in regions of their own: SPECIFICATION 9, sentence by sentence. The last two records are the statement, and
 -- Demand3 says it of every situation.
-use Rattle.std.specs.Prelude.{◌≡◌, ℕ, ◌+◌, ◌≤◌, Bool, true, false, ◌&&◌, ◌||◌, not, List, [], ◌∷◌, ◌++◌, length, leb, eqb}
+use Rattle.std.specs.Prelude.{◌≡◌, ℕ, ◌+◌, ◌≤◌, Bool, true, false, ◌&&◌, ◌||◌, not, List, [], ◌∷◌, ◌++◌, length, leb, eqb, if◌then◌else◌}
 use Rattle.std.proofs.Math.Option.{Option, none, some}
-use Rattle.spec.specs.Outcome.{Outcome, ok, refused, ◌>>=◌, if◌then◌else◌}
+use Rattle.spec.specs.Outcome.{Outcome, ok, refused, ◌>>=◌}
 use Rattle.spec.specs.Refusal.{work_too_short, too_many_nodes, output_too_short}
 use Rattle.spec.specs.Limits.{max_bytes, max_nodes}
 use Rattle.spec.specs.Bytes.{Bytes}

@@ -1,8 +1,8 @@
 -- JSON's strings: RFC 8259, section 7, in UTF-8 as RFC 3629 has it. Each reader gives what it read with the place after it, or 3 at the first
 -- byte that no valid text has after the bytes before it.
-use Rattle.std.specs.Prelude.{ℕ, zero, suc, ◌+◌, ◌-◌, ◌*◌, [], ◌∷◌, length, eqb}
+use Rattle.std.specs.Prelude.{ℕ, zero, suc, ◌+◌, ◌-◌, ◌*◌, [], ◌∷◌, length, eqb, if◌then◌else◌}
 use Prim.Native.Char.{code}
-use Rattle.spec.specs.Outcome.{Outcome, ok, refused, ◌>>=◌, if◌then◌else◌}
+use Rattle.spec.specs.Outcome.{Outcome, ok, refused, ◌>>=◌}
 use Rattle.spec.specs.Refusal.{not_json}
 use Rattle.spec.specs.Bytes.{Bytes, Text, byte, within, byte_in}
 

@@ -1,6 +1,5 @@
 -- JSON values: RFC 8259, section 3. A value has a label and the values in it; a container's are its elements or members, in order.
-use Rattle.std.specs.Prelude.{ℕ, suc, max, [], ◌∷◌, Bool, true, false, ◌&&◌, leb, ltb, eqb}
-use Rattle.spec.specs.Outcome.{if◌then◌else◌}
+use Rattle.std.specs.Prelude.{ℕ, suc, max, [], ◌∷◌, Bool, true, false, ◌&&◌, leb, ltb, eqb, if◌then◌else◌}
 use Rattle.spec.specs.Bytes.{Bytes, Text}
 use Rattle.spec.specs.Forest.{Forest, none, tree, Tree, count, size}
 

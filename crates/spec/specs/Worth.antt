@@ -1,8 +1,7 @@
 -- What a number is worth: SPECIFICATION 7.3. The zeros on both ends of the digits are dropped, and a signed power of ten is adjusted.
 -- So 4400 and 4.4e3 are both the digits 44 and the power 2.
-use Rattle.std.specs.Prelude.{ℕ, ◌+◌, ◌-◌, ◌*◌, [], ◌∷◌, reverse, Bool, false, ◌&&◌, length, eqb, ltb, ℤ, pos, neg_ℤ, ◌+ℤ◌, ◌-ℤ◌}
+use Rattle.std.specs.Prelude.{ℕ, ◌+◌, ◌-◌, ◌*◌, [], ◌∷◌, reverse, Bool, false, ◌&&◌, length, eqb, ltb, ℤ, pos, neg_ℤ, ◌+ℤ◌, ◌-ℤ◌, if◌then◌else◌}
 use Prim.Native.Char.{code}
-use Rattle.spec.specs.Outcome.{if◌then◌else◌}
 use Rattle.spec.specs.Bytes.{Bytes}
 use Rattle.spec.specs.Numbers.{is_digit, is_e}
 

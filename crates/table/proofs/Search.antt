@@ -1,4 +1,5 @@
 -- Laws of a search for a name: what has been passed has other names.
+use Rattle.std.specs.Prelude.{if◌then◌else◌}
 use Prim.Native.Nat.{ℕ, zero, suc, ◌+◌, ◌<◌, ◌≤◌}
 use native.Mathlib.Nat.{add-zero}
 use native.Mathlib.Omega.{arith}
@@ -7,7 +8,6 @@ use mathlib.Core.Path.{◌≡◌, refl, ap, sym, ◌∙◌, subst}
 use mathlib.Core.Bool.{Bool, true, false, ◌&&◌}
 use lib.Dec.{eqb, ltb}
 use borrow.Author.Tests.{eq-eqb, ne_eqb, eqb-false, ltb-true, lt-ltb, le-ltb}
-use Rattle.spec.specs.Outcome.{if◌then◌else◌}
 use mathlib.Core.List.{List, []}
 use lib.ListN.{length, get_or}
 use Rattle.spec.specs.Bytes.{Text}

@@ -1,7 +1,6 @@
 -- What the node table means: a spelling is a text, a cell an entry of the definitions, and a forest of cells a forest of entries.
 -- SPECIFICATION 3.7: a string's bytes stand in the document or in the patch. "Nothing is copied out of the two texts until it is written."
-use Rattle.std.specs.Prelude.{ℕ, ◌/◌, ◌%◌, ◌≡◌, eqb, take, drop}
-use Rattle.spec.specs.Outcome.{if◌then◌else◌}
+use Rattle.std.specs.Prelude.{ℕ, ◌%◌, ◌≡◌, eqb, take, drop, if◌then◌else◌}
 use Rattle.spec.specs.Bytes.{Bytes, Text}
 use Rattle.spec.specs.Forest.{Forest}
 use Rattle.spec.specs.Value as Value

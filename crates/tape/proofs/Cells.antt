@@ -1,7 +1,7 @@
 -- Laws of cells: what a node's row tells, and which forests the rows describe in full.
 use Prim.Native.Nat.{ℕ, zero, suc, ◌%◌, ◌≤◌, ◌<◌}
 use native.Mathlib.Omega.{arith}
-use mathlib.Core.Path.{◌≡◌, refl, ap, ◌∙◌, subst}
+use mathlib.Core.Path.{◌≡◌, refl, ap, subst}
 use mathlib.Core.Bool.{Bool, true, false}
 use lib.Dec.{leb}
 use borrow.Author.Tests.{leb-true, leb-false}
@@ -10,7 +10,7 @@ use Rattle.tape.specs.Layout.{array_kind, values}
 use Rattle.tape.specs.declared.fields.Spelling.{Spelling}
 use Rattle.tape.specs.declared.fields.Name.{Name}
 use Rattle.tape.specs.declared.fields.Cell.{Cell}
-use Rattle.tape.specs.Fields.{Row, kind_of, span_of, with_span, cell_of, row_with}
+use Rattle.tape.specs.Fields.{kind_of, span_of, with_span, cell_of, row_with}
 use Rattle.tape.specs.Cell.{row_of, Fit, Formed, formed_none, formed_tree}
 use Rattle.tape.proofs.Forests.{from-nth}
 use Rattle.tape.proofs.FieldLaws.{kind_tagged, form_tagged, source_tagged, name_form_tagged, name_source_tagged}

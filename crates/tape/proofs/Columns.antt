@@ -1,9 +1,8 @@
 -- Laws of words that are replaced, moved and cleared in a column.
 use Prim.Native.Nat.{ℕ, ◌+◌, ◌-◌, ◌≤◌, ◌<◌, max}
 use native.Mathlib.Omega.{arith}
-use mathlib.Core.Path.{◌≡◌, refl, ◌∙◌}
+use mathlib.Core.Path.{◌≡◌, ◌∙◌}
 use mathlib.Core.Bool.{and-false}
-use native.Mathlib.Decide.{dec_lt}
 use mathlib.Core.List.{List, [], ◌∷◌, ◌++◌, append_assoc}
 use lib.ListN.{length, take, drop, set, replicate, length-append, length-take, length-drop, length-replicate}
 use lib.Seq.{sets-eq, length-take-le, take_at, drop_at, take-append-le, drop-append-le, take-append-add, drop-append-add, take-take, drop-drop}

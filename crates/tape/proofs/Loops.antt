@@ -1,11 +1,10 @@
 -- Laws of the loops that move words and clear them, and of the two moves that make a splice. `z` is what `get_or` gives behind the end of a column.
 use Prim.Native.Nat.{ℕ, suc, ◌+◌, ◌-◌, ◌≤◌, ◌<◌}
-use native.Mathlib.Numerals.{add-one}
 use native.Mathlib.Omega.{arith}
 use mathlib.Core.Path.{◌≡◌, sym, ap, ◌∙◌}
 use mathlib.Core.List.{List, [], ◌∷◌, ◌++◌, append_assoc}
-use lib.ListN.{length, take, drop, get_or, set, replicate, replicate-append-replicate, length-drop, length-replicate, take-append-drop}
-use lib.Seq.{paste-zero, sets-eq, drop-cons, take-suc, get_or-drop, take-take, drop-drop, take-add}
+use lib.ListN.{length, take, drop, get_or, set, replicate, replicate-append-replicate, length-replicate, take-append-drop}
+use lib.Seq.{paste-zero, sets-eq, drop-cons, take-take, drop-drop, take-add}
 use Rattle.tape.specs.Columns.{replaced, copied, moved, used_after, spliced, filled}
 use Rattle.spec.proofs.ListLaws.{drop-take}
 use Rattle.tape.proofs.Columns.{Room, moved_in, spliced_in, filled_in, length-replaced, take-replaced, words-replaced, drop-replaced, replaced-one}

@@ -1,10 +1,10 @@
 -- The functions on forests commute with replacing what the nodes bear.
+use Rattle.std.specs.Prelude.{if◌then◌else◌}
 use Prim.Native.Nat.{ℕ, zero, suc, ◌+◌, ◌≤◌, ◌<◌, max}
 use native.Mathlib.Omega.{arith}
 use mathlib.Core.Path.{◌≡◌, refl, ap, ap₂, ◌∙◌}
 use mathlib.Core.Bool.{Bool, true, false}
 use lib.Dec.{leb}
-use Rattle.spec.specs.Outcome.{if◌then◌else◌}
 use Rattle.spec.specs.Bytes.{Text}
 use Rattle.spec.specs.Forest.{Forest, none, tree, Tree, single, count, size, before, from, insert_at, remove_at, replace_at, nth, ◌⧺◌}
 use Rattle.spec.specs.Value.{Entry, tag, is_container, levels, depths, same_text, find}

@@ -1,4 +1,5 @@
 -- Laws of nodes by their rows: what a node's row tells, and where its children stand.
+use Rattle.std.specs.Prelude.{if◌then◌else◌}
 use Prim.Native.Nat.{ℕ, zero, suc, ◌+◌, ◌≤◌, ◌<◌}
 use native.Mathlib.Nat.{add-zero}
 use native.Mathlib.Numerals.{add-one}
@@ -9,7 +10,6 @@ use mathlib.Core.Bool.{Bool, true, false}
 use lib.Dec.{leb, ltb}
 use lib.ListN.{length, get_or}
 use borrow.Author.Tests.{lt-ltb, le-ltb, ltb-true, ltb-false, leb-true, leb-false}
-use Rattle.spec.specs.Outcome.{if◌then◌else◌}
 use Rattle.spec.specs.Forest.{Forest, none, Tree, count, size, before, from, nth}
 use Rattle.tape.specs.Fields.{Row, kind_of, span_of, cell_of}
 use Rattle.tape.specs.Tape.{tape}

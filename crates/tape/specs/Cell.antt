@@ -1,6 +1,5 @@
 -- Cells in the table: the row of a node, and which forests the rows describe in full.
-use Rattle.std.specs.Prelude.{ℕ, suc, ◌<◌, ◌≤◌, max, ◌≡◌, List, leb}
-use Rattle.spec.specs.Outcome.{if◌then◌else◌}
+use Rattle.std.specs.Prelude.{ℕ, suc, ◌<◌, ◌≤◌, max, ◌≡◌, List, leb, if◌then◌else◌}
 use Rattle.spec.specs.Forest.{Forest, none, tree, size}
 use Rattle.tape.specs.Layout.{values, array_kind, object_kind, forms, sources}
 use Rattle.tape.specs.Fields.{Row, row_with}

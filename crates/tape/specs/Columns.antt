@@ -1,7 +1,6 @@
 -- What becomes of a column when words of it are replaced, moved or cleared. Each is a list for any numbers at all: where they do not fit the
 -- column, nothing changes.
-use Rattle.std.specs.Prelude.{ℕ, ◌+◌, ◌-◌, max, ◌≡◌, List, ◌++◌, Bool, ◌&&◌, leb, length, take, drop, replicate}
-use Rattle.spec.specs.Outcome.{if◌then◌else◌}
+use Rattle.std.specs.Prelude.{ℕ, ◌+◌, ◌-◌, max, ◌≡◌, List, ◌++◌, Bool, ◌&&◌, leb, length, take, drop, replicate, if◌then◌else◌}
 use Rattle.tape.specs.Layout.{scratch_row, rows}
 use Rattle.tape.specs.Fields.{Row, no_node}
 

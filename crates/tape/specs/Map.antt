@@ -1,6 +1,5 @@
 -- A forest with what its nodes bear replaced.
-use Rattle.std.specs.Prelude.{ℕ, suc, Bool}
-use Rattle.spec.specs.Outcome.{if◌then◌else◌}
+use Rattle.std.specs.Prelude.{ℕ, suc, Bool, if◌then◌else◌}
 use Rattle.spec.specs.Forest.{Forest, none, tree, Tree}
 
 unfoldable pub map_forest : {A B : Type 0} → (A → B) → Forest A → Forest B

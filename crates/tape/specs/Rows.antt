@@ -1,6 +1,5 @@
 -- What the functions on nodes answer, of whatever node the table holds in a row.
-use Rattle.std.specs.Prelude.{ℕ, ◌+◌, ◌<◌, ◌≤◌, min, ◌≡◌, Bool, true, List, [], leb, ltb, length, get_or}
-use Rattle.spec.specs.Outcome.{if◌then◌else◌}
+use Rattle.std.specs.Prelude.{ℕ, ◌+◌, ◌<◌, ◌≤◌, min, ◌≡◌, Bool, true, List, [], leb, ltb, length, get_or, if◌then◌else◌}
 use Rattle.spec.specs.Forest.{Forest, count, size, before}
 use Rattle.tape.specs.Fields.{Row, span_of}
 use Rattle.tape.specs.declared.fields.Cell.{Cell}

@@ -4,7 +4,6 @@ use mathlib.Core.Path.{◌≡◌, ◌∙◌}
 use Rattle.spec.specs.Outcome.{Outcome, ◌>>=◌}
 use Rattle.lexer.specs.declared.cursor.Cursor.{Cursor}
 use Rattle.lexer.specs.declared.characters.Character.{Character}
-use Rattle.lexer.specs.declared.characters.Character.TheVariants as Character
 use Rattle.lexer.specs.Answers.{character_outcome}
 use Rattle.lexer.proofs.AnswerLaws.{scalar_ok, character_refused}
 use Rattle.lexer.proofs.Auto as Lexer

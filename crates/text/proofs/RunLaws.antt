@@ -13,10 +13,8 @@ use Rattle.spec.specs.Strings.{short_escape, character}
 use Rattle.spec.specs.Write.{utf8, write_character, write_characters}
 use Rattle.lexer.specs.declared.cursor.Cursor.{Cursor}
 use Rattle.lexer.specs.declared.characters.Character.{Character}
-use Rattle.lexer.specs.declared.characters.Character.TheVariants as Character
 use Rattle.lexer.specs.Answers.{character_outcome}
 use Rattle.lexer.specs.Names.{part}
-use Rattle.lexer.specs.Verbatim as Verbatim
 use Rattle.lexer.specs.Verbatim.{kept_escape, Verbatim, raw, short}
 use Rattle.lexer.proofs.VerbatimLaws.{kept_cases, short_read}
 use Rattle.lexer.proofs.NameLaws.{part_cons, part_empty, part-append}

@@ -1,4 +1,5 @@
 -- A pointer's part is cut into those of its tokens where its characters are slashes.
+use Rattle.std.specs.Prelude.{if◌then◌else◌}
 use mathlib.Core.Path.{◌≡◌, refl, sym, ap, ◌∙◌}
 use mathlib.Core.Bool.{Bool, true, false, not, ◌&&◌, true≢false}
 use mathlib.Core.List.{List, [], ◌∷◌, ◌++◌, append-nil}
@@ -6,7 +7,7 @@ use Prim.Native.Nat.{ℕ, ◌≤◌}
 use Prim.Native.Char.{code}
 use lib.ListN.{length}
 use lib.Dec.{eqb}
-use Rattle.spec.specs.Outcome.{refused, if◌then◌else◌}
+use Rattle.spec.specs.Outcome.{refused}
 use Rattle.spec.specs.Bytes.{Bytes, Text}
 use Rattle.spec.specs.Pointer.{prepend, segments}
 use Rattle.lexer.specs.Names.{part}

@@ -1,11 +1,12 @@
 -- A token that the definition of pointers accepts is unescaped as that definition has it.
+use Rattle.std.specs.Prelude.{if◌then◌else◌}
 use mathlib.Core.Path.{◌≡◌, ap, ◌∙◌}
 use mathlib.Core.Bool.{Bool, true, false, ◌&&◌}
 use mathlib.Core.List.{[], ◌∷◌}
 use Prim.Native.Nat.{ℕ}
 use Prim.Native.Char.{code}
 use lib.Dec.{eqb}
-use Rattle.spec.specs.Outcome.{Outcome, ok, refused, ◌>>=◌, if◌then◌else◌}
+use Rattle.spec.specs.Outcome.{Outcome, ok, refused, ◌>>=◌}
 use Rattle.spec.specs.Bytes.{Text}
 use Rattle.spec.specs.Pointer.{tilde, unescape}
 use Rattle.spec.proofs.OutcomeLaws.{refused≢ok, both_ok}

@@ -1,7 +1,7 @@
 -- What a part of a text says. A part is the bytes of a string between its quotation marks, or those of a pointer's token among them.
-use Rattle.std.specs.Prelude.{ℕ, zero, suc, [], ◌∷◌, ◌&&◌, length, eqb}
+use Rattle.std.specs.Prelude.{ℕ, zero, suc, [], ◌∷◌, ◌&&◌, length, eqb, if◌then◌else◌}
 use Prim.Native.Char.{code}
-use Rattle.spec.specs.Outcome.{Outcome, ok, refused, if◌then◌else◌}
+use Rattle.spec.specs.Outcome.{Outcome, ok, refused}
 use Rattle.spec.specs.Refusal.{not_json}
 use Rattle.spec.specs.Bytes.{Bytes, Text, byte}
 use Rattle.spec.specs.Strings.{character}

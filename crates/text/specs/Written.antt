@@ -1,13 +1,12 @@
 -- What is written of a part, between quotation marks: SPECIFICATION 8.3.
-use Rattle.std.specs.Prelude.{ℕ, ◌+◌, ◌/◌, ◌%◌, [], ◌∷◌, length, eqb, ◌≡◌}
+use Rattle.std.specs.Prelude.{ℕ, ◌+◌, ◌/◌, ◌%◌, [], ◌∷◌, length, eqb, ◌≡◌, if◌then◌else◌}
 use Prim.Native.Char.{code}
 use Rattle.std.proofs.lemmas.List.Edits.{sets}
-use Rattle.spec.specs.Outcome.{if◌then◌else◌}
 use Rattle.spec.specs.Bytes.{Bytes}
 use Rattle.spec.specs.Write.{write_characters, hex_digit}
 use Rattle.text.specs.Decode.{text_of}
 
--- A string that was read without escapes is written as it stands: that is its text, written (`plain-written` in proofs/PartLaws).
+-- A string that was read without escapes is written as it stands: that is its text, written (`plain_written` in proofs/PartLaws).
 unfoldable pub written : ℕ → Bytes → Bytes
 written form s = if eqb form 1 then s else write_characters (text_of form s)
 
@@ -17,7 +16,7 @@ pub record Stored (bytes : Bytes) (at : ℕ) (before after : Bytes) (next : ℕ)
   pub after_is : after ≡ sets before at bytes
 
 -- A part laid down at the front of an output: how many bytes it takes, and the output afterwards. Behind them the output is as it was; and
--- where there is no room for all, the first ones fill it (`laid-down` in proofs/StoreLaws).
+-- where there is no room for all, the first ones fill it (`laid_down` in proofs/StoreLaws).
 pub record LaidDown (bytes before after : Bytes) (count : ℕ) : Type 0 where
   pub count_is : count ≡ length bytes
   pub after_is : after ≡ sets before 0 bytes

@@ -1,7 +1,7 @@
 // A patch applied, and the patch that takes it back written beside the document: SPECIFICATION 16, T-09.
 // `apply_with_undo` is the whole library; `run` and `without` serve the call that lists origins too.
 //
-// What is proved: on every input the answer is that of the definition `undoAnswer` of crate `reversal`. Each output
+// What is proved: on every input the answer is that of the definition `undo_answer` of crate `reversal`. Each output
 // afterwards begins with its text and is otherwise unchanged. The work area and the buffer are all zero for their
 // stated lengths and otherwise unchanged, or untouched where one was too short. Crate `reversal` proves that the undo
 // takes the patch back.
@@ -19,9 +19,7 @@ mod runs; // the operations one after another
 mod answer; // what the call answers
 mod stages; // the stages of the call
 mod call; // the call
-mod exports; // the call for C
 
 pub use answer::{UndoAnswer, without};
 pub use call::apply_with_undo;
-pub use exports::json_patch_apply_with_undo;
 pub use runs::{Logged, run};

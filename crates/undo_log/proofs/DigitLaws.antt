@@ -31,7 +31,8 @@ digits_after_lem (suc fuel) n after =
     λ q.
     let d : ℕ = 48 + n % 10 in
     more_digits fuel n after q ∙ digits_after_lem fuel (n / 10) (d ∷ after)
-    ∙ sym (ap (λ t. t ++ after) (more_digits fuel n [] q ∙ digits_after_lem fuel (n / 10) (d ∷ [])) ∙ append_assoc (digits_before fuel (n / 10) []) (d ∷ []) after)
+    ∙ sym (ap (λ t. t ++ after) (more_digits fuel n [] q ∙ digits_after_lem fuel (n / 10) (d ∷ []))
+    ∙ append_assoc (digits_before fuel (n / 10) []) (d ∷ []) after)
 
 -- more fuel makes no difference
 same_digits : (f g n : ℕ) (after : Text) → n < f → n < g → digits_before f n after ≡ digits_before g n after
@@ -113,4 +114,6 @@ index_written n = digits-written (suc n) n [] refl
 pub written-append : (s t : Text) → write_characters (s ++ t) ≡ write_characters s ++ write_characters t
 unfolding write_characters
 written-append [] t = refl
-written-append (c ∷ s) t = ap (λ u. write_character c ++ u) (written-append s t) ∙ sym (append_assoc (write_character c) (write_characters s) (write_characters t))
+written-append (c ∷ s) t =
+    ap (λ u. write_character c ++ u) (written-append s t)
+    ∙ sym (append_assoc (write_character c) (write_characters s) (write_characters t))

@@ -1,6 +1,5 @@
 -- The undo as it is laid down while the patch runs: from the end of a buffer towards its front, so that the last operation's stands first.
-use Rattle.std.specs.Prelude.{ℕ, suc, ◌+◌, ◌≤◌, min, ◌≡◌, Bool, false, List, [], ◌∷◌, ◌++◌, leb, length, drop}
-use Rattle.spec.specs.Outcome.{if◌then◌else◌}
+use Rattle.std.specs.Prelude.{ℕ, suc, ◌+◌, ◌≤◌, min, ◌≡◌, false, List, [], ◌∷◌, ◌++◌, leb, length, drop, if◌then◌else◌}
 use Rattle.spec.specs.Refusal.{done, input_too_long, too_deep, too_many_nodes, too_many_operations}
 use Rattle.spec.specs.Limits.{max_bytes, max_depth, max_nodes, max_operations}
 use Rattle.spec.specs.Bytes.{Bytes, Text, ascii}

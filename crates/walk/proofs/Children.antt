@@ -2,10 +2,10 @@
 use Prim.Native.Nat.{ℕ, suc, ◌+◌, ◌<◌, ◌≤◌}
 use native.Mathlib.Omega.{arith}
 use mathlib.Core.Path.{◌≡◌, refl, ap, sym, ◌∙◌, subst}
-use mathlib.Core.List.{List, []}
+use mathlib.Core.List.{[]}
 use Rattle.spec.specs.Outcome.{Outcome}
 use Rattle.spec.specs.Bytes.{Text}
-use Rattle.spec.specs.Forest.{Forest, none, tree, Tree, count, size, from, nth, ◌⧺◌}
+use Rattle.spec.specs.Forest.{Forest, tree, count, size, from, nth, ◌⧺◌}
 use Rattle.spec.specs.Value.{Label, leaf, named}
 use Rattle.spec.specs.Pointer.{child, child_at}
 use Rattle.text.specs.Decode.{text_from, text_of}

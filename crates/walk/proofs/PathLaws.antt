@@ -2,8 +2,8 @@
 use Prim.Native.Nat.{ℕ, suc, ◌+◌, ◌-◌, ◌<◌, ◌≤◌}
 use native.Mathlib.Omega.{arith}
 use mathlib.Core.Path.{◌≡◌, refl, ap, sym, ◌∙◌, subst}
-use mathlib.Core.Bool.{Bool, true, false, true≢false}
-use mathlib.Core.List.{List, [], ◌∷◌}
+use mathlib.Core.Bool.{true, false, true≢false}
+use mathlib.Core.List.{[], ◌∷◌}
 use lib.ListN.{length}
 use Rattle.spec.specs.Outcome.{Outcome, ok, refused, ◌>>=◌}
 use Rattle.spec.specs.Refusal.{malformed_pointer}
@@ -26,9 +26,7 @@ use Rattle.origin.proofs.ForgetLaws.{forget-walk}
 use Rattle.walk.specs.Bearing.{borne}
 use Rattle.pointer.specs.Tokens.{accepted, tokens_from, token_bytes, FirstOf, TokenAt}
 use Rattle.pointer.specs.declared.answers.First.{First}
-use Rattle.pointer.specs.declared.answers.First.TheVariants as First
 use Rattle.pointer.specs.declared.answers.Token.{Token}
-use Rattle.pointer.specs.declared.answers.Token.TheVariants as Token
 use Rattle.pointer.proofs.AcceptLaws.{accepted_ok}
 use Rattle.pointer.proofs.WalkLaws as WalkLaws
 use Rattle.pointer.proofs.WalkLaws.{Unfolds, first-token, next_order, tokens_behind, behind_last, behind_next}
@@ -38,7 +36,6 @@ use Rattle.walk.specs.Step.{Stepped, stepped, missed, StepRows, StepIs}
 use Rattle.walk.specs.Path.{farther_by, reached_behind, PathIs, PathRows, TokensFrom, Walked, WalkedBearing, reached, lost, WalkFromIs, WalkIs}
 use Rattle.walk.specs.Path.{WalkRows, walk_lost, walk_last, walk_next, path_root, path_below, is_pointer}
 use Rattle.walk.specs.declared.steps.Child.{Child}
-use Rattle.walk.specs.declared.steps.Child.TheVariants as Child
 use Rattle.walk.specs.declared.path.Reached.{Reached}
 use Rattle.walk.specs.declared.path.Reached.TheVariants.{At, Lost}
 use Rattle.walk.proofs.Children.{forget-borne, child-borne, child_at-borne, child_held, child-inside}

@@ -20,7 +20,6 @@ use Rattle.tape.specs.declared.fields.Cell.{Cell}
 use Rattle.tape.specs.Cell.{Fit}
 use Rattle.tape.specs.Rows.{end_of, child_row, ForNode, ChildIs, Bounded, ChildRows}
 use Rattle.tape.specs.declared.nodes.Located.{Located}
-use Rattle.tape.specs.declared.nodes.Located.TheVariants as Located
 use Rattle.tape.proofs.Forests.{count_le_size}
 use Rattle.tape.proofs.Cells.{formed_fit}
 use Rattle.tape.proofs.Held.{held_node, held_kids}
@@ -29,11 +28,9 @@ use Rattle.tape.proofs.Map.{count_map}
 use Rattle.table.specs.Meaning.{entry_of, name_text, members, meant, spelled, part_of}
 use Rattle.table.specs.Find.{Sought, sought_over, limit_of, same_name, Found, found, missing, FindIs, Between}
 use Rattle.table.specs.declared.find.Member.{Member}
-use Rattle.table.specs.declared.find.Member.TheVariants as Member
 use Rattle.table.proofs.MeaningLaws.{is_array_label, is_object_label}
 use Rattle.pointer.specs.Index.{index_limit, index_of, element_at}
 use Rattle.pointer.specs.declared.answers.Index.{Index}
-use Rattle.pointer.specs.declared.answers.Index.TheVariants as Index
 use Rattle.pointer.proofs.IndexLaws.{element_below_lem}
 use Rattle.walk.specs.Names.{IsToken}
 use Rattle.table.specs.Sound.{NodeHeld, RowsHeld}

@@ -1,6 +1,5 @@
 -- A pointer's token as a name, by which a member is found, and which a new member has.
-use Rattle.std.specs.Prelude.{ℕ, ◌+◌, ◌%◌, ◌<◌, ◌≤◌, ◌≡◌, length, eqb, ltb}
-use Rattle.spec.specs.Outcome.{if◌then◌else◌}
+use Rattle.std.specs.Prelude.{ℕ, ◌+◌, ◌%◌, ◌<◌, ◌≤◌, ◌≡◌, length, eqb, ltb, if◌then◌else◌}
 use Rattle.spec.specs.Bytes.{Bytes, Text}
 use Rattle.lexer.specs.Hash.{hash}
 use Rattle.text.specs.Decode.{text_of}

@@ -12,7 +12,6 @@ use Rattle.table.specs.Meaning.{part_of, meant}
 use Rattle.pointer.specs.Tokens.{accepted, tokens_from, FirstOf, TokenAt}
 use Rattle.pointer.specs.declared.answers.First.TheVariants as First
 use Rattle.pointer.specs.declared.answers.Token.{Token}
-use Rattle.pointer.specs.declared.answers.Token.TheVariants as Token
 use Rattle.origin.specs.Value as Origin
 use Rattle.origin.specs.Pointer as Origins
 use Rattle.walk.specs.Bearing.{borne}

@@ -8,7 +8,6 @@ use Rattle.tape.specs.Rows.{end_of, child_row, ForNode, ChildRows}
 use Rattle.table.specs.Meaning.{part_of, name_text, members, meant}
 use Rattle.table.specs.Sound.{ForHeld}
 use Rattle.pointer.specs.Index.{index_of, element_at}
-use Rattle.pointer.specs.declared.answers.Index.TheVariants as Index
 use Rattle.spec.specs.Refusal.{location_missing, no_index}
 use Rattle.text.specs.Decode.{text_of}
 use Rattle.tape.specs.Layout as Layout
@@ -18,7 +17,6 @@ use Rattle.tape.specs.declared.fields.Name.{Name}
 use Rattle.tape.specs.declared.nodes.Located.TheVariants as Located
 use Rattle.table.specs.Find.{Sought, limit_of, same_name}
 use Rattle.table.specs.declared.find.Member.{Member}
-use Rattle.table.specs.declared.find.Member.TheVariants as Member
 use Rattle.pointer.specs.declared.answers.Index.{Index}
 use Rattle.walk.specs.Names.{IsToken}
 use Rattle.walk.specs.declared.steps.Child.{Child}

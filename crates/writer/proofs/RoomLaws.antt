@@ -74,11 +74,11 @@ module _ (W : Table) where
       )
 
   -- the values of a container: each takes its own row for what stands before it
-  items_short : {at : ℕ} (object first : Bool) (f : Forest Cell) → Held W.nodes at f → Sound W.texts f
+  items_short : (object first : Bool) (f : Forest Cell) {at : ℕ} → Held W.nodes at f → Sound W.texts f
       → length (write_items object first (members W.texts f)) ≤ rows_bytes W.nodes at (size f)
   unfolding size row_of
   items_short object first none h s = omega (arith, ap length (items_none W.texts object first))
-  items_short {at} object first (tree c kids rest) h (all_tree fits sk sr) =
+  items_short object first (tree c kids rest) {at} h (all_tree fits sk sr) =
       let value = value-short h fits.label.verbatim (λ b. items_short b true kids (held_kids h) sk) in
       let others = items_short object false rest (held_next h) sr in
       let split = ap length (items_tree W.texts object first c kids rest fits.name.verbatim) in

@@ -1,8 +1,7 @@
 -- The pieces that a value's text is put together from, by the fields of the nodes. For strings that are verbatim they are those of the definitions
 -- (proofs/PieceLaws).
-use Rattle.std.specs.Prelude.{ℕ, Bool, [], ◌∷◌, ◌++◌, eqb}
+use Rattle.std.specs.Prelude.{ℕ, Bool, [], ◌∷◌, ◌++◌, eqb, if◌then◌else◌}
 use Prim.Native.Char.{code}
-use Rattle.spec.specs.Outcome.{if◌then◌else◌}
 use Rattle.spec.specs.Bytes.{Bytes, ascii}
 use Rattle.spec.specs.Write.{comma}
 use Rattle.text.specs.Written.{written}

@@ -13,7 +13,7 @@ use Rattle.table.specs.Meaning.{meant}
 use Rattle.table.specs.Sound.{NodeHeld}
 
 -- Bytes laid down from a place of an output on, as many as there is room for: the place behind them, and the output afterwards. Where there is
--- room for all they stand there, and the rest of the output is as it was (`placed-whole` in proofs/PlacedLaws).
+-- room for all they stand there, and the rest of the output is as it was (`placed_whole` in proofs/PlacedLaws).
 pub record Placed (bytes : Bytes) (at : ℕ) (before after : Bytes) (next : ℕ) : Type 0 where
   pub next_is : next ≡ min (at + length bytes) (length before)
   pub after_is : after ≡ sets before at bytes

@@ -1,4 +1,3 @@
-use native.Mathlib.Omega.{arith}
 use Rattle.decimal.proofs.ExponentLaws.{negative_here, negative_past}
 use Rattle.decimal.proofs.minus_at.Goals as goal
 

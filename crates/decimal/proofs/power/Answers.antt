@@ -1,5 +1,4 @@
 use native.Mathlib.Omega.{arith}
-use borrow.Author.Rules.{rules}
 use borrow.Author.Tests.{eq-eqb, ne_eqb}
 use Rattle.decimal.proofs.IntegerLaws.{less_fits, more_fits, more}
 use Rattle.decimal.proofs.power.Goals as goal

@@ -1,12 +1,7 @@
 -- `decimal::same_digits` meets its contract: the digits left to compare come to what all come to. Assumes nothing.
-use Prim.Native.Nat.{◌+◌, ◌-◌}
 use mathlib.Core.Path.{refl}
 use native.Mathlib.Omega.{arith}
-use borrow.Author.Tests.{not-true, not-false}
-use lib.ListN.{length, take, drop}
-use Rattle.spec.specs.Worth.{mantissa}
-use Rattle.spec.specs.Value.{same_text}
-use Rattle.decimal.proofs.MantissaLaws.{told, Comparing, compared, inside, inside-other, passing, passing_other, differing, agreeing}
+use Rattle.decimal.proofs.MantissaLaws.{told, compared, inside, inside-other, passing, passing_other, differing, agreeing}
 use Rattle.decimal.proofs.same_digits.Goals as goal
 
 pub loop-left-init : goal.loop-left-init

@@ -1,11 +1,8 @@
 use Prim.Native.Nat.{◌+◌, ◌-◌}
-use mathlib.Core.Path.{refl}
-use native.Mathlib.Omega.{arith}
-use borrow.Author.Tests.{not-true, not-false}
 use lib.ListN.{length, take, drop}
 use Rattle.spec.specs.Worth.{mantissa}
 use Rattle.spec.specs.Value.{same_text}
-use Rattle.decimal.proofs.MantissaLaws.{told, Comparing, compared, inside, inside-other, passing, passing_other, differing, agreeing}
+use Rattle.decimal.proofs.MantissaLaws.{Comparing}
 use Rattle.decimal.proofs.same_digits.Given as goal
 
 abbrev pub invariant-loop-left : goal.invariant-loop-left

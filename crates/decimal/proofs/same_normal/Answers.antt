@@ -1,8 +1,6 @@
 -- `decimal::same_normal` meets its contract. Assumes nothing.
-use mathlib.Core.Path.{◌≡◌, ◌∙◌}
+use mathlib.Core.Path.{◌∙◌}
 use native.Mathlib.Omega.{arith}
-use borrow.Author.Tests.{not-true, not-false}
-use Rattle.spec.specs.Equality.{same_integer}
 use Rattle.decimal.proofs.IntegerLaws.{back}
 use Rattle.decimal.proofs.MantissaLaws.{told}
 use Rattle.decimal.proofs.NormalLaws.{sign-differs, power_differs, count_differs, digits_decide, enough_left, enough_right}

@@ -1,6 +1,5 @@
 -- `decimal::same_number` meets its contract. Assumes nothing.
 use mathlib.Core.Path.{sym, ◌∙◌}
-use borrow.Author.Rules.{rules}
 use Rattle.decimal.proofs.MantissaLaws.{told}
 use Rattle.decimal.proofs.NormalLaws.{is_over, is_number, over_left, over_right, both-within_limits}
 use Rattle.decimal.proofs.same_number.Goals as goal

@@ -1,7 +1,6 @@
 use native.Mathlib.Omega.{arith}
 use mir.Syntax.{w32}
 use mir.ValLaws.{to_z_pos}
-use borrow.Author.Rules.{rules}
 use Rattle.decimal.proofs.IntegerLaws.{negated_fits, negated}
 use Rattle.decimal.proofs.signed.Goals as goal
 

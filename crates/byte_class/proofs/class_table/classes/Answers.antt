@@ -1,4 +1,3 @@
-use borrow.Author.Rules.{rules}
 use mathlib.Core.Path.{refl}
 use Rattle.byte_class.proofs.TableLaws.{tested, class_rule}
 use Rattle.byte_class.proofs.class_table.classes.Goals as goal

@@ -1,8 +1,6 @@
 use borrow.Author.Rules.{rules}
-use Prim.Native.Nat.{◌*◌, ◌-◌, ◌≤◌}
 use mathlib.Core.Path.{refl}
 use native.Mathlib.Omega.{arith}
-use Rattle.byte_class.specs.Laying.{Filled}
 use Rattle.byte_class.proofs.RowLaws.{none_filled, filled_as}
 use Rattle.byte_class.proofs.class_table.flat.Goals as goal
 

@@ -1,9 +1,5 @@
-use borrow.Author.Rules.{rules}
 use Prim.Native.Nat.{◌*◌, ◌-◌, ◌≤◌}
-use mathlib.Core.Path.{refl}
-use native.Mathlib.Omega.{arith}
 use Rattle.byte_class.specs.Laying.{Filled}
-use Rattle.byte_class.proofs.RowLaws.{none_filled, filled_as}
 use Rattle.byte_class.proofs.class_table.flat.Given as goal
 
 abbrev pub invariant-loop-i : goal.invariant-loop-i

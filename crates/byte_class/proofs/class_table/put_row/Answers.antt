@@ -1,7 +1,5 @@
 use borrow.Author.Rules.{rules}
-use Prim.Native.Nat.{◌+◌, ◌*◌, ◌-◌, ◌≤◌}
 use native.Mathlib.Omega.{arith}
-use Rattle.byte_class.specs.Laying.{Filled}
 use Rattle.byte_class.proofs.RowLaws.{filled_as, filled_next}
 use Rattle.byte_class.proofs.class_table.put_row.Goals as goal
 

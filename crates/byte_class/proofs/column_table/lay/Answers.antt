@@ -1,7 +1,4 @@
-use borrow.Author.Rules.{rules}
-use Prim.Native.Nat.{◌-◌, ◌≤◌}
 use native.Mathlib.Omega.{arith}
-use Rattle.byte_class.specs.Laying.{Laid}
 use Rattle.byte_class.proofs.ColumnLaws.{none_laid, laid_next, laid_to}
 use Rattle.byte_class.proofs.column_table.lay.Goals as goal
 

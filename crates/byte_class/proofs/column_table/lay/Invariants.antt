@@ -1,8 +1,5 @@
-use borrow.Author.Rules.{rules}
 use Prim.Native.Nat.{◌-◌, ◌≤◌}
-use native.Mathlib.Omega.{arith}
 use Rattle.byte_class.specs.Laying.{Laid}
-use Rattle.byte_class.proofs.ColumnLaws.{none_laid, laid_next, laid_to}
 use Rattle.byte_class.proofs.column_table.lay.Given as goal
 
 abbrev pub invariant-loop-b : goal.invariant-loop-b

@@ -1,8 +1,6 @@
 -- `alter` meets its contract; the levels below fall.
-use Prim.Native.Nat.{ℕ, ◌<◌}
 use native.Mathlib.Omega.{arith}
 use mathlib.Core.Path.{refl}
-use borrow.Author.Rules.{rules}
 use Rattle.changes.proofs.KeptLaws.{frame_done}
 use Rattle.changes.proofs.TokenLaws.{token-read}
 use Rattle.changes.proofs.AlterLaws.{alter_outside, alter_last, alter_refused, alter_flat, alter_done, alter_not}

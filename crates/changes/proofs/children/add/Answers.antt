@@ -1,5 +1,4 @@
 -- `add` meets its contract.
-use borrow.Author.Rules.{rules}
 use Rattle.changes.proofs.ChangeLaws.{add-array, add-object, add_scalar}
 use Rattle.changes.proofs.children.add.Goals as goal
 

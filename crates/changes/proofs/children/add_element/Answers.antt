@@ -1,5 +1,4 @@
 -- `add_element` meets its contract.
-use borrow.Author.Rules.{rules}
 use Rattle.walk.proofs.StepLaws.{index_is}
 use Rattle.changes.proofs.ChangeLaws.{element_added, element_refused}
 use Rattle.changes.proofs.children.add_element.Goals as goal

@@ -1,5 +1,4 @@
 -- `add_member` meets its contract.
-use borrow.Author.Rules.{rules}
 use Rattle.changes.proofs.ChangeLaws.{member-replaced, member-added}
 use Rattle.changes.proofs.children.add_member.Goals as goal
 

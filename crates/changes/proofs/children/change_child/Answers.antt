@@ -1,5 +1,4 @@
 -- `change_child` meets its contract.
-use borrow.Author.Rules.{rules}
 use Rattle.changes.proofs.ChangeLaws.{changed_add, changed_remove, changed_replace}
 use Rattle.changes.proofs.children.change_child.Goals as goal
 

@@ -1,5 +1,4 @@
 -- `insertion` meets its contract.
-use borrow.Author.Rules.{rules}
 use Rattle.changes.proofs.ChangeLaws.{insertion_dash, insertion_at_lem, insertion_beyond, insertion_not}
 use Rattle.changes.proofs.children.insertion.Goals as goal
 

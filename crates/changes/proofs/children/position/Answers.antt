@@ -1,5 +1,4 @@
 -- `position` meets its contract.
-use borrow.Author.Rules.{rules}
 use native.Mathlib.Omega.{arith}
 use Rattle.changes.proofs.ChangeLaws.{position_at, position_greater, position_end}
 use Rattle.changes.proofs.children.position.Goals as goal

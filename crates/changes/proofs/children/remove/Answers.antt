@@ -1,5 +1,4 @@
 -- `remove` meets its contract.
-use borrow.Author.Rules.{rules}
 use Rattle.changes.proofs.ChangeLaws.{remove_done, remove_refused}
 use Rattle.changes.proofs.children.remove.Goals as goal
 

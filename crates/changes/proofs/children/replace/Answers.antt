@@ -1,5 +1,4 @@
 -- `replace` meets its contract.
-use borrow.Author.Rules.{rules}
 use Rattle.changes.proofs.ChangeLaws.{replace_done, replace_refused}
 use Rattle.changes.proofs.children.replace.Goals as goal
 

@@ -1,5 +1,4 @@
 -- `replace_child` meets its contract.
-use borrow.Author.Rules.{rules}
 use mathlib.Core.Path.{ap, ◌∙◌}
 use Rattle.tape.specs.Fields.{name_of}
 use Rattle.changes.proofs.ChangeLaws.{child-replaced}

@@ -1,5 +1,4 @@
 -- `change_at` meets its contract.
-use borrow.Author.Rules.{rules}
 use Rattle.changes.proofs.PathLaws.{change_too_many, change_root, change_below, change_malformed}
 use Rattle.changes.proofs.paths.change_at.Goals as goal
 

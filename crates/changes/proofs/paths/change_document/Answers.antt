@@ -1,5 +1,4 @@
 -- `change_document` meets its contract.
-use borrow.Author.Rules.{rules}
 use Rattle.changes.proofs.PathLaws.{document_added, document-kept, document-replaced}
 use Rattle.changes.proofs.paths.change_document.Goals as goal
 

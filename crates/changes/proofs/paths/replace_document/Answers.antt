@@ -1,8 +1,5 @@
 -- `replace_document` meets its contract.
-use borrow.Author.Rules.{rules}
 use mathlib.Core.Path.{refl}
-use native.Mathlib.Omega.{arith}
-use borrow.Author.Tests.{not-true, not-false}
 use Rattle.changes.specs.Rows.{unchanged}
 use Rattle.changes.proofs.PathLaws.{replace_frame, replace_deep, replace_large, replace_done}
 use Rattle.changes.proofs.paths.replace_document.Goals as goal

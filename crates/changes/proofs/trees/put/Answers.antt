@@ -1,7 +1,5 @@
 -- `put` meets its contract.
-use borrow.Author.Rules.{rules}
 use mathlib.Core.Path.{refl}
-use borrow.Author.Tests.{not-true, not-false}
 use Rattle.changes.specs.Rows.{unchanged, put_nothing}
 use Rattle.changes.proofs.PutLaws.{put-deep, put_large, put_outside, put_made}
 use Rattle.changes.proofs.trees.put.Goals as goal

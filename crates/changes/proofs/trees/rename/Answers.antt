@@ -1,5 +1,4 @@
 -- `rename` meets its contract.
-use borrow.Author.Rules.{rules}
 use mathlib.Core.Path.{◌∙◌}
 use Rattle.changes.proofs.PutLaws.{rename_is}
 use Rattle.changes.proofs.trees.rename.Goals as goal

@@ -1,5 +1,4 @@
 -- `resize` meets its contract.
-use borrow.Author.Rules.{rules}
 use mathlib.Core.Path.{◌∙◌}
 use Rattle.changes.proofs.PutLaws.{resize_is}
 use Rattle.changes.proofs.trees.resize.Goals as goal

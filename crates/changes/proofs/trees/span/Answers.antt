@@ -1,5 +1,4 @@
 -- `span` meets its contract.
-use borrow.Author.Rules.{rules}
 use native.Mathlib.Omega.{arith}
 use mathlib.Core.Path.{sym}
 use Rattle.tape.proofs.FieldLaws.{field_out}

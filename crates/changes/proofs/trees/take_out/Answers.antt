@@ -1,5 +1,4 @@
 -- `take_out` meets its contract.
-use borrow.Author.Rules.{rules}
 use Rattle.changes.proofs.PutLaws.{take_made}
 use Rattle.changes.proofs.trees.take_out.Goals as goal
 

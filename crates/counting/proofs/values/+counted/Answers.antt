@@ -32,14 +32,14 @@ returns-in_default t c hints =
     counted_alone _ _ _ _ _ _ _ (c.loop-row.invariant hints) (omega arith) c.end_of.ensures
     _ (c.partner.ensures hints)
     c.in_default.is c.arity.ensures c.told-in_default.ensures.0
-    (c.told-in_default.ensures.1 ∙ c.wrapping_add_u64.ensures)
+    (c.told-in_default.ensures.1 ∙ c.wrapping_add_u64.ensures.value)
 
 pub returns-then-not-values : goal.returns-then-not-values
 returns-then-not-values t c hints =
     counted_differs _ _ _ _ _ _ _ (c.loop-row.invariant hints) (omega arith) c.end_of.ensures _
     (c.partner.ensures hints) _ c.in-At.is _ (c.counted-values.ensures hints)
     c.names_for.ensures
-    c.wrapping_add_u64-names.ensures c.wrapping_add_u64-names-in-loop-row.ensures
+    c.wrapping_add_u64-names.ensures.value c.wrapping_add_u64-names-in-loop-row.ensures.value
     (not-true _ c.if-not-values.true) c.told-then-not-values.ensures.0
     c.told-then-not-values.ensures.1
 
@@ -51,7 +51,7 @@ loop-row-preserved t c hints =
     counting_next _ _ _ _ _ _ _ (c.loop-row.invariant hints) (omega arith) c.end_of.ensures _
     (c.partner.ensures hints) _ c.in-At.is _ (c.counted-values.ensures hints)
     c.names_for.ensures
-    c.wrapping_add_u64-names.ensures c.wrapping_add_u64-names-in-loop-row.ensures (not-false _ c.if-not-values.false) _ _
+    c.wrapping_add_u64-names.ensures.value c.wrapping_add_u64-names-in-loop-row.ensures.value (not-false _ c.if-not-values.false) _ _
     c.end_of-row.ensures c.end_of-next.ensures
 
 pub returns : goal.returns

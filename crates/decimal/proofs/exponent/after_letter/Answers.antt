@@ -1,9 +1,5 @@
 -- `decimal::exponent::after_letter` meets its contract: the exponent of what is left is that of the whole. Assumes nothing.
-use Prim.Native.Nat.{◌-◌}
-use mathlib.Core.Path.{◌≡◌, refl, sym, ◌∙◌}
-use native.Mathlib.Omega.{arith}
-use lib.ListN.{length, drop}
-use Rattle.spec.specs.Worth.{exponent}
+use mathlib.Core.Path.{refl, sym, ◌∙◌}
 use Rattle.decimal.proofs.MantissaLaws.{told}
 use Rattle.decimal.proofs.ExponentLaws.{exponent_here, exponent-later, exponent_past}
 use Rattle.decimal.proofs.exponent.after_letter.Goals as goal

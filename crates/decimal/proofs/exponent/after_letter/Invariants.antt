@@ -1,10 +1,7 @@
 use Prim.Native.Nat.{◌-◌}
-use mathlib.Core.Path.{◌≡◌, refl, sym, ◌∙◌}
-use native.Mathlib.Omega.{arith}
+use mathlib.Core.Path.{◌≡◌}
 use lib.ListN.{length, drop}
 use Rattle.spec.specs.Worth.{exponent}
-use Rattle.decimal.proofs.MantissaLaws.{told}
-use Rattle.decimal.proofs.ExponentLaws.{exponent_here, exponent-later, exponent_past}
 use Rattle.decimal.proofs.exponent.after_letter.Given as goal
 
 abbrev pub invariant-loop-i : goal.invariant-loop-i

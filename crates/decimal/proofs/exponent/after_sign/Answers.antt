@@ -1,4 +1,3 @@
-use native.Mathlib.Omega.{arith}
 use Rattle.decimal.proofs.ExponentLaws.{size-minus, size-plus, size_plain, size_past}
 use Rattle.decimal.proofs.exponent.after_sign.Goals as goal
 

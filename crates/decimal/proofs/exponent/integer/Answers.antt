@@ -1,9 +1,6 @@
 -- `decimal::exponent::integer` meets its contract: the integer so far and the digits left write the whole one. Assumes nothing.
-use Prim.Native.Nat.{◌-◌, ◌≤◌}
-use mathlib.Core.Path.{◌≡◌, refl, sym, ◌∙◌}
+use mathlib.Core.Path.{refl, sym, ◌∙◌}
 use native.Mathlib.Omega.{arith}
-use lib.ListN.{length, drop}
-use Rattle.spec.specs.Worth.{decimal}
 use Rattle.decimal.proofs.ExponentLaws.{decimal_next, decimal_past, decimal_large, decimal_small}
 use Rattle.decimal.proofs.exponent.integer.Goals as goal
 

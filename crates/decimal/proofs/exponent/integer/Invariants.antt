@@ -1,9 +1,7 @@
 use Prim.Native.Nat.{◌-◌, ◌≤◌}
-use mathlib.Core.Path.{◌≡◌, refl, sym, ◌∙◌}
-use native.Mathlib.Omega.{arith}
+use mathlib.Core.Path.{◌≡◌}
 use lib.ListN.{length, drop}
 use Rattle.spec.specs.Worth.{decimal}
-use Rattle.decimal.proofs.ExponentLaws.{decimal_next, decimal_past, decimal_large, decimal_small}
 use Rattle.decimal.proofs.exponent.integer.Given as goal
 
 abbrev pub invariant-loop-i : goal.invariant-loop-i

@@ -1,9 +1,7 @@
 -- `decimal::mantissa::after_point` meets its contract: as many digits follow the point in what is left as in the whole. Assumes nothing.
-use Prim.Native.Nat.{◌-◌}
-use mathlib.Core.Path.{◌≡◌, sym, ◌∙◌, ap}
+use mathlib.Core.Path.{sym, ◌∙◌, ap}
 use native.Mathlib.Omega.{arith}
-use lib.ListN.{length, drop}
-use Rattle.spec.specs.Worth.{fraction_digits}
+use lib.ListN.{length}
 use Rattle.decimal.proofs.MantissaLaws.{told, mantissa_ends, mantissa_past, fraction_point, fraction_ends, fraction_later, fraction_past}
 use Rattle.decimal.proofs.mantissa.after_point.Goals as goal
 

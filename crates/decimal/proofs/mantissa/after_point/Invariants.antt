@@ -1,9 +1,7 @@
 use Prim.Native.Nat.{◌-◌}
-use mathlib.Core.Path.{◌≡◌, sym, ◌∙◌, ap}
-use native.Mathlib.Omega.{arith}
+use mathlib.Core.Path.{◌≡◌}
 use lib.ListN.{length, drop}
 use Rattle.spec.specs.Worth.{fraction_digits}
-use Rattle.decimal.proofs.MantissaLaws.{told, mantissa_ends, mantissa_past, fraction_point, fraction_ends, fraction_later, fraction_past}
 use Rattle.decimal.proofs.mantissa.after_point.Given as goal
 
 abbrev pub invariant-loop-i : goal.invariant-loop-i

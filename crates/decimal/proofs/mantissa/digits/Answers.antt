@@ -1,9 +1,7 @@
 -- `decimal::mantissa::digits` meets its contract: the digits counted and those left are all. Assumes nothing.
-use Prim.Native.Nat.{ℕ, ◌+◌, ◌-◌, ◌≤◌}
-use mathlib.Core.Path.{◌≡◌, ap}
+use mathlib.Core.Path.{ap}
 use native.Mathlib.Omega.{arith}
-use lib.ListN.{length, drop}
-use Rattle.spec.specs.Worth.{mantissa}
+use lib.ListN.{length}
 use Rattle.decimal.proofs.MantissaLaws.{told, mantissa_ends, mantissa-digit, mantissa-other, mantissa_past}
 use Rattle.decimal.proofs.mantissa.digits.Goals as goal
 

@@ -1,10 +1,7 @@
-use Prim.Native.Nat.{ℕ, ◌+◌, ◌-◌, ◌≤◌}
-use mathlib.Core.Path.{◌≡◌, ap}
-use native.Mathlib.Omega.{arith}
+use Prim.Native.Nat.{◌+◌, ◌-◌, ◌≤◌}
+use mathlib.Core.Path.{◌≡◌}
 use lib.ListN.{length, drop}
-use Rattle.spec.specs.Bytes.{Bytes}
 use Rattle.spec.specs.Worth.{mantissa}
-use Rattle.decimal.proofs.MantissaLaws.{told, mantissa_ends, mantissa-digit, mantissa-other, mantissa_past}
 use Rattle.decimal.proofs.mantissa.digits.Given as goal
 
 abbrev pub invariant-loop-i : goal.invariant-loop-i

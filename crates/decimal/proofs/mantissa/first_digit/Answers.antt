@@ -1,9 +1,5 @@
 -- `decimal::mantissa::first_digit` meets its contract: the bytes passed and those still to pass end there. Assumes nothing.
-use Prim.Native.Nat.{ℕ, ◌+◌, ◌-◌}
-use mathlib.Core.Path.{◌≡◌}
 use native.Mathlib.Omega.{arith}
-use lib.ListN.{length, drop}
-use Rattle.decimal.specs.Normal.{first_digit}
 use Rattle.decimal.proofs.MantissaLaws.{told, first_ends, first_here, first-later, first_past}
 use Rattle.decimal.proofs.mantissa.first_digit.Goals as goal
 

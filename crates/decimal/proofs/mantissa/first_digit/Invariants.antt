@@ -1,10 +1,7 @@
-use Prim.Native.Nat.{ℕ, ◌+◌, ◌-◌}
+use Prim.Native.Nat.{◌+◌, ◌-◌}
 use mathlib.Core.Path.{◌≡◌}
-use native.Mathlib.Omega.{arith}
 use lib.ListN.{length, drop}
-use Rattle.spec.specs.Bytes.{Bytes}
 use Rattle.decimal.specs.Normal.{first_digit}
-use Rattle.decimal.proofs.MantissaLaws.{told, first_ends, first_here, first-later, first_past}
 use Rattle.decimal.proofs.mantissa.first_digit.Given as goal
 
 abbrev pub invariant-loop-i : goal.invariant-loop-i

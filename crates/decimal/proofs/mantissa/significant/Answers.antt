@@ -1,10 +1,6 @@
 -- `decimal::mantissa::significant` meets its contract: the digits seen so far, and how many of them have no zero after them. Assumes nothing.
-use Prim.Native.Nat.{◌-◌, ◌≤◌}
 use native.Mathlib.Omega.{arith}
-use borrow.Author.Tests.{not-true, not-false}
-use lib.ListN.{length, drop}
-use Rattle.spec.specs.Worth.{mantissa}
-use Rattle.decimal.proofs.MantissaLaws.{told, mantissa_ends, mantissa-digit, mantissa-other, mantissa_past, Seen, seen_none, seen_zero, seen_digit}
+use Rattle.decimal.proofs.MantissaLaws.{told, mantissa_ends, mantissa-digit, mantissa-other, mantissa_past, seen_none, seen_zero, seen_digit}
 use Rattle.decimal.proofs.MantissaLaws.{seen_all}
 use Rattle.decimal.proofs.mantissa.significant.Goals as goal
 

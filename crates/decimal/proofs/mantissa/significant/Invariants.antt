@@ -1,10 +1,7 @@
 use Prim.Native.Nat.{◌-◌, ◌≤◌}
-use native.Mathlib.Omega.{arith}
-use borrow.Author.Tests.{not-true, not-false}
 use lib.ListN.{length, drop}
 use Rattle.spec.specs.Worth.{mantissa}
-use Rattle.decimal.proofs.MantissaLaws.{told, mantissa_ends, mantissa-digit, mantissa-other, mantissa_past, Seen, seen_none, seen_zero, seen_digit}
-use Rattle.decimal.proofs.MantissaLaws.{seen_all}
+use Rattle.decimal.proofs.MantissaLaws.{Seen}
 use Rattle.decimal.proofs.mantissa.significant.Given as goal
 
 abbrev pub invariant-loop-i : goal.invariant-loop-i

@@ -1,5 +1,4 @@
 use native.Mathlib.Omega.{arith}
-use Rattle.lexer.proofs.Auto.{auto}
 use Rattle.fragment.proofs.CallLaws.{octets_short, octets_whole}
 use Rattle.fragment.proofs.calls.fitting_octets.Goals as goal
 

@@ -1,6 +1,5 @@
 use mathlib.Core.Path.{refl}
 use native.Mathlib.Omega.{arith}
-use Rattle.lexer.proofs.Auto.{auto}
 use Rattle.fragment.proofs.TableLaws.{kept_table, tested}
 use Rattle.fragment.proofs.CallLaws.{refuses, answered_as, too_long, not_too_long}
 use Rattle.fragment.proofs.calls.read_link.Goals as goal

@@ -1,4 +1,3 @@
-use Rattle.lexer.proofs.Auto.{auto}
 use Rattle.fragment.proofs.CallLaws.{refuses, no_hash, hash, read_fits, read_bad, read_malformed}
 use Rattle.fragment.proofs.calls.read_short.Goals as goal
 

@@ -1,5 +1,4 @@
 use mathlib.Core.Path.{refl, sym, ◌∙◌}
-use Rattle.lexer.proofs.Auto.{auto}
 use Rattle.fragment.proofs.TableLaws.{kept_table, tested}
 use Rattle.fragment.proofs.CallLaws.{refuses, answered_as, writes_by}
 use Rattle.fragment.proofs.calls.write_link.Goals as goal

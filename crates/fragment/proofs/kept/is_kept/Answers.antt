@@ -1,4 +1,3 @@
-use Rattle.lexer.proofs.Auto.{auto}
 use native.Mathlib.Omega.{arith}
 use Rattle.fragment.proofs.kept.is_kept.Goals as goal
 

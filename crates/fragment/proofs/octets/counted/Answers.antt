@@ -1,4 +1,3 @@
-use Rattle.lexer.proofs.Auto.{auto}
 use Rattle.fragment.specs.Scan.{counted}
 use Rattle.fragment.proofs.octets.counted.Goals as goal
 

@@ -1,11 +1,8 @@
-use Prim.Native.Nat.{◌-◌}
-use lib.ListN.{length}
 use mathlib.Core.Path.{ap, ◌∙◌}
 use native.Mathlib.Omega.{arith}
-use Rattle.lexer.proofs.Auto.{auto}
 use Rattle.fragment.specs.Scan.{counted}
 use Rattle.fragment.proofs.OctetLaws.{octet_onward}
-use Rattle.fragment.proofs.ScanLaws.{Going, going_starts, going_on, going_bad, going_ends}
+use Rattle.fragment.proofs.ScanLaws.{going_starts, going_on, going_bad, going_ends}
 use Rattle.fragment.proofs.octets.fragment_at.Goals as goal
 
 pub loop-at-init : goal.loop-at-init

@@ -1,11 +1,6 @@
 use Prim.Native.Nat.{◌-◌}
 use lib.ListN.{length}
-use mathlib.Core.Path.{ap, ◌∙◌}
-use native.Mathlib.Omega.{arith}
-use Rattle.lexer.proofs.Auto.{auto}
-use Rattle.fragment.specs.Scan.{counted}
-use Rattle.fragment.proofs.OctetLaws.{octet_onward}
-use Rattle.fragment.proofs.ScanLaws.{Going, going_starts, going_on, going_bad, going_ends}
+use Rattle.fragment.proofs.ScanLaws.{Going}
 use Rattle.fragment.proofs.octets.fragment_at.Given as goal
 
 abbrev pub invariant-loop-at : goal.invariant-loop-at

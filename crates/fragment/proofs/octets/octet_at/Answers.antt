@@ -1,5 +1,4 @@
 use mathlib.Core.Path.{refl, sym, ◌∙◌}
-use Rattle.lexer.proofs.Auto.{auto}
 use Rattle.spec.specs.Bytes.{byte}
 use Rattle.fragment.proofs.OctetLaws.{octet_percent, octet_kept, octet_bad}
 use Rattle.fragment.proofs.octets.octet_at.Goals as goal

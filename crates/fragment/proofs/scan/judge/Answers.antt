@@ -1,6 +1,5 @@
 use mathlib.Core.Path.{sym, ◌∙◌}
 use borrow.Author.Tests.{eq-eqb, ne_eqb}
-use Rattle.lexer.proofs.Auto.{auto}
 use Rattle.fragment.specs.Scan.{judge}
 use Rattle.fragment.proofs.scan.judge.Goals as goal
 

@@ -1,4 +1,3 @@
-use Rattle.lexer.proofs.Auto.{auto}
 use Rattle.fragment.specs.Scan.{may_end}
 use Rattle.fragment.proofs.scan.may_end.Goals as goal
 

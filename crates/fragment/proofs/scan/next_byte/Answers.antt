@@ -1,5 +1,4 @@
 use mathlib.Core.Path.{sym, ◌∙◌}
-use Rattle.lexer.proofs.Auto.{auto}
 use Rattle.lexer.proofs.Tests.{between-within, below_within, above_within}
 use Rattle.fragment.proofs.ByteLaws.{next_first, next_outside, next_inside}
 use Rattle.fragment.proofs.scan.next_byte.Goals as goal

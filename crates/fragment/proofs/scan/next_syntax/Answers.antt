@@ -1,5 +1,4 @@
 use borrow.Author.Tests.{eq-eqb, ne_eqb}
-use Rattle.lexer.proofs.Auto.{auto}
 use Rattle.fragment.specs.Scan.{next_syntax}
 use Rattle.fragment.proofs.scan.next_syntax.Goals as goal
 

@@ -1,10 +1,7 @@
-use Prim.Native.Nat.{◌-◌}
-use lib.ListN.{length}
 use mathlib.Core.Path.{◌∙◌}
 use native.Mathlib.Omega.{arith}
-use Rattle.lexer.proofs.Auto.{auto}
 use Rattle.spec.specs.Bytes.{byte}
-use Rattle.fragment.proofs.ScanLaws.{Scanning, scanning_starts, scanning_on, scanning_ends}
+use Rattle.fragment.proofs.ScanLaws.{scanning_starts, scanning_on, scanning_ends}
 use Rattle.fragment.proofs.scan.verdict_of.Goals as goal
 
 pub loop-at-init : goal.loop-at-init

@@ -1,11 +1,9 @@
-use Prim.Native.Nat.{◌+◌, ◌-◌, ◌≤◌}
-use lib.ListN.{length, drop}
-use mathlib.Core.Path.{◌≡◌, sym, ap}
+use lib.ListN.{length}
+use mathlib.Core.Path.{sym, ap}
 use native.Mathlib.Omega.{arith}
 use borrow.Author.Tests.{le-leb, lt-leb}
-use Rattle.lexer.proofs.Auto.{auto}
 use Rattle.spec.specs.Bytes.{byte}
-use Rattle.fragment.specs.Link.{link, encode_all}
+use Rattle.fragment.specs.Link.{link}
 use Rattle.fragment.proofs.WritingLaws.{encode_length, encode_end, link-length}
 use Rattle.fragment.proofs.writing.fits.Goals as goal
 

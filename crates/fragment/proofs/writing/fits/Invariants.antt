@@ -1,12 +1,7 @@
 use Prim.Native.Nat.{◌+◌, ◌-◌, ◌≤◌}
 use lib.ListN.{length, drop}
-use mathlib.Core.Path.{◌≡◌, sym, ap}
-use native.Mathlib.Omega.{arith}
-use borrow.Author.Tests.{le-leb, lt-leb}
-use Rattle.lexer.proofs.Auto.{auto}
-use Rattle.spec.specs.Bytes.{byte}
+use mathlib.Core.Path.{◌≡◌}
 use Rattle.fragment.specs.Link.{link, encode_all}
-use Rattle.fragment.proofs.WritingLaws.{encode_length, encode_end, link-length}
 use Rattle.fragment.proofs.writing.fits.Given as goal
 
 abbrev pub invariant-loop-at : goal.invariant-loop-at

@@ -1,5 +1,4 @@
 use native.Mathlib.Omega.{arith}
-use Rattle.lexer.proofs.Auto.{auto}
 use Rattle.fragment.proofs.WritingLaws.{upper_digit, upper_letter}
 use Rattle.fragment.proofs.writing.hex_digit.Goals as goal
 

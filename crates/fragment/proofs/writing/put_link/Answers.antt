@@ -1,11 +1,8 @@
-use Prim.Native.Nat.{◌-◌, ◌≤◌}
-use lib.ListN.{length, drop, length-set}
+use lib.ListN.{length, length-set}
 use mathlib.Core.Path.{ap, ◌∙◌}
 use native.Mathlib.Omega.{arith}
-use Rattle.lexer.proofs.Auto.{auto}
 use Rattle.spec.specs.Bytes.{byte}
-use Rattle.text.proofs.LaidLaws.{Laid, laid_starts, laid_length, laid_bound, laid_on, laid_ends}
-use Rattle.fragment.specs.Link.{encode_all}
+use Rattle.text.proofs.LaidLaws.{laid_starts, laid_length, laid_bound, laid_on, laid_ends}
 use Rattle.fragment.proofs.WritingLaws.{encode_here, encode_length, encode_end}
 use Rattle.fragment.proofs.WritingLaws.{link-length, link_laid}
 use Rattle.fragment.proofs.writing.put_link.Goals as goal
@@ -16,8 +13,16 @@ loop-at-init c = (omega arith, laid_starts 1 _ _)
 
 pub put_octet-end-requires : goal.put_octet-end-requires
 unfolding byte
-put_octet-end-requires c =
-    (omega (arith, laid_bound c.loop-at.invariant.1, encode_length c.args.pointer.now c.loop-at.at (omega arith), link-length c.args.pointer.now, c.requires.0), c.requires.1)
+put_octet-end-requires c = (
+  omega (
+    arith,
+    laid_bound c.loop-at.invariant.1,
+    encode_length c.args.pointer.now c.loop-at.at (omega arith),
+    link-length c.args.pointer.now,
+    c.requires.0,
+  ),
+  c.requires.1,
+)
 
 pub loop-at-preserved : goal.loop-at-preserved
 unfolding byte

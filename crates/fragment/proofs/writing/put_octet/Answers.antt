@@ -2,7 +2,6 @@ use mathlib.Core.Path.{refl, sym, ap, ◌∙◌}
 use native.Mathlib.Omega.{arith}
 use lib.ListN.{length}
 use mathlib.Core.List.{[], ◌∷◌}
-use Rattle.lexer.proofs.Auto.{auto}
 use Rattle.text.proofs.StoreLaws.{stored}
 use Rattle.fragment.proofs.WritingLaws.{encoded-kept, encoded_percent, percent_stored}
 use Rattle.fragment.proofs.writing.put_octet.Goals as goal

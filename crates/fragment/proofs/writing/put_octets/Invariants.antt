@@ -1,9 +1,6 @@
 use Prim.Native.Nat.{◌-◌}
 use lib.ListN.{length}
-use native.Mathlib.Omega.{arith}
-use Rattle.lexer.proofs.Auto.{auto}
-use Rattle.fragment.proofs.OctetLaws.{octet_onward}
-use Rattle.fragment.proofs.WritingLaws.{Putting, putting_starts, putting_on, putting_bad, putting_ends}
+use Rattle.fragment.proofs.WritingLaws.{Putting}
 use Rattle.fragment.proofs.writing.put_octets.Given as goal
 
 abbrev pub invariant-loop-at : goal.invariant-loop-at

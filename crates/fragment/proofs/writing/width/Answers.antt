@@ -1,5 +1,4 @@
 use mathlib.Core.Path.{sym, ◌∙◌}
-use Rattle.lexer.proofs.Auto.{auto}
 use Rattle.fragment.specs.Link.{encoded}
 use Rattle.fragment.proofs.writing.width.Goals as goal
 

@@ -1,11 +1,7 @@
 -- `other_hash` meets its contract, character by character.
-use Prim.Native.Nat.{◌-◌}
-use mathlib.Core.Path.{◌≡◌, refl}
-use lib.ListN.{length}
-use Rattle.text.specs.Decode.{text_from}
-use Rattle.text.proofs.Auto.{auto}
+use mathlib.Core.Path.{refl}
 use Rattle.text.proofs.LetterLaws.{scalar_text, scalar_less, refused_text}
-use Rattle.index.specs.Bits.{other_hash_from, other_hash}
+use Rattle.index.specs.Bits.{other_hash}
 use Rattle.index.proofs.BitLaws.{other_ends, other_more}
 use Rattle.index.proofs.bits.other_hash.Goals as goal
 

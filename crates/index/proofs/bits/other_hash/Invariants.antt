@@ -1,11 +1,8 @@
 use Prim.Native.Nat.{◌-◌}
-use mathlib.Core.Path.{◌≡◌, refl}
+use mathlib.Core.Path.{◌≡◌}
 use lib.ListN.{length}
 use Rattle.text.specs.Decode.{text_from}
-use Rattle.text.proofs.Auto.{auto}
-use Rattle.text.proofs.LetterLaws.{scalar_text, scalar_less, refused_text}
 use Rattle.index.specs.Bits.{other_hash_from, other_hash}
-use Rattle.index.proofs.BitLaws.{other_ends, other_more}
 use Rattle.index.proofs.bits.other_hash.Given as goal
 
 abbrev pub invariant-loop-c : goal.invariant-loop-c

@@ -1,7 +1,6 @@
 -- `refilled` meets its contract: a bit is left, or the characters from the next on are hashed, or there is none.
 use Prim.Native.Nat.{◌+◌, ◌%◌}
 use mathlib.Core.Path.{refl, ap}
-use Rattle.text.proofs.Auto.{auto}
 use Rattle.text.proofs.LetterLaws.{scalar_text, refused_text}
 use Rattle.index.specs.Bits.{other_hashes}
 use Rattle.index.proofs.BitLaws.{filled_still, filled_end, filled_next}

@@ -1,6 +1,5 @@
 -- `behind` meets its contract: behind the table a span is 0.
 use native.Mathlib.Omega.{arith}
-use borrow.Author.Rules.{rules}
 use Rattle.tape.proofs.FieldLaws.{field_out}
 use Rattle.index.proofs.members.behind.Goals as goal
 

@@ -1,10 +1,7 @@
 -- `index_object` meets its contract: its loop passes the children of the object one by one.
-use Prim.Native.Nat.{◌-◌}
 use native.Mathlib.Omega.{arith}
-use mathlib.Core.Path.{◌≡◌, refl}
-use lib.ListN.{length}
-use borrow.Author.Rules.{rules}
-use Rattle.index.proofs.MemberLaws.{indexed_self, Indexing, indexing_none, indexing_next}
+use mathlib.Core.Path.{refl}
+use Rattle.index.proofs.MemberLaws.{indexed_self, indexing_none, indexing_next}
 use Rattle.index.proofs.members.index_object.Goals as goal
 
 pub returns-then-kind-ne-OBJECT : goal.returns-then-kind-ne-OBJECT

@@ -1,9 +1,7 @@
 use Prim.Native.Nat.{◌-◌}
-use native.Mathlib.Omega.{arith}
-use mathlib.Core.Path.{◌≡◌, refl}
+use mathlib.Core.Path.{◌≡◌}
 use lib.ListN.{length}
-use borrow.Author.Rules.{rules}
-use Rattle.index.proofs.MemberLaws.{indexed_self, Indexing, indexing_none, indexing_next}
+use Rattle.index.proofs.MemberLaws.{Indexing}
 use Rattle.index.proofs.members.index_object.Given as goal
 
 abbrev pub invariant-loop-row : goal.invariant-loop-row

@@ -1,10 +1,6 @@
 -- `index_tree` meets its contract: nothing is noted at first, and each row notes parents.
-use Prim.Native.Nat.{◌-◌, ◌≤◌}
 use native.Mathlib.Omega.{arith}
-use mathlib.Core.Path.{◌≡◌, refl}
-use lib.ListN.{length}
-use borrow.Author.Rules.{rules}
-use Rattle.index.specs.Members.{Indexed}
+use mathlib.Core.Path.{refl}
 use Rattle.index.proofs.MemberLaws.{indexed_self, indexed_on, tree_indexed, tree_not_indexed}
 use Rattle.index.proofs.members.index_tree.Goals as goal
 

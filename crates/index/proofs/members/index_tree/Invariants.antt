@@ -1,10 +1,7 @@
 use Prim.Native.Nat.{◌-◌, ◌≤◌}
-use native.Mathlib.Omega.{arith}
-use mathlib.Core.Path.{◌≡◌, refl}
+use mathlib.Core.Path.{◌≡◌}
 use lib.ListN.{length}
-use borrow.Author.Rules.{rules}
 use Rattle.index.specs.Members.{Indexed}
-use Rattle.index.proofs.MemberLaws.{indexed_self, indexed_on, tree_indexed, tree_not_indexed}
 use Rattle.index.proofs.members.index_tree.Given as goal
 
 abbrev pub invariant-loop-row : goal.invariant-loop-row

@@ -2,7 +2,6 @@
 use mathlib.Core.Path.{sym, ap, ◌∙◌}
 use mathlib.Core.Bool.{true≢false}
 use native.Mathlib.Omega.{arith}
-use borrow.Author.Rules.{rules}
 use Rattle.tape.specs.Fields.{name_of}
 use Rattle.tape.specs.Lent.{both}
 use Rattle.table.specs.Find.{same_name}

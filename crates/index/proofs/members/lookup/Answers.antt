@@ -1,9 +1,6 @@
 -- `lookup` meets its contract: rows grow along the path, and what it answers was tested.
-use Prim.Native.Nat.{◌-◌}
 use native.Mathlib.Omega.{arith}
 use mathlib.Core.Path.{refl}
-use borrow.Author.Rules.{rules}
-use Rattle.index.specs.Slots.{room}
 use Rattle.index.specs.Members.{noted, not_found}
 use Rattle.index.proofs.members.lookup.Goals as goal
 

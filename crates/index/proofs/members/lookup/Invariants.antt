@@ -1,9 +1,5 @@
 use Prim.Native.Nat.{◌-◌}
-use native.Mathlib.Omega.{arith}
-use mathlib.Core.Path.{refl}
-use borrow.Author.Rules.{rules}
 use Rattle.index.specs.Slots.{room}
-use Rattle.index.specs.Members.{noted, not_found}
 use Rattle.index.proofs.members.lookup.Given as goal
 
 abbrev pub invariant-loop-last : goal.invariant-loop-last

@@ -1,9 +1,8 @@
 -- `empty` meets its contract. Assumes nothing.
-use Prim.Native.Nat.{◌≤◌, ◌-◌, ◌+◌}
+use Prim.Native.Nat.{◌+◌}
 use native.Mathlib.Omega.{arith}
 use mathlib.Core.Path.{◌≡◌, refl, sym, ap, ◌∙◌}
-use lib.ListN.{length, set, replicate, length-set}
-use borrow.Author.Rules.{rules}
+use lib.ListN.{set, replicate, length-set}
 use Rattle.tape.specs.Columns.{replaced}
 use Rattle.tape.proofs.Columns.{filled_in, filled_out}
 use Rattle.tape.proofs.Loops.{filled_none, filled_more}

@@ -1,8 +1,6 @@
 -- `set_slot` meets its contract. Assumes nothing.
-use mathlib.Core.Path.{sym, ap}
-use lib.ListN.{set}
+use mathlib.Core.Path.{sym}
 use lib.Seq.{set_out}
-use borrow.Author.Rules.{rules}
 use Rattle.index.specs.Slots.{slot_set}
 use Rattle.index.proofs.slots.set_slot.Goals as goal
 

@@ -1,7 +1,6 @@
 -- `slot` meets its contract. Assumes nothing.
 use mathlib.Core.Path.{sym}
 use lib.ListN.{get_or-eq_default}
-use borrow.Author.Rules.{rules}
 use Rattle.index.specs.Slots.{slot_at}
 use Rattle.index.proofs.slots.slot.Goals as goal
 

@@ -1,11 +1,8 @@
 -- `descend` meets its contract: rows grow along a path, so it ends.
-use Prim.Native.Nat.{◌-◌}
 use mathlib.Core.Path.{refl, ap, ◌∙◌}
 use native.Mathlib.Omega.{arith}
-use borrow.Author.Rules.{rules}
 use Rattle.tape.specs.Fields.{name_of}
-use Rattle.tape.specs.Lent.{table_of}
-use Rattle.index.proofs.WayLaws.{Descending, descending_start, descending_next, descended_none, descended_past}
+use Rattle.index.proofs.WayLaws.{descending_start, descending_next, descended_none, descended_past}
 use Rattle.index.proofs.ways.descend.Goals as goal
 
 pub loop-last-init : goal.loop-last-init

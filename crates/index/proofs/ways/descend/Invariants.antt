@@ -1,10 +1,6 @@
 use Prim.Native.Nat.{◌-◌}
-use mathlib.Core.Path.{refl, ap, ◌∙◌}
-use native.Mathlib.Omega.{arith}
-use borrow.Author.Rules.{rules}
-use Rattle.tape.specs.Fields.{name_of}
 use Rattle.tape.specs.Lent.{table_of}
-use Rattle.index.proofs.WayLaws.{Descending, descending_start, descending_next, descended_none, descended_past}
+use Rattle.index.proofs.WayLaws.{Descending}
 use Rattle.index.proofs.ways.descend.Given as goal
 
 abbrev pub invariant-loop-last : goal.invariant-loop-last

@@ -1,10 +1,8 @@
 -- `descend_by_hash` meets its contract: rows grow along a path, and names whose hashes differ are different.
-use Prim.Native.Nat.{◌-◌, ◌<◌}
 use mathlib.Core.Path.{refl, ap, ◌∙◌}
 use native.Mathlib.Omega.{arith}
-use borrow.Author.Rules.{rules}
 use Rattle.tape.specs.Fields.{name_of}
-use Rattle.index.proofs.WayLaws.{Passing, passing_start, passing_next, passed_none, passed_past, no_slot}
+use Rattle.index.proofs.WayLaws.{passing_start, passing_next, passed_none, passed_past, no_slot}
 use Rattle.index.proofs.ways.descend_by_hash.Goals as goal
 
 pub loop-last-init : goal.loop-last-init

@@ -1,9 +1,5 @@
 use Prim.Native.Nat.{◌-◌, ◌<◌}
-use mathlib.Core.Path.{refl, ap, ◌∙◌}
-use native.Mathlib.Omega.{arith}
-use borrow.Author.Rules.{rules}
-use Rattle.tape.specs.Fields.{name_of}
-use Rattle.index.proofs.WayLaws.{Passing, passing_start, passing_next, passed_none, passed_past, no_slot}
+use Rattle.index.proofs.WayLaws.{Passing}
 use Rattle.index.proofs.ways.descend_by_hash.Given as goal
 
 abbrev pub invariant-loop-last : goal.invariant-loop-last

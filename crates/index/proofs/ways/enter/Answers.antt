@@ -1,7 +1,6 @@
 -- `enter` meets its contract: nothing is done where the numbers do not fit; otherwise the row is put where the path of its name ends.
 use mathlib.Core.Path.{refl}
 use native.Mathlib.Omega.{arith}
-use borrow.Author.Rules.{rules}
 use Rattle.index.proofs.WayLaws.{not_entered, entered}
 use Rattle.index.proofs.ways.enter.Goals as goal
 

@@ -1,7 +1,6 @@
 -- `enter_by_hash` meets its contract: the row is put where the path of its name ends, if the hash leads there.
 use mathlib.Core.Path.{refl}
 use native.Mathlib.Omega.{arith}
-use borrow.Author.Rules.{rules}
 use Rattle.index.proofs.WayLaws.{not_by_hash, entered_by_hash}
 use Rattle.index.proofs.ways.enter_by_hash.Goals as goal
 

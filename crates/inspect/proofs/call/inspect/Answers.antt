@@ -22,6 +22,6 @@ slice_bounds-checked-end-4 c = sym (length-take-le work_entries c.args.index.now
 
 pub returns : goal.returns
 returns c =
-    work_done (omega arith) (omega arith) c.checked-answer.ensures c.checked-answer.new.1.0 c.checked-answer.auto.nodes
-    c.wipe.ensures c.checked-answer.new.1.1.0 c.checked-answer.auto.index
+    work_done (omega arith) (omega arith) c.checked-answer.ensures c.checked-answer.new.nodes c.checked-answer.auto.nodes
+    c.wipe.ensures c.checked-answer.new.index c.checked-answer.auto.index
     c.empty.ensures

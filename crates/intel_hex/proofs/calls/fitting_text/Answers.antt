@@ -1,5 +1,4 @@
 use Rattle.std.proofs.Common.{refl, arith}
-use Rattle.lexer.proofs.Auto.{auto}
 use Rattle.intel_hex.proofs.CallLaws.{refuses, succeeds, fitting_short}
 use Rattle.intel_hex.proofs.calls.fitting_text.Goals as goal
 

@@ -1,5 +1,4 @@
 use Rattle.std.proofs.Common.{sym, ◌∙◌}
-use Rattle.lexer.proofs.Auto.{auto}
 use Rattle.intel_hex.proofs.CallLaws.{refuses, answered_as, read_bytes, read-accepted, read_refused}
 use Rattle.intel_hex.proofs.calls.read_hex.Goals as goal
 

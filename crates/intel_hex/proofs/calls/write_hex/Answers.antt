@@ -1,5 +1,4 @@
 use Rattle.std.proofs.Common.{◌∙◌, arith}
-use Rattle.lexer.proofs.Auto.{auto}
 use Rattle.intel_hex.proofs.CallLaws.{refuses, succeeds, write_long, write_fits, fitting_short}
 use Rattle.intel_hex.proofs.calls.write_hex.Goals as goal
 
@@ -11,7 +10,8 @@ hex_length-requires c = c.if-text-gt-MAX_TEXT.false
 
 pub returns-then-output-hex_length : goal.returns-then-output-hex_length
 returns-then-output-hex_length c =
-    refuses 16 0 (write_fits _ _ c.if-text-gt-MAX_TEXT.false ∙ fitting_short _ _ (omega (arith, c.hex_length.ensures))) c.refusal-then-output-hex_length.ensures
+    refuses 16 0 (write_fits _ _ c.if-text-gt-MAX_TEXT.false ∙ fitting_short _ _ (omega (arith, c.hex_length.ensures)))
+    c.refusal-then-output-hex_length.ensures
 
 pub put_hex-requires : goal.put_hex-requires
 put_hex-requires c = (c.if-text-gt-MAX_TEXT.false, omega (arith, c.hex_length.ensures))

@@ -1,5 +1,4 @@
 use Rattle.std.proofs.Common.{arith}
-use Rattle.lexer.proofs.Auto.{auto}
 use Rattle.spec.specs.Bytes.{byte}
 use Rattle.intel_hex.specs.Reading.{hex_byte}
 use Rattle.intel_hex.proofs.digits.hex_byte.Goals as goal

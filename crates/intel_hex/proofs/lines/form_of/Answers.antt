@@ -1,5 +1,4 @@
 use Rattle.std.proofs.Common.{sym, ◌∙◌, arith}
-use Rattle.lexer.proofs.Auto.{auto}
 use Rattle.intel_hex.specs.Reading.{count, address_of, type_of}
 use Rattle.intel_hex.proofs.StepLaws.{data_form, no_data, other_type, end_count, end_address, end_form}
 use Rattle.intel_hex.proofs.lines.form_of.Goals as goal

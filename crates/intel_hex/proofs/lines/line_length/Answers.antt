@@ -1,6 +1,3 @@
-use Rattle.std.proofs.Common.{arith}
-use Rattle.lexer.proofs.Auto.{auto}
-use Rattle.intel_hex.specs.Reading.{ending}
 use Rattle.intel_hex.proofs.StepLaws.{length_is}
 use Rattle.intel_hex.proofs.lines.line_length.Goals as goal
 

@@ -1,5 +1,4 @@
 use Rattle.std.proofs.Common.{arith}
-use Rattle.lexer.proofs.Auto.{auto}
 use Rattle.spec.specs.Bytes.{byte}
 use Rattle.intel_hex.specs.Reading.{count, record_end}
 use Rattle.intel_hex.proofs.LineLaws.{too_short, no_colon, no_ending, line_summed}

@@ -1,8 +1,7 @@
-use Rattle.std.proofs.Common.{◌-◌, ◌<◌, ◌≤◌, arith}
-use Rattle.lexer.proofs.Auto.{auto}
+use Rattle.std.proofs.Common.{arith}
 use Rattle.spec.specs.Bytes.{byte}
 use Rattle.intel_hex.specs.Steps.{ScanIs}
-use Rattle.intel_hex.proofs.LineLaws.{bad_high, bad_low, Scanning, scanning_starts, scanning_bad, scanning_on, scanning_ends, scanning_room}
+use Rattle.intel_hex.proofs.LineLaws.{bad_high, bad_low, scanning_starts, scanning_bad, scanning_on, scanning_ends, scanning_room}
 use Rattle.intel_hex.proofs.lines.scan.Goals as goal
 
 pub loop-i-init : goal.loop-i-init
@@ -44,7 +43,7 @@ loop-i-preserved c = (
   omega arith,
   omega (arith, c.wrapping_add_u8-sum.ensures),
   scanning_on c.loop-i.invariant.2 c.loop-i-test.true c.hex_value-high.ensures
-      c.hex_value-low.ensures (omega arith) (omega arith) c.wrapping_add_u8-sum.ensures,
+      c.hex_value-low.ensures (omega arith) (omega arith) c.wrapping_add_u8-sum.ensures.value,
 )
 
 pub returns : goal.returns

@@ -1,8 +1,5 @@
-use Rattle.std.proofs.Common.{◌-◌, ◌<◌, ◌≤◌, arith}
-use Rattle.lexer.proofs.Auto.{auto}
-use Rattle.spec.specs.Bytes.{byte}
-use Rattle.intel_hex.specs.Steps.{ScanIs}
-use Rattle.intel_hex.proofs.LineLaws.{bad_high, bad_low, Scanning, scanning_starts, scanning_bad, scanning_on, scanning_ends, scanning_room}
+use Rattle.std.proofs.Common.{◌-◌, ◌<◌, ◌≤◌}
+use Rattle.intel_hex.proofs.LineLaws.{Scanning}
 use Rattle.intel_hex.proofs.lines.scan.Given as goal
 
 abbrev pub invariant-loop-i : goal.invariant-loop-i

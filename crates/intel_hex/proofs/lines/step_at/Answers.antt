@@ -1,4 +1,3 @@
-use Rattle.lexer.proofs.Auto.{auto}
 use Rattle.std.proofs.Common.{subst}
 use Rattle.intel_hex.specs.Steps.{LineIs, FormIs}
 use Rattle.intel_hex.proofs.StepLaws.{bad_line, bad_form, data_summed, end_summed, eleven}
@@ -22,9 +21,8 @@ pub end_step-requires : goal.end_step-requires
 end_step-requires c =
     end_summed _ _ (subst (LineIs _) c.in-Sum.is c.line_sum.ensures) (subst (FormIs _) c.in-End.is c.form_of.ensures)
 
--- TODO step End-step.ensures
 pub returns-in-End : goal.returns-in-End
-returns-in-End c = c.End-step.ensures
+returns-in-End c = c.end_step.ensures
 
 pub returns-in-Neither : goal.returns-in-Neither
 returns-in-Neither c = bad_form _ _ (subst (FormIs _) c.in-Neither.is c.form_of.ensures)

@@ -1,6 +1,5 @@
-use Rattle.std.proofs.Common.{◌-◌, length, arith}
-use Rattle.lexer.proofs.Auto.{auto}
-use Rattle.intel_hex.proofs.ReadLaws.{Measuring, measuring_starts, measuring_on, onward_more, measured-done, measured_refused, measured_behind}
+use Rattle.std.proofs.Common.{arith}
+use Rattle.intel_hex.proofs.ReadLaws.{measuring_starts, measuring_on, onward_more, measured-done, measured_refused, measured_behind}
 use Rattle.intel_hex.proofs.ReadLaws.{measured_missing}
 use Rattle.intel_hex.proofs.reading.measure_text.Goals as goal
 

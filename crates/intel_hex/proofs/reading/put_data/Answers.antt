@@ -1,8 +1,7 @@
-use Rattle.std.proofs.Common.{◌-◌, ◌≤◌, arith}
-use Rattle.lexer.proofs.Auto.{auto}
+use Rattle.std.proofs.Common.{arith}
 use Rattle.spec.specs.Bytes.{byte}
 use Rattle.text.proofs.LaidLaws.{laid_length}
-use Rattle.intel_hex.proofs.WritingLaws.{Filling, filling_starts, filling_digits, filling_on, filling_ends, filling_room}
+use Rattle.intel_hex.proofs.WritingLaws.{filling_starts, filling_digits, filling_on, filling_ends, filling_room}
 use Rattle.intel_hex.proofs.reading.put_data.Goals as goal
 
 pub loop-i-init : goal.loop-i-init

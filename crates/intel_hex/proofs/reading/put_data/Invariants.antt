@@ -1,8 +1,5 @@
-use Rattle.std.proofs.Common.{◌-◌, ◌≤◌, arith}
-use Rattle.lexer.proofs.Auto.{auto}
-use Rattle.spec.specs.Bytes.{byte}
-use Rattle.text.proofs.LaidLaws.{laid_length}
-use Rattle.intel_hex.proofs.WritingLaws.{Filling, filling_starts, filling_digits, filling_on, filling_ends, filling_room}
+use Rattle.std.proofs.Common.{◌-◌, ◌≤◌}
+use Rattle.intel_hex.proofs.WritingLaws.{Filling}
 use Rattle.intel_hex.proofs.reading.put_data.Given as goal
 
 abbrev pub invariant-loop-i : goal.invariant-loop-i

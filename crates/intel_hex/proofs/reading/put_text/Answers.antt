@@ -1,7 +1,6 @@
-use Rattle.std.proofs.Common.{◌-◌, length, arith}
+use Rattle.std.proofs.Common.{arith}
 use Rattle.text.proofs.LaidLaws.{laid_length}
-use Rattle.lexer.proofs.Auto.{auto}
-use Rattle.intel_hex.proofs.ReadLaws.{Pouring, pouring_starts, lent-room, pouring_last, pouring_on, pouring_missing}
+use Rattle.intel_hex.proofs.ReadLaws.{pouring_starts, lent-room, pouring_last, pouring_on, pouring_missing}
 use Rattle.intel_hex.proofs.reading.put_text.Goals as goal
 
 pub loop-at-init : goal.loop-at-init

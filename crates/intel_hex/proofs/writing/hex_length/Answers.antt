@@ -1,5 +1,4 @@
 use Rattle.std.proofs.Common.{arith}
-use Rattle.lexer.proofs.Auto.{auto}
 use Rattle.intel_hex.proofs.RecordLaws.{hex_length}
 use Rattle.intel_hex.proofs.writing.hex_length.Goals as goal
 

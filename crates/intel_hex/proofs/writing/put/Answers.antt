@@ -1,6 +1,5 @@
 use Rattle.std.proofs.Common.{sym, refl}
 use lib.Seq.{set_out}
-use Rattle.lexer.proofs.Auto.{auto}
 use Rattle.intel_hex.proofs.writing.put.Goals as goal
 
 pub returns-then-at-out : goal.returns-then-at-out

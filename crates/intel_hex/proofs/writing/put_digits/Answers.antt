@@ -1,5 +1,4 @@
 use Rattle.std.proofs.Common.{refl, arith, length-set}
-use Rattle.lexer.proofs.Auto.{auto}
 use Rattle.intel_hex.proofs.WritingLaws.{digits_stored}
 use Rattle.intel_hex.proofs.writing.put_digits.Goals as goal
 

@@ -1,7 +1,6 @@
-use Rattle.std.proofs.Common.{◌≡◌, ◌+◌, ◌-◌, ◌≤◌, length, drop, refl, ap, ◌∙◌, arith, length-take}
+use Rattle.std.proofs.Common.{length, drop, refl, ap, ◌∙◌, arith, length-take}
 use Rattle.text.proofs.LaidLaws.{laid_length, stored_length}
-use Rattle.lexer.proofs.Auto.{auto}
-use Rattle.intel_hex.proofs.TextLaws.{Printing, printing_starts, printing_room, printing_on, printing_last, printing_last_room, cut, none_left}
+use Rattle.intel_hex.proofs.TextLaws.{printing_starts, printing_room, printing_on, printing_last, printing_last_room, cut, none_left}
 use Rattle.intel_hex.proofs.writing.put_hex.Goals as goal
 
 pub loop-at-init : goal.loop-at-init
@@ -21,7 +20,9 @@ slice_bounds-put_line-end c = omega (arith, c.record_end-stop.ensures)
 
 pub put_line-end-requires : goal.put_line-end-requires
 put_line-end-requires c =
-    let same = cut c.args.text.now c.loop-at.at c.record_end-stop.result (omega (arith, c.record_end-stop.ensures)) c.record_end-stop.ensures.2 c.record_end-stop.ensures.3 in (
+    let same =
+    cut c.args.text.now c.loop-at.at c.record_end-stop.result (omega (arith, c.record_end-stop.ensures))
+    c.record_end-stop.ensures.2 c.record_end-stop.ensures.3 in (
       omega (arith, c.requires),
       omega (
         arith,
@@ -44,7 +45,9 @@ overflow_add-at c = omega (arith, c.requires)
 
 pub loop-at-preserved : goal.loop-at-preserved
 loop-at-preserved c =
-    let same = cut c.args.text.now c.loop-at.at c.record_end-stop.result (omega (arith, c.record_end-stop.ensures)) c.record_end-stop.ensures.2 c.record_end-stop.ensures.3 in
+    let same =
+    cut c.args.text.now c.loop-at.at c.record_end-stop.result (omega (arith, c.record_end-stop.ensures))
+    c.record_end-stop.ensures.2 c.record_end-stop.ensures.3 in
     (refl, omega arith, printing_on c.loop-at.invariant.2 (omega arith) same c.put_line-end.ensures)
 
 pub put_line-requires : goal.put_line-requires

@@ -1,7 +1,5 @@
-use Rattle.std.proofs.Common.{◌≡◌, ◌+◌, ◌-◌, ◌≤◌, length, drop, refl, ap, ◌∙◌, arith, length-take}
-use Rattle.text.proofs.LaidLaws.{laid_length, stored_length}
-use Rattle.lexer.proofs.Auto.{auto}
-use Rattle.intel_hex.proofs.TextLaws.{Printing, printing_starts, printing_room, printing_on, printing_last, printing_last_room, cut, none_left}
+use Rattle.std.proofs.Common.{◌≡◌, ◌+◌, ◌-◌, ◌≤◌, length}
+use Rattle.intel_hex.proofs.TextLaws.{Printing}
 use Rattle.intel_hex.proofs.writing.put_hex.Given as goal
 
 abbrev pub invariant-loop-at : goal.invariant-loop-at

@@ -1,6 +1,5 @@
 use Rattle.std.proofs.Common.{length, ap, arith, length-set}
 use Rattle.text.proofs.LaidLaws.{stored_length}
-use Rattle.lexer.proofs.Auto.{auto}
 use Rattle.intel_hex.specs.Record.{digits_of, digits}
 use Rattle.intel_hex.proofs.RecordLaws.{digits_of-length}
 use Rattle.intel_hex.proofs.WritingLaws.{line_stored}
@@ -40,23 +39,20 @@ put_digits-end-requires c =
       simp length-set at (ap length c.put.ensures),
     )
 
--- TODO step well_formed_lem
 pub overflow_add-result : goal.overflow_add-result
 unfolding digits_of digits
 overflow_add-result c =
     omega (
       arith,
       c.requires,
-      c.well_formed_lem,
       c.put_spelled-behind_head.ensures.next_is,
       c.put_spelled-behind_data.ensures.next_is,
       c.put_digits-end.ensures.next_is,
-      digits_of-length
-          c.args.bytes.now,
+      digits_of-length c.args.bytes.now,
     )
 
 pub returns : goal.returns
 unfolding digits_of digits
 returns c =
-    line_stored _ _ _ _ c.sum.ensures c.sum-2.ensures c.wrapping_sub_u8-last.ensures (omega arith) c.put.ensures c.put_spelled-behind_head.ensures
+    line_stored _ _ _ _ c.sum.ensures c.sum-2.ensures c.wrapping_sub_u8-last.ensures.value (omega arith) c.put.ensures c.put_spelled-behind_head.ensures
     c.put_spelled-behind_data.ensures c.put_digits-end.ensures c.put-2.ensures

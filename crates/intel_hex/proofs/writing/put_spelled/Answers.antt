@@ -1,8 +1,7 @@
-use Rattle.std.proofs.Common.{◌≡◌, ◌+◌, ◌-◌, ◌*◌, ◌≤◌, length, drop, arith}
-use Rattle.lexer.proofs.Auto.{auto}
+use Rattle.std.proofs.Common.{arith}
 use Rattle.spec.specs.Bytes.{byte}
-use Rattle.text.proofs.LaidLaws.{Laid, laid_starts, laid_length, laid_on, laid_ends}
-use Rattle.intel_hex.specs.Record.{digits, digits_of}
+use Rattle.text.proofs.LaidLaws.{laid_starts, laid_length, laid_on, laid_ends}
+use Rattle.intel_hex.specs.Record.{digits}
 use Rattle.intel_hex.proofs.RecordLaws.{digits_of_here, digits_of_end}
 use Rattle.intel_hex.proofs.writing.put_spelled.Goals as goal
 

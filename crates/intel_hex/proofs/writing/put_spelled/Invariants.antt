@@ -1,9 +1,6 @@
-use Rattle.std.proofs.Common.{◌≡◌, ◌+◌, ◌-◌, ◌*◌, ◌≤◌, length, drop, arith}
-use Rattle.lexer.proofs.Auto.{auto}
-use Rattle.spec.specs.Bytes.{byte}
-use Rattle.text.proofs.LaidLaws.{Laid, laid_starts, laid_length, laid_on, laid_ends}
-use Rattle.intel_hex.specs.Record.{digits, digits_of}
-use Rattle.intel_hex.proofs.RecordLaws.{digits_of_here, digits_of_end}
+use Rattle.std.proofs.Common.{◌≡◌, ◌+◌, ◌-◌, ◌*◌, ◌≤◌, length, drop}
+use Rattle.text.proofs.LaidLaws.{Laid}
+use Rattle.intel_hex.specs.Record.{digits_of}
 use Rattle.intel_hex.proofs.writing.put_spelled.Given as goal
 
 abbrev pub invariant-loop-i : goal.invariant-loop-i

@@ -1,7 +1,5 @@
-use Rattle.std.proofs.Common.{◌≡◌, ◌+◌, ◌-◌, ◌%◌, ◌<◌, ◌≤◌, length, drop, refl, arith}
-use Rattle.lexer.proofs.Auto.{auto}
+use Rattle.std.proofs.Common.{refl, arith}
 use Rattle.spec.specs.Bytes.{byte}
-use Rattle.intel_hex.specs.Record.{total}
 use Rattle.intel_hex.proofs.RecordLaws.{total_here, total_end}
 use Rattle.intel_hex.proofs.writing.sum.Goals as goal
 

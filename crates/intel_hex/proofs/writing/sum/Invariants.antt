@@ -1,8 +1,5 @@
-use Rattle.std.proofs.Common.{◌≡◌, ◌+◌, ◌-◌, ◌%◌, ◌<◌, ◌≤◌, length, drop, refl, arith}
-use Rattle.lexer.proofs.Auto.{auto}
-use Rattle.spec.specs.Bytes.{byte}
+use Rattle.std.proofs.Common.{◌≡◌, ◌+◌, ◌-◌, ◌%◌, ◌<◌, ◌≤◌, length, drop}
 use Rattle.intel_hex.specs.Record.{total}
-use Rattle.intel_hex.proofs.RecordLaws.{total_here, total_end}
 use Rattle.intel_hex.proofs.writing.sum.Given as goal
 
 abbrev pub invariant-loop-i : goal.invariant-loop-i

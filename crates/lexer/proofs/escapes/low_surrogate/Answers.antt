@@ -3,7 +3,6 @@ use Rattle.spec.specs.Outcome.{◌>>=◌}
 use Rattle.spec.specs.Strings.{low_surrogate}
 use Rattle.lexer.specs.Answers.{character_outcome}
 use Rattle.lexer.proofs.AnswerLaws.{within_ok, outside_refused, hex_known}
-use Rattle.lexer.proofs.Auto.{auto}
 use Rattle.lexer.proofs.escapes.low_surrogate.Goals as goal
 
 pub returns-in_default : goal.returns-in_default

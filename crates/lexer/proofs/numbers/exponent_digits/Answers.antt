@@ -1,22 +1,20 @@
 -- The digits that are left, with the exponent's size so far, end at the same place.
-use Prim.Native.Nat.{◌+◌, ◌-◌, ◌*◌, ◌<◌, ◌≤◌}
+use Prim.Native.Nat.{◌+◌, ◌-◌, ◌*◌}
 use mathlib.Core.Path.{◌≡◌, ◌∙◌, ap}
 use mathlib.Core.Bool.{true}
 use native.Mathlib.Omega.{arith}
-use borrow.Author.Tests.{le-leb, lt-leb, not-true, not-false}
-use lib.ListN.{length}
+use borrow.Author.Tests.{le-leb, lt-leb}
 use lib.Dec.{leb}
 use Rattle.spec.specs.Limits.{max_exponent}
 use Rattle.spec.specs.Bytes.{byte}
 use Rattle.spec.specs.Numbers.{is_digit, exponent_digits}
 use Rattle.lexer.specs.Answers.{scan_outcome}
 use Rattle.lexer.proofs.Tests.{told}
-use Rattle.lexer.proofs.Fuel.{Runs, starts, goes_on, ends}
+use Rattle.lexer.proofs.Fuel.{starts, goes_on, ends}
 use Rattle.lexer.proofs.ByteLaws.{inside}
 use Rattle.lexer.proofs.AnswerLaws.{to_ok, scan_refused}
 use Rattle.lexer.proofs.NumberLoop.{exponent_more, exponent_stopped, exponent_large, exponent_end, exponent_none}
 use Rattle.lexer.proofs.NumberLoop.{not_digit, digit_bounds, counted_next}
-use Rattle.lexer.proofs.Auto.{auto}
 use Rattle.lexer.proofs.numbers.exponent_digits.Goals as goal
 
 pub loop-start-init : goal.loop-start-init

@@ -1,14 +1,11 @@
 -- The bytes so far stand for themselves.
-use borrow.Author.Rules.{rules}
-use Prim.Native.Nat.{◌-◌}
 use mathlib.Core.Path.{◌≡◌, sym, ◌∙◌}
-use mathlib.Core.Bool.{true, false, true≢false}
+use mathlib.Core.Bool.{true, true≢false}
 use native.Mathlib.Omega.{arith}
-use lib.ListN.{length}
 use Rattle.spec.specs.Bytes.{byte}
 use Rattle.lexer.specs.Answers.{quoted_outcome}
 use Rattle.lexer.specs.Names.{stands_for_itself}
-use Rattle.lexer.specs.Verbatim.{Verbatim, none}
+use Rattle.lexer.specs.Verbatim.{none}
 use Rattle.lexer.proofs.ByteLaws.{here}
 use Rattle.lexer.proofs.StringLoop.{self_inside}
 use Rattle.lexer.proofs.VerbatimLaws.{verbatim_self}

@@ -1,20 +1,15 @@
 -- What is left of the string, with whether it is plain so far, gives the same.
-use Prim.Native.Nat.{◌-◌}
 use mathlib.Core.Path.{◌≡◌, sym, ◌∙◌}
-use mathlib.Core.Bool.{true, false, true≢false}
+use mathlib.Core.Bool.{true≢false}
 use native.Mathlib.Omega.{arith}
 use borrow.Author.Tests.{not-true}
-use lib.ListN.{length}
 use Rattle.spec.specs.Bytes.{byte}
-use Rattle.spec.specs.Strings.{characters}
 use Rattle.lexer.specs.Answers.{quoted_outcome}
-use Rattle.lexer.specs.Names.{plain_of}
 use Rattle.lexer.proofs.ByteLaws.{here}
 use Rattle.lexer.proofs.AnswerLaws.{scalar_ok, character-refused_at}
 use Rattle.lexer.proofs.StringLaws.{character_ok_past}
 use Rattle.lexer.proofs.VerbatimLaws.{verbatim_past, ends_backslash}
-use Rattle.lexer.proofs.NameLaws.{no_more, Passing, passing_starts, passing_verbatim, passing_more, passing_quote, passing_refused}
-use Rattle.lexer.proofs.Auto.{auto}
+use Rattle.lexer.proofs.NameLaws.{no_more, passing_starts, passing_verbatim, passing_more, passing_quote, passing_refused}
 use Rattle.lexer.proofs.strings.mixed_characters.Goals as goal
 
 pub loop-start-init : goal.loop-start-init

@@ -1,4 +1,3 @@
-use native.Mathlib.Omega.{arith}
 use borrow.Author.Tests.{eq-eqb, ne_eqb}
 use Rattle.lexer.specs.Names.{stands_for_itself}
 use Rattle.lexer.proofs.Tests.{below_within, above_within, between-within}

@@ -8,7 +8,6 @@ use Rattle.spec.specs.Strings.{tail, multibyte}
 use Rattle.lexer.specs.Answers.{character_outcome}
 use Rattle.lexer.proofs.Tests.{between-within, below_within, above_within}
 use Rattle.lexer.proofs.ByteLaws.{here}
-use Rattle.lexer.proofs.Auto.{auto}
 use Rattle.lexer.proofs.utf8.multibyte.Goals as goal
 
 -- the definition, row by row: `b` is the byte at the place, and `o` what the code answered

@@ -1,9 +1,7 @@
-use Prim.Native.Nat.{ℕ, suc, ◌+◌, ◌-◌, ◌≤◌, ◌<◌}
-use mathlib.Core.Path.{◌≡◌, sym, ◌∙◌}
+use Prim.Native.Nat.{suc, ◌+◌, ◌<◌}
+use mathlib.Core.Path.{sym, ◌∙◌}
 use native.Mathlib.Omega.{arith}
-use borrow.Author.Rules.{rules}
 use Rattle.spec.specs.Bytes.{byte}
-use Rattle.lexer.specs.States.{block, look_over}
 use Rattle.lexer.proofs.StateLaws.{over_whole, over_none, over_next, look_small}
 use Rattle.lexer.proofs.verbatim.after_block.Goals as goal
 

@@ -1,10 +1,6 @@
-use Prim.Native.Nat.{ℕ, suc, ◌+◌, ◌-◌, ◌≤◌, ◌<◌}
-use mathlib.Core.Path.{◌≡◌, sym, ◌∙◌}
-use native.Mathlib.Omega.{arith}
-use borrow.Author.Rules.{rules}
-use Rattle.spec.specs.Bytes.{byte}
+use Prim.Native.Nat.{ℕ, ◌+◌, ◌-◌, ◌≤◌, ◌<◌}
+use mathlib.Core.Path.{◌≡◌}
 use Rattle.lexer.specs.States.{block, look_over}
-use Rattle.lexer.proofs.StateLaws.{over_whole, over_none, over_next, look_small}
 use Rattle.lexer.proofs.verbatim.after_block.Given as goal
 
 abbrev pub invariant-loop-k : goal.invariant-loop-k

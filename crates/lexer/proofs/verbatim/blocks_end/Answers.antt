@@ -1,12 +1,9 @@
-use Prim.Native.Nat.{ℕ, ◌-◌, ◌<◌}
-use mathlib.Core.Bool.{Bool}
+use Prim.Native.Nat.{ℕ, ◌<◌}
 use native.Mathlib.Omega.{arith}
-use borrow.Author.Rules.{rules}
-use lib.ListN.{length}
 use Rattle.spec.specs.Bytes.{byte}
-use Rattle.lexer.specs.Verbatim.{Verbatim, none}
-use Rattle.lexer.specs.States.{block, Tables}
-use Rattle.lexer.proofs.StateLaws.{Gone, gone_starts, gone_block, block_end}
+use Rattle.lexer.specs.Verbatim.{none}
+use Rattle.lexer.specs.States.{block}
+use Rattle.lexer.proofs.StateLaws.{gone_starts, gone_block, block_end}
 use Rattle.lexer.proofs.verbatim.blocks_end.Goals as goal
 
 -- the state says what the bytes before the place are, and the characters before the end are whole

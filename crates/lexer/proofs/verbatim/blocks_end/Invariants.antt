@@ -1,12 +1,9 @@
-use Prim.Native.Nat.{ℕ, ◌-◌, ◌<◌}
+use Prim.Native.Nat.{◌-◌, ◌<◌}
 use mathlib.Core.Bool.{Bool}
-use native.Mathlib.Omega.{arith}
-use borrow.Author.Rules.{rules}
 use lib.ListN.{length}
-use Rattle.spec.specs.Bytes.{byte}
-use Rattle.lexer.specs.Verbatim.{Verbatim, none}
-use Rattle.lexer.specs.States.{block, Tables}
-use Rattle.lexer.proofs.StateLaws.{Gone, gone_starts, gone_block, block_end}
+use Rattle.lexer.specs.Verbatim.{Verbatim}
+use Rattle.lexer.specs.States.{Tables}
+use Rattle.lexer.proofs.StateLaws.{Gone}
 use Rattle.lexer.proofs.verbatim.blocks_end.Given as goal
 
 abbrev pub invariant-loop-at : goal.invariant-loop-at

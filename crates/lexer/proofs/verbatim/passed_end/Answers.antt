@@ -1,14 +1,7 @@
-use borrow.Author.Rules.{rules}
-use Prim.Native.Nat.{◌-◌, ◌<◌}
 use mathlib.Core.Path.{refl}
-use mathlib.Core.Bool.{Bool}
 use native.Mathlib.Omega.{arith}
-use lib.ListN.{length}
-use lib.Dec.{eqb}
-use Rattle.spec.specs.Outcome.{if◌then◌else◌}
 use Rattle.spec.specs.Bytes.{byte}
-use Rattle.lexer.specs.States.{Tables}
-use Rattle.lexer.proofs.StateLaws.{Going, between, going_end, look_small, turn, stops, past}
+use Rattle.lexer.proofs.StateLaws.{between, going_end, look_small, turn, stops, past}
 use Rattle.lexer.proofs.verbatim.passed_end.Goals as goal
 
 -- the state says what the bytes before the place are, and the tables are shifted by it; the end is that of the turn before

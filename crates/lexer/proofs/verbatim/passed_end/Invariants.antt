@@ -1,14 +1,10 @@
-use borrow.Author.Rules.{rules}
+use Rattle.std.specs.Prelude.{if◌then◌else◌}
 use Prim.Native.Nat.{◌-◌, ◌<◌}
-use mathlib.Core.Path.{refl}
 use mathlib.Core.Bool.{Bool}
-use native.Mathlib.Omega.{arith}
 use lib.ListN.{length}
 use lib.Dec.{eqb}
-use Rattle.spec.specs.Outcome.{if◌then◌else◌}
-use Rattle.spec.specs.Bytes.{byte}
 use Rattle.lexer.specs.States.{Tables}
-use Rattle.lexer.proofs.StateLaws.{Going, between, going_end, look_small, turn, stops, past}
+use Rattle.lexer.proofs.StateLaws.{Going}
 use Rattle.lexer.proofs.verbatim.passed_end.Given as goal
 
 abbrev pub invariant-loop-at : goal.invariant-loop-at

@@ -26,5 +26,5 @@ slice_bounds-checked-end-4 c =
 pub returns : goal.returns
 returns c =
     call_done (omega arith) (omega arith) (λ e. answer_same _ _ _ _ e refl refl) c.checked-answer.ensures
-    c.checked-answer.new.1.1.1.0 c.checked-answer.auto.nodes c.wipe.ensures
-    c.checked-answer.new.1.1.1.1.0 c.checked-answer.auto.index c.empty.ensures
+    c.checked-answer.new.nodes c.checked-answer.auto.nodes c.wipe.ensures
+    c.checked-answer.new.index c.checked-answer.auto.index c.empty.ensures

@@ -5,17 +5,15 @@ use borrow.Author.Tests.{not-true, not-false}
 use Rattle.listing.proofs.StageLaws.{text_short, list_short, both-written}
 use Rattle.listing.proofs.stages.write_listed.Goals as goal
 
--- TODO step before.before.fits2.ensures
+-- TODO step before.before.fits.ensures
 pub returns-then-not-fits : goal.returns-then-not-fits
-returns-then-not-fits c v b = text_short b _ c.fits2.ensures c.if-not-fits.true c.refused.ensures
+returns-then-not-fits c v b = text_short b _ c.fits.ensures c.if-not-fits.true c.refused.ensures
 
--- TODO step fits2.ensures
 pub returns-then-origins-used : goal.returns-then-origins-used
 returns-then-origins-used c v b =
-    list_short b _ c.fits2.ensures c.if-not-fits.false (omega (arith, c.if-origins-used.true)) c.refused-then-origins-used.ensures
+    list_short b _ c.fits.ensures c.if-not-fits.false (omega (arith, c.if-origins-used.true)) c.refused-then-origins-used.ensures
 
--- TODO step fits2.ensures
 pub returns : goal.returns
 returns c v b =
-    both-written b _ c.fits2.ensures c.if-not-fits.false (omega (arith, c.if-origins-used.false)) c.write-length.ensures
+    both-written b _ c.fits.ensures c.if-not-fits.false (omega (arith, c.if-origins-used.false)) c.write-length.ensures
     c.list_origins.ensures c.success.ensures

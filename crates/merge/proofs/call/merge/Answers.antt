@@ -31,6 +31,6 @@ checked_merge-answer-requires c = (
 pub returns : goal.returns
 returns c =
     work_done (omega arith) (omega arith) c.checked_merge-answer.ensures
-    c.checked_merge-answer.new.1.1.0 c.checked_merge-answer.auto.nodes
-    c.wipe.ensures c.checked_merge-answer.new.1.1.1.0
+    c.checked_merge-answer.new.nodes c.checked_merge-answer.auto.nodes
+    c.wipe.ensures c.checked_merge-answer.new.index
     c.checked_merge-answer.auto.index c.empty.ensures

@@ -122,7 +122,7 @@ loop-row-preserved t c =
     let goes = row_goes c.loop-row.nodes c.loop-row.row _ c.end_of-row.ensures
     (row_inside _ c.loop-row.row _ c.loop-row.invariant.1 c.loop-row-test.true c.loop-row.invariant.3) (c.loop-row.invariant.0.framed.same_length ∙ c.loop-row.invariant.2) in
     let onward =
-    onward_merge {index = c.keep.new.1.1.0} (onward_index c.loop-row.invariant.0 c.keep.ensures.same_length) refl
+    onward_merge {index = c.keep.new.index} (onward_index c.loop-row.invariant.0 c.keep.ensures.same_length) refl
     c.merge_object-next.ensures c.merge_object-next.auto.index in (
       onward,
       above_next c.loop-row.invariant.1 goes,

@@ -5,11 +5,10 @@ use Rattle.merge.proofs.StageLaws.{text_refused, text_written}
 use borrow.Author.Rules.{rules}
 use Rattle.merge.proofs.stages.write_at.Goals as goal
 
--- TODO step before.before.fits2.ensures
+-- TODO step before.before.fits.ensures
 pub returns-then-not-fits : goal.returns-then-not-fits
-returns-then-not-fits c v d low = text_refused d low _ c.fits2.ensures c.if-not-fits.true c.refused.ensures
+returns-then-not-fits c v d low = text_refused d low _ c.fits.ensures c.if-not-fits.true c.refused.ensures
 
--- TODO step fits2.ensures
 pub returns : goal.returns
 returns c v d low =
-    text_written d low _ c.fits2.ensures c.if-not-fits.false c.write-length.ensures c.success.ensures
+    text_written d low _ c.fits.ensures c.if-not-fits.false c.write-length.ensures c.success.ensures

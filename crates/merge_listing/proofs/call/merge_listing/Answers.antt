@@ -32,5 +32,5 @@ checked_listed-answer-requires c = (
 pub returns : goal.returns
 returns c =
     call_done (omega arith) (omega arith) (λ e. merge_same _ _ _ _ e refl refl) c.checked_listed-answer.ensures
-    c.checked_listed-answer.new.1.1.1.0 c.checked_listed-answer.auto.nodes c.wipe.ensures
-    c.checked_listed-answer.new.1.1.1.1.0 c.checked_listed-answer.auto.index c.empty.ensures
+    c.checked_listed-answer.new.nodes c.checked_listed-answer.auto.nodes c.wipe.ensures
+    c.checked_listed-answer.new.index c.checked_listed-answer.auto.index c.empty.ensures

@@ -5,17 +5,15 @@ use borrow.Author.Tests.{not-true, not-false}
 use Rattle.merge_listing.proofs.StageLaws.{text_short, list_short, both-written}
 use Rattle.merge_listing.proofs.stages.write_listed.Goals as goal
 
--- TODO step before.before.fits2.ensures
+-- TODO step before.before.fits.ensures
 pub returns-then-not-fits : goal.returns-then-not-fits
-returns-then-not-fits c v b low counts = text_short b low _ c.fits2.ensures c.if-not-fits.true c.refused.ensures
+returns-then-not-fits c v b low counts = text_short b low _ c.fits.ensures c.if-not-fits.true c.refused.ensures
 
--- TODO step fits2.ensures
 pub returns-then-origins-count : goal.returns-then-origins-count
 returns-then-origins-count c v b low counts =
-    list_short b low _ c.fits2.ensures counts c.if-not-fits.false (omega (arith, c.if-origins-count.true)) c.refused-then-origins-count.ensures
+    list_short b low _ c.fits.ensures counts c.if-not-fits.false (omega (arith, c.if-origins-count.true)) c.refused-then-origins-count.ensures
 
--- TODO step fits2.ensures
 pub returns : goal.returns
 returns c v b low counts =
-    both-written b low _ c.fits2.ensures counts c.if-not-fits.false (omega (arith, c.if-origins-count.false)) c.write-length.ensures
+    both-written b low _ c.fits.ensures counts c.if-not-fits.false (omega (arith, c.if-origins-count.false)) c.write-length.ensures
     c.list_origins.ensures c.success.ensures

@@ -1,9 +1,6 @@
 -- `digits`: the digits that are left, after the value so far, say what all of them say.
-use Prim.Native.Nat.{◌-◌, ◌≤◌}
-use mathlib.Core.Path.{◌≡◌, refl, sym, ap, ◌∙◌}
-use lib.ListN.{length}
+use mathlib.Core.Path.{refl, sym, ap, ◌∙◌}
 use Rattle.lexer.proofs.Auto.{auto}
-use Rattle.text.specs.Decode.{text_from}
 use Rattle.text.proofs.LetterLaws.{scalar_text, scalar_less, refused_text}
 use Rattle.pointer.specs.Index.{digits_after}
 use Rattle.pointer.proofs.IndexLaws.{capped_limit, digits_end, digits_below, digits_above, digits_next}

@@ -1,11 +1,8 @@
 use Prim.Native.Nat.{◌-◌, ◌≤◌}
-use mathlib.Core.Path.{◌≡◌, refl, sym, ap, ◌∙◌}
+use mathlib.Core.Path.{◌≡◌}
 use lib.ListN.{length}
-use Rattle.lexer.proofs.Auto.{auto}
 use Rattle.text.specs.Decode.{text_from}
-use Rattle.text.proofs.LetterLaws.{scalar_text, scalar_less, refused_text}
 use Rattle.pointer.specs.Index.{digits_after}
-use Rattle.pointer.proofs.IndexLaws.{capped_limit, digits_end, digits_below, digits_above, digits_next}
 use Rattle.pointer.proofs.indices.digits.Given as goal
 
 abbrev pub invariant-loop-c : goal.invariant-loop-c

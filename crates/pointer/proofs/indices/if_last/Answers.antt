@@ -1,4 +1,3 @@
-use Rattle.lexer.proofs.Auto.{auto}
 use Rattle.text.proofs.LetterLaws.{scalar_text, refused_text}
 use Rattle.pointer.specs.Index.{if_last}
 use Rattle.pointer.proofs.indices.if_last.Goals as goal

@@ -1,6 +1,5 @@
 use mathlib.Core.Path.{sym, ap, ◌∙◌}
 use native.Mathlib.Omega.{arith}
-use Rattle.lexer.proofs.Auto.{auto}
 use Rattle.text.specs.Decode.{text_of}
 use Rattle.text.proofs.LetterLaws.{scalar_text, refused_text}
 use Rattle.pointer.specs.Index.{index_of}

@@ -1,4 +1,3 @@
-use Rattle.lexer.proofs.Auto.{auto}
 use Rattle.pointer.specs.Prefix.{is_at}
 use Rattle.pointer.proofs.prefixes.is_at.Goals as goal
 

@@ -1,4 +1,3 @@
-use Rattle.lexer.proofs.Auto.{auto}
 use Rattle.pointer.specs.Prefix.{is_next}
 use Rattle.pointer.proofs.prefixes.is_next.Goals as goal
 

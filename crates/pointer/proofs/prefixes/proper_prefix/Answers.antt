@@ -1,4 +1,3 @@
-use Rattle.lexer.proofs.Auto.{auto}
 use Rattle.pointer.proofs.PrefixLaws.{of_root, of_malformed, malformed_prefix, root_prefix, prefix_at}
 use Rattle.pointer.proofs.prefixes.proper_prefix.Goals as goal
 

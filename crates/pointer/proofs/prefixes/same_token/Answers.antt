@@ -1,4 +1,3 @@
-use Rattle.lexer.proofs.Auto.{auto}
 use Rattle.pointer.proofs.prefixes.same_token.Goals as goal
 
 pub returns : goal.returns

@@ -1,6 +1,5 @@
 use mathlib.Core.Path.{refl}
 use Rattle.lexer.specs.Names.{part}
-use Rattle.lexer.proofs.Auto.{auto}
 use Rattle.pointer.proofs.PartLaws.{part_backwards, part_outside, part_beyond}
 use Rattle.pointer.proofs.tokens.between.Goals as goal
 

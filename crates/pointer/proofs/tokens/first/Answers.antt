@@ -1,4 +1,3 @@
-use Rattle.lexer.proofs.Auto.{auto}
 use Rattle.lexer.proofs.AnswerLaws.{scalar_ok, character_refused}
 use Rattle.pointer.proofs.ScanLaws.{first_none, first_slash, first-other}
 use Rattle.pointer.proofs.tokens.first.Goals as goal

@@ -1,4 +1,3 @@
-use Rattle.lexer.proofs.Auto.{auto}
 use Rattle.pointer.specs.Tokens.{accepted, tokens_after}
 use Rattle.pointer.proofs.tokens.is_pointer.Goals as goal
 

@@ -1,12 +1,7 @@
 -- `token`: an answer that is right for the rest of the token is right for all of it.
-use Prim.Native.Nat.{◌-◌}
 use native.Mathlib.Omega.{arith}
-use lib.ListN.{length}
-use Rattle.lexer.proofs.Auto.{auto}
 use Rattle.lexer.proofs.AnswerLaws.{scalar_ok, character_refused}
-use Rattle.pointer.specs.declared.answers.Token.{Token}
-use Rattle.pointer.specs.Tokens.{TokenAt}
-use Rattle.pointer.proofs.ScanLaws.{character_less, continued, Scanned, scanned_end, scanned_slash, scanned_more, scanned_token}
+use Rattle.pointer.proofs.ScanLaws.{character_less, continued, scanned_end, scanned_slash, scanned_more, scanned_token}
 use Rattle.pointer.proofs.tokens.token.Goals as goal
 
 pub loop-at-init : goal.loop-at-init

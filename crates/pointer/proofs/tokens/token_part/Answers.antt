@@ -1,4 +1,3 @@
-use Rattle.lexer.proofs.Auto.{auto}
 use Rattle.pointer.specs.Tokens.{end_of, token_bytes}
 use Rattle.pointer.proofs.tokens.token_part.Goals as goal
 

@@ -1,11 +1,7 @@
 -- `well_formed`: the tokens that are left are well formed exactly if all from the start on are.
-use Prim.Native.Nat.{◌-◌}
-use mathlib.Core.Path.{◌≡◌, sym, ◌∙◌}
+use mathlib.Core.Path.{sym, ◌∙◌}
 use native.Mathlib.Omega.{arith}
-use lib.ListN.{length}
-use Rattle.lexer.proofs.Auto.{auto}
 use Rattle.lexer.proofs.AnswerLaws.{scalar_ok, character_refused}
-use Rattle.pointer.specs.Tokens.{accepted, tokens_from}
 use Rattle.pointer.proofs.ScanLaws.{character_less}
 use Rattle.pointer.proofs.EscapeLaws.{zero, one, none_malformed, more_tokens, tilde_last, tilde_escapes, tilde-other}
 use Rattle.pointer.proofs.tokens.well_formed.Goals as goal

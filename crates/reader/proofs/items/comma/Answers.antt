@@ -1,4 +1,3 @@
-use Rattle.lexer.proofs.Auto.{auto}
 use Rattle.reader.specs.Items.{after_comma}
 use Rattle.lexer.specs.Answers.{scan_outcome}
 use mathlib.Core.Path.{sym, ap, ◌∙◌}

@@ -1,5 +1,4 @@
 -- `item_name` meets its contract.
-use Rattle.lexer.proofs.Auto.{auto}
 use Rattle.reader.proofs.MemberLaws.{item_named, item_nameless}
 use Rattle.reader.proofs.items.item_name.Goals as goal
 

@@ -1,5 +1,4 @@
 use mathlib.Core.Path.{sym, ap}
-use Rattle.lexer.proofs.Auto.{auto}
 use Rattle.reader.specs.Items.{item_of}
 use Rattle.reader.proofs.items.item_of.Goals as goal
 

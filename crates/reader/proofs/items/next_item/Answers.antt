@@ -1,6 +1,4 @@
 -- `next_item` meets its contract.
-use Rattle.lexer.proofs.Auto.{auto}
-use native.Mathlib.Omega.{arith}
 use mathlib.Core.Path.{sym, ◌∙◌}
 use Rattle.reader.proofs.PastLaws.{bracket_here}
 use Rattle.reader.proofs.MemberLaws.{item_close, item_next}

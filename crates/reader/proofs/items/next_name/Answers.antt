@@ -1,5 +1,4 @@
 -- `next_name` meets its contract.
-use Rattle.lexer.proofs.Auto.{auto}
 use mathlib.Core.Path.{refl}
 use Rattle.lexer.proofs.AnswerLaws.{to_ok}
 use Rattle.reader.proofs.WordLaws.{scan_unnamed}

@@ -1,5 +1,4 @@
 -- `member_name` meets its contract.
-use Rattle.lexer.proofs.Auto.{auto}
 use native.Mathlib.Omega.{arith}
 use Rattle.lexer.proofs.AnswerLaws.{to_ok}
 use Rattle.reader.proofs.WordLaws.{scan_unnamed, name_told, name_handed, name_closed, read_titles}

@@ -1,8 +1,5 @@
 -- `repeated` meets its contract: by the hash, by the search path, otherwise by a search.
-use Rattle.lexer.proofs.Auto.{auto}
-use native.Mathlib.Omega.{arith}
 use mathlib.Core.Path.{refl, subst}
-use borrow.Author.Tests.{not-true}
 use Rattle.table.specs.Find.{FindIs}
 use Rattle.index.proofs.WayLaws.{entered_after}
 use Rattle.reader.proofs.MemberLaws.{repeated_new, repeated_found, repeated_missing}

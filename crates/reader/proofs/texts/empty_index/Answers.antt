@@ -1,5 +1,4 @@
 -- `empty_index` meets its contract.
-use Rattle.lexer.proofs.Auto.{auto}
 use mathlib.Core.Path.{ap, ◌∙◌}
 use lib.ListN.{drop}
 use Rattle.index.specs.Slots.{slots}

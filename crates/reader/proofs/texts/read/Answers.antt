@@ -1,5 +1,4 @@
 -- `read` meets its contract.
-use Rattle.lexer.proofs.Auto.{auto}
 use native.Mathlib.Omega.{arith}
 use mathlib.Core.Path.{refl}
 use Rattle.reader.proofs.TextLaws.{text_whole, text_more, text_unread}

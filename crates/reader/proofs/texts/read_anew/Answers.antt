@@ -1,5 +1,4 @@
 -- `read_anew` meets its contract.
-use Rattle.lexer.proofs.Auto.{auto}
 use Rattle.reader.proofs.TextLaws.{lent_still, text_anew}
 use Rattle.reader.proofs.texts.read_anew.Goals as goal
 

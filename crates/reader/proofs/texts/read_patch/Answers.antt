@@ -1,5 +1,4 @@
 -- `read_patch` meets its contract.
-use Rattle.lexer.proofs.Auto.{auto}
 use native.Mathlib.Omega.{arith}
 use mathlib.Core.Path.{refl}
 use Rattle.table.specs.Meaning.{source_text}

@@ -1,12 +1,6 @@
-use Prim.Native.Nat.{ℕ, ◌-◌, ◌<◌}
-use native.Mathlib.Omega.{arith}
-use mathlib.Core.Path.{refl, ap, ◌∙◌}
+use Prim.Native.Nat.{◌-◌}
 use lib.ListN.{length}
-use borrow.Author.Rules.{rules}
-use Rattle.reader.specs.Begins.{beginning}
-use Rattle.reader.proofs.ReadingLaws.{Filling, filling_none, lent_filling, turn, lent_turn, turn_next, turn_levels}
-use Rattle.reader.proofs.ReadingLaws.{begun, value-starts, value-fits, opened, opened_levels}
-use Rattle.reader.proofs.ReadingLaws.{value-way_refused, value-way_unread, value-way_handed, value-way_closed}
+use Rattle.reader.proofs.ReadingLaws.{Filling}
 use Rattle.reader.proofs.values.+container.Given as goal
 
 -- TODO measure: a.1.1.1.1.0

@@ -1,5 +1,4 @@
 -- `close` meets its contract.
-use Rattle.lexer.proofs.Auto.{auto}
 use Prim.Native.Nat.{◌-◌, ◌%◌}
 use mathlib.Core.Path.{refl, ap, ◌∙◌}
 use lib.ListN.{set}

@@ -1,5 +1,4 @@
 -- `put` meets its contract.
-use Rattle.lexer.proofs.Auto.{auto}
 use mathlib.Core.Path.{ap, ◌∙◌}
 use lib.ListN.{set}
 use Rattle.reader.proofs.values.put.Goals as goal

@@ -1,5 +1,4 @@
 -- `read_to` meets its contract.
-use Rattle.lexer.proofs.Auto.{auto}
 use mathlib.Core.Path.{sym, ap}
 use Rattle.reader.specs.Taken.{read_to}
 use Rattle.reader.proofs.values.read_to.Goals as goal

@@ -1,5 +1,4 @@
 -- `scalar_value` meets its contract.
-use Rattle.lexer.proofs.Auto.{auto}
 use native.Mathlib.Omega.{arith}
 use Rattle.reader.proofs.ReadingLaws.{begun-scalar, value-starts, value-fits, scalar_no_room, scalar_taken, scalar-refusal}
 use Rattle.reader.proofs.values.scalar_value.Goals as goal

@@ -1,5 +1,4 @@
 -- `value` meets its contract: a scalar, or a container.
-use Rattle.lexer.proofs.Auto.{auto}
 use mathlib.Core.Path.{ap, ◌∙◌}
 use Rattle.reader.specs.Begins.{beginning}
 use Rattle.reader.proofs.values.value.Goals as goal

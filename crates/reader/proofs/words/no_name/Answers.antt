@@ -1,5 +1,4 @@
 -- `no_name` meets its contract.
-use Rattle.lexer.proofs.Auto.{auto}
 use Rattle.reader.proofs.words.no_name.Goals as goal
 
 pub returns : goal.returns

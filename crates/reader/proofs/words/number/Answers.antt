@@ -1,5 +1,4 @@
 -- `number` meets its contract.
-use Rattle.lexer.proofs.Auto.{auto}
 use native.Mathlib.Omega.{arith}
 use Rattle.lexer.proofs.AnswerLaws.{to_ok}
 use Rattle.lexer.proofs.NumberLaws.{number-ok_past}

@@ -1,6 +1,4 @@
 -- `past_byte` meets its contract.
-use Rattle.lexer.proofs.Auto.{auto}
-use native.Mathlib.Omega.{arith}
 use Rattle.lexer.proofs.ByteLaws.{read-inside}
 use Rattle.reader.proofs.words.past_byte.Goals as goal
 

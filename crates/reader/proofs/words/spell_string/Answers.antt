@@ -1,5 +1,4 @@
 -- `spell_string` meets its contract: its numbers fit a field.
-use Rattle.lexer.proofs.Auto.{auto}
 use Prim.Native.Nat.{◌-◌, ◌%◌}
 use native.Mathlib.Omega.{arith}
 use mathlib.Core.Path.{◌≡◌}

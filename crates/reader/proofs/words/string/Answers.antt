@@ -1,5 +1,4 @@
 -- `string` meets its contract.
-use Rattle.lexer.proofs.Auto.{auto}
 use native.Mathlib.Omega.{arith}
 use Rattle.lexer.proofs.NameLaws.{quoted_read}
 use Rattle.reader.proofs.WordLaws.{as_name, name_closed, string-read, string-refused, quoted_handed}

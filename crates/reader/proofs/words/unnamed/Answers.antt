@@ -1,5 +1,4 @@
 -- `unnamed` meets its contract.
-use Rattle.lexer.proofs.Auto.{auto}
 use mathlib.Core.Path.{sym, ap}
 use Rattle.reader.specs.Words.{unnamed}
 use Rattle.reader.proofs.words.unnamed.Goals as goal

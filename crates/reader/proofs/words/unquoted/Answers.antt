@@ -1,5 +1,4 @@
 -- `unquoted` meets its contract.
-use Rattle.lexer.proofs.Auto.{auto}
 use mathlib.Core.Path.{sym, ap}
 use Rattle.reader.specs.Words.{unquoted}
 use Rattle.reader.proofs.words.unquoted.Goals as goal

@@ -1,5 +1,4 @@
 -- `unspelled` meets its contract.
-use Rattle.lexer.proofs.Auto.{auto}
 use mathlib.Core.Path.{sym, ap}
 use Rattle.reader.specs.Words.{unspelled}
 use Rattle.reader.proofs.words.unspelled.Goals as goal

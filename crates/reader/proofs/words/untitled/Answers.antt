@@ -1,5 +1,4 @@
 -- `untitled` meets its contract.
-use Rattle.lexer.proofs.Auto.{auto}
 use mathlib.Core.Path.{sym, ap}
 use Rattle.reader.specs.Words.{untitled}
 use Rattle.reader.proofs.words.untitled.Goals as goal

@@ -1,7 +1,6 @@
 -- `character_at` meets its contract: a byte of ASCII is a character, and any other is read as in a string.
 use mathlib.Core.Path.{sym, ap, ◌∙◌}
 use native.Mathlib.Omega.{arith}
-use Rattle.lexer.proofs.Auto.{auto}
 use Prim.Native.Nat.{◌+◌}
 use Rattle.spec.specs.Outcome.{ok}
 use Rattle.lexer.specs.Answers.{character_outcome}
@@ -10,8 +9,8 @@ use Rattle.region.proofs.compare.character_at.Goals as goal
 
 pub returns-then-b-lt128 : goal.returns-then-b-lt128
 unfolding character_outcome
-returns-then-b-lt128 c =    
-    ap (λ c.peek-b.ensures. ok (c.peek-b.ensures, c.args.at + 1)) c.peek-b.ensures ∙ sym (ascii_here _ _ (omega arith))
+returns-then-b-lt128 c =
+    ap (λ b. ok (b, c.args.at + 1)) c.peek-b.ensures ∙ sym (ascii_here _ _ (omega arith))
 
 pub returns : goal.returns
 unfolding character_outcome

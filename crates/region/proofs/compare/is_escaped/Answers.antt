@@ -1,7 +1,6 @@
 -- `is_escaped` meets its contract.
 use mathlib.Core.Path.{sym, ◌∙◌}
 use native.Mathlib.Omega.{arith}
-use borrow.Author.Rules.{rules}
 use Rattle.shape.proofs.KindLaws.{not_false}
 use Rattle.region.proofs.compare.is_escaped.Goals as goal
 

@@ -1,6 +1,5 @@
 -- `is_inside` meets its contract: as bytes, or character by character.
 use native.Mathlib.Omega.{arith}
-use borrow.Author.Rules.{rules}
 use Rattle.region.proofs.BeginsLaws.{passed}
 use Rattle.region.proofs.RawLaws.{ahead_raw}
 use Rattle.region.proofs.compare.is_inside.Goals as goal

@@ -1,10 +1,8 @@
 -- `is_inside_spelled` meets its contract: what the characters that are left say is what all say.
-use Prim.Native.Nat.{◌-◌}
 use native.Mathlib.Omega.{arith}
-use lib.ListN.{length}
 use Rattle.lexer.proofs.Auto.{auto}
 use Rattle.lexer.proofs.AnswerLaws.{scalar_ok, character_refused}
-use Rattle.region.proofs.BeginsLaws.{Ahead, ahead_all, ahead_byte, not_utf8, path_ends, differs, ahead_next, at_less, passed}
+use Rattle.region.proofs.BeginsLaws.{ahead_all, ahead_byte, not_utf8, path_ends, differs, ahead_next, at_less, passed}
 use Rattle.region.proofs.compare.is_inside_spelled.Goals as goal
 
 pub loop-i-init : goal.loop-i-init

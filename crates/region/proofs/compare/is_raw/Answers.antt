@@ -1,12 +1,8 @@
 -- `is_raw` meets its contract: one byte more in each turn.
-use Prim.Native.Nat.{◌-◌}
 use mathlib.Core.Path.{sym}
 use mathlib.Core.Bool.{true≢false}
 use native.Mathlib.Omega.{arith}
-use lib.ListN.{length}
-use borrow.Author.Rules.{rules}
 use Rattle.spec.specs.Bytes.{byte}
-use Rattle.region.specs.Begins.{RawTo}
 use Rattle.region.proofs.RawLaws.{raw_none, raw_more, raw_all}
 use Rattle.region.proofs.compare.is_raw.Goals as goal
 

@@ -2,7 +2,6 @@
 use Prim.Native.Nat.{ℕ}
 use native.Mathlib.Omega.{arith}
 use mathlib.Core.Path.{◌≡◌, sym, ◌∙◌}
-use Rattle.lexer.proofs.Auto.{auto}
 use Rattle.region.proofs.BeginsLaws.{told_pointer, told-other}
 use Rattle.region.proofs.compare.is_region.Goals as goal
 

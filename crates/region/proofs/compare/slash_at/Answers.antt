@@ -1,7 +1,5 @@
 -- `slash_at` meets its contract, by the byte and by the character there.
 use mathlib.Core.Path.{sym, ◌∙◌}
-use Rattle.spec.specs.Bytes.{byte}
-use Rattle.lexer.proofs.Auto.{auto}
 use Rattle.lexer.proofs.AnswerLaws.{scalar_ok, character_refused}
 use Rattle.region.proofs.BeginsLaws.{slash_here, slash_none, slash_some}
 use Rattle.region.proofs.compare.slash_at.Goals as goal

@@ -1,7 +1,6 @@
 -- `element_number` meets its contract: the kind, the other members, and then the rule.
 use native.Mathlib.Omega.{arith}
 use mathlib.Core.Path.{sym, ap, ◌∙◌}
-use borrow.Author.Rules.{rules}
 use borrow.Author.Tests.{not-true}
 use Rattle.spec.specs.Bytes.{ascii}
 use Rattle.pointer.proofs.AcceptLaws.{accepted_ok}

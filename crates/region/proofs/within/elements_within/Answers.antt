@@ -1,9 +1,6 @@
 -- `elements_within` meets its contract: the answer for the elements that are left is the answer for all, and the measure is the rows that are left.
-use Prim.Native.Nat.{◌≤◌, ◌-◌}
 use native.Mathlib.Omega.{arith}
-use borrow.Author.Rules.{rules}
-use Rattle.tape.specs.Lent.{table_of}
-use Rattle.region.proofs.WithinLaws.{LeftAny, left_all, left_none, left_inside, left_refused, left_next}
+use Rattle.region.proofs.WithinLaws.{left_all, left_none, left_inside, left_refused, left_next}
 use Rattle.region.proofs.within.elements_within.Goals as goal
 
 pub loop-row-init : goal.loop-row-init

@@ -1,8 +1,6 @@
 use Prim.Native.Nat.{◌≤◌, ◌-◌}
-use native.Mathlib.Omega.{arith}
-use borrow.Author.Rules.{rules}
 use Rattle.tape.specs.Lent.{table_of}
-use Rattle.region.proofs.WithinLaws.{LeftAny, left_all, left_none, left_inside, left_refused, left_next}
+use Rattle.region.proofs.WithinLaws.{LeftAny}
 use Rattle.region.proofs.within.elements_within.Given as goal
 
 abbrev pub invariant-loop-row : goal.invariant-loop-row

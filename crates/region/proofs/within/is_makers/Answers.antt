@@ -1,5 +1,4 @@
 -- `is_makers` meets its contract, kind by kind.
-use borrow.Author.Rules.{rules}
 use Rattle.shape.specs.Kinds.{kind_outcome, answered}
 use Rattle.region.specs.Rule.{is_makers}
 use Rattle.region.proofs.within.is_makers.Goals as goal

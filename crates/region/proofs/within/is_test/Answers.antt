@@ -1,5 +1,4 @@
 -- `is_test` meets its contract, kind by kind.
-use borrow.Author.Rules.{rules}
 use Rattle.shape.specs.Kinds.{kind_outcome, answered}
 use Rattle.region.specs.Rule.{is_test}
 use Rattle.region.proofs.within.is_test.Goals as goal

@@ -1,6 +1,5 @@
 -- `kind_permitted` meets its contract: the first operation, or a later one.
 use mathlib.Core.Path.{◌∙◌}
-use borrow.Author.Rules.{rules}
 use Rattle.region.proofs.WithinLaws.{first_kind, later_kind}
 use Rattle.region.proofs.within.kind_permitted.Goals as goal
 

@@ -1,7 +1,6 @@
 -- `shape_within` meets its contract, by the node's kind, the number of its elements, and these.
 use native.Mathlib.Omega.{arith}
 use mathlib.Core.Path.{sym, ◌∙◌}
-use borrow.Author.Rules.{rules}
 use Rattle.region.proofs.WithinLaws.{within-other, within_out, within_long, within_empty, within-elements}
 use Rattle.region.proofs.within.shape_within.Goals as goal
 

@@ -24,7 +24,7 @@ slice_bounds-checked_within-end-4 c =
 
 pub returns : goal.returns
 returns c =
-    work_done (omega arith) (omega arith) c.checked_within-answer.ensures c.checked_within-answer.new.1.1.1.0
+    work_done (omega arith) (omega arith) c.checked_within-answer.ensures c.checked_within-answer.new.nodes
     c.checked_within-answer.auto.nodes
-    c.wipe.ensures c.checked_within-answer.new.1.1.1.1.0 c.checked_within-answer.auto.index
+    c.wipe.ensures c.checked_within-answer.new.index c.checked_within-answer.auto.index
     c.empty.ensures

@@ -1,6 +1,5 @@
 -- `all_noted` meets its contract: the four hashes are those of the words, and each word says itself.
 use mathlib.Core.Path.{refl}
-use borrow.Author.Rules.{rules}
 use Rattle.spec.specs.Bytes.{ascii, byte, within}
 use Rattle.spec.specs.Strings.{character}
 use Rattle.lexer.specs.Hash.{hash, hash_from, mix}

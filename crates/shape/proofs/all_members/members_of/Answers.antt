@@ -1,10 +1,7 @@
 -- `members_of` meets its contract: of each name, what is found in the rows before this one; the measure is the rows that are left.
-use Prim.Native.Nat.{◌≤◌, ◌+◌, ◌-◌}
 use native.Mathlib.Omega.{arith}
-use borrow.Author.Rules.{rules}
-use Rattle.tape.specs.Lent.{table_of}
 use Rattle.table.proofs.Search.{behind_scalar, behind_container}
-use Rattle.shape.proofs.PassLaws.{AllNoted, all_nothing, all_next, all_found, all_out}
+use Rattle.shape.proofs.PassLaws.{all_nothing, all_next, all_found, all_out}
 use Rattle.shape.proofs.all_members.members_of.Goals as goal
 
 pub returns-then-nodes-row : goal.returns-then-nodes-row
@@ -19,25 +16,23 @@ bounds-nodes-at c = omega (arith, c.end_of-end.ensures)
 pub bounds-nodes-at-in-loop-at : goal.bounds-nodes-at-in-loop-at
 bounds-nodes-at-in-loop-at c = omega (arith, c.end_of-end.ensures)
 
--- TODO step all_Noted.ensures
 pub loop-at-preserved-then-kind_in-lt-ARRAY : goal.loop-at-preserved-then-kind_in-lt-ARRAY
 loop-at-preserved-then-kind_in-lt-ARRAY c = (
   omega arith,
   all_next _ _ (omega arith) (omega arith) c.name_of.ensures
-      (behind_scalar _ c.loop-at.at (omega (arith, c.kind_in.ensures))) c.all_Noted.ensures c.loop-at.invariant.1,
+      (behind_scalar _ c.loop-at.at (omega (arith, c.kind_in.ensures))) c.all_noted-found.ensures c.loop-at.invariant.1,
 )
 
 pub bounds-nodes-at-else-kind_in-lt-ARRAY : goal.bounds-nodes-at-else-kind_in-lt-ARRAY
 bounds-nodes-at-else-kind_in-lt-ARRAY c =
     omega (arith, c.end_of-end.ensures)
 
--- TODO step all_Noted.ensures
 pub loop-at-preserved : goal.loop-at-preserved
 loop-at-preserved c = (
   omega arith,
   all_next _ _ (omega arith) (omega arith) c.name_of.ensures
       (omega (arith, c.wide.ensures, behind_container c.args.nodes.now c.loop-at.at (omega (arith, c.kind_in.ensures))))
-      c.all_Noted.ensures c.loop-at.invariant.1,
+      c.all_noted-found.ensures c.loop-at.invariant.1,
 )
 
 pub returns : goal.returns

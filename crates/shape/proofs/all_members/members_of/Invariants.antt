@@ -1,9 +1,6 @@
 use Prim.Native.Nat.{◌≤◌, ◌+◌, ◌-◌}
-use native.Mathlib.Omega.{arith}
-use borrow.Author.Rules.{rules}
 use Rattle.tape.specs.Lent.{table_of}
-use Rattle.table.proofs.Search.{behind_scalar, behind_container}
-use Rattle.shape.proofs.PassLaws.{AllNoted, all_nothing, all_next, all_found, all_out}
+use Rattle.shape.proofs.PassLaws.{AllNoted}
 use Rattle.shape.proofs.all_members.members_of.Given as goal
 
 abbrev pub invariant-loop-at : goal.invariant-loop-at

@@ -1,7 +1,6 @@
 -- `noted` meets its contract, by the hash, by what was found before, and by the name.
 use mathlib.Core.Path.{sym, ◌∙◌}
 use native.Mathlib.Omega.{arith}
-use borrow.Author.Rules.{rules}
 use Rattle.table.proofs.Search.{other-named, hash-named}
 use Rattle.shape.proofs.PassLaws.{noted-before, noted_here, noted_other}
 use Rattle.shape.proofs.all_members.noted.Goals as goal

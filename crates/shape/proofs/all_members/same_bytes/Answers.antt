@@ -1,9 +1,7 @@
 -- `same_bytes` meets its contract: what is left of the one is compared with what is left of the other.
-use Prim.Native.Nat.{◌-◌, ◌≤◌}
-use mathlib.Core.Path.{◌≡◌, refl, ap}
+use mathlib.Core.Path.{refl, ap}
 use native.Mathlib.Omega.{arith}
-use lib.ListN.{length, drop}
-use Rattle.spec.specs.Value.{same_text}
+use lib.ListN.{length}
 use Rattle.text.proofs.CompareLaws.{differ, bytes_differ, bytes_same, bytes_end}
 use Rattle.shape.proofs.all_members.same_bytes.Goals as goal
 

@@ -1,9 +1,7 @@
 use Prim.Native.Nat.{◌-◌, ◌≤◌}
-use mathlib.Core.Path.{◌≡◌, refl, ap}
-use native.Mathlib.Omega.{arith}
+use mathlib.Core.Path.{◌≡◌}
 use lib.ListN.{length, drop}
 use Rattle.spec.specs.Value.{same_text}
-use Rattle.text.proofs.CompareLaws.{differ, bytes_differ, bytes_same, bytes_end}
 use Rattle.shape.proofs.all_members.same_bytes.Given as goal
 
 abbrev pub invariant-loop-i : goal.invariant-loop-i

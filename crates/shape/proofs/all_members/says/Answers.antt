@@ -1,5 +1,4 @@
 -- `says` meets its contract: the bytes of a name without escapes are its text, where they are those of the word.
-use borrow.Author.Rules.{rules}
 use Rattle.shape.proofs.PassLaws.{says_plainly}
 use Rattle.shape.proofs.all_members.says.Goals as goal
 

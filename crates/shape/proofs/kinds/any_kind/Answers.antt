@@ -1,6 +1,5 @@
 -- `any_kind` meets its contract, name by name.
 use mathlib.Core.Path.{sym, ◌∙◌}
-use borrow.Author.Rules.{rules}
 use Rattle.spec.specs.Bytes.{ascii}
 use Rattle.shape.specs.Kinds.{kind_outcome}
 use Rattle.shape.proofs.KindLaws.{add_named, remove_named, replace_named, move_named, copy_named, test_named, none_named}

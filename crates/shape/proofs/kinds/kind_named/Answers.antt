@@ -1,6 +1,5 @@
 -- Whatever word is tried first, it names its kind; and so the answer is right however the word was chosen.
 use mathlib.Core.Path.{refl}
-use borrow.Author.Rules.{rules}
 use Rattle.spec.specs.Bytes.{ascii}
 use Rattle.spec.specs.Value.{same_text}
 use Rattle.spec.specs.Patch.{kind_named}

@@ -1,6 +1,5 @@
 -- A text that is the word of a kind names that kind.
 use mathlib.Core.Path.{sym, ap, ◌∙◌}
-use borrow.Author.Rules.{rules}
 use Rattle.spec.specs.Patch.{kind_named}
 use Rattle.spec.proofs.TextLaws.{same_text_true}
 use Rattle.lexer.proofs.Tests.{told}

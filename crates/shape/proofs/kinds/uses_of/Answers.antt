@@ -1,6 +1,4 @@
 -- `uses_of` meets its contract, kind by kind.
-use mathlib.Core.Path.{◌∙◌}
-use borrow.Author.Rules.{rules}
 use Rattle.spec.specs.Patch.{uses_value, uses_from, is_move}
 use Rattle.pointer.specs.Tokens.{accepted}
 use Rattle.shape.specs.Kinds.{kind_outcome, answered}

@@ -1,6 +1,5 @@
 -- `member` meets its contract, by that of the search among the rows behind.
 use native.Mathlib.Omega.{arith}
-use borrow.Author.Rules.{rules}
 use Rattle.shape.proofs.MemberLaws.{member_is, member-out}
 use Rattle.shape.proofs.members.member.Goals as goal
 

@@ -1,6 +1,5 @@
 -- `string_in` meets its contract, by the row and its kind.
 use mathlib.Core.Path.{sym, ◌∙◌}
-use borrow.Author.Rules.{rules}
 use Rattle.shape.proofs.MemberLaws.{in_none, in_out, in_other, in-string}
 use Rattle.shape.proofs.members.string_in.Goals as goal
 

@@ -1,7 +1,6 @@
 -- `string_member` meets its contract, by the member and its kind.
 use native.Mathlib.Omega.{arith}
 use mathlib.Core.Path.{sym, ◌∙◌}
-use borrow.Author.Rules.{rules}
 use Rattle.shape.proofs.MemberLaws.{found_inside, string-missing, string-other, string-found}
 use Rattle.shape.proofs.members.string_member.Goals as goal
 

@@ -1,6 +1,5 @@
 -- `kind_at` meets its contract, by the node's kind and the text of `op`.
 use mathlib.Core.Path.{sym, ◌∙◌}
-use borrow.Author.Rules.{rules}
 use Rattle.shape.proofs.MemberLaws.{string-is}
 use Rattle.shape.proofs.AnswerLaws.{kind_other, op_refused, op_spelled}
 use Rattle.shape.proofs.operation.kind_at.Goals as goal

@@ -1,5 +1,4 @@
 -- `kind_of` meets its contract, by the row of `op`.
-use borrow.Author.Rules.{rules}
 use Rattle.shape.proofs.operation.kind_of.Goals as goal
 
 pub returns : goal.returns

@@ -1,5 +1,4 @@
 -- `members_number` meets its contract, by the text of `path` and then by the others.
-use borrow.Author.Rules.{rules}
 use Rattle.shape.proofs.MemberLaws.{string-is}
 use Rattle.shape.proofs.AnswerLaws.{members-no_path, members-others}
 use Rattle.shape.proofs.operation.members_number.Goals as goal

@@ -1,6 +1,5 @@
 -- `operation_number` meets its contract, by the kind and then the other members.
 use mathlib.Core.Path.{sym, ap, ◌∙◌}
-use borrow.Author.Rules.{rules}
 use borrow.Author.Tests.{not-true}
 use Rattle.pointer.proofs.AcceptLaws.{accepted_ok}
 use Rattle.shape.specs.Operation as Operation

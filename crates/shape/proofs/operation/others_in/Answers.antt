@@ -1,7 +1,6 @@
 -- `others_in` meets its contract, member by member.
 use native.Mathlib.Omega.{arith}
 use mathlib.Core.Path.{sym, ◌∙◌}
-use borrow.Author.Rules.{rules}
 use borrow.Author.Tests.{not-true}
 use Rattle.shape.specs.Operation as Operation
 use Rattle.shape.proofs.KindLaws.{not_false, value-used, from_used, moves_known}

@@ -1,5 +1,4 @@
 -- `others_number` meets its contract, by the members that are found.
-use borrow.Author.Rules.{rules}
 use Rattle.shape.proofs.operation.others_number.Goals as goal
 
 pub returns : goal.returns

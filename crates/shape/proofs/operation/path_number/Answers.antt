@@ -1,9 +1,6 @@
 -- `path_number` meets its contract, by the test on the pointer.
 use mathlib.Core.Bool.{true, false}
-use borrow.Author.Rules.{rules}
-use borrow.Author.Tests.{not-true}
 use Rattle.shape.specs.Operation as Operation
-use Rattle.shape.proofs.KindLaws.{not_false}
 use Rattle.shape.proofs.AnswerLaws.{pointer_is, path_malformed, path_alone}
 use Rattle.shape.proofs.operation.path_number.Goals as goal
 

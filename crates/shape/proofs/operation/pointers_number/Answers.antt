@@ -1,10 +1,7 @@
 -- `pointers_number` meets its contract, by the tests on the two pointers.
 use mathlib.Core.Path.{sym, ◌∙◌}
 use mathlib.Core.Bool.{true, false}
-use borrow.Author.Rules.{rules}
-use borrow.Author.Tests.{not-true}
 use Rattle.shape.specs.Operation as Operation
-use Rattle.shape.proofs.KindLaws.{not_false}
 use Rattle.shape.proofs.AnswerLaws.{pointer_is, prefix_is, path_malformed, from_malformed, no_move, into_child, not_into_child}
 use Rattle.shape.proofs.operation.pointers_number.Goals as goal
 
@@ -29,7 +26,7 @@ returns-then-not-moves c =
       number = Operation.nothing;
       held = λ k is w. no_move _ (pointer_is c.part-to.ensures c.is_pointer.ensures true c.if-not-is_pointer.false)
           (pointer_is c.part-source.ensures c.is_pointer-2.ensures true c.if-not-is_pointer-2.false)
-          (sym is ∙ not-true _ c.if-not-moves.true-raw);
+          (sym is ∙ c.if-not-moves.true);
     }
 
 pub returns-then-proper_prefix : goal.returns-then-proper_prefix
@@ -38,7 +35,7 @@ returns-then-proper_prefix c =
       number = Operation.into_child;
       held = λ k is w. into_child _ (pointer_is c.part-to.ensures c.is_pointer.ensures true c.if-not-is_pointer.false)
           (pointer_is c.part-source.ensures c.is_pointer-2.ensures true c.if-not-is_pointer-2.false)
-          (sym is ∙ not_false _ c.if-not-moves.false-raw)
+          (sym is ∙ c.if-not-moves.false)
           (prefix_is c.part-source.ensures c.part-to.ensures c.proper_prefix.ensures true c.if-proper_prefix.true);
     }
 
@@ -48,6 +45,6 @@ returns c =
       number = Operation.nothing;
       held = λ k is w. not_into_child _ (pointer_is c.part-to.ensures c.is_pointer.ensures true c.if-not-is_pointer.false)
           (pointer_is c.part-source.ensures c.is_pointer-2.ensures true c.if-not-is_pointer-2.false)
-          (sym is ∙ not_false _ c.if-not-moves.false-raw)
+          (sym is ∙ c.if-not-moves.false)
           (prefix_is c.part-source.ensures c.part-to.ensures c.proper_prefix.ensures false c.if-proper_prefix.false);
     }

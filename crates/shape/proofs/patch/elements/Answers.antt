@@ -1,9 +1,6 @@
 -- `elements` meets its contract: what is answered of the operations that are left is the answer, and the measure is the rows that are left.
-use Prim.Native.Nat.{◌≤◌, ◌-◌}
 use native.Mathlib.Omega.{arith}
-use borrow.Author.Rules.{rules}
-use Rattle.tape.specs.Lent.{table_of}
-use Rattle.shape.proofs.RunLaws.{LeftAny, left_all, left_none, left_inside, left_refused, left_next}
+use Rattle.shape.proofs.RunLaws.{left_all, left_none, left_inside, left_refused, left_next}
 use Rattle.shape.proofs.patch.elements.Goals as goal
 
 pub loop-row-init : goal.loop-row-init

@@ -1,8 +1,6 @@
 use Prim.Native.Nat.{◌≤◌, ◌-◌}
-use native.Mathlib.Omega.{arith}
-use borrow.Author.Rules.{rules}
 use Rattle.tape.specs.Lent.{table_of}
-use Rattle.shape.proofs.RunLaws.{LeftAny, left_all, left_none, left_inside, left_refused, left_next}
+use Rattle.shape.proofs.RunLaws.{LeftAny}
 use Rattle.shape.proofs.patch.elements.Given as goal
 
 abbrev pub invariant-loop-row : goal.invariant-loop-row

@@ -1,7 +1,6 @@
 -- `shape_of` meets its contract, by the node's kind, the number of its elements, and these.
 use native.Mathlib.Omega.{arith}
 use mathlib.Core.Path.{sym, ◌∙◌}
-use borrow.Author.Rules.{rules}
 use Rattle.shape.proofs.RunLaws.{patch-other, patch_out, patch_long, patch-elements}
 use Rattle.shape.proofs.patch.shape_of.Goals as goal
 

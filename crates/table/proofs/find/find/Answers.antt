@@ -1,12 +1,9 @@
 -- `find` meets its contract: the names in the rows before this one are others, and the measure is the rows that are left.
-use Prim.Native.Nat.{◌≤◌, ◌-◌}
 use native.Mathlib.Omega.{arith}
 use mathlib.Core.Path.{sym, ◌∙◌}
-use borrow.Author.Rules.{rules}
 use Rattle.tape.specs.Rows.{block}
 use Rattle.tape.specs.Lent.{both}
-use Rattle.table.specs.Find.{same_name}
-use Rattle.table.proofs.Search.{Passed, pass, pass_quiet, meet, over, behind_scalar, behind_container, finds}
+use Rattle.table.proofs.Search.{pass, pass_quiet, meet, over, behind_scalar, behind_container, finds}
 use Rattle.table.proofs.find.find.Goals as goal
 
 pub loop-row-init : goal.loop-row-init

@@ -1,12 +1,8 @@
 -- `find_ascii` meets its contract, as `find` does.
-use Prim.Native.Nat.{◌≤◌, ◌-◌}
 use native.Mathlib.Omega.{arith}
 use mathlib.Core.Path.{sym, ap, ◌∙◌}
-use borrow.Author.Rules.{rules}
-use Rattle.tape.specs.Lent.{both}
 use Rattle.table.specs.Meaning.{short_hash}
-use Rattle.table.specs.Find.{is_named}
-use Rattle.table.proofs.Search.{Passed, pass, meet, over, behind_scalar, behind_container, finds_ascii}
+use Rattle.table.proofs.Search.{pass, meet, over, behind_scalar, behind_container, finds_ascii}
 use Rattle.table.proofs.find.find_ascii.Goals as goal
 
 pub loop-row-init : goal.loop-row-init

@@ -1,11 +1,10 @@
 -- `hash_ascii` meets its contract: what is left of the text is still to be mixed in.
-use Prim.Native.Nat.{ℕ, ◌-◌, ◌≤◌, ◌<◌, ◌+◌}
+use Prim.Native.Nat.{ℕ, ◌<◌, ◌+◌}
 use native.Mathlib.Omega.{arith}
 use native.Mathlib.Numerals.{add-one}
 use mathlib.Core.Path.{◌≡◌, refl}
 use lib.ListN.{length, drop, get_or}
 use lib.Seq.{drop-cons, drop-length}
-use borrow.Author.Rules.{rules}
 use Rattle.spec.specs.Bytes.{Text}
 use Rattle.lexer.specs.Hash.{mix, hash_from, hash}
 use Rattle.table.proofs.find.hash_ascii.Goals as goal

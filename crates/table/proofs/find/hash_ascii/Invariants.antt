@@ -1,12 +1,7 @@
-use Prim.Native.Nat.{ℕ, ◌-◌, ◌≤◌, ◌<◌, ◌+◌}
-use native.Mathlib.Omega.{arith}
-use native.Mathlib.Numerals.{add-one}
-use mathlib.Core.Path.{◌≡◌, refl}
-use lib.ListN.{length, drop, get_or}
-use lib.Seq.{drop-cons, drop-length}
-use borrow.Author.Rules.{rules}
-use Rattle.spec.specs.Bytes.{Text}
-use Rattle.lexer.specs.Hash.{mix, hash_from, hash}
+use Prim.Native.Nat.{◌-◌, ◌≤◌}
+use mathlib.Core.Path.{◌≡◌}
+use lib.ListN.{length, drop}
+use Rattle.lexer.specs.Hash.{hash_from, hash}
 use Rattle.table.proofs.find.hash_ascii.Given as goal
 
 abbrev pub invariant-loop-i : goal.invariant-loop-i

@@ -1,6 +1,5 @@
 -- `is_named` meets its contract.
 use native.Mathlib.Omega.{arith}
-use borrow.Author.Rules.{rules}
 use Rattle.tape.specs.Lent.{both}
 use Rattle.table.proofs.Search.{other-named, hash-named}
 use Rattle.table.proofs.find.is_named.Goals as goal

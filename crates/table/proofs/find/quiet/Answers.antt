@@ -1,12 +1,10 @@
 -- `quiet` meets its contract, by what the rows up to i tell.
-use Prim.Native.Nat.{◌≤◌, ◌-◌}
 use native.Mathlib.Omega.{arith}
 use mathlib.Core.Path.{sym}
 use mathlib.Core.Bool.{true≢false}
-use borrow.Author.Rules.{rules}
 use borrow.Author.Tests.{eqb-true}
 use Rattle.tape.specs.Rows.{block}
-use Rattle.table.proofs.Blocks.{Scanned, scanned_none, scanned_next, scanned_quiet}
+use Rattle.table.proofs.Blocks.{scanned_none, scanned_next, scanned_quiet}
 use Rattle.table.proofs.find.quiet.Goals as goal
 
 pub returns-then-row-ne0 : goal.returns-then-row-ne0

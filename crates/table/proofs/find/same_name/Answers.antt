@@ -1,6 +1,5 @@
 -- `same_name` meets its contract.
 use native.Mathlib.Omega.{arith}
-use borrow.Author.Rules.{rules}
 use Rattle.tape.specs.Lent.{both}
 use Rattle.table.proofs.Search.{other-named, hash-named}
 use Rattle.table.proofs.find.same_name.Goals as goal

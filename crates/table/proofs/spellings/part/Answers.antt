@@ -1,6 +1,5 @@
 -- `part` meets its contract: of a part that begins past the end of its text nothing is left, of one that runs past the end what there is.
 use native.Mathlib.Omega.{arith}
-use borrow.Author.Rules.{rules}
 use Rattle.tape.specs.Lent.{both}
 use Rattle.table.proofs.Parts.{part_past, part_cut, part_whole}
 use Rattle.table.proofs.spellings.part.Goals as goal

@@ -1,6 +1,5 @@
 -- `same_spelling` meets its contract, by those of `part` and of the comparison of two texts.
 use mathlib.Core.Path.{◌∙◌, ap₂}
-use borrow.Author.Rules.{rules}
 use Rattle.spec.specs.Value.{same_text}
 use Rattle.text.specs.Decode.{text_of}
 use Rattle.table.specs.Meaning.{spelled}

@@ -1,7 +1,6 @@
 -- `spells` meets its contract, by those of `part` and of the comparison with a constant; what is too short is another text.
 use native.Mathlib.Omega.{arith}
 use mathlib.Core.Path.{◌∙◌, ap, ap₂}
-use borrow.Author.Rules.{rules}
 use Rattle.spec.specs.Value.{same_text}
 use Rattle.text.specs.Decode.{text_of}
 use Rattle.table.specs.Meaning.{spelled}

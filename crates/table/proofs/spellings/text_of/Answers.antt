@@ -1,5 +1,4 @@
 -- `text_of` meets its contract, by the test on the source.
-use borrow.Author.Rules.{rules}
 use borrow.Author.Tests.{eq-eqb, ne_eqb}
 use Rattle.table.specs.Meaning.{source_text}
 use Rattle.table.proofs.spellings.text_of.Goals as goal

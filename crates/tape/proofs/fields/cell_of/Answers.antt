@@ -1,5 +1,4 @@
 -- `tape::fields::cell_of` meets its contract. Assumes nothing.
-use borrow.Author.Rules.{rules}
 use Rattle.tape.proofs.fields.cell_of.Goals as goal
 
 pub returns : goal.returns

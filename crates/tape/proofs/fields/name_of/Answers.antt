@@ -1,5 +1,4 @@
 -- `tape::fields::name_of` meets its contract. Assumes nothing.
-use borrow.Author.Rules.{rules}
 use Rattle.tape.proofs.fields.name_of.Goals as goal
 
 pub returns : goal.returns

@@ -3,7 +3,6 @@ use native.Mathlib.Omega.{arith}
 use mathlib.Core.Path.{sym}
 use mathlib.Core.List.{[]}
 use lib.ListN.{get_or-eq_default}
-use borrow.Author.Rules.{rules}
 use Rattle.tape.specs.Fields.{no_node}
 use Rattle.tape.proofs.FieldLaws.{row_in}
 use Rattle.tape.proofs.moves.load.Goals as goal

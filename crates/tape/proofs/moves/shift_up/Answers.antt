@@ -1,10 +1,9 @@
 -- `tape::moves::shift_up` meets its contract. Assumes nothing.
-use Prim.Native.Nat.{◌≤◌, ◌-◌, ◌+◌}
+use Prim.Native.Nat.{◌-◌, ◌+◌}
 use native.Mathlib.Omega.{arith}
 use mathlib.Core.Path.{◌≡◌, refl, sym, ap, ◌∙◌}
 use mathlib.Core.List.{[]}
-use lib.ListN.{length, length-set}
-use borrow.Author.Rules.{rules}
+use lib.ListN.{length-set}
 use Rattle.tape.specs.Columns.{copied}
 use Rattle.tape.proofs.Loops.{copied_none, copied-one, copied_upwards}
 use Rattle.tape.proofs.moves.shift_up.Goals as goal

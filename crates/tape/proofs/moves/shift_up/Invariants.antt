@@ -1,11 +1,7 @@
 use Prim.Native.Nat.{◌≤◌, ◌-◌, ◌+◌}
-use native.Mathlib.Omega.{arith}
-use mathlib.Core.Path.{◌≡◌, refl, sym, ap, ◌∙◌}
-use mathlib.Core.List.{[]}
-use lib.ListN.{length, length-set}
-use borrow.Author.Rules.{rules}
+use mathlib.Core.Path.{◌≡◌}
+use lib.ListN.{length}
 use Rattle.tape.specs.Columns.{copied}
-use Rattle.tape.proofs.Loops.{copied_none, copied-one, copied_upwards}
 use Rattle.tape.proofs.moves.shift_up.Given as goal
 
 abbrev pub invariant-loop-i : goal.invariant-loop-i

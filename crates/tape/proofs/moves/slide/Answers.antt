@@ -1,7 +1,6 @@
 -- `tape::moves::slide` meets its contract. Assumes nothing.
 use native.Mathlib.Omega.{arith}
 use mathlib.Core.Path.{◌≡◌, sym, ap, ◌∙◌}
-use borrow.Author.Rules.{rules}
 use Rattle.tape.specs.Columns.{copied}
 use Rattle.tape.proofs.Columns.{moved_in, moved_no_target, moved_no_source}
 use Rattle.tape.proofs.Loops.{copied_same}

@@ -1,7 +1,6 @@
 -- `tape::moves::splice` meets its contract. Assumes nothing.
 use native.Mathlib.Omega.{arith}
 use mathlib.Core.Path.{sym, ap, ◌∙◌}
-use borrow.Author.Rules.{rules}
 use Rattle.tape.specs.Columns.{moved}
 use Rattle.tape.proofs.Columns.{spliced_not_used, spliced_no_room, spliced_no_source}
 use Rattle.tape.proofs.Loops.{two_moves}

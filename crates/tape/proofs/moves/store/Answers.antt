@@ -1,7 +1,6 @@
 -- `tape::moves::store` meets its contract. Assumes nothing.
 use mathlib.Core.Path.{sym}
 use lib.Seq.{set_out}
-use borrow.Author.Rules.{rules}
 use Rattle.tape.proofs.moves.store.Goals as goal
 
 pub returns-else-row-nodes : goal.returns-else-row-nodes

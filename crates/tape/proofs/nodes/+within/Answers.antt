@@ -1,11 +1,7 @@
 -- `tape::nodes::within` meets its contract. Assumes nothing.
-use Prim.Native.Nat.{ℕ, ◌<◌, ◌≤◌, ◌-◌}
 use native.Mathlib.Omega.{arith}
-use lib.ListN.{length}
-use borrow.Author.Rules.{rules}
-use borrow.Author.Tests.{not-true, not-false}
 use Rattle.tape.proofs.Rows.{no_node}
-use Rattle.tape.proofs.Depth.{Judging, judging_all, judging_next, within-scalar, within_flat, within_all, within-deep}
+use Rattle.tape.proofs.Depth.{judging_all, judging_next, within-scalar, within_flat, within_all, within-deep}
 use Rattle.tape.proofs.nodes.+within.Goals as goal
 
 pub returns-then-nodes-at : goal.returns-then-nodes-at

@@ -1,10 +1,6 @@
-use Prim.Native.Nat.{ℕ, ◌<◌, ◌≤◌, ◌-◌}
-use native.Mathlib.Omega.{arith}
+use Prim.Native.Nat.{◌≤◌, ◌-◌}
 use lib.ListN.{length}
-use borrow.Author.Rules.{rules}
-use borrow.Author.Tests.{not-true, not-false}
-use Rattle.tape.proofs.Rows.{no_node}
-use Rattle.tape.proofs.Depth.{Judging, judging_all, judging_next, within-scalar, within_flat, within_all, within-deep}
+use Rattle.tape.proofs.Depth.{Judging}
 use Rattle.tape.proofs.nodes.+within.Given as goal
 
 -- TODO measure: a.1.1.0

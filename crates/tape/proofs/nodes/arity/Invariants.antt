@@ -1,9 +1,6 @@
 use Prim.Native.Nat.{◌≤◌, ◌<◌, ◌-◌, ◌+◌}
-use native.Mathlib.Omega.{arith}
 use lib.ListN.{length}
-use borrow.Author.Rules.{rules}
-use Rattle.tape.specs.Rows.{block, Steps, steps_none}
-use Rattle.tape.proofs.Rows.{steps_leaves, steps_on, arity_counted, arity_out}
+use Rattle.tape.specs.Rows.{Steps}
 use Rattle.tape.proofs.nodes.arity.Given as goal
 
 abbrev pub invariant-loop-row : goal.invariant-loop-row

@@ -1,9 +1,6 @@
 -- `tape::nodes::child` meets its contract. Assumes nothing.
-use Prim.Native.Nat.{◌≤◌, ◌<◌, ◌-◌, ◌+◌}
 use native.Mathlib.Omega.{arith}
-use lib.ListN.{length}
-use borrow.Author.Rules.{rules}
-use Rattle.tape.specs.Rows.{block, Steps, steps_none}
+use Rattle.tape.specs.Rows.{block, steps_none}
 use Rattle.tape.proofs.Rows.{steps_leaves, steps_on, child-found, child_none, child_out}
 use Rattle.tape.proofs.nodes.child.Goals as goal
 

@@ -1,7 +1,5 @@
 -- `tape::nodes::kind` meets its contract. Assumes nothing.
 use mathlib.Core.Path.{sym, ap}
-use Prim.Native.Nat.{ℕ}
-use borrow.Author.Rules.{rules}
 use Rattle.tape.specs.Fields.{kind_in}
 use Rattle.tape.proofs.FieldLaws.{field_out}
 use Rattle.tape.proofs.nodes.kind.Goals as goal

@@ -1,12 +1,9 @@
 -- `leaves` meets its contract, by what the spans up to i tell.
-use Prim.Native.Nat.{◌≤◌, ◌-◌}
 use native.Mathlib.Omega.{arith}
 use mathlib.Core.Path.{sym}
 use mathlib.Core.Bool.{true≢false}
-use borrow.Author.Rules.{rules}
 use borrow.Author.Tests.{eqb-true}
-use Rattle.tape.specs.Rows.{block}
-use Rattle.tape.proofs.LeafLaws.{Ored, ored_none, ored_next}
+use Rattle.tape.proofs.LeafLaws.{ored_none, ored_next}
 use Rattle.tape.proofs.nodes.leaves.Goals as goal
 
 pub returns-then-row-ne0 : goal.returns-then-row-ne0

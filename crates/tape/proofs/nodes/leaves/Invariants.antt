@@ -1,11 +1,6 @@
 use Prim.Native.Nat.{◌≤◌, ◌-◌}
-use native.Mathlib.Omega.{arith}
-use mathlib.Core.Path.{sym}
-use mathlib.Core.Bool.{true≢false}
-use borrow.Author.Rules.{rules}
-use borrow.Author.Tests.{eqb-true}
 use Rattle.tape.specs.Rows.{block}
-use Rattle.tape.proofs.LeafLaws.{Ored, ored_none, ored_next}
+use Rattle.tape.proofs.LeafLaws.{Ored}
 use Rattle.tape.proofs.nodes.leaves.Given as goal
 
 abbrev pub invariant-loop-i : goal.invariant-loop-i

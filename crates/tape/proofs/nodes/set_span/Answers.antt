@@ -1,7 +1,6 @@
 -- `tape::nodes::set_span` meets its contract. Assumes nothing.
 use mathlib.Core.Path.{sym}
 use lib.Seq.{set_out}
-use borrow.Author.Rules.{rules}
 use Rattle.tape.proofs.nodes.set_span.Goals as goal
 
 pub returns-then-row-nodes : goal.returns-then-row-nodes

@@ -1,6 +1,5 @@
 -- `tape::nodes::span` meets its contract. Assumes nothing.
 use mathlib.Core.Path.{sym}
-use borrow.Author.Rules.{rules}
 use Rattle.tape.proofs.FieldLaws.{field_out}
 use Rattle.tape.proofs.nodes.span.Goals as goal
 

@@ -1,10 +1,6 @@
-use Prim.Native.Nat.{◌-◌}
-use lib.ListN.{length}
-use borrow.Author.Tests.{not-false}
 use Rattle.spec.specs.Bytes.{byte}
 use Rattle.lexer.proofs.Tests.{told}
-use Rattle.text.specs.Letters.{Common, none}
-use Rattle.text.proofs.Auto.{auto}
+use Rattle.text.specs.Letters.{none}
 use Rattle.text.proofs.CompareLaws.{common_more}
 use Rattle.text.proofs.compare.common.Goals as goal
 

@@ -1,5 +1,4 @@
 use mathlib.Core.Path.{sym, refl}
-use Rattle.text.proofs.Auto.{auto}
 use Rattle.text.proofs.LetterLaws.{scalar_text, refused_text}
 use Rattle.text.proofs.CompareLaws.{shorter, both_end}
 use Rattle.text.proofs.compare.ended.Goals as goal

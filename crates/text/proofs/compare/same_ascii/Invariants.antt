@@ -1,12 +1,8 @@
 use Prim.Native.Nat.{◌-◌, ◌≤◌}
-use mathlib.Core.Path.{◌≡◌, sym, ◌∙◌}
-use native.Mathlib.Omega.{arith}
+use mathlib.Core.Path.{◌≡◌}
 use lib.ListN.{length, drop}
 use Rattle.spec.specs.Value.{same_text}
 use Rattle.text.specs.Decode.{text_from, text_of}
-use Rattle.text.proofs.Auto.{auto}
-use Rattle.text.proofs.LetterLaws.{scalar_text, scalar_less, refused_text}
-use Rattle.text.proofs.CompareLaws.{front, back, heads_same, heads_differ, longer, end_same, common_word}
 use Rattle.text.proofs.compare.same_ascii.Given as goal
 
 abbrev pub invariant-loop-c : goal.invariant-loop-c

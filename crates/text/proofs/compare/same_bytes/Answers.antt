@@ -1,8 +1,6 @@
-use Prim.Native.Nat.{◌-◌, ◌≤◌}
-use mathlib.Core.Path.{◌≡◌, refl, ap}
+use mathlib.Core.Path.{refl, ap}
 use native.Mathlib.Omega.{arith}
-use lib.ListN.{length, drop}
-use Rattle.spec.specs.Value.{same_text}
+use lib.ListN.{length}
 use Rattle.text.proofs.CompareLaws.{differ, bytes_differ, bytes_same, bytes_end}
 use Rattle.text.proofs.compare.same_bytes.Goals as goal
 

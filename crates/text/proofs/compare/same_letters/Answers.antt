@@ -1,10 +1,5 @@
-use Prim.Native.Nat.{◌-◌}
-use mathlib.Core.Path.{◌≡◌, sym, ◌∙◌}
+use mathlib.Core.Path.{sym, ◌∙◌}
 use native.Mathlib.Omega.{arith}
-use lib.ListN.{length}
-use Rattle.spec.specs.Value.{same_text}
-use Rattle.text.specs.Decode.{text_from, text_of}
-use Rattle.text.proofs.Auto.{auto}
 use Rattle.text.proofs.LetterLaws.{scalar_text, scalar_less, refused_text, plain_text, plain_inside, past_text}
 use Rattle.text.proofs.CompareLaws.{heads_same, heads_differ, longer, ended_same, common_texts}
 use Rattle.text.proofs.compare.same_letters.Goals as goal

@@ -1,12 +1,8 @@
 use Prim.Native.Nat.{◌-◌}
-use mathlib.Core.Path.{◌≡◌, sym, ◌∙◌}
-use native.Mathlib.Omega.{arith}
+use mathlib.Core.Path.{◌≡◌}
 use lib.ListN.{length}
 use Rattle.spec.specs.Value.{same_text}
 use Rattle.text.specs.Decode.{text_from, text_of}
-use Rattle.text.proofs.Auto.{auto}
-use Rattle.text.proofs.LetterLaws.{scalar_text, scalar_less, refused_text, plain_text, plain_inside, past_text}
-use Rattle.text.proofs.CompareLaws.{heads_same, heads_differ, longer, ended_same, common_texts}
 use Rattle.text.proofs.compare.same_letters.Given as goal
 
 abbrev pub invariant-loop-i : goal.invariant-loop-i

@@ -1,5 +1,4 @@
 use Rattle.lexer.proofs.Tests.{told}
-use Rattle.text.proofs.Auto.{auto}
 use Rattle.text.proofs.CompareLaws.{same_parts}
 use Rattle.text.proofs.compare.same_text.Goals as goal
 

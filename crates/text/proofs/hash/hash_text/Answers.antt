@@ -1,10 +1,7 @@
-use Prim.Native.Nat.{◌-◌}
-use mathlib.Core.Path.{◌≡◌, refl}
+use mathlib.Core.Path.{refl}
 use native.Mathlib.Omega.{arith}
-use lib.ListN.{length}
-use Rattle.lexer.specs.Hash.{hash_from, hash}
-use Rattle.text.specs.Decode.{text_from, text_of}
-use Rattle.text.proofs.Auto.{auto}
+use Rattle.lexer.specs.Hash.{hash}
+use Rattle.text.specs.Decode.{text_of}
 use Rattle.text.proofs.LetterLaws.{scalar_text, scalar_less, refused_text, plain_text, plain_inside, past_text}
 use Rattle.text.proofs.HashLaws.{hash_more, hash_ends}
 use Rattle.text.proofs.hash.hash_text.Goals as goal

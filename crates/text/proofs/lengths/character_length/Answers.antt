@@ -2,7 +2,6 @@ use mathlib.Core.Path.{sym, ◌∙◌, ap}
 use lib.ListN.{length}
 use Rattle.text.specs.Written.{hex_escape}
 use Rattle.text.proofs.EscapeLaws.{writes}
-use Rattle.text.proofs.Auto.{auto}
 use Rattle.text.proofs.lengths.character_length.Goals as goal
 
 pub returns-then-short_letter-ne0 : goal.returns-then-short_letter-ne0

@@ -1,10 +1,7 @@
-use Prim.Native.Nat.{◌-◌}
 use native.Mathlib.Omega.{arith}
-use lib.ListN.{length}
 use Rattle.text.specs.Letters.{letter_at}
-use Rattle.text.proofs.Auto.{auto}
 use Rattle.text.proofs.LetterLaws.{scalar_less, refused_text}
-use Rattle.text.proofs.RunLaws.{run_past, Counted, counted_starts, counted-run, counted_letter, counted_ends, counted_fits}
+use Rattle.text.proofs.RunLaws.{run_past, counted_starts, counted-run, counted_letter, counted_ends, counted_fits}
 use Rattle.text.proofs.lengths.string_length.Goals as goal
 
 pub loop-c-init : goal.loop-c-init

@@ -1,10 +1,6 @@
 use Prim.Native.Nat.{◌-◌}
-use native.Mathlib.Omega.{arith}
 use lib.ListN.{length}
-use Rattle.text.specs.Letters.{letter_at}
-use Rattle.text.proofs.Auto.{auto}
-use Rattle.text.proofs.LetterLaws.{scalar_less, refused_text}
-use Rattle.text.proofs.RunLaws.{run_past, Counted, counted_starts, counted-run, counted_letter, counted_ends, counted_fits}
+use Rattle.text.proofs.RunLaws.{Counted}
 use Rattle.text.proofs.lengths.string_length.Given as goal
 
 abbrev pub invariant-loop-c : goal.invariant-loop-c

@@ -1,10 +1,5 @@
-use Prim.Native.Nat.{◌+◌, ◌-◌}
-use mathlib.Core.Path.{◌≡◌}
 use native.Mathlib.Omega.{arith}
-use lib.ListN.{length}
-use Rattle.spec.specs.Write.{write_characters}
-use Rattle.text.specs.Decode.{text_from, text_of}
-use Rattle.text.proofs.Auto.{auto}
+use Rattle.text.specs.Decode.{text_of}
 use Rattle.text.proofs.LetterLaws.{scalar_text, scalar_less, refused_text}
 use Rattle.text.proofs.LengthLaws.{length_more, length_ends, text_short}
 use Rattle.text.proofs.lengths.text_length.Goals as goal

@@ -1,4 +1,3 @@
-use Rattle.text.proofs.Auto.{auto}
 use borrow.Author.Tests.{ne_eqb}
 use Rattle.text.specs.Written.{written}
 use Rattle.text.proofs.lengths.written_length.Goals as goal

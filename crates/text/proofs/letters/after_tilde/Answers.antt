@@ -1,7 +1,6 @@
 use Rattle.std.proofs.Common.{arith}
 use borrow.Author.Tests.{eq-eqb, ne_eqb}
 use Rattle.lexer.proofs.AnswerLaws.{scalar_ok, character_refused}
-use Rattle.text.proofs.Auto.{auto}
 use Rattle.lexer.specs.Answers.{character_outcome}
 use Rattle.text.specs.Letters.{after_tilde}
 use Rattle.text.proofs.letters.after_tilde.Goals as goal

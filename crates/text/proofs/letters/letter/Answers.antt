@@ -2,7 +2,6 @@ use mathlib.Core.Path.{sym}
 use native.Mathlib.Omega.{arith}
 use Rattle.lexer.specs.Answers.{character_outcome}
 use Rattle.text.proofs.LetterLaws.{plain_ok, plain_inside, past_letter}
-use Rattle.text.proofs.Auto.{auto}
 use Rattle.text.proofs.letters.letter.Goals as goal
 
 pub overflow_add-result : goal.overflow_add-result

@@ -1,7 +1,5 @@
-use borrow.Author.Tests.{not-true, not-false}
 use Rattle.lexer.proofs.Tests.{told}
 use Rattle.text.specs.Letters.{plain_at}
-use Rattle.text.proofs.Auto.{auto}
 use Rattle.text.proofs.letters.plain.Goals as goal
 
 pub returns-then-not-is_letter : goal.returns-then-not-is_letter

@@ -1,4 +1,3 @@
-use borrow.Author.Rules.{rules}
 use Rattle.text.proofs.RunLaws.{verbatim_run}
 use Rattle.text.proofs.runs.run_end.Goals as goal
 

@@ -1,6 +1,5 @@
 use mathlib.Core.Path.{refl, sym}
 use lib.Seq.{set_out}
-use Rattle.text.proofs.Auto.{auto}
 use Rattle.text.proofs.write.put.Goals as goal
 
 pub returns-then-at-out : goal.returns-then-at-out

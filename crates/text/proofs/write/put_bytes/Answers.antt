@@ -1,7 +1,5 @@
-use Rattle.text.proofs.Auto.{auto}
-use Prim.Native.Nat.{◌-◌, ◌≤◌}
 use native.Mathlib.Omega.{arith}
-use Rattle.text.proofs.StoreLaws.{Copied, copied_none, copied-length, copied_more, copied_all}
+use Rattle.text.proofs.StoreLaws.{copied_none, copied-length, copied_more, copied_all}
 use Rattle.text.proofs.write.put_bytes.Goals as goal
 
 pub loop-i-init : goal.loop-i-init

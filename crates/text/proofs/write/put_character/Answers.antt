@@ -1,5 +1,4 @@
 use Prim.Native.Char.{code}
-use Rattle.text.proofs.Auto.{auto}
 use mathlib.Core.Path.{sym, ◌∙◌, ap}
 use mathlib.Core.List.{[], ◌∷◌}
 use native.Mathlib.Omega.{arith}

@@ -1,5 +1,4 @@
 use Prim.Native.Char.{code}
-use Rattle.text.proofs.Auto.{auto}
 use mathlib.Core.List.{[], ◌∷◌, ◌++◌}
 use native.Mathlib.Omega.{arith}
 use Rattle.text.specs.Written.{hex_escape}

@@ -1,7 +1,6 @@
 use mathlib.Core.List.{[], ◌∷◌}
 use native.Mathlib.Omega.{arith}
 use Rattle.text.proofs.StoreLaws.{stores_on}
-use Rattle.text.proofs.Auto.{auto}
 use Rattle.text.proofs.write.put_two.Goals as goal
 
 pub returns : goal.returns

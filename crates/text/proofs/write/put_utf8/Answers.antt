@@ -1,5 +1,4 @@
 use Prim.Native.Nat.{◌+◌, ◌/◌}
-use Rattle.text.proofs.Auto.{auto}
 use mathlib.Core.List.{[], ◌∷◌}
 use native.Mathlib.Omega.{arith}
 use borrow.Author.Tests.{lt-ltb, le-ltb}

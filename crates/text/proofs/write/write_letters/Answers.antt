@@ -1,11 +1,8 @@
-use Rattle.text.proofs.Auto.{auto}
-use Prim.Native.Nat.{◌-◌}
 use native.Mathlib.Omega.{arith}
-use lib.ListN.{length}
 use Rattle.lexer.proofs.AnswerLaws.{scalar_ok}
 use Rattle.text.proofs.LetterLaws.{scalar_text, scalar_less, refused_text}
 use Rattle.text.proofs.LengthLaws.{letter_fits}
-use Rattle.text.proofs.StoreLaws.{Laying, laying_starts, laying_length, laying_bound, laying_ends, laying_more}
+use Rattle.text.proofs.StoreLaws.{laying_starts, laying_length, laying_bound, laying_ends, laying_more}
 use Rattle.text.proofs.write.write_letters.Goals as goal
 
 pub loop-c-init : goal.loop-c-init

@@ -1,6 +1,5 @@
 use borrow.Author.Tests.{ne_eqb}
 use Rattle.text.specs.Written.{written}
-use Rattle.text.proofs.Auto.{auto}
 use Rattle.text.proofs.StoreLaws.{front}
 use Rattle.text.proofs.write.write_text.Goals as goal
 

@@ -34,19 +34,19 @@ slice_bounds-checked-end-6 c = sym (length-take-le max_bytes
 pub shape_of-nodes : goal.shape_of-nodes
 shape_of-nodes c = c.wipe.auto.nodes ∙ length_front
     c.args.nodes.now
-    c.checked-answer.new.1.1.1.0 work_nodes
+    c.checked-answer.new.nodes work_nodes
     c.checked-answer.auto.nodes
 
 pub shape_of-index : goal.shape_of-index
 shape_of-index c = c.empty.auto.index ∙ length_front
     c.args.index.now
-    c.checked-answer.new.1.1.1.1.0 work_entries
+    c.checked-answer.new.index work_entries
     c.checked-answer.auto.index
 
 pub shape_of-work : goal.shape_of-work
 shape_of-work c = c.clear.auto.work ∙ length_front
     c.args.work.now
-    c.checked-answer.new.1.1.1.1.1.0 max_bytes
+    c.checked-answer.new.work max_bytes
     c.checked-answer.auto.work
 
 pub returns : goal.returns
@@ -55,9 +55,9 @@ returns c = undo_done
     c.if-index-lt-SLOTS.false
     c.if-work-lt-MAX_BYTES.false
     c.checked-answer.ensures
-    c.checked-answer.new.1.1.1.0
+    c.checked-answer.new.nodes
     c.checked-answer.auto.nodes c.wipe.ensures
-    c.checked-answer.new.1.1.1.1.0
+    c.checked-answer.new.index
     c.checked-answer.auto.index c.empty.ensures
-    c.checked-answer.new.1.1.1.1.1.0
+    c.checked-answer.new.work
     c.checked-answer.auto.work c.clear.ensures

@@ -42,12 +42,12 @@ shape_of-origins c =
 
 pub shape_of-nodes : goal.shape_of-nodes
 shape_of-nodes c =
-    c.wipe.auto.nodes ∙ length_front c.args.nodes.now c.checked-answer.new.1.1.1.1.0 work_nodes
+    c.wipe.auto.nodes ∙ length_front c.args.nodes.now c.checked-answer.new.nodes work_nodes
     c.checked-answer.auto.nodes
 
 pub shape_of-index : goal.shape_of-index
 shape_of-index c =
-    c.empty.auto.index ∙ length_front c.args.index.now c.checked-answer.new.1.1.1.1.1.0 work_entries
+    c.empty.auto.index ∙ length_front c.args.index.now c.checked-answer.new.index work_entries
     c.checked-answer.auto.index
 
 pub shape_of-work : goal.shape_of-work
@@ -58,6 +58,6 @@ shape_of-work c =
 pub returns : goal.returns
 returns c =
     undo_listed c.if-nodes-lt-ROWS.false c.if-index-lt-SLOTS.false c.if-work-lt-MAX_BYTES.false c.checked-answer.ensures
-    c.checked-answer.new.1.1.1.1.0 c.checked-answer.auto.nodes c.wipe.ensures
-    c.checked-answer.new.1.1.1.1.1.0 c.checked-answer.auto.index c.empty.ensures
-    c.checked-answer.new.1.1.1.1.1.1.0 c.checked-answer.auto.work c.clear.ensures
+    c.checked-answer.new.nodes c.checked-answer.auto.nodes c.wipe.ensures
+    c.checked-answer.new.index c.checked-answer.auto.index c.empty.ensures
+    c.checked-answer.new.work c.checked-answer.auto.work c.clear.ensures

@@ -10,31 +10,27 @@ use Rattle.undo_listing.proofs.stages.write_all.Goals as goal
 pub returns-then-origins-used : goal.returns-then-origins-used
 returns-then-origins-used c = list_short (omega (arith, c.if-origins-used.true)) c.refused.ensures c.without.ensures
 
--- TODO step fits2.ensures
 pub returns-then-not-fits : goal.returns-then-not-fits
 returns-then-not-fits c =
-    all_refused (both_short _ _ _ c.fits2.ensures c.if-not-fits.true c.refused-then-not-fits.ensures c.without-then-not-fits.ensures)
+    all_refused (both_short _ _ _ c.fits.ensures c.if-not-fits.true c.refused-then-not-fits.ensures c.without-then-not-fits.ensures)
     (omega (arith, c.if-origins-used.false)) c.refused-then-not-fits.ensures c.without-then-not-fits.ensures refl
 
--- TODO step fits2.ensures
 pub returns-then-number-ne0 : goal.returns-then-number-ne0
 returns-then-number-ne0 c =
-    all_refused (both_unreadable _ _ _ c.fits2.ensures c.if-not-fits.false c.verdict-number.ensures c.if-number-ne0.true
+    all_refused (both_unreadable _ _ _ c.fits.ensures c.if-not-fits.false c.verdict-number.ensures c.if-number-ne0.true
     c.refused-then-number-ne0.ensures
     c.without-then-number-ne0.ensures) (omega (arith, c.if-origins-used.false)) c.refused-then-number-ne0.ensures c.without-then-number-ne0.ensures (ne_eqb _ 0 c.if-number-ne0.true)
 
--- TODO step fits2.ensures
 pub returns-then-undo-length : goal.returns-then-undo-length
 returns-then-undo-length c =
-    all_refused (both_narrow _ _ _ c.fits2.ensures c.if-not-fits.false c.verdict-number.ensures c.if-number-ne0.false
+    all_refused (both_narrow _ _ _ c.fits.ensures c.if-not-fits.false c.verdict-number.ensures c.if-number-ne0.false
     c.text_length-length.ensures
     c.if-undo-length.true c.refused-then-undo-length.ensures c.without-then-undo-length.ensures) (omega (arith, c.if-origins-used.false)) c.refused-then-undo-length.ensures
     c.without-then-undo-length.ensures refl
 
--- TODO step fits2.ensures
 pub returns : goal.returns
 returns c =
-    all_written (both-written _ _ _ c.fits2.ensures c.if-not-fits.false c.verdict-number.ensures c.if-number-ne0.false
+    all_written (both-written _ _ _ c.fits.ensures c.if-not-fits.false c.verdict-number.ensures c.if-number-ne0.false
     c.text_length-length.ensures
     (omega (arith, c.if-undo-length.false)) c.write-written.ensures c.copy_out.ensures c.success.ensures) (omega (arith, c.if-origins-used.false))
     c.success.ensures.0

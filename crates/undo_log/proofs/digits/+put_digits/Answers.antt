@@ -1,9 +1,8 @@
 -- `put_digits` meets its contract: the last digit is laid down behind those of a tenth. The number falls. Assumes nothing.
-use Prim.Native.Nat.{ℕ, ◌/◌, ◌<◌}
+use Prim.Native.Nat.{◌/◌}
 use native.Mathlib.Omega.{arith}
 use mathlib.Core.Path.{sym, ap, ◌∙◌}
 use mathlib.Core.List.{[], ◌∷◌, ◌++◌}
-use borrow.Author.Rules.{rules}
 use Rattle.reversal.specs.Undo.{index_token}
 use Rattle.writer.proofs.PlacedLaws.{placed_as, placed_then}
 use Rattle.undo_log.proofs.DigitLaws.{index_small, index_large}

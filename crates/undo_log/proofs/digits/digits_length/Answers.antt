@@ -1,9 +1,5 @@
 -- `digits_length` meets its contract: it counts how often a tenth can be taken. Assumes nothing.
-use Prim.Native.Nat.{◌+◌}
 use native.Mathlib.Omega.{arith}
-use mathlib.Core.Path.{◌≡◌}
-use lib.ListN.{length}
-use Rattle.reversal.specs.Undo.{index_token}
 use Rattle.undo_log.proofs.DigitLaws.{small_length, large_length, count_fits}
 use Rattle.undo_log.proofs.digits.digits_length.Goals as goal
 

@@ -1,9 +1,7 @@
 use Prim.Native.Nat.{◌+◌}
-use native.Mathlib.Omega.{arith}
 use mathlib.Core.Path.{◌≡◌}
 use lib.ListN.{length}
 use Rattle.reversal.specs.Undo.{index_token}
-use Rattle.undo_log.proofs.DigitLaws.{small_length, large_length, count_fits}
 use Rattle.undo_log.proofs.digits.digits_length.Given as goal
 
 abbrev pub invariant-loop-rest : goal.invariant-loop-rest

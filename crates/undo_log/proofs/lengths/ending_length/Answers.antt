@@ -1,5 +1,4 @@
 -- `ending_length` meets its contract, by the value that the action has. Assumes nothing.
-use borrow.Author.Rules.{rules}
 use mathlib.Core.Path.{sym, ap, ◌∙◌}
 use lib.ListN.{length}
 use Rattle.undo_log.specs.Pieces.{capped}

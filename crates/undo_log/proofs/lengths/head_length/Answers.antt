@@ -1,5 +1,4 @@
 -- `head_length` meets its contract: the pieces' bytes are counted. Assumes nothing.
-use borrow.Author.Rules.{rules}
 use mathlib.Core.Path.{sym, ap}
 use lib.ListN.{length}
 use Rattle.spec.specs.Bytes.{ascii}

@@ -1,6 +1,5 @@
 -- `more_bytes` meets its contract. Assumes nothing.
 use native.Mathlib.Omega.{arith}
-use borrow.Author.Rules.{rules}
 use Rattle.undo_log.proofs.lengths.more_bytes.Goals as goal
 
 pub returns : goal.returns

@@ -1,6 +1,5 @@
 -- `operation_length` meets its contract: it is the sum of its three pieces'. Assumes nothing.
 use native.Mathlib.Omega.{arith}
-use borrow.Author.Rules.{rules}
 use Rattle.tape.specs.Lent.{both}
 use Rattle.undo_log.proofs.OperationLaws.{note_length}
 use Rattle.undo_log.proofs.lengths.operation_length.Goals as goal

@@ -1,6 +1,5 @@
 -- `path_length` meets its contract: two quotation marks are added. Assumes nothing.
 use native.Mathlib.Omega.{arith}
-use borrow.Author.Rules.{rules}
 use Rattle.tape.specs.Lent.{both}
 use Rattle.undo_log.proofs.OperationLaws.{path_length}
 use Rattle.undo_log.proofs.lengths.path_length.Goals as goal

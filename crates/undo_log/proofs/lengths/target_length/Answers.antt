@@ -1,6 +1,5 @@
 -- `target_length` meets its contract, by those of its parts. Assumes nothing.
 use native.Mathlib.Omega.{arith}
-use borrow.Author.Rules.{rules}
 use mathlib.Core.Path.{ap}
 use lib.ListN.{length}
 use Rattle.tape.specs.Lent.{both}

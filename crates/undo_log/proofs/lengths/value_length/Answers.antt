@@ -1,6 +1,5 @@
 -- `value_length` meets its contract: ten bytes are added to the value's. Assumes nothing.
 use native.Mathlib.Omega.{arith}
-use borrow.Author.Rules.{rules}
 use Rattle.undo_log.proofs.OperationLaws.{held_measured, value-length}
 use Rattle.undo_log.proofs.lengths.value_length.Goals as goal
 

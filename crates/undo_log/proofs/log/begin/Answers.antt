@@ -1,6 +1,5 @@
 -- `begin` meets its contract: the closing bracket is stored in the last byte. Assumes nothing.
 use native.Mathlib.Omega.{arith}
-use borrow.Author.Rules.{rules}
 use Prim.Native.Nat.{◌-◌}
 use lib.ListN.{length}
 use Rattle.undo_log.proofs.LogLaws.{noted_none}

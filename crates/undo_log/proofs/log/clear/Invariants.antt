@@ -1,11 +1,7 @@
-use Prim.Native.Nat.{◌≤◌, ◌-◌, ◌+◌}
-use native.Mathlib.Omega.{arith}
-use mathlib.Core.Path.{◌≡◌, refl, sym, ap, ◌∙◌}
-use lib.ListN.{length, set, replicate, length-set}
-use borrow.Author.Rules.{rules}
+use Prim.Native.Nat.{◌≤◌, ◌-◌}
+use mathlib.Core.Path.{◌≡◌}
+use lib.ListN.{length, replicate}
 use Rattle.tape.specs.Columns.{replaced}
-use Rattle.tape.proofs.Columns.{filled_in, filled_out}
-use Rattle.tape.proofs.Loops.{filled_none, filled_more}
 use Rattle.spec.specs.Limits.{max_bytes}
 use Rattle.undo_log.proofs.log.clear.Given as goal
 

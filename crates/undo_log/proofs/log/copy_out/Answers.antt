@@ -1,6 +1,5 @@
 -- `copy_out` meets its contract: the bracket is laid down, and behind it the end of the buffer. Assumes nothing.
 use native.Mathlib.Omega.{arith}
-use borrow.Author.Rules.{rules}
 use mathlib.Core.Path.{refl}
 use Rattle.undo_log.proofs.LogLaws.{copied_out}
 use Rattle.undo_log.proofs.log.copy_out.Goals as goal

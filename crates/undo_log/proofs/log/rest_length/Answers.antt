@@ -1,6 +1,5 @@
 -- `rest_length` meets its contract: a text has an opening bracket at least. Assumes nothing.
 use native.Mathlib.Omega.{arith}
-use borrow.Author.Rules.{rules}
 use Rattle.undo_log.proofs.LogLaws.{text_some}
 use Rattle.undo_log.proofs.log.rest_length.Goals as goal
 

@@ -11,7 +11,9 @@ pub returns-then-not-log : goal.returns-then-not-log
 returns-then-not-log c work os n = verdict-deep n (omega (arith, c.if-log-gt-MAX_OPERATIONS.false)) (not-true _ c.if-not-log.true)
 
 pub returns-then-log-gt-MAX_NODES : goal.returns-then-log-gt-MAX_NODES
-returns-then-log-gt-MAX_NODES c work os n = verdict-nodes n (omega (arith, c.if-log-gt-MAX_OPERATIONS.false)) (not-false _ c.if-not-log.false) c.if-log-gt-MAX_NODES.true
+returns-then-log-gt-MAX_NODES c work os n =
+    verdict-nodes n (omega (arith, c.if-log-gt-MAX_OPERATIONS.false)) (not-false _ c.if-not-log.false)
+    c.if-log-gt-MAX_NODES.true
 
 pub returns-then-log-gt-MAX_BYTES : goal.returns-then-log-gt-MAX_BYTES
 returns-then-log-gt-MAX_BYTES c work os n = verdict_long n (omega (arith, c.if-log-gt-MAX_OPERATIONS.false))

@@ -1,6 +1,5 @@
 -- `lay_down` meets its contract: the text begins `bytes` bytes before the end. Assumes nothing.
 use native.Mathlib.Omega.{arith}
-use borrow.Author.Rules.{rules}
 use Rattle.undo_log.proofs.NoteLaws.{lay_down_is}
 use Rattle.undo_log.proofs.note.lay_down.Goals as goal
 

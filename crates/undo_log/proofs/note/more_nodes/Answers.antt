@@ -1,6 +1,5 @@
 -- `more_nodes` meets its contract, by the value that the action has. Assumes nothing.
 use native.Mathlib.Omega.{arith}
-use borrow.Author.Rules.{rules}
 use Prim.Native.Nat.{suc, ◌+◌, min}
 use mathlib.Core.Path.{sym, ap, ◌∙◌}
 use Rattle.spec.specs.Limits.{max_nodes}

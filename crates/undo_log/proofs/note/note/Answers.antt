@@ -1,5 +1,4 @@
 -- `note` meets its contract: each count goes on, and the text stands before the others'. Assumes nothing.
-use borrow.Author.Rules.{rules}
 use Rattle.tape.specs.Lent.{both}
 use Rattle.undo_log.proofs.OperationLaws.{undoes_carries}
 use Rattle.undo_log.proofs.NoteLaws.{noted_more}

@@ -1,7 +1,5 @@
 -- `still_shallow` meets its contract: a value may have two levels fewer than the undo. Assumes nothing.
-use borrow.Author.Rules.{rules}
 use mathlib.Core.Path.{refl}
-use borrow.Author.Tests.{not-true, not-false}
 use Rattle.spec.specs.Value.{depths}
 use Rattle.reversal.specs.UndoValue.{value_member}
 use Rattle.undo_log.proofs.OperationLaws.{valued_add, valued_replace, bare, member-none}

@@ -1,6 +1,5 @@
 -- `with_value` meets its contract: a value has one node more than there are below it. Assumes nothing.
 use native.Mathlib.Omega.{arith}
-use borrow.Author.Rules.{rules}
 use Rattle.undo_log.proofs.OperationLaws.{held_span}
 use Rattle.undo_log.proofs.note.with_value.Goals as goal
 

@@ -1,5 +1,4 @@
 -- `put_appended` meets its contract: the digits are laid down behind the pointer. Assumes nothing.
-use borrow.Author.Rules.{rules}
 use Rattle.writer.proofs.PlacedLaws.{placed_as, placed_then}
 use Rattle.undo_log.proofs.OperationLaws.{appended-written}
 use Rattle.undo_log.proofs.pieces.put_appended.Goals as goal

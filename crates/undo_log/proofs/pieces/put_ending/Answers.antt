@@ -1,5 +1,4 @@
 -- `put_ending` meets its contract, by the value that the action has. Assumes nothing.
-use borrow.Author.Rules.{rules}
 use Rattle.undo_log.proofs.OperationLaws.{put-ending_add, put-ending_remove, put-ending_replace}
 use Rattle.undo_log.proofs.pieces.put_ending.Goals as goal
 

@@ -1,5 +1,4 @@
 -- `put_head` meets its contract: a plain piece is copied. Assumes nothing.
-use borrow.Author.Rules.{rules}
 use mathlib.Core.Path.{ap}
 use Rattle.spec.specs.Bytes.{ascii}
 use Rattle.text.specs.Written.{written}

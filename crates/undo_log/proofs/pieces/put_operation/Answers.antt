@@ -1,5 +1,4 @@
 -- `put_operation` meets its contract: its three pieces are laid down one behind another. Assumes nothing.
-use borrow.Author.Rules.{rules}
 use Rattle.undo_log.proofs.OperationLaws.{put_note}
 use Rattle.undo_log.proofs.pieces.put_operation.Goals as goal
 

@@ -1,5 +1,4 @@
 -- `put_path` meets its contract: its three pieces are laid down one behind another. Assumes nothing.
-use borrow.Author.Rules.{rules}
 use Rattle.writer.proofs.PlacedLaws.{placed_as, placed_then}
 use Rattle.undo_log.proofs.OperationLaws.{string-written}
 use Rattle.undo_log.proofs.pieces.put_path.Goals as goal

@@ -1,5 +1,4 @@
 -- `put_target` meets its contract, by the target's kind. Assumes nothing.
-use borrow.Author.Rules.{rules}
 use Rattle.writer.proofs.PlacedLaws.{placed_as}
 use Rattle.undo_log.proofs.OperationLaws.{target_at, target_appended}
 use Rattle.undo_log.proofs.pieces.put_target.Goals as goal

@@ -1,5 +1,4 @@
 -- `put_value` meets its contract: its three pieces are laid down one behind another. Assumes nothing.
-use borrow.Author.Rules.{rules}
 use Rattle.spec.specs.Bytes.{ascii}
 use Rattle.undo_log.proofs.OperationLaws.{put-value-is}
 use Rattle.undo_log.proofs.pieces.put_value.Goals as goal

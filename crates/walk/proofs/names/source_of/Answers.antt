@@ -1,5 +1,4 @@
 -- `source_of` meets its contract.
-use borrow.Author.Rules.{rules}
 use borrow.Author.Tests.{eq-eqb, ne_eqb}
 use Rattle.walk.specs.Names.{source_of}
 use Rattle.walk.proofs.names.source_of.Goals as goal

@@ -1,5 +1,4 @@
 use mathlib.Core.Path.{sym, ◌∙◌}
-use borrow.Author.Rules.{rules}
 use borrow.Author.Tests.{not-true, not-false}
 use Rattle.walk.proofs.PathLaws.{walk_malformed, walk_root, walk_at, walk_never}
 use Rattle.walk.proofs.path.walk.Goals as goal

@@ -1,9 +1,6 @@
 -- `walk_from`: the tokens that are left lead from the row to the same value; the measure is what is left of the pointer.
-use Prim.Native.Nat.{◌-◌}
-use lib.ListN.{length}
 use borrow.Author.Rules.{rules}
-use Rattle.tape.specs.Lent.{table_of}
-use Rattle.walk.proofs.PathLaws.{Walking, walking_all, walking_lost, walking_done, walking_next, walking_count, walking_less}
+use Rattle.walk.proofs.PathLaws.{walking_all, walking_lost, walking_done, walking_next, walking_count, walking_less}
 use Rattle.walk.proofs.path.walk_from.Goals as goal
 
 pub loop-child-init : goal.loop-child-init

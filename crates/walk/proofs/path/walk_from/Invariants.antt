@@ -1,8 +1,7 @@
 use Prim.Native.Nat.{◌-◌}
 use lib.ListN.{length}
-use borrow.Author.Rules.{rules}
 use Rattle.tape.specs.Lent.{table_of}
-use Rattle.walk.proofs.PathLaws.{Walking, walking_all, walking_lost, walking_done, walking_next, walking_count, walking_less}
+use Rattle.walk.proofs.PathLaws.{Walking}
 use Rattle.walk.proofs.path.walk_from.Given as goal
 
 abbrev pub invariant-loop-child : goal.invariant-loop-child

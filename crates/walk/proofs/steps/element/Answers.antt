@@ -1,4 +1,3 @@
-use borrow.Author.Rules.{rules}
 use Rattle.walk.proofs.StepLaws.{element_at_lem, element_not, element_dash, element_beyond}
 use Rattle.walk.proofs.steps.element.Goals as goal
 

@@ -1,4 +1,3 @@
-use borrow.Author.Rules.{rules}
 use Rattle.walk.proofs.StepLaws.{member-outside, member-at, member-missing}
 use Rattle.walk.proofs.steps.member.Goals as goal
 

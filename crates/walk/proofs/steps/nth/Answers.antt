@@ -1,4 +1,3 @@
-use borrow.Author.Rules.{rules}
 use Rattle.walk.proofs.StepLaws.{nth_at, nth_fewer}
 use Rattle.walk.proofs.steps.nth.Goals as goal
 

@@ -1,4 +1,3 @@
-use borrow.Author.Rules.{rules}
 use Rattle.walk.proofs.StepLaws.{step-array, step-object, step_scalar}
 use Rattle.walk.proofs.steps.step.Goals as goal
 

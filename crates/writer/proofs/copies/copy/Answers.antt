@@ -1,11 +1,10 @@
 -- `copy` meets its contract: after i turns the first i bytes are copied.
-use Prim.Native.Nat.{◌+◌, ◌-◌, ◌≤◌}
+use Prim.Native.Nat.{◌+◌}
 use native.Mathlib.Omega.{arith}
-use borrow.Author.Rules.{rules}
 use mathlib.Core.Path.{◌≡◌, sym, ap, ◌∙◌}
-use lib.ListN.{length, take, drop, set, length-drop}
+use lib.ListN.{take, drop, set, length-drop}
 use lib.Seq.{sets, get_or-drop}
-use Rattle.text.proofs.StoreLaws.{Copied, copied_none, copied-length, copied_more}
+use Rattle.text.proofs.StoreLaws.{copied_none, copied-length, copied_more}
 use Rattle.writer.proofs.copies.copy.Goals as goal
 
 pub loop-i-init : goal.loop-i-init

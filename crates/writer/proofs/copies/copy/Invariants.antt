@@ -1,10 +1,6 @@
 use Prim.Native.Nat.{◌+◌, ◌-◌, ◌≤◌}
-use native.Mathlib.Omega.{arith}
-use borrow.Author.Rules.{rules}
-use mathlib.Core.Path.{◌≡◌, sym, ap, ◌∙◌}
-use lib.ListN.{length, take, drop, set, length-drop}
-use lib.Seq.{sets, get_or-drop}
-use Rattle.text.proofs.StoreLaws.{Copied, copied_none, copied-length, copied_more}
+use lib.ListN.{length, drop}
+use Rattle.text.proofs.StoreLaws.{Copied}
 use Rattle.writer.proofs.copies.copy.Given as goal
 
 abbrev pub invariant-loop-i : goal.invariant-loop-i

@@ -1,6 +1,5 @@
 -- `copy_behind_quote` meets its contract, by how long the text is.
 use native.Mathlib.Omega.{arith}
-use borrow.Author.Rules.{rules}
 use mathlib.Core.Path.{ap, ◌∙◌}
 use lib.ListN.{length}
 use lib.Seq.{sets, take_all}

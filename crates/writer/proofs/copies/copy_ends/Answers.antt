@@ -1,10 +1,9 @@
 -- `copy_ends` meets its contract: what both ends leave is all of the text (`sets_overlap` of crate text).
 use Prim.Native.Nat.{◌+◌, ◌-◌, ◌≤◌}
 use native.Mathlib.Omega.{arith}
-use borrow.Author.Rules.{rules}
-use mathlib.Core.Path.{◌≡◌, sym, ap, ◌∙◌}
-use lib.ListN.{length, take, drop, length-drop}
-use lib.Seq.{sets, length-sets, take_all}
+use mathlib.Core.Path.{ap, ◌∙◌}
+use lib.ListN.{length, drop, length-drop}
+use lib.Seq.{sets, take_all}
 use Rattle.text.proofs.StoreLaws.{sets_overlap}
 use Rattle.writer.proofs.copies.copy_ends.Goals as goal
 

@@ -2,8 +2,6 @@
 use native.Mathlib.Omega.{arith}
 use mathlib.Core.Path.{refl, sym, ap}
 use lib.ListN.{length}
-use borrow.Author.Rules.{rules}
-use borrow.Author.Tests.{not-true, not-false}
 use Rattle.writer.proofs.PieceLaws.{name_element}
 use Rattle.writer.proofs.LengthLaws.{string-short, name_counted}
 use Rattle.tape.specs.Lent.{both}

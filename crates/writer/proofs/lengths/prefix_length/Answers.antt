@@ -1,6 +1,5 @@
 -- `prefix_length` meets its contract, by those of its two parts.
 use native.Mathlib.Omega.{arith}
-use borrow.Author.Rules.{rules}
 use Rattle.writer.proofs.LengthLaws.{comma_short, name_short, prefix_length}
 use Rattle.tape.specs.Lent.{both}
 use Rattle.writer.proofs.lengths.prefix_length.Goals as goal

@@ -1,7 +1,6 @@
 -- `scalar_length` meets its contract, by the tests on the kind.
 use mathlib.Core.Path.{sym, ap, ◌∙◌}
 use lib.ListN.{length}
-use borrow.Author.Rules.{rules}
 use Rattle.writer.proofs.PieceLaws.{scalar-string, scalar-number, scalar_literal}
 use Rattle.writer.proofs.lengths.scalar_length.Goals as goal
 

@@ -1,6 +1,5 @@
 -- `string_length` meets its contract, by those of `part` and of `written_length`.
 use native.Mathlib.Omega.{arith}
-use borrow.Author.Rules.{rules}
 use Rattle.writer.proofs.LengthLaws.{string-counted, string-short}
 use Rattle.tape.specs.Lent.{both}
 use Rattle.writer.proofs.lengths.string_length.Goals as goal

@@ -1,6 +1,5 @@
 -- `put_byte` meets its contract: it stores the byte where there is room for it.
 use mathlib.Core.List.{[], ◌∷◌}
-use borrow.Author.Rules.{rules}
 use Rattle.writer.proofs.PlacedLaws.{placed-full}
 use Rattle.writer.proofs.output.put_byte.Goals as goal
 

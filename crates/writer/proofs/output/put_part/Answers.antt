@@ -1,7 +1,4 @@
 -- `put_part` meets its contract, by that of `write_text`.
-use mathlib.Core.Path.{ap, ◌∙◌}
-use borrow.Author.Rules.{rules}
-use Rattle.text.specs.Written.{written}
 use Rattle.writer.proofs.PlacedLaws.{placed-part}
 use Rattle.writer.proofs.output.put_part.Goals as goal
 

@@ -1,7 +1,6 @@
 -- `put_quoted` meets its contract: three runs of stores, one behind another.
-use Prim.Native.Nat.{◌+◌, ◌≤◌}
+use Prim.Native.Nat.{◌+◌}
 use native.Mathlib.Omega.{arith}
-use borrow.Author.Rules.{rules}
 use mathlib.Core.Path.{◌≡◌, refl, ap, ◌∙◌}
 use lib.ListN.{length, set, length-set}
 use lib.Seq.{sets, length-sets}
@@ -22,7 +21,7 @@ bounds-out-n c =
 
 pub shape_of-out : goal.shape_of-out
 shape_of-out c =
-    length-set c.copy_behind_quote.new.1.0 (1 + length c.args.s.now) 0x22
+    length-set c.copy_behind_quote.new.out (1 + length c.args.s.now) 0x22
     ∙ copied_long c.args.out.now c.args.s.now c.copy_behind_quote.ensures
 
 pub returns : goal.returns

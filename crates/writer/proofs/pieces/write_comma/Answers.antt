@@ -1,6 +1,5 @@
 -- `write_comma` meets its contract, by the test.
 use native.Mathlib.Omega.{arith}
-use borrow.Author.Rules.{rules}
 use Rattle.spec.specs.Bytes.{ascii}
 use Rattle.spec.specs.Write.{comma}
 use Rattle.writer.proofs.PlacedLaws.{placed_as, placed_none}

@@ -1,5 +1,4 @@
 -- `write_literal` meets its contract, by the tests on the kind.
-use borrow.Author.Rules.{rules}
 use borrow.Author.Tests.{eq-eqb, ne_eqb}
 use Rattle.spec.specs.Bytes.{ascii}
 use Rattle.text.specs.Written.{written}

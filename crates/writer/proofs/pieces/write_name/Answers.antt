@@ -1,8 +1,6 @@
 -- `write_name` meets its contract: a member's name and the colon are laid down one behind the other.
 use native.Mathlib.Omega.{arith}
 use mathlib.Core.Path.{refl}
-use borrow.Author.Rules.{rules}
-use borrow.Author.Tests.{not-true, not-false}
 use Rattle.writer.proofs.PlacedLaws.{placed_as, placed_none, placed_then}
 use Rattle.writer.proofs.PieceLaws.{name-member, name_element}
 use Rattle.writer.proofs.pieces.write_name.Goals as goal

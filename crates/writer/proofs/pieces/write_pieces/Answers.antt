@@ -1,6 +1,5 @@
 -- `write_pieces` meets its contract: its three pieces are laid down one behind another.
 use mathlib.Core.Path.{refl}
-use borrow.Author.Rules.{rules}
 use Rattle.writer.proofs.PlacedLaws.{placed_as, placed_then}
 use Rattle.writer.proofs.PieceLaws.{string-pieces}
 use Rattle.writer.proofs.pieces.write_pieces.Goals as goal

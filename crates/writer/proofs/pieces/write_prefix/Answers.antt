@@ -1,5 +1,4 @@
 -- `write_prefix` meets its contract: comma and name are laid down one behind the other.
-use borrow.Author.Rules.{rules}
 use Rattle.writer.proofs.PlacedLaws.{placed_as, placed_then}
 use Rattle.writer.proofs.PieceLaws.{prefix_pieces}
 use Rattle.writer.proofs.pieces.write_prefix.Goals as goal

@@ -1,6 +1,5 @@
 -- `write_scalar` meets its contract, by the tests on the kind.
 use mathlib.Core.Path.{sym, ◌∙◌}
-use borrow.Author.Rules.{rules}
 use Rattle.text.specs.Written.{written}
 use Rattle.writer.proofs.PlacedLaws.{placed_as}
 use Rattle.writer.proofs.PieceLaws.{scalar-string, scalar-number, scalar_literal}

@@ -1,6 +1,4 @@
 -- `write_string` meets its contract: the pieces do, and so does one piece of the same bytes.
-use native.Mathlib.Omega.{arith}
-use borrow.Author.Rules.{rules}
 use Rattle.writer.proofs.PlacedLaws.{placed_as}
 use Rattle.writer.proofs.PieceLaws.{plain_pieces}
 use Rattle.writer.proofs.pieces.write_string.Goals as goal

@@ -1,6 +1,5 @@
 -- `fits` meets its contract: where the text surely fits the answer is yes; otherwise its length is compared.
 use mathlib.Core.Path.{sym}
-use borrow.Author.Rules.{rules}
 use borrow.Author.Tests.{le-leb}
 use Rattle.writer.proofs.RoomLaws.{cut-compared}
 use Rattle.writer.proofs.room.fits.Goals as goal

@@ -1,8 +1,6 @@
 -- `surely_fits` meets its contract: it counts the bytes of every row of the node, and the text has no more.
-use Prim.Native.Nat.{◌≤◌, ◌-◌, max}
 use native.Mathlib.Omega.{arith}
-use borrow.Author.Rules.{rules}
-use Rattle.writer.proofs.RoomLaws.{Summed, summed_none, summed_next, sure_out, sure_summed}
+use Rattle.writer.proofs.RoomLaws.{summed_none, summed_next, sure_out, sure_summed}
 use Rattle.writer.proofs.room.surely_fits.Goals as goal
 
 pub returns-then-nodes-at : goal.returns-then-nodes-at

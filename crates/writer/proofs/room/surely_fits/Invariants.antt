@@ -1,7 +1,5 @@
 use Prim.Native.Nat.{◌≤◌, ◌-◌, max}
-use native.Mathlib.Omega.{arith}
-use borrow.Author.Rules.{rules}
-use Rattle.writer.proofs.RoomLaws.{Summed, summed_none, summed_next, sure_out, sure_summed}
+use Rattle.writer.proofs.RoomLaws.{Summed}
 use Rattle.writer.proofs.room.surely_fits.Given as goal
 
 abbrev pub invariant-loop-row : goal.invariant-loop-row

@@ -1,13 +1,10 @@
 -- `writer::values::measure` meets its contract: the text so far and the values that are left are the text of all. The levels fall.
-use Prim.Native.Nat.{ℕ, ◌<◌, ◌≤◌, ◌-◌}
 use native.Mathlib.Omega.{arith}
 use lib.Dec.{eqb}
-use borrow.Author.Rules.{rules}
 use Rattle.tape.specs.Layout.{object_kind}
-use Rattle.writer.specs.Writing.{length_limit}
 use Rattle.writer.proofs.LengthLaws.{scalar_short, prefix_short}
-use Rattle.writer.proofs.ValueLaws.{measure_out, measure_scalar, Measuring, measuring_next, measure_nested, measuring_all, measuring_none}
-use Rattle.tape.specs.Lent.{table_of, both}
+use Rattle.writer.proofs.ValueLaws.{measure_out, measure_scalar, measuring_next, measure_nested, measuring_all, measuring_none}
+use Rattle.tape.specs.Lent.{both}
 use Rattle.writer.proofs.values.+measure.Goals as goal
 
 pub returns-then-nodes-at : goal.returns-then-nodes-at
@@ -19,7 +16,7 @@ returns-then-kind-lt-ARRAY t c =
     (omega (
       arith,
       c.scalar_length.ensures,
-      c.value_of.type-inv,
+      c.value_of.type_inv,
       scalar_short (both c.args.texts)
           c.kind_in-kind.result c.value_of.result,
     ))
@@ -34,7 +31,7 @@ pub overflow_add-total : goal.overflow_add-total
 overflow_add-total t c =
     omega (
       arith,
-      c.name_of.type-inv,
+      c.name_of.type_inv,
       c.measure-value.ensures.few,
       prefix_short (both
           c.args.texts) (eqb c.kind_in-kind.result object_kind)
@@ -45,7 +42,7 @@ pub overflow_add-total-in-loop-row : goal.overflow_add-total-in-loop-row
 overflow_add-total-in-loop-row t c =
     omega (
       arith,
-      c.name_of.type-inv,
+      c.name_of.type_inv,
       c.measure-value.ensures.few,
       prefix_short (both
           c.args.texts) (eqb c.kind_in-kind.result object_kind)

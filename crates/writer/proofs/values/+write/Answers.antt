@@ -1,13 +1,11 @@
 -- `writer::values::write` meets its contract: the text so far is laid down, and it and the values that are left are the text of all. The
 -- levels fall.
-use Prim.Native.Nat.{ℕ, ◌+◌, ◌-◌, ◌<◌, ◌≤◌}
+use Prim.Native.Nat.{◌+◌, ◌≤◌}
 use native.Mathlib.Omega.{arith}
-use mathlib.Core.Path.{◌≡◌, refl, ◌∙◌}
+use mathlib.Core.Path.{refl, ◌∙◌}
 use lib.ListN.{length}
-use borrow.Author.Rules.{rules}
 use Rattle.writer.proofs.PlacedLaws.{placed-length, placed-inside, back_length, lent_fits, turn_fits}
-use Rattle.writer.proofs.ValueLaws.{write_out, write-scalar_laid, Laying, laying_next, scalar_end, write-nested, laying_all, laying_none}
-use Rattle.tape.specs.Lent.{table_of}
+use Rattle.writer.proofs.ValueLaws.{write_out, write-scalar_laid, laying_next, scalar_end, write-nested, laying_all, laying_none}
 use Rattle.writer.proofs.values.+write.Goals as goal
 
 pub returns-then-nodes-at : goal.returns-then-nodes-at
@@ -24,52 +22,50 @@ pub loop-row-init : goal.loop-row-init
 loop-row-init t c =
     (omega arith, refl, laying_all _ c.kind_in-kind.ensures c.if-kind-lt-ARRAY.false _ c.end_of-end.ensures _ _ (omega arith))
 
--- TODO step before.before.before.before.before.before.before.before.before.before.before.before.before.before.well_formed_lem
--- TODO step before.before.before.before.before.before.before.before.before.before.before.before.before.before.well_formed_lem.1.1.1.1.0.0
 pub overflow_add-put-then-sort-lt-ARRAY : goal.overflow_add-put-then-sort-lt-ARRAY
 overflow_add-put-then-sort-lt-ARRAY t c =
-    let fits : c.loop-row.put + c.write_prefix-before.result ≤ length c.loop-row.out = lent_fits c.loop-row.out c.loop-row.put c.write_prefix-before.result (omega arith) c.loop-row.invariant.0 in
-    let turn = turn_fits c.loop-row.out c.loop-row.put c.write_prefix-before.result c.write_prefix-before.new.1.1.1.1.0 c.write_scalar-value.new.1.1.1.0 fits c.write_prefix-before.auto.out
-    c.write_scalar-value.auto.out (placed-inside c.write_scalar-value.ensures) in
-    omega (arith, turn.0, placed-length c.put_byte-put.ensures, c.well_formed_lem.1.1.1.1.0.0)
+    let l = c.loop-row in let p = c.write_prefix-before in let w = c.write_scalar-value in
+    let fits : l.put + p.result ≤ length l.out = lent_fits l.out l.put p.result (omega arith) l.invariant.0 in
+    let turn = turn_fits l.out l.put p.result p.new.out w.new.out fits p.auto.out w.auto.out (placed-inside w.ensures) in
+    omega (arith, turn.0, placed-length c.put_byte-put.ensures)
 
 pub loop-row-preserved-then-sort-lt-ARRAY : goal.loop-row-preserved-then-sort-lt-ARRAY
 loop-row-preserved-then-sort-lt-ARRAY t c =
-    let fits : c.loop-row.put + c.write_prefix-before.result ≤ length c.loop-row.out = lent_fits c.loop-row.out c.loop-row.put c.write_prefix-before.result (omega arith) c.loop-row.invariant.0 in
-    let turn = turn_fits c.loop-row.out c.loop-row.put c.write_prefix-before.result c.write_prefix-before.new.1.1.1.1.0 c.write_scalar-value.new.1.1.1.0 fits c.write_prefix-before.auto.out
-    c.write_scalar-value.auto.out (placed-inside c.write_scalar-value.ensures) in
-    let told = write-scalar_laid _ _ c.kind_in-sort.ensures c.value_of-then-sort-lt-ARRAY.ensures c.if-sort-lt-ARRAY.true c.write_scalar-value.ensures in (
+    let l = c.loop-row in let p = c.write_prefix-before in let w = c.write_scalar-value in
+    let sort = c.kind_in-sort.ensures in let scalar = c.if-sort-lt-ARRAY.true in
+    let fits : l.put + p.result ≤ length l.out = lent_fits l.out l.put p.result (omega arith) l.invariant.0 in
+    let turn = turn_fits l.out l.put p.result p.new.out w.new.out fits p.auto.out w.auto.out (placed-inside w.ensures) in
+    let told = write-scalar_laid _ _ sort c.value_of-then-sort-lt-ARRAY.ensures scalar w.ensures in (
       omega (arith, turn),
-      turn.1 ∙ c.loop-row.invariant.1,
-      laying_next c.loop-row.invariant.2 (omega (arith, c.loop-row-test.true)) _ (λ d ks held. scalar_end held _ c.kind_in-sort.ensures c.if-sort-lt-ARRAY.true) _
-          c.name_of.ensures c.write_prefix-before.ensures told,
+      turn.1 ∙ l.invariant.1,
+      laying_next l.invariant.2 (omega (arith, c.loop-row-test.true)) _ (λ d ks held. scalar_end held _ sort scalar) _
+          c.name_of.ensures p.ensures told,
     )
 
--- TODO step before.before.before.before.before.before.before.before.before.before.before.before.before.well_formed_lem
--- TODO step before.before.before.before.before.before.before.before.before.before.before.before.before.well_formed_lem.1.1.1.1.0.0
 pub overflow_add-put-in-loop-row : goal.overflow_add-put-in-loop-row
 overflow_add-put-in-loop-row t c =
-    let fits : c.loop-row.put + c.write_prefix-before.result ≤ length c.loop-row.out = lent_fits c.loop-row.out c.loop-row.put c.write_prefix-before.result (omega arith) c.loop-row.invariant.0 in
-    let turn = turn_fits c.loop-row.out c.loop-row.put c.write_prefix-before.result c.write_prefix-before.new.1.1.1.1.0 c.write-value.new.1.1.1.1.0 fits c.write_prefix-before.auto.out
-    c.write-value.auto.out (placed-inside c.write-value.ensures.some.placed) in
-    omega (arith, turn.0, placed-length c.put_byte-put.ensures, c.well_formed_lem.1.1.1.1.0.0)
+    let l = c.loop-row in let p = c.write_prefix-before in let w = c.write-value in
+    let fits : l.put + p.result ≤ length l.out = lent_fits l.out l.put p.result (omega arith) l.invariant.0 in
+    let turn = turn_fits l.out l.put p.result p.new.out w.new.out fits p.auto.out w.auto.out (placed-inside w.ensures.some.placed) in
+    omega (arith, turn.0, placed-length c.put_byte-put.ensures)
 
 pub loop-row-preserved : goal.loop-row-preserved
 loop-row-preserved t c =
-    let fits : c.loop-row.put + c.write_prefix-before.result ≤ length c.loop-row.out = lent_fits c.loop-row.out c.loop-row.put c.write_prefix-before.result (omega arith) c.loop-row.invariant.0 in
-    let turn = turn_fits c.loop-row.out c.loop-row.put c.write_prefix-before.result c.write_prefix-before.new.1.1.1.1.0 c.write-value.new.1.1.1.1.0 fits c.write_prefix-before.auto.out
-    c.write-value.auto.out (placed-inside c.write-value.ensures.some.placed) in (
+    let l = c.loop-row in let p = c.write_prefix-before in let w = c.write-value in
+    let fits : l.put + p.result ≤ length l.out = lent_fits l.out l.put p.result (omega arith) l.invariant.0 in
+    let turn = turn_fits l.out l.put p.result p.new.out w.new.out fits p.auto.out w.auto.out (placed-inside w.ensures.some.placed) in (
       omega (arith, turn),
-      turn.1 ∙ c.loop-row.invariant.1,
-      laying_next c.loop-row.invariant.2 (omega (arith, c.loop-row-test.true)) _ (λ d ks held. c.end_of-row.ensures) _
-          c.name_of.ensures c.write_prefix-before.ensures c.write-value.ensures,
+      turn.1 ∙ l.invariant.1,
+      laying_next l.invariant.2 (omega (arith, c.loop-row-test.true)) _ (λ d ks held. c.end_of-row.ensures) _
+          c.name_of.ensures p.ensures w.ensures,
     )
 
 pub shape_of-out : goal.shape_of-out
 shape_of-out t c =
-    back_length c.loop-row.out c.loop-row.put c.put_byte-last.new.1.0 c.put_byte-last.auto.out ∙ c.loop-row.invariant.1 ∙ placed-length c.put_byte-put.ensures
+    let l = c.loop-row in let last = c.put_byte-last in
+    back_length l.out l.put last.new.out last.auto.out ∙ l.invariant.1 ∙ placed-length c.put_byte-put.ensures
 
 pub returns : goal.returns
 returns t c =
-    laying_none _ c.kind_in-kind.ensures c.if-kind-lt-ARRAY.false _ _ c.opening_bracket.ensures c.closing_bracket.ensures c.put_byte-put.ensures c.loop-row.invariant.2 (omega arith)
-    c.put_byte-last.ensures
+    laying_none _ c.kind_in-kind.ensures c.if-kind-lt-ARRAY.false _ _ c.opening_bracket.ensures c.closing_bracket.ensures
+    c.put_byte-put.ensures c.loop-row.invariant.2 (omega arith) c.put_byte-last.ensures

@@ -1,12 +1,10 @@
 -- The blanks that are left run to the same place.
-use Prim.Native.Nat.{◌-◌, ◌<◌}
 use mathlib.Core.Path.{◌≡◌}
 use mathlib.Core.Bool.{true}
 use native.Mathlib.Omega.{arith}
-use lib.ListN.{length}
 use Rattle.spec.specs.Bytes.{byte}
-use Rattle.spec.specs.Read.{is_blank, blanks_from, blanks}
-use Rattle.lexer.proofs.Fuel.{Runs, starts, goes_on, ends}
+use Rattle.spec.specs.Read.{is_blank, blanks}
+use Rattle.lexer.proofs.Fuel.{starts, goes_on, ends}
 use Rattle.lexer.proofs.ByteLaws.{inside}
 use Rattle.lexer.proofs.BlankLaws.{not_blank, blanks_more, blanks_none, blanks_end}
 use Rattle.lexer.proofs.cursor.Cursor.blanks.Goals as goal

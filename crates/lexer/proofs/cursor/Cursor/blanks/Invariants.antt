@@ -1,13 +1,7 @@
-use Prim.Native.Nat.{◌-◌, ◌<◌}
-use mathlib.Core.Path.{◌≡◌}
-use mathlib.Core.Bool.{true}
-use native.Mathlib.Omega.{arith}
+use Prim.Native.Nat.{◌-◌}
 use lib.ListN.{length}
-use Rattle.spec.specs.Bytes.{byte}
-use Rattle.spec.specs.Read.{is_blank, blanks_from, blanks}
-use Rattle.lexer.proofs.Fuel.{Runs, starts, goes_on, ends}
-use Rattle.lexer.proofs.ByteLaws.{inside}
-use Rattle.lexer.proofs.BlankLaws.{not_blank, blanks_more, blanks_none, blanks_end}
+use Rattle.spec.specs.Read.{blanks_from, blanks}
+use Rattle.lexer.proofs.Fuel.{Runs}
 use Rattle.lexer.proofs.cursor.Cursor.blanks.Given as goal
 
 abbrev pub invariant-loop-at : goal.invariant-loop-at

@@ -4,7 +4,6 @@ use Rattle.spec.specs.Bytes.{ascii}
 use Rattle.spec.specs.Read.{word_at}
 use Rattle.lexer.specs.Answers.{scan_outcome}
 use Rattle.lexer.proofs.AnswerLaws.{within_ok, outside_refused, byte_known}
-use Rattle.lexer.proofs.Auto.{auto}
 use Rattle.lexer.proofs.cursor.Cursor.false_literal.Goals as goal
 
 pub returns-in_default : goal.returns-in_default

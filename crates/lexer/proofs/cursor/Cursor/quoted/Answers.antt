@@ -4,7 +4,6 @@ use Rattle.spec.specs.Strings.{string}
 use Rattle.lexer.specs.Answers.{quoted_outcome}
 use Rattle.lexer.specs.Names.{plain_of}
 use Rattle.lexer.proofs.AnswerLaws.{within_ok, outside_refused, byte_known}
-use Rattle.lexer.proofs.Auto.{auto}
 use Rattle.lexer.proofs.cursor.Cursor.quoted.Goals as goal
 
 pub returns-in_default : goal.returns-in_default

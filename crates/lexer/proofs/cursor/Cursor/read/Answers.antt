@@ -3,7 +3,6 @@ use mathlib.Core.Path.{refl}
 use native.Mathlib.Omega.{arith}
 use Rattle.spec.specs.Bytes.{byte}
 use Rattle.lexer.proofs.ByteLaws.{read_past, read_there}
-use Rattle.lexer.proofs.Auto.{auto}
 use Rattle.lexer.proofs.cursor.Cursor.read.Goals as goal
 
 pub returns-then-s-at : goal.returns-then-s-at

@@ -1,0 +1,2 @@
+-- The theorem on the export.
+pub mod ForC

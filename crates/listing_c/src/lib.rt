@@ -1,0 +1,35 @@
+// The call of crate `listing` for C, as a static library: include/json_patch.h declares it.
+#![tactic(auto)]
+
+ghost use Rattle.json_patch.specs.Call.{given};
+ghost use Rattle.listing.specs.Call.{list_before, list_after, ExportIs};
+
+use listing::apply_listing;
+use tape::layout::Node;
+
+// As `apply_listing`. The answer's fields are laid down in `answer`, in the order of the header's struct; the number
+// is returned too.
+#[unsafe(no_mangle)]
+pub extern "C" fn json_patch_apply_origins<'a>(
+    document: &'a [u8],
+    patch: &'a [u8],
+    output: &mut [u8],
+    origins: &mut [u16],
+    nodes: &mut [Node],
+    index: &mut [u16],
+    answer: &mut [u64; 6],
+) -> u32
+    ensures { ExportIs (given document.now patch.now) (list_before output.old origins.old nodes.old index.old)
+        (list_after output.new origins.new nodes.new index.new) answer.new result }
+{
+    let r = apply_listing(document, patch, output, origins, nodes, index);
+    *answer = [
+        r.number as u64,
+        r.text as u64,
+        r.op as u64,
+        r.place as u64,
+        r.pointer as u64,
+        r.length as u64,
+    ];
+    r.number as u32
+}
