@@ -7,7 +7,7 @@ use native.Mathlib.Omega.{arith}
 use borrow.Author.Tests.{ltb-true}
 use lib.Dec.{eqb, leb, ltb}
 use lib.ListN.{length, drop, get_or}
-use Rattle.spec.specs.Outcome.{if◌then◌else◌}
+use Rattle.std.specs.Prelude.{if◌then◌else◌}
 use Rattle.spec.specs.Value.{same_text}
 use Rattle.cases.specs.Places.{Met, Behind, TakenIs, Numbered, Counted, Measured, TextIs, TextsAre, FoundIs}
 use Rattle.cases.specs.Taking.{before, placed, found, cut, on_place, on_taken, word_at, bytes_at}

@@ -1,6 +1,6 @@
 -- A case in a file of cases: `WORD NAME ROOM .. LENGTH ..`, a newline, and texts of those lengths with a newline behind each.
 use Rattle.std.specs.Prelude.{ℕ, List, [], ◌∷◌, leb}
-use Rattle.spec.specs.Outcome.{if◌then◌else◌}
+use Rattle.std.specs.Prelude.{if◌then◌else◌}
 use Rattle.spec.specs.Value.{same_text}
 use Rattle.cases.specs.Taking.{cut, on_taken, word_at, bytes_at}
 use Rattle.cases.specs.Numerals.{on_numbers, three_at}

@@ -2,7 +2,7 @@
 -- value, `op`, its value, `place`, its value, on one line. T-01: "the refusal line ends in `pointer` and its value, on every line".
 use Rattle.std.specs.Prelude.{ℕ, zero, suc, ◌+◌, ◌/◌, ◌%◌, [], ◌∷◌, ◌++◌, eqb, ltb}
 use Prim.Native.Char.{code}
-use Rattle.spec.specs.Outcome.{if◌then◌else◌}
+use Rattle.std.specs.Prelude.{if◌then◌else◌}
 use Rattle.spec.specs.Bytes.{Bytes, ascii}
 use Rattle.spec.specs.Refusal.{done}
 use Rattle.spec.specs.Answer.{Answer}

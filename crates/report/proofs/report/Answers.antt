@@ -1,5 +1,4 @@
 -- `report` meets its contract: what ends the line is laid down in the rest of the output, behind the text.
-use borrow.Author.Rules.{rules}
 use Rattle.writer.proofs.PlacedLaws.{placed_none, placed_then}
 use Rattle.report.proofs.LineLaws.{placed_past}
 use Rattle.report.proofs.report.Goals as goal

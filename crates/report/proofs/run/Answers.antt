@@ -1,5 +1,4 @@
 -- `run` meets its contract: the call writes to the part of the line that it is lent, and what ends the line is laid down behind.
-use borrow.Author.Rules.{rules}
 use native.Mathlib.Omega.{arith}
 use mathlib.Core.Path.{sym}
 use lib.Seq.{length-take-le}

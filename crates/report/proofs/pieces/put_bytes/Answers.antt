@@ -1,5 +1,4 @@
 -- `put_bytes` meets its contract: a text of form 1 is laid down as it stands.
-use borrow.Author.Rules.{rules}
 use Rattle.report.proofs.LineLaws.{laid_plain}
 use Rattle.report.proofs.pieces.put_bytes.Goals as goal
 

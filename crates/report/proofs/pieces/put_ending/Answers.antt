@@ -1,5 +1,4 @@
 -- `put_ending` meets its contract, by the answer's number.
-use borrow.Author.Rules.{rules}
 use Rattle.writer.proofs.PlacedLaws.{placed_as}
 use Rattle.report.proofs.LineLaws.{ending-done, ending_refused}
 use Rattle.report.proofs.pieces.put_ending.Goals as goal

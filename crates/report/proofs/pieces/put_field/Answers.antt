@@ -1,5 +1,4 @@
 -- `put_field` meets its contract: the number is laid down behind the word.
-use borrow.Author.Rules.{rules}
 use Rattle.writer.proofs.PlacedLaws.{placed_then}
 use Rattle.report.proofs.pieces.put_field.Goals as goal
 

@@ -1,5 +1,4 @@
 -- `put_last_field` meets its contract: the newline is laid down behind the number.
-use borrow.Author.Rules.{rules}
 use Rattle.writer.proofs.PlacedLaws.{placed_as, placed_then}
 use Rattle.spec.specs.Bytes.{ascii}
 use Rattle.report.proofs.LineLaws.{last_pieces}

@@ -1,5 +1,4 @@
 -- `put_refusal` meets its contract: its pieces are laid down one behind another.
-use borrow.Author.Rules.{rules}
 use Rattle.writer.proofs.PlacedLaws.{placed_as, placed_then}
 use Rattle.spec.specs.Bytes.{ascii}
 use Rattle.report.proofs.LineLaws.{refusal_pieces}

@@ -1,5 +1,4 @@
 -- `put_two_fields` meets its contract: one is laid down behind the other.
-use borrow.Author.Rules.{rules}
 use Rattle.writer.proofs.PlacedLaws.{placed_then}
 use Rattle.report.proofs.pieces.put_two_fields.Goals as goal
 
