@@ -2,7 +2,7 @@
 use Rattle.std.specs.Prelude.{ℕ, ◌*◌, ◌≤◌, ◌<◌, ◌≡◌, List, length, take}
 use Rattle.spec.specs.Limits.{max_operations}
 use Rattle.spec.specs.Bytes.{Bytes}
-use Rattle.io.specs.Counts as Io
+use Rattle.streams.specs.Counts as Io
 use Rattle.inspect.specs.Counts.{counts_in}
 use Rattle.inspection.specs.Inspection.{Counts, total}
 use Rattle.inspection.specs.Tally as Spec

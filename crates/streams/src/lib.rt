@@ -5,8 +5,9 @@
 // those that it has given. No contract says what a file of the system gives.
 #![tactic(auto)]
 
-ghost use Rattle.std.specs.Prelude.{◌≤◌, length, take};
+ghost use Rattle.std.specs.Prelude.{take};
 ghost use Rattle.std.specs.Io.KnownBytes.{Consumes};
+ghost use Rattle.streams.specs.Counts.{IsPrefixLen};
 
 use std::fs;
 use std::io::Read;
@@ -18,7 +19,7 @@ pub const NAME: usize = 4_096;
 // What the reader still gives is read to the front of `buf`, until that is full, or a read gives nothing or fails. The
 // answer is how many bytes there are.
 pub fn read_full<R: Read>(from: &mut R, buf: &mut [u8]) -> usize
-    ensures within { result ≤ length buf.new }
+    ensures within { IsPrefixLen result buf.new }
     ensures bytes { Consumes (R.remaining from.old) (R.remaining from.new) (take result buf.new) }
 {
     let mut done = 0;
@@ -47,7 +48,7 @@ pub fn open_named<R: Files>(rt: &R, name: &[u8]) -> Option<R::File> {
 
 // Argument `i` is copied to the front of `buf`, and its length is the answer; 0 where there is none, or no room for it.
 pub fn argument<R: Env>(rt: &R, i: usize, buf: &mut [u8]) -> usize
-    ensures { result ≤ length buf.new }
+    ensures { IsPrefixLen result buf.new }
 {
     let Ok(n) = rt.arg(i, buf) else {
         return 0;
