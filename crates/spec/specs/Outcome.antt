@@ -1,6 +1,5 @@
 -- What a step of the work gives: a result, or a refusal with its number and its place.
 use Rattle.std.specs.Prelude.{ℕ, Bool, true, false}
-
 pub use Rattle.std.specs.Prelude.{if◌then◌else◌}
 
 -- A refusal's number is that of the table in Refusal. Its place is a byte offset in a text that is read, the count of tokens walked along a
