@@ -1,6 +1,4 @@
 -- `put_last` meets its contract: the newline behind the fields.
-use native.Mathlib.Omega.{arith}
-use borrow.Author.Rules.{rules}
 use Rattle.writer.proofs.PlacedLaws.{placed_then}
 use Rattle.spec.specs.Bytes.{ascii}
 use Rattle.patch_count.proofs.line.put_last.Goals as goal

@@ -1,6 +1,4 @@
 -- `put_line` meets its contract: one piece behind another.
-use native.Mathlib.Omega.{arith}
-use borrow.Author.Rules.{rules}
 use Rattle.writer.proofs.PlacedLaws.{placed_then}
 use Rattle.patch_count.proofs.line.put_line.Goals as goal
 

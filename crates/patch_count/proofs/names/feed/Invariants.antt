@@ -1,14 +1,13 @@
-use native.Mathlib.Omega.{arith}
-use borrow.Author.Rules.{rules}
+-- Each turn begins behind a name, and the sums are those of the names before it.
 use Prim.Native.Nat.{◌-◌, ◌≤◌}
+use mathlib.Core.Path.{◌≡◌}
 use lib.ListN.{length}
-use mathlib.Core.Path.{◌≡◌, refl, subst, ◌∙◌}
-use Rattle.patch_count.specs.Sums.{Sums, FedIs}
+use Rattle.patch_count.specs.Sums.{Sums}
 use Rattle.patch_count.proofs.names.feed.Given as goal
 
 abbrev pub invariant-loop-at : goal.invariant-loop-at
-invariant-loop-at l =
-    (l.index ≤ length l.rt) × (length l.initial.s ≡ length l.chunk) × (length l.name ≡ length l.initial.name) × Sums l.at.tally
+invariant-loop-at g l =
+    (l.at ≤ length l.chunk) × (length l.name ≡ length l.initial.name) × (length l.text ≡ length l.initial.text) × Sums l.s.tally
 
 abbrev pub decreases-loop-at : goal.decreases-loop-at
-decreases-loop-at l = length l.rt - l.index
+decreases-loop-at g l = length l.chunk - l.at

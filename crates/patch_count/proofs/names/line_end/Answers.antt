@@ -1,9 +1,6 @@
 -- `line_end` meets its contract: up to here there is no line feed.
 use native.Mathlib.Omega.{arith}
-use borrow.Author.Rules.{rules}
-use Prim.Native.Nat.{◌-◌}
-use lib.ListN.{length}
-use Rattle.patch_count.proofs.NameLaws.{Plain, plain_none, plain_next, ends_here}
+use Rattle.patch_count.proofs.NameLaws.{plain_none, plain_next, ends_here}
 use Rattle.patch_count.proofs.names.line_end.Goals as goal
 
 pub loop-at-init : goal.loop-at-init

@@ -1,8 +1,6 @@
-use native.Mathlib.Omega.{arith}
-use borrow.Author.Rules.{rules}
 use Prim.Native.Nat.{◌-◌}
 use lib.ListN.{length}
-use Rattle.patch_count.proofs.NameLaws.{Plain, plain_none, plain_next, ends_here}
+use Rattle.patch_count.proofs.NameLaws.{Plain}
 use Rattle.patch_count.proofs.names.line_end.Given as goal
 
 abbrev pub invariant-loop-at : goal.invariant-loop-at

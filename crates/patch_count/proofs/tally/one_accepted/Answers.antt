@@ -1,6 +1,5 @@
 -- `one_accepted` meets its contract.
 use native.Mathlib.Omega.{arith}
-use borrow.Author.Rules.{rules}
 use Rattle.patch_count.proofs.SumLaws.{accepted_adds}
 use Rattle.patch_count.proofs.tally.one_accepted.Goals as goal
 

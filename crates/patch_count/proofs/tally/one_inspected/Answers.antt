@@ -1,6 +1,4 @@
 -- `one_inspected` meets its contract, by the answer's number.
-use native.Mathlib.Omega.{arith}
-use borrow.Author.Rules.{rules}
 use Rattle.patch_count.proofs.SumLaws.{adds_refused, adds_accepted}
 use Rattle.patch_count.proofs.tally.one_inspected.Goals as goal
 

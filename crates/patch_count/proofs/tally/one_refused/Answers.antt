@@ -1,6 +1,4 @@
 -- `one_refused` meets its contract.
-use native.Mathlib.Omega.{arith}
-use borrow.Author.Rules.{rules}
 use Rattle.patch_count.proofs.SumLaws.{refused_adds}
 use Rattle.patch_count.proofs.tally.one_refused.Goals as goal
 
