@@ -74,7 +74,8 @@ follows_laid {rule} {low} {v} {before} {after} last d f =
 pub column_rule : {classes low middle : List ℕ} → ClassRule classes → Laid 0x80 0x90 from_80 classes low → Laid 0x90 0xA0 from_90 low middle →
     ColumnRule
     (set (set (set (set
-    (set (set (set (set (set middle (code "b") kept_escape_lem) (code "f") kept_escape_lem) (code "n") kept_escape_lem) (code "r") kept_escape_lem) (code "t") kept_escape_lem)
+    (set (set (set (set (set middle (code "b") kept_escape_lem) (code "f") kept_escape_lem) (code "n") kept_escape_lem) (code "r") kept_escape_lem)
+    (code "t") kept_escape_lem)
     0xE0 first_E0) 0xED first_ED) 0xF0 first_F0) 0xF4 first_F4)
 unfolding column_of lettered continued
 column_rule f low middle =

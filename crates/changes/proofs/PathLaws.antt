@@ -68,7 +68,8 @@ unfolding size ◌⧺◌
 whole_exchanged {xs} {used = used} {source} {n} {c} {x} {kids} {below} ends many l room h =
     let now : used_after used used n ≡ n = omega arith in
     let old : size (tree c kids none) ≡ used = omega arith in
-    let given : take n (drop source xs) ≡ tape row_of (tree x below none) = holds_words n many h ∙ sym (tape-single row_of (record { root = x; kids = below })) in
+    let given : take n (drop source xs) ≡ tape row_of (tree x below none) = holds_words n many h ∙ sym
+    (tape-single row_of (record { root = x; kids = below })) in
     rw now at
     (laid_splice (tree x below none) 0 0 used source n l refl (omega arith) room
     (tape_exchange row_of none (tree c kids none) (tree x below none) none (tree c kids none) refl ∙ rw (old, given)))

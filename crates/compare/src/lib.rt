@@ -7,7 +7,9 @@
 
 mod answer; // what the call answers
 mod call; // the call
+mod exports; // the call for C
 mod stages; // its stages: two texts read, their values compared
 
 pub use answer::Answer;
 pub use call::compare;
+pub use exports::json_patch_compare;

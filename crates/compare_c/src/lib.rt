@@ -1,23 +1,11 @@
 // The call of crate `compare` for C, as a static library: include/json_patch_compare.h declares it.
 #![tactic(auto)]
 
-ghost use Rattle.std.specs.Prelude.{◌≡◌};
 ghost use Rattle.reader.specs.Work.{work_before, work_after};
 ghost use Rattle.json_patch.specs.Call.{given};
-ghost use Rattle.compare.specs.Call.{bit, ExportIs};
+ghost use Rattle.compare.specs.Call.{ExportIs};
 
-use compare::compare;
 use tape::layout::Node;
-
-// 1 for true.
-fn one_if(b: bool) -> u64
-    ensures { result ≡ bit b }
-{
-    if b {
-        return 1;
-    }
-    0
-}
 
 // As `compare`. The answer's fields are laid down in `answer`, in the order of the header's struct, `equal` as 1 or 0;
 // the number is returned too.
@@ -32,13 +20,5 @@ pub extern "C" fn json_patch_compare<'a>(
     ensures { ExportIs (given first.now second.now) (work_before nodes.old index.old) (work_after nodes.new index.new)
         answer.new result }
 {
-    let r = compare(first, second, nodes, index);
-    *answer = [
-        r.number as u64,
-        r.text as u64,
-        r.place as u64,
-        one_if(r.equal),
-        r.names,
-    ];
-    r.number as u32
+    compare::json_patch_compare(first, second, nodes, index, answer)
 }

@@ -1,6 +1,7 @@
 -- Each way out of `alike` and of `counted`, for whatever values the table holds in the two rows.
 use Rattle.std.specs.Prelude.{if◌then◌else◌}
-use Rattle.std.proofs.Common.{◌≡◌, ℕ, suc, ◌+◌, ◌-◌, ◌%◌, ◌^◌, ◌<◌, ◌≤◌, Bool, true, false, ◌&&◌, eqb, List, [], length, get_or, sym, refl, ap, ◌∙◌, subst, ap₂, add-zero, add_assoc, zero-add, arith, eqb-true}
+use Rattle.std.proofs.Common.{◌≡◌, ℕ, suc, ◌+◌, ◌-◌, ◌%◌, ◌^◌, ◌<◌, ◌≤◌, Bool, true, false, ◌&&◌, eqb}
+use Rattle.std.proofs.Common.{List, [], length, get_or, sym, refl, ap, ◌∙◌, subst, ap₂, add-zero, add_assoc, zero-add, arith, eqb-true}
 use Rattle.spec.specs.Forest.{Forest, none, tree, count, from}
 use Rattle.spec.specs.Value as Value
 use Rattle.spec.specs.Value.{Label, is_object, depth, depths, tag}

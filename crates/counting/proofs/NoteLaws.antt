@@ -1,5 +1,6 @@
 -- Each way out of `note_places`, and its loop.
-use Rattle.std.proofs.Common.{◌≡◌, ℕ, suc, ◌+◌, ◌-◌, ◌%◌, ◌<◌, ◌≤◌, Bool, true, false, leb, List, length, set, sym, refl, ap, ◌∙◌, subst, arith, leb-false, leb-true}
+use Rattle.std.proofs.Common.{◌≡◌, ℕ, suc, ◌+◌, ◌-◌, ◌%◌, ◌<◌, ◌≤◌, Bool, true, false}
+use Rattle.std.proofs.Common.{leb, List, length, set, sym, refl, ap, ◌∙◌, subst, arith, leb-false, leb-true}
 use Rattle.spec.specs.Forest.{Forest, none, tree, size}
 use Rattle.tape.specs.Layout.{values, array_kind, patch_row, scratch_row, rows}
 use Rattle.tape.specs.Columns.{Scratched}

@@ -1,5 +1,6 @@
 -- Laws of places, and of a table whose scratch rows change.
-use Rattle.std.proofs.Common.{◌≡◌, ℕ, zero, suc, ◌+◌, ◌-◌, ◌<◌, ◌≤◌, List, [], length, get_or, take, drop, set, sym, refl, ap, ◌∙◌, subst, ap₂, arith, length-set, get_or-set_other, get_or-take, get_or-set_same, take-take, drop-set-lt}
+use Rattle.std.proofs.Common.{◌≡◌, ℕ, zero, suc, ◌+◌, ◌-◌, ◌<◌, ◌≤◌, List, [], length, get_or, take, drop}
+use Rattle.std.proofs.Common.{set, sym, refl, ap, ◌∙◌, subst, ap₂, arith, length-set, get_or-set_other, get_or-take, get_or-set_same, take-take, drop-set-lt}
 use lib.ListN.{get_or-eq_default}
 use lib.Seq.{take-set-le}
 use Rattle.spec.specs.Forest.{Forest, none, tree, size, before, from}

@@ -6,7 +6,8 @@
 mod exponent; // exponent.rt: what is written after the letter e
 mod mantissa; // mantissa.rt: the digits before it
 
-ghost use Rattle.std.specs.Prelude.{◌≡◌, ◌≤◌, length, take, drop, ◌&&◌, eqb, ltb, pos, neg_ℤ, nat_abs, ◌+ℤ◌, ◌-ℤ◌, if◌then◌else◌};
+ghost use Rattle.std.specs.Prelude.{◌≡◌, ◌≤◌, length, take, drop, ◌&&◌, eqb};
+ghost use Rattle.std.specs.Prelude.{ltb, pos, neg_ℤ, nat_abs, ◌+ℤ◌, ◌-ℤ◌, if◌then◌else◌};
 ghost use Rattle.spec.specs.Limits.{max_number, max_exponent};
 ghost use Rattle.spec.specs.Worth.{mantissa as mantissaOf, exponent as exponentOf, is_negative, worth};
 ghost use Rattle.spec.specs.Value.{same_text};

@@ -103,7 +103,8 @@ held =
     }
 
 unfoldable compute : Unit {0}
-unfolding ascii byte within character character_in Decode.before decode_loop decode_from text_from text_of mix hash_from hash short_hash source_text part_of spelled
+unfolding ascii byte within character character_in Decode.before decode_loop decode_from text_from text_of mix hash_from hash short_hash source_text part_of
+    spelled
 compute = tt
 
 unfoldable compute_written : Unit {0}

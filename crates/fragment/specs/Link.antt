@@ -1,6 +1,6 @@
 -- A pointer as a URI's fragment: RFC 6901, section 6. "The pointer is .. encoded in UTF-8 [RFC3629] octets, while percent-encoding those
 -- characters not allowed by the fragment rule in [RFC3986]." A link is `#` and that fragment.
-use Rattle.std.specs.Prelude.{ℕ, zero, suc, ◌+◌, ◌-◌, ◌*◌, ◌/◌, ◌%◌, [], ◌∷◌, ◌++◌, Bool, length, leb, ltb, eqb, if◌then◌else◌}
+use Rattle.std.specs.Prelude.{ℕ, zero, suc, ◌+◌, ◌*◌, ◌/◌, ◌%◌, [], ◌∷◌, ◌++◌, Bool, length, leb, ltb, eqb, if◌then◌else◌}
 use Prim.Native.Char.{code}
 use Rattle.spec.specs.Outcome.{Outcome, ok, refused, ◌>>=◌}
 use Rattle.spec.specs.Bytes.{Bytes, Text, byte}

@@ -9,13 +9,9 @@ use Rattle.fragment.specs.Kept.{is_kept}
 use Rattle.fragment.specs.Link.{Pending, nothing, octets, precede, bad_link, is_utf8, is_pointer}
 use Rattle.fragment.specs.declared.scan.Awaited.{Awaited}
 use Rattle.fragment.specs.declared.scan.Syntax.{Syntax}
-use Rattle.fragment.specs.declared.scan.Syntax.TheVariants as Syntax
 use Rattle.fragment.specs.declared.scan.Verdict.{Verdict}
-use Rattle.fragment.specs.declared.scan.Verdict.TheVariants as Verdict
 use Rattle.fragment.specs.declared.octets.Octet.{Octet}
-use Rattle.fragment.specs.declared.octets.Octet.TheVariants as Octet
 use Rattle.fragment.specs.declared.octets.Fragment.{Fragment}
-use Rattle.fragment.specs.declared.octets.Fragment.TheVariants as Fragment
 
 -- ---- the table of kept bytes
 

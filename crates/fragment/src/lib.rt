@@ -13,6 +13,7 @@ mod octets; // the octets of a fragment
 mod kept; // the bytes that a fragment holds as they are
 mod writing; // a link measured and written
 pub mod calls; // the two calls
+pub mod exports; // the two calls for C
 
 pub use answer::Answer;
 pub use calls::{read_link, write_link};

@@ -3,8 +3,6 @@
 
 ghost use Rattle.fragment.specs.Call.{WriteExportIs, ReadExportIs};
 
-use fragment::{read_link, write_link};
-
 // As `write_link`. The answer's fields are laid down in `answer`, in the order of the header's struct; the number is
 // returned too.
 #[unsafe(no_mangle)]
@@ -16,9 +14,7 @@ pub extern "C" fn json_patch_write_link(
     ensures { WriteExportIs pointer.now output.old output.new
         answer.new result }
 {
-    let r = write_link(pointer, output);
-    *answer = [r.number as u64, 0, 0, 0, 0, r.length as u64];
-    r.number as u32
+    fragment::exports::json_patch_write_link(pointer, output, answer)
 }
 
 // As `read_link`.
@@ -27,7 +23,5 @@ pub extern "C" fn json_patch_read_link(link: &[u8], output: &mut [u8], answer: &
     ensures { ReadExportIs link.now output.old output.new
         answer.new result }
 {
-    let r = read_link(link, output);
-    *answer = [r.number as u64, 0, 0, 0, 0, r.length as u64];
-    r.number as u32
+    fragment::exports::json_patch_read_link(link, output, answer)
 }

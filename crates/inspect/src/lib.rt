@@ -8,8 +8,10 @@
 mod answer; // what the call answers
 mod call; // the call
 mod counts; // how many of each operation
+mod exports; // the call for C
 mod stages; // its stages: the patch read, its shape, its operations counted
 
 pub use answer::Answer;
 pub use call::inspect;
 pub use counts::Counts;
+pub use exports::json_patch_inspect;

@@ -4,7 +4,6 @@
 ghost use Rattle.reader.specs.Work.{work_before, work_after};
 ghost use Rattle.inspect.specs.Call.{ExportIs};
 
-use inspect::inspect;
 use tape::layout::Node;
 
 // As `inspect`. The answer's fields are laid down in `answer`, in the order of the header's struct; the number is
@@ -19,19 +18,5 @@ pub extern "C" fn json_patch_inspect<'a>(
     ensures { ExportIs patch.now (work_before nodes.old index.old) (work_after nodes.new index.new)
         answer.new result }
 {
-    let r = inspect(patch, nodes, index);
-    let c = r.counts;
-    *answer = [
-        r.number as u64,
-        r.text as u64,
-        r.op as u64,
-        r.place as u64,
-        c.adds as u64,
-        c.removes as u64,
-        c.replaces as u64,
-        c.moves as u64,
-        c.copies as u64,
-        c.tests as u64,
-    ];
-    r.number as u32
+    inspect::json_patch_inspect(patch, nodes, index, answer)
 }

@@ -12,6 +12,7 @@ mod writing; // a text measured and written as records
 mod lines; // a line read
 mod reading; // a text of lines measured, and its data written
 mod calls; // the two calls
+pub mod exports; // the two calls for C
 
 pub use answer::Answer;
 pub use calls::{read_hex, write_hex};

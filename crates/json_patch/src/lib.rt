@@ -8,7 +8,9 @@
 
 mod answer; // what the call answers
 mod call; // the call
+mod exports; // the call for C
 mod stages; // its stages: two texts read, the patch run, the result written
 
 pub use answer::{Answer, misshapen, refused, stopped, success, unread};
 pub use call::apply;
+pub use exports::json_patch_apply;

@@ -3,7 +3,6 @@
 
 ghost use Rattle.json_patch.specs.Call.{given, memory_before, memory_after, ExportIs};
 
-use json_patch::apply;
 use tape::layout::Node;
 
 // As `apply`. The answer's fields are laid down in `answer`, in the order of the header's struct; the number is
@@ -20,14 +19,5 @@ pub extern "C" fn json_patch_apply<'a>(
     ensures { ExportIs (given document.now patch.now) (memory_before output.old nodes.old index.old)
         (memory_after output.new nodes.new index.new) answer.new result }
 {
-    let r = apply(document, patch, output, nodes, index);
-    *answer = [
-        r.number as u64,
-        r.text as u64,
-        r.op as u64,
-        r.place as u64,
-        r.pointer as u64,
-        r.length as u64,
-    ];
-    r.number as u32
+    json_patch::json_patch_apply(document, patch, output, nodes, index, answer)
 }

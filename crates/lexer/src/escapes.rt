@@ -1,6 +1,7 @@
 // A character written as an escape: RFC 8259, section 7.
 ghost use Rattle.std.specs.Prelude.{◌≡◌, ◌≤◌, ◌+◌, ◌-◌, ◌*◌, length};
-ghost use Rattle.spec.specs.Strings.{hex_value, hex_in, second_limit, low_surrogate, after_high, unicode_escape, short_escape};
+ghost use Rattle.spec.specs.Strings.{hex_value, hex_in, second_limit};
+ghost use Rattle.spec.specs.Strings.{low_surrogate, after_high, unicode_escape, short_escape};
 ghost use Rattle.spec.specs.Strings.{escape};
 ghost use Rattle.lexer.specs.Answers.{bounded_outcome, character_outcome};
 

@@ -1,4 +1,5 @@
 -- Laws of trees that bear the numbers of their operations: they mean the same, and so do the values in them.
+use Rattle.std.specs.Prelude.{if◌then◌else◌}
 use Prim.Native.Nat.{ℕ, zero, suc, ◌+◌, ◌<◌}
 use native.Mathlib.Omega.{arith}
 use mathlib.Core.Path.{◌≡◌, refl, ap, ap₂, ◌∙◌, subst}
@@ -6,7 +7,7 @@ use mathlib.Core.Bool.{Bool, true, false}
 use mathlib.Core.List.{List, [], ◌∷◌}
 use lib.Dec.{ltb}
 use borrow.Author.Tests.{ltb-true}
-use Rattle.spec.specs.Outcome.{Outcome, ok, refused, if◌then◌else◌}
+use Rattle.spec.specs.Outcome.{Outcome, ok, refused}
 use Rattle.spec.specs.Refusal.{wrong_shape}
 use Rattle.spec.specs.Bytes.{ascii}
 use Rattle.spec.specs.Forest.{Forest, none, tree, Tree, count, size, nth}
@@ -54,7 +55,7 @@ formed_numbered k formed_none = formed_none
 formed_numbered k (formed_tree fit kids rest) =
     let o = formed_stamped k (formed_tree fit kids formed_none) in formed_tree (formed_fit o) (formed_kids o) (formed_numbered (k + 1) rest)
 
-pub sound_numbered : (k : ℕ) {T : Texts} {f : Forest Cell} → Sound T f → Sound T (numbered k f)
+pub sound_numbered : {T : Texts} (k : ℕ) {f : Forest Cell} → Sound T f → Sound T (numbered k f)
 unfolding numbered map_forest
 sound_numbered k all_none = all_none
 sound_numbered k (all_tree h kids rest) =

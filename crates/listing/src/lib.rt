@@ -7,11 +7,13 @@
 #![tactic(auto)]
 
 mod call; // the call
+mod exports; // the call for C
 mod lists; // the origins of rows, put in a list
 mod stages; // its stages: two texts read, the patch run, the result written and listed
 mod stamps; // the origins that nodes bear before the run
 
 pub use call::apply_listing;
+pub use exports::json_patch_apply_origins;
 pub use lists::list_origins;
 pub use stages::run_listed;
 pub use stamps::stamp_texts;

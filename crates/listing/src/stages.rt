@@ -89,7 +89,8 @@ pub fn checked<'a>(
     nodes: &mut [Node],
     index: &mut [u16],
 ) -> Answer
-    ensures { CheckedIs (lent texts) (list_before output.old origins.old nodes.old index.old) (outputs_after output.new origins.new) result }
+    ensures { CheckedIs (lent texts) (list_before output.old origins.old nodes.old index.old)
+        (outputs_after output.new origins.new) result }
 {
     if limits::MAX_BYTES < texts[0].len() {
         return refused(refusal::INPUT_TOO_LONG, 1, 0, 0);

@@ -4,7 +4,6 @@
 ghost use Rattle.json_patch.specs.Call.{given};
 ghost use Rattle.listing.specs.Call.{list_before, list_after, ExportIs};
 
-use listing::apply_listing;
 use tape::layout::Node;
 
 // As `apply_listing`. The answer's fields are laid down in `answer`, in the order of the header's struct; the number
@@ -22,14 +21,5 @@ pub extern "C" fn json_patch_apply_origins<'a>(
     ensures { ExportIs (given document.now patch.now) (list_before output.old origins.old nodes.old index.old)
         (list_after output.new origins.new nodes.new index.new) answer.new result }
 {
-    let r = apply_listing(document, patch, output, origins, nodes, index);
-    *answer = [
-        r.number as u64,
-        r.text as u64,
-        r.op as u64,
-        r.place as u64,
-        r.pointer as u64,
-        r.length as u64,
-    ];
-    r.number as u32
+    listing::json_patch_apply_origins(document, patch, output, origins, nodes, index, answer)
 }

@@ -1,4 +1,5 @@
 -- Laws of rows that are laid down: another tree behind those so far, and a node's own row before those of its children.
+use Rattle.std.specs.Prelude.{if◌then◌else◌}
 use Prim.Native.Nat.{ℕ, suc, ◌+◌, ◌-◌, ◌%◌, ◌≤◌, ◌<◌, min}
 use native.Mathlib.Omega.{arith}
 use native.Mathlib.Nat.{add-zero}
@@ -11,9 +12,8 @@ use lib.Dec.{eqb}
 use mathlib.Core.Bool.{Bool, true, false}
 use borrow.Author.Tests.{eq-eqb, ne_eqb}
 use Rattle.spec.proofs.ListLaws.{drop-take}
-use Rattle.spec.specs.Outcome.{if◌then◌else◌}
 use Rattle.spec.specs.Forest.{Forest, none, tree, single, size, ◌⧺◌}
-use Rattle.tape.specs.Layout.{values, array_kind, object_kind, rows}
+use Rattle.tape.specs.Layout.{values, array_kind, object_kind}
 use Rattle.tape.specs.Fields.{Row, no_node, with_span, kind_of, origin_of}
 use Rattle.tape.specs.Columns.{moved, copied}
 use Rattle.tape.specs.declared.fields.Cell.{Cell}

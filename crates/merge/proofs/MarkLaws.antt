@@ -1,4 +1,5 @@
 -- Laws of notes: which change, and which members have none.
+use Rattle.std.specs.Prelude.{if◌then◌else◌}
 use Prim.Native.Nat.{ℕ, zero, suc, ◌+◌, ◌-◌, ◌%◌, ◌≤◌, ◌<◌}
 use native.Mathlib.Omega.{arith}
 use native.Mathlib.Decide.{ℕ_discrete}
@@ -6,33 +7,31 @@ use mathlib.Core.Path.{◌≡◌, refl, sym, ap, ◌∙◌, subst}
 use mathlib.Core.Bool.{Bool, true, false, true≢false}
 use mathlib.Core.List.{List, []}
 use lib.Dec.{eqb}
-use lib.ListN.{length, take, drop, get_or, length-set}
+use lib.ListN.{length, get_or, length-set}
 use lib.Seq.{get_or-take}
-use borrow.Author.Tests.{eq-eqb, ne_eqb}
-use Rattle.spec.specs.Outcome.{if◌then◌else◌}
+use borrow.Author.Tests.{ne_eqb}
 use Rattle.spec.specs.Bytes.{Text}
 use Rattle.spec.specs.Forest.{Forest, none, tree, size, before, from}
 use Rattle.spec.specs.Value.{Entry, Members, is_object, same_text, has}
-use Rattle.spec.proofs.TextLaws.{same_text_refl, same_text_true, same_text_false, same_text-apart}
+use Rattle.spec.proofs.TextLaws.{same_text_refl, same_text-apart}
 use Rattle.spec.specs.Distinct as Repeats
 use Rattle.spec.specs.Distinct.{NoRepeats}
 use Rattle.spec.proofs.NameLaws.{has_cons, absent_parts}
-use Rattle.merging.specs.Parts.{get}
-use Rattle.tape.specs.Layout.{patch_row, scratch_row, rows}
+use Rattle.tape.specs.Layout.{patch_row, scratch_row}
 use Rattle.tape.specs.Fields.{Row, span_of}
 use Rattle.tape.specs.declared.fields.Cell.{Cell}
 use Rattle.tape.specs.Cell.{Node}
 use Rattle.tape.specs.Rows.{end_of}
 use Rattle.tape.specs.Map.{map_forest}
-use Rattle.tape.specs.Lent.{Texts, Table}
-use Rattle.tape.proofs.Rows.{end_here, span_here}
+use Rattle.tape.specs.Lent.{Texts}
+use Rattle.tape.proofs.Rows.{end_here}
 use Rattle.tape.proofs.Held.{Remaining, remaining_all, remaining_next, remaining_none, remaining-first, held_node}
 use Rattle.table.specs.Meaning.{name_text, entry_of, members}
-use Rattle.index.specs.Slots.{room, parents, slots, parent_slot, branch_slot, slot_at, slot_set}
+use Rattle.index.specs.Slots.{room, parents, slots, parent_slot, slot_at, slot_set}
 use Rattle.index.specs.Bits.{Stream, bit_of}
-use Rattle.index.specs.Ways.{Leads, Meets, here, there, Entered}
+use Rattle.index.specs.Ways.{Meets, here, there}
 use Rattle.index.specs.Members.{Among, first, later, Child, Parents}
-use Rattle.index.proofs.SlotLaws.{slot_put, slot_other, slot_dropped}
+use Rattle.index.proofs.SlotLaws.{slot_put, slot_other}
 use Rattle.merge.specs.Building.{Framed}
 use Rattle.merge.specs.Marks.{note_of, PathsKept, Changed, Marks, marks_none, marks_tree, NotedIs}
 
@@ -41,12 +40,16 @@ bit_small : (q : Stream) → bit_of q < 2
 unfolding bit_of
 bit_small q = omega arith
 
-pub paths_noted : (xs : List ℕ) (s v : ℕ) → parents ≤ s → PathsKept xs (slot_set xs s v)
-paths_noted xs s v h slot q t low few (here l) =
+meets_noted : (xs : List ℕ) (s v t : ℕ) → parents ≤ s → t < room → (slot : ℕ) (q : Stream) → slot < parents → Meets xs t slot q
+    → Meets (slot_set xs s v) t slot q
+meets_noted xs s v t h few slot q low (here l) =
     here (record { is = slot_other xs s slot v (λ e. omega arith) ∙ l.is; above = l.above; below = l.below })
-paths_noted xs s v h slot q t low few (there x l m) =
+meets_noted xs s v t h few slot q low (there x l m) =
     there x (record { is = slot_other xs s slot v (λ e. omega arith) ∙ l.is; above = l.above; below = l.below })
-    (paths_noted xs s v h _ _ t (omega (arith, l.below, bit_small q)) few m)
+    (meets_noted xs s v t h few _ _ (omega (arith, l.below, bit_small q)) m)
+
+pub paths_noted : (xs : List ℕ) (s v : ℕ) → parents ≤ s → PathsKept xs (slot_set xs s v)
+paths_noted xs s v h slot q t low few m = meets_noted xs s v t h few slot q low m
 
 pub paths_then : {xs ys zs : List ℕ} → PathsKept xs ys → PathsKept ys zs → PathsKept xs zs
 paths_then a b slot q t low few m = b slot q t low few (a slot q t low few m)
@@ -229,7 +232,8 @@ module _ {T : Texts} where
       (λ q. true≢false (sym (has-from T k rest is) ∙ ap (λ n. has n (members T rest)) q ∙ alone_first distinct)) in
       let next : at ≡ row + 1 + size kids + size (before k rest) = omega arith in
       let low-next : patch_row ≤ row + 1 + size kids = omega arith in
-      marks_tree {c = d} {kids = kids} (ap (λ n. eqb n 0) other ∙ e ∙ rw apart) (marks_met k at is next low-next near long (alone_rest distinct) m)
+      marks_tree {c = d} {kids = kids} (ap (λ n. eqb n 0) other ∙ e ∙ rw apart)
+      (marks_met {row = row + 1 + size kids} k at is next low-next near long (alone_rest distinct) m)
 
 -- ---- the loop that notes the members of an object
 pub record LeftNoted (T : Texts) (nodes : List Row) (patch end : ℕ) (kids : Forest Cell) (ys : List ℕ) (row : ℕ) : Type 0 where

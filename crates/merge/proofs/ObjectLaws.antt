@@ -1,5 +1,6 @@
 -- Laws of two objects merged: what holds of the rows on every input, and each way out of `merge_object`.
-use Prim.Native.Nat.{ℕ, ◌+◌, ◌-◌, ◌≤◌, ◌<◌, max}
+use Rattle.std.specs.Prelude.{if◌then◌else◌}
+use Prim.Native.Nat.{ℕ, ◌+◌, ◌≤◌, ◌<◌, max}
 use native.Mathlib.Omega.{arith}
 use mathlib.Core.Path.{◌≡◌, refl, sym, ◌∙◌, subst}
 use mathlib.Core.Bool.{Bool, true, false}
@@ -7,7 +8,6 @@ use mathlib.Core.List.{List, []}
 use lib.Dec.{eqb, leb}
 use lib.ListN.{length, get_or}
 use borrow.Author.Tests.{leb-false}
-use Rattle.spec.specs.Outcome.{if◌then◌else◌}
 use Rattle.tape.specs.Layout.{patch_row, scratch_row, object_kind, rows}
 use Rattle.tape.specs.Fields.{Row, kind_of}
 use Rattle.tape.specs.Rows.{end_of}
@@ -96,9 +96,6 @@ row_goes nodes row next is inside long = omega arith
 
 pub copy_inside : (row from : ℕ) (nodes : List Row) → from < max (row + 1) scratch_row → row < rows → length nodes ≡ rows → from < length nodes
 copy_inside row from nodes reaches inside long = omega arith
-
-pub less : (end row next : ℕ) → row < next → row < end → end - next < end - row
-less end row next goes more = omega arith
 
 pub above_next : {low row next : ℕ} → low < row → row < next → low < next
 above_next above goes = omega arith

@@ -1,13 +1,12 @@
 -- The members that the merge leaves, with their origins, position by position: those of specs/Parts. Without origins that is a law of crate merging;
 -- so each member has only to be the one that its name finds.
+use Rattle.std.specs.Prelude.{if◌then◌else◌}
 use mathlib.Core.Path.{◌≡◌, refl, ap, ap₂, sym, ◌∙◌, subst}
 use mathlib.Core.Bool.{Bool, true, false}
 use mathlib.Core.Option.{Option, none, some}
 use Prim.Native.Nat.{ℕ}
 use native.Mathlib.Omega.{arith}
-use Rattle.spec.specs.Outcome.{if◌then◌else◌}
 use Rattle.spec.specs.Bytes.{Text}
-use Rattle.spec.specs.Forest as Forest
 use Rattle.spec.specs.Forest.{Forest, tree, single, ◌⧺◌}
 use Rattle.spec.specs.Value as Plain
 use Rattle.spec.specs.Value.{Label, is_object, same_text}

@@ -1,19 +1,18 @@
 -- What `partner` answers, and what becomes of the index.
-use Prim.Native.Nat.{ℕ, zero, suc, ◌+◌, ◌-◌, ◌≤◌, ◌<◌}
+use Rattle.std.specs.Prelude.{if◌then◌else◌}
+use Prim.Native.Nat.{ℕ, zero, suc, ◌+◌}
 use native.Mathlib.Omega.{arith}
 use mathlib.Core.Path.{◌≡◌, refl, sym, ap, ◌∙◌, subst}
 use mathlib.Core.Bool.{Bool, true, false}
-use mathlib.Core.List.{List, []}
-use lib.ListN.{length, drop, get_or}
+use mathlib.Core.List.{List}
+use lib.ListN.{length}
 use borrow.Author.Tests.{le-ltb}
-use Rattle.spec.specs.Outcome.{if◌then◌else◌}
 use Rattle.spec.specs.Bytes.{Text}
-use Rattle.spec.specs.Forest.{Forest, none, tree, Tree, size, count, before, from, nth, ◌⧺◌}
-use Rattle.spec.specs.Value.{same_text, find, has}
+use Rattle.spec.specs.Forest.{Forest, none, tree, size, count, from, nth, ◌⧺◌}
+use Rattle.spec.specs.Value.{same_text, find}
 use Rattle.spec.proofs.TextLaws.{same_text_true}
 use Rattle.merging.proofs.MemberLaws.{absent}
 use Rattle.tape.specs.Layout.{patch_row, scratch_row}
-use Rattle.tape.specs.Fields.{no_node, name_of}
 use Rattle.tape.specs.declared.fields.Name.{Name}
 use Rattle.tape.specs.declared.fields.Cell.{Cell}
 use Rattle.tape.specs.Rows.{end_of}
@@ -23,21 +22,19 @@ use Rattle.tape.proofs.Forests.{from-nth, size-cut}
 use Rattle.tape.proofs.Cells.{blank}
 use Rattle.tape.proofs.Held.{held_kids, held_node}
 use Rattle.tape.proofs.Rows.{end_here}
-use Rattle.tape.proofs.Map.{count_map, map-from}
+use Rattle.tape.proofs.Map.{count_map}
 use Rattle.table.specs.Meaning.{name_text, entry_of, members, Hashed}
-use Rattle.table.specs.Sound.{NodeHeld}
 use Rattle.table.specs.Find as Find
 use Rattle.table.specs.Find.{same_name, Found, FindIs}
 use Rattle.table.specs.declared.find.Member.{Member}
 use Rattle.table.specs.declared.find.Member.TheVariants.{At, Missing}
 use Rattle.table.proofs.Search.{named_hashed}
-use Rattle.index.specs.Slots.{room, parents, bucket_slot}
-use Rattle.index.specs.Ways.{Kept, Entered}
-use Rattle.index.specs.Members.{Child, Parents, LookupIs, noted, not_found}
+use Rattle.index.specs.Ways.{Entered}
+use Rattle.index.specs.Members.{LookupIs}
 use Rattle.equality.specs.Compare as Compare
 use Rattle.equality.specs.Compare.{Hints, SoughtIs}
 use Rattle.equality.proofs.PartnerLaws.{sought_hinted}
-use Rattle.equality.proofs.SiblingLaws.{Siblings, Children, children_all, children_child, siblings_asked, siblings_all, siblings_name, siblings_hashed}
+use Rattle.equality.proofs.SiblingLaws.{children_all, children_child, siblings_asked, siblings_all, siblings_name, siblings_hashed}
 use Rattle.merge.specs.Marks.{PathsKept}
 use Rattle.merge.specs.Partner.{PatchObject, Named, named_at, named_none, PartnerIs}
 use Rattle.merge.proofs.PathLaws as PathLaws

@@ -1,23 +1,22 @@
 -- Laws of search paths: those that lead to the members of the patch's objects.
+use Rattle.std.specs.Prelude.{if◌then◌else◌}
 use Prim.Native.Nat.{ℕ, zero, suc, ◌+◌, ◌-◌, ◌≤◌, ◌<◌, max}
 use native.Mathlib.Omega.{arith}
 use native.Mathlib.Nat.{add-zero}
 use mathlib.Core.Path.{◌≡◌, refl, sym, ap, ◌∙◌, subst}
-use mathlib.Core.Bool.{Bool, true, false, true≢false}
+use mathlib.Core.Bool.{Bool, true, false}
 use mathlib.Core.List.{List, []}
-use mathlib.Core.Option as Option
 use lib.ListN.{length, drop, get_or}
-use lib.Dec.{eqb, leb}
+use lib.Dec.{leb}
 use borrow.Author.Tests.{eqb-true}
-use Rattle.spec.specs.Outcome.{if◌then◌else◌}
 use Rattle.spec.specs.Bytes.{Text}
-use Rattle.spec.specs.Forest.{Forest, none, tree, single, size, count, before, from, ◌⧺◌}
+use Rattle.spec.specs.Forest.{Forest, none, tree, size, count, before, from, ◌⧺◌}
 use Rattle.spec.specs.Value.{Label, Entry, Members, tag, is_container, is_object, same_text, find, has, depths, levels}
 use Rattle.spec.proofs.TextLaws.{same_text_true}
 use Rattle.spec.proofs.NameLaws.{has_cons}
 use Rattle.lexer.specs.Hash.{hash}
 use Rattle.tape.specs.Layout.{patch_row, scratch_row, object_kind}
-use Rattle.tape.specs.Fields.{Row, no_node, kind_of, name_of}
+use Rattle.tape.specs.Fields.{no_node, kind_of, name_of}
 use Rattle.tape.specs.declared.fields.Name.{Name}
 use Rattle.tape.specs.declared.fields.Cell.{Cell}
 use Rattle.tape.specs.Cell.{Held}
@@ -94,7 +93,7 @@ ways-member {xs} T {row} zero (tree d ds rest) {c} {below} at w is place o =
     subst (λ n. Ways xs n (n + 1) (members T below)) here (subst (λ f. Ways xs row (row + 1) (members T f)) under (ways_kids w object))
 ways-member {xs} {object} T {row} (suc k) (tree d ds rest) at w is place o =
     let many : size (members T ds) ≡ size ds = size-map (entry_of T) ds in
-    ways-member T k rest at (subst (λ n. Ways xs object (row + 1 + n) (members T rest)) many (ways_rest w)) is (omega arith) o
+    ways-member T {row = row + 1 + size ds} k rest at (subst (λ n. Ways xs object (row + 1 + n) (members T rest)) many (ways_rest w)) is (omega arith) o
 
 -- one more behind those so far
 pub ways_more : {xs : List ℕ} {object at end : ℕ} {all : Members} (e : Entry) (kids : Members) → Ways xs object at all → at + size all ≡ end
@@ -137,7 +136,7 @@ module _ (w : Table) (xs : List ℕ) (object : ℕ) (name : Name) (hashed : Hash
       subst (λ n. Ways xs object (at + 1 + n) (members w.texts more)) many (ways_rest ways) in
       has_cons (name_text w.texts name) (entry_of w.texts c) (members w.texts below) (members w.texts more)
       ∙ go (same_text (name_text w.texts c.name) (name_text w.texts name)) refl
-      (absent more rest (held_next h) sound (omega arith) (omega arith))
+      (absent {at = at + 1 + size below} more rest (held_next h) sound (omega arith) (omega arith))
     where
       go : (b : Bool) → same_text (name_text w.texts c.name) (name_text w.texts name) ≡ b
           → has (name_text w.texts name) (members w.texts more) ≡ false

@@ -1,17 +1,15 @@
 -- Laws of the stages of the call, each for one way out of a stage.
-use Prim.Native.Nat.{ℕ, suc, ◌+◌, ◌≤◌, ◌<◌, min, max}
+use Prim.Native.Nat.{ℕ, ◌≤◌, ◌<◌}
 use native.Mathlib.Omega.{arith}
-use mathlib.Core.Path.{◌≡◌, refl, sym, subst, ap, ◌∙◌}
+use mathlib.Core.Path.{◌≡◌, sym, subst, ap, ◌∙◌}
 use mathlib.Core.Bool.{Bool, true, false}
 use mathlib.Core.List.{List, [], ◌++◌}
 use lib.Dec.{leb}
 use lib.ListN.{length, drop, get_or}
 use borrow.Author.Tests.{le-ltb, lt-ltb, le-leb, lt-leb, leb-true, leb-false, ne_eqb}
-use Rattle.spec.specs.Outcome.{Outcome, ok, refused}
 use Rattle.spec.specs.Refusal.{work_too_short, input_too_long, too_many_nodes, output_too_short}
 use Rattle.spec.specs.Limits.{max_bytes, max_depth, max_nodes, work_nodes, work_entries}
 use Rattle.spec.specs.Bytes.{Bytes}
-use Rattle.spec.specs.Forest.{size}
 use Rattle.spec.specs.Value as Value
 use Rattle.spec.specs.Value.{Label, is_object, depth, depths, nodes}
 use Rattle.spec.specs.Read.{read}
@@ -19,12 +17,9 @@ use Rattle.spec.specs.Write.{write}
 use Rattle.spec.specs.Answer as Spec
 use Rattle.spec.specs.Answer.{Lent, work_suffices, fitting}
 use Rattle.spec.proofs.ReadLaws.{read-depth}
-use Rattle.spec.specs.Proper.{Proper}
-use Rattle.spec.specs.Distinct.{Distinct}
 use Rattle.claims.proofs.ReadProper.{read_proper}
-use Rattle.merging.specs.MergePatch.{as_object, merge_patch, merged_in, on_merge_patch, on_merge_document, merge_answer}
-use Rattle.merging.specs.Parts.{merged_members}
-use Rattle.merging.proofs.ObjectLaws.{single_distinct, merge-object, merge_other}
+use Rattle.merging.specs.MergePatch.{merge_patch, merged_in, on_merge_patch, on_merge_document, merge_answer}
+use Rattle.merging.proofs.ObjectLaws.{merge_other}
 use Rattle.merging.proofs.MergeTheorem.{merging}
 use Rattle.lexer.specs.declared.cursor.Cursor.{Cursor}
 use Rattle.tape.specs.Layout.{patch_row, scratch_row, object_kind, rows}
@@ -33,14 +28,12 @@ use Rattle.tape.specs.Lent.{Texts, Table}
 use Rattle.tape.proofs.Cells.{formed_fit}
 use Rattle.tape.proofs.Held.{held_node}
 use Rattle.tape.proofs.Rows.{kind_here}
-use Rattle.tape.proofs.Map.{size-map}
-use Rattle.table.specs.Meaning.{entry_of, members, meant}
+use Rattle.table.specs.Meaning.{meant}
 use Rattle.table.proofs.MeaningLaws.{is_object_label, nodes-meant}
 use Rattle.reader.specs.Work.{Work}
 use Rattle.reader.specs.Texts as Texts
 use Rattle.reader.specs.Texts.{reading, DocumentIs}
 use Rattle.reader.specs.declared.values.Read.{Read}
-use Rattle.reader.specs.declared.values.Read.TheVariants as Read
 use Rattle.writer.specs.Writing.{FitsIs, WriteIs}
 use Rattle.writer.proofs.CallerLaws.{fits_is, written_whole}
 use Rattle.changes.specs.Site.{table}
@@ -49,7 +42,6 @@ use Rattle.json_patch.specs.Call.{Answered, SuccessIs, RefusalIs}
 use Rattle.json_patch.specs.declared.answer.Answer.{Answer}
 use Rattle.json_patch.proofs.TextLaws.{read_into, text-value, text_refusal, patch_held, document_held, document-kept}
 use Rattle.json_patch.proofs.AnswerLaws.{answered-refusal, answered-success, answered_as, fitting_short, fitting_whole}
-use Rattle.merge.specs.Building.{full}
 use Rattle.merge.specs.Trees.{Both, ValueAt, MergeTreesIs}
 use Rattle.merge.specs.Stages.{WriteAtIs, RunMergeIs}
 

@@ -1,32 +1,30 @@
 -- What `keep` answers, and what becomes of the notes.
-use Prim.Native.Nat.{ℕ, suc, ◌+◌, ◌-◌, ◌≤◌, ◌<◌, max}
+use Rattle.std.specs.Prelude.{if◌then◌else◌}
+use Prim.Native.Nat.{ℕ, ◌+◌, ◌-◌, ◌≤◌, ◌<◌}
 use native.Mathlib.Omega.{arith}
 use mathlib.Core.Path.{◌≡◌, refl, sym, ap, ◌∙◌, subst}
 use mathlib.Core.Bool.{Bool, true, false}
 use mathlib.Core.List.{List, []}
 use lib.Dec.{eqb}
-use lib.ListN.{length, drop, get_or}
-use Rattle.spec.specs.Outcome.{if◌then◌else◌}
+use lib.ListN.{length, get_or}
 use Rattle.spec.specs.Bytes.{Text}
-use Rattle.spec.specs.Forest.{Forest, none, tree, size, before, from}
+use Rattle.spec.specs.Forest.{Forest, tree, size, before, from}
 use Rattle.spec.specs.Value.{same_text}
 use Rattle.tape.specs.Layout.{patch_row, scratch_row}
-use Rattle.tape.specs.Fields.{Row, no_node, kind_of, name_of}
+use Rattle.tape.specs.Fields.{no_node, kind_of, name_of}
 use Rattle.tape.specs.declared.fields.Name.{Name}
 use Rattle.tape.specs.declared.fields.Cell.{Cell}
 use Rattle.tape.specs.Rows.{end_of}
-use Rattle.tape.specs.Lent.{Texts, Table}
-use Rattle.tape.proofs.Forests.{size-cut}
+use Rattle.tape.specs.Lent.{Table}
 use Rattle.tape.proofs.Held.{held_node}
 use Rattle.tape.proofs.Rows.{cell_here, kind_here, end_here}
-use Rattle.table.specs.Meaning.{name_text, members, Hashed}
+use Rattle.table.specs.Meaning.{name_text, Hashed}
 use Rattle.table.specs.Sound.{NodeHeld, NameFits}
 use Rattle.table.specs.declared.find.Member.{Member}
 use Rattle.table.specs.declared.find.Member.TheVariants.{At, Missing}
-use Rattle.index.specs.Slots.{room, parents, slots, parent_slot, slot_set}
-use Rattle.index.specs.Members.{Child, Parents}
+use Rattle.index.specs.Slots.{parents, slots, parent_slot, slot_set}
 use Rattle.index.proofs.SlotLaws.{slot_dropped}
-use Rattle.equality.proofs.SiblingLaws.{Siblings, siblings_all, siblings_from, siblings-value}
+use Rattle.equality.proofs.SiblingLaws.{Siblings, siblings_all, siblings_from}
 use Rattle.merge.specs.Marks.{note_of, Changed, Marks}
 use Rattle.merge.specs.Partner.{PatchObject, Named, named_at, named_none, PartnerIs}
 use Rattle.merge.specs.Steps.{step_for, Reaches, Keeps, keeps_own, keeps_other, KeepIs}

@@ -1,6 +1,5 @@
 -- The result in the table: rows that are laid down one behind the other.
-use Rattle.std.specs.Prelude.{ℕ, ◌+◌, ◌-◌, ◌%◌, min, ◌≡◌, List, [], eqb, length, take, drop, get_or, set}
-use Rattle.spec.specs.Outcome.{if◌then◌else◌}
+use Rattle.std.specs.Prelude.{ℕ, ◌+◌, ◌-◌, ◌%◌, min, ◌≡◌, List, [], eqb, length, take, drop, get_or, set, if◌then◌else◌}
 use Rattle.spec.specs.Forest.{Forest, none, tree, size}
 use Rattle.tape.specs.Layout.{values, object_kind}
 use Rattle.tape.specs.Fields.{Row, no_node, with_span, kind_of, origin_of}

@@ -1,6 +1,5 @@
 -- What merging two objects of the table comes to.
-use Rattle.std.specs.Prelude.{ℕ, ◌+◌, ◌≤◌, ◌<◌, min, ◌≡◌, true, List, [], eqb, get_or}
-use Rattle.spec.specs.Outcome.{if◌then◌else◌}
+use Rattle.std.specs.Prelude.{ℕ, ◌+◌, ◌≤◌, ◌<◌, min, ◌≡◌, true, List, [], eqb, get_or, if◌then◌else◌}
 use Rattle.spec.specs.Forest.{Forest, none, tree, size}
 use Rattle.spec.specs.Value.{depths}
 use Rattle.spec.specs.Distinct.{NoRepeats}

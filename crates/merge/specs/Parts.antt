@@ -1,8 +1,7 @@
 -- What a merge makes of the members, position by position, with their origins. Apart from those, each definition is that of crate merging.
+use Rattle.std.specs.Prelude.{if◌then◌else◌}
 use Rattle.std.proofs.Math.Option.{Option, none, some}
-use Rattle.spec.specs.Outcome.{if◌then◌else◌}
 use Rattle.spec.specs.Bytes.{Text}
-use Rattle.spec.specs.Forest as Forest
 use Rattle.spec.specs.Forest.{Forest, tree, single, ◌⧺◌}
 use Rattle.spec.specs.Value as Plain
 use Rattle.spec.specs.Value.{Label}

@@ -1,5 +1,5 @@
 -- The search paths of all members of the patch's objects.
-use Rattle.std.specs.Prelude.{ℕ, ◌+◌, ◌-◌, ◌≤◌, ◌<◌, ◌≡◌, true, List, length, drop}
+use Rattle.std.specs.Prelude.{ℕ, ◌+◌, ◌-◌, ◌<◌, ◌≡◌, true, List, length, drop}
 use Rattle.spec.specs.Forest.{Forest, none, tree, size}
 use Rattle.spec.specs.Value.{Entry, Members, is_object, depths}
 use Rattle.tape.specs.Layout.{patch_row, scratch_row, object_kind}

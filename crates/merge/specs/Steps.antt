@@ -1,7 +1,6 @@
 -- What becomes of one member.
-use Rattle.std.specs.Prelude.{ℕ, ◌+◌, ◌≤◌, ◌<◌, max, ◌≡◌, Bool, true, false, List, [], eqb, leb, length, get_or}
+use Rattle.std.specs.Prelude.{ℕ, ◌+◌, ◌≤◌, ◌<◌, max, ◌≡◌, Bool, true, List, [], eqb, leb, length, get_or, if◌then◌else◌}
 use Rattle.std.proofs.Math.Option as Option
-use Rattle.spec.specs.Outcome.{if◌then◌else◌}
 use Rattle.spec.specs.Bytes.{Text}
 use Rattle.spec.specs.Forest.{Forest, tree, size, before, from}
 use Rattle.spec.specs.Value.{same_text}
@@ -10,7 +9,7 @@ use Rattle.tape.specs.Layout.{patch_row, scratch_row}
 use Rattle.tape.specs.Fields.{Row, kind_of}
 use Rattle.tape.specs.declared.fields.Cell.{Cell}
 use Rattle.tape.specs.Rows.{end_of}
-use Rattle.tape.specs.Lent.{Texts, Table}
+use Rattle.tape.specs.Lent.{Table}
 use Rattle.table.specs.Meaning.{name_text, members}
 use Rattle.table.specs.Sound.{NodeHeld, NameFits}
 use Rattle.merge.specs.Marks.{note_of, Changed, Marks}

@@ -17,6 +17,8 @@ mod objects; // two objects merged
 mod trees; // the two trees merged
 mod stages; // the stages of the call: two texts read, the trees merged, the result written
 mod call; // the call
+mod exports; // the call for C
 
 pub use call::merge;
+pub use exports::json_patch_merge;
 pub use trees::merge_read;

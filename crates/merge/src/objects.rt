@@ -36,7 +36,8 @@ pub fn merge_object<'a>(
     to: usize,
     levels: u32,
 ) -> usize
-    requires patch_row_le_patch { (patch_row ≤ patch) × (patch < scratch_row) × (target ≤ rows) × (slots ≤ length index.old) }
+    requires patch_row_le_patch { (patch_row ≤ patch) × (patch < scratch_row) × (target ≤ rows)
+        × (slots ≤ length index.old) }
     requires scratch_row_le_to { (scratch_row ≤ to) × (to ≤ full) × (length nodes.old ≡ rows) }
     ensures { MergeObjectIs (before texts nodes.old) target patch to levels index.old nodes.new
         index.new result }

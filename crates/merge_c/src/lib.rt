@@ -4,7 +4,6 @@
 ghost use Rattle.json_patch.specs.Call.{given, memory_before, memory_after};
 ghost use Rattle.merge.specs.Call.{ExportIs};
 
-use merge::merge;
 use tape::layout::Node;
 
 // As `merge`. The answer's fields are laid down in `answer`, in the order of the header's struct; the number is
@@ -21,14 +20,5 @@ pub extern "C" fn json_patch_merge<'a>(
     ensures { ExportIs (given document.now patch.now) (memory_before output.old nodes.old index.old)
         (memory_after output.new nodes.new index.new) answer.new result }
 {
-    let r = merge(document, patch, output, nodes, index);
-    *answer = [
-        r.number as u64,
-        r.text as u64,
-        r.op as u64,
-        r.place as u64,
-        r.pointer as u64,
-        r.length as u64,
-    ];
-    r.number as u32
+    merge::json_patch_merge(document, patch, output, nodes, index, answer)
 }

@@ -7,7 +7,9 @@
 #![tactic(auto)]
 
 mod call; // the call
+mod exports; // the call for C
 mod stages; // its stages: two texts read, the trees merged, the result written and listed
 mod stamps; // the origins that nodes bear before the merge
 
 pub use call::merge_listing;
+pub use exports::json_patch_merge_origins;

@@ -27,7 +27,8 @@ use Rattle.origin.specs.Operation as Origins
 use Rattle.origin.specs.Operation.{add_at, remove_at_path, replace_at_path, move_to, copy_to, test_at}
 use Rattle.origin.specs.Patch as OriginPatch
 use Rattle.origin.specs.Forgetting.{forgotten}
-use Rattle.origin.proofs.ForgetLaws.{forget-value_of, forget-add_at, forget-remove_at_path, forget-replace_at_path, forget-move_to, forget-copy_to, forget-test_at}
+use Rattle.origin.proofs.ForgetLaws.{forget-value_of, forget-add_at, forget-remove_at_path}
+use Rattle.origin.proofs.ForgetLaws.{forget-replace_at_path, forget-move_to, forget-copy_to, forget-test_at}
 use Rattle.walk.specs.Bearing.{borne, borne_members}
 use Rattle.walk.proofs.Children.{forget-borne, child-borne}
 use Rattle.changes.specs.Document.{judged, judged_bearing}

@@ -133,5 +133,6 @@ pub borne-stamped : (T : Texts) (k : ℕ) (c : Cell) (kids : Forest Cell)
     → borne T (stamp_cell k c) (map_forest (stamp_cell k) kids) ≡ painted k (forget (borne T c kids))
 borne-stamped T k c kids =
     let cells = map-map (bearing T) (stamp_cell k) kids in
-    let entries = ap (map_forest (painted_entry k)) (map-map forget_entry (bearing T) kids) ∙ map-map (painted_entry k) (λ d. forget_entry (bearing T d)) kids in
+    let entries = ap (map_forest (painted_entry k)) (map-map forget_entry (bearing T) kids) ∙ map-map (painted_entry k) (λ d. forget_entry (bearing T d))
+    kids in
     ap (λ f. record { label = (borne T c kids).label; origin = k; kids = f }) (cells ∙ sym entries)

@@ -8,6 +8,10 @@
 ghost use Rattle.std.specs.Prelude.{◌≡◌, set, get_or};
 ghost use Rattle.record.specs.Records.{no_record};
 
+mod exports;
+
+pub use exports::{json_patch_node_clear, json_patch_node_read, json_patch_node_store};
+
 #[repr(C)]
 #[derive(Clone, Copy)]
 pub struct Node {

@@ -6,25 +6,25 @@
 ghost use Rattle.std.specs.Prelude.{◌≡◌, set, get_or};
 ghost use Rattle.record.specs.Records.{no_record};
 
-use record::{Node, clear, read, store};
+use record::Node;
 
 #[unsafe(no_mangle)]
 pub extern "C" fn json_patch_node_read(nodes: &[Node], row: usize) -> Node
     ensures { result ≡ get_or nodes.now row no_record }
 {
-    read(nodes, row)
+    record::json_patch_node_read(nodes, row)
 }
 
 #[unsafe(no_mangle)]
 pub extern "C" fn json_patch_node_store(nodes: &mut [Node], row: usize, node: Node)
     ensures { nodes.new ≡ set nodes.old row node }
 {
-    store(nodes, row, node);
+    record::json_patch_node_store(nodes, row, node);
 }
 
 #[unsafe(no_mangle)]
 pub extern "C" fn json_patch_node_clear(nodes: &mut [Node], row: usize)
     ensures { nodes.new ≡ set nodes.old row no_record }
 {
-    clear(nodes, row);
+    record::json_patch_node_clear(nodes, row);
 }

@@ -6,6 +6,8 @@
 #![tactic(auto)]
 
 mod call; // the call
+mod exports; // the call for C
 mod stages; // its stages: two texts read, the region judged, the patch run, the result written
 
 pub use call::apply_within;
+pub use exports::json_patch_apply_within;

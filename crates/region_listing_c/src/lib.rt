@@ -5,7 +5,6 @@ ghost use Rattle.json_patch.specs.Call.{given};
 ghost use Rattle.listing.specs.Call.{list_before, list_after};
 ghost use Rattle.region_listing.specs.Call.{ExportIs};
 
-use region_listing::apply_within_listing;
 use tape::layout::Node;
 
 // As `apply_within_listing`. The answer's fields are laid down in `answer`, in the order of the header's struct; the
@@ -25,14 +24,7 @@ pub extern "C" fn json_patch_apply_within_origins<'a>(
         (list_before output.old origins.old nodes.old index.old)
         (list_after output.new origins.new nodes.new index.new) answer.new result }
 {
-    let r = apply_within_listing(document, patch, region, output, origins, nodes, index);
-    *answer = [
-        r.number as u64,
-        r.text as u64,
-        r.op as u64,
-        r.place as u64,
-        r.pointer as u64,
-        r.length as u64,
-    ];
-    r.number as u32
+    region_listing::json_patch_apply_within_origins(
+        document, patch, region, output, origins, nodes, index, answer,
+    )
 }

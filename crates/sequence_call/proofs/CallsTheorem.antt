@@ -1,5 +1,4 @@
 -- Patches in a row of the calls, from the theorem on the definition and the call's contract.
-use mathlib.Core.Path.{◌≡◌}
 use Prim.Native.Nat.{ℕ}
 use Rattle.spec.specs.Bytes.{Bytes}
 use Rattle.spec.specs.Patch.{Stop}

@@ -1,6 +1,6 @@
 -- Patches in a row, said of the calls themselves: SPECIFICATION 11, T-13. Crate `sequence` speaks of the definition `answer`; this speaks of
 -- whatever two calls answer, and of the outputs that they leave. Every call promises `Answered` of that definition (`ApplyIs`).
-use Rattle.std.specs.Prelude.{◌≡◌, ℕ, ◌+◌, ◌≤◌, List, ◌++◌, length, drop}
+use Rattle.std.specs.Prelude.{◌≡◌, ℕ, ◌≤◌, List, ◌++◌, length, drop}
 use Rattle.spec.specs.Bytes.{Bytes}
 use Rattle.spec.specs.Patch.{Stop}
 use Rattle.spec.specs.Answer as Spec

@@ -15,7 +15,8 @@ use Rattle.spec.specs.Read.{fresh, name_for, container_label, closing_bracket, i
 use Rattle.spec.specs.Write.{utf8, hex_digit, write_character, write_characters, write_string, opening, closing, write_name, comma, write_items, write}
 use Rattle.spec.specs.Pointer.{prepend, segments, tilde, unescape, unescape_all, tokens, all_digits, is_index, is_dash}
 use Rattle.spec.specs.Pointer.{element_below, member_named, child_at, child, farther, walk}
-use Rattle.spec.specs.Operation.{put, at_parent, insert_element, insert_member, insert_child, remove_child, replace_child, add_at, remove_at_path, replace_at_path}
+use Rattle.spec.specs.Operation.{put, at_parent, insert_element, insert_member, insert_child}
+use Rattle.spec.specs.Operation.{remove_child, replace_child, add_at, remove_at_path, replace_at_path}
 use Rattle.spec.specs.Operation.{Operation, move_to, copy_to, test_at, perform, not_too_deep, not_too_large, limited}
 use Rattle.spec.specs.Patch.{member, string_of, string_member, kind_named, uses_value, uses_from, is_move, value_for, from_for, members_for, operation_members}
 use Rattle.spec.specs.Patch.{proper_prefix, with_pointers, operation, no_pointer, at_op, on_finish, operations, shape, which_pointer, run}

@@ -71,7 +71,8 @@ value-ends : (left : ℕ) (s : Bytes) (at nodes : ℕ) (v : Value.Value) (next :
     (e : Bytes) (w : Value.Value) → Alone e w → (b : ℕ) (rest : Bytes) → Ends b → drop at s ≡ e ++ (b ∷ rest) → next ≡ at + length e
 value-ends left s at nodes v next l m h e w alone b rest ends here =
     let grown = value_grows left s at nodes h in
-    let r = (value-tracks true (rest_cut s at (omega arith)) left 32 (λ h. l) nodes 0 at 0 (λ h. omega arith) (record { is = omega arith })).track (v, next) h in
+    let r = (value-tracks true (rest_cut s at (omega arith)) left 32 (λ h. l) nodes 0 at 0 (λ h. omega arith) (record { is = omega arith })).track (v, next)
+    h in
     let t = (value-tracks false (begin_cut e b rest ends) 32 32 (λ h. omega arith) 0 0 0 0
     (λ h. omega arith) (record { is = omega arith })).track (w, length e) alone in
     let r-place = landed r in

@@ -18,7 +18,8 @@ use Rattle.spec.specs.Numbers.{is_digit, is_e, counted, digits, some_digits, exp
 use Rattle.spec.specs.Forest.{size, single, ◌⧺◌}
 use Rattle.spec.specs.Value as Value
 use Rattle.spec.specs.Value.{Label, Members, leaf, named, has}
-use Rattle.spec.specs.Read.{is_blank, blanks_from, blanks, word_at, room_for, fresh, name_for, literal_value, number_value, string_value, scalar, closing_bracket}
+use Rattle.spec.specs.Read.{is_blank, blanks_from, blanks, word_at, room_for, fresh}
+use Rattle.spec.specs.Read.{name_for, literal_value, number_value, string_value, scalar, closing_bracket}
 use Rattle.spec.specs.Read.{items, contents, container, value}
 use Rattle.spec.specs.Forest as Forest
 use Rattle.spec.proofs.OutcomeLaws.{refused≢ok}

@@ -213,7 +213,8 @@ module _ {w : Table} {start end stop : ℕ} {f : Forest Cell} {name : Text} {tes
   sought_found : {row : ℕ} {r : Member} → Sought w.nodes stop test row r → Seeking w.texts start f name row → Found w.texts start f name r
   sought_found (sought_here l t) s = seek_found a s (omega arith) (t ∙ same _ (seek_hashed a s (omega arith)))
   sought_found (sought_next {row} l t rest) s =
-      sought_found rest (seek_next a s (omega arith) _ (row_behind_lem w.nodes row (seek_scalar a s (omega arith))) (t ∙ same _ (seek_hashed a s (omega arith))))
+      sought_found rest (seek_next a s (omega arith) _ (row_behind_lem w.nodes row (seek_scalar a s (omega arith)))
+      (t ∙ same _ (seek_hashed a s (omega arith))))
   sought_found (sought_over l) s = seek_over a s stop stops l
 
 pub finds : {w : Table} {start end : ℕ} {name : Name} {r : Member} (stop : ℕ) → stop ≡ limit_of w.nodes end → Sought w.nodes stop

@@ -2,7 +2,8 @@
 // bits.
 ghost use Rattle.std.specs.Prelude.{◌≡◌, ◌%◌, ◌<◌};
 ghost use Rattle.tape.specs.Layout.{values, kinds, forms, sources};
-ghost use Rattle.tape.specs.Fields.{tagged, kind_in, form_in, source_in, name_form_in, name_source_in, value_of, name_of};
+ghost use Rattle.tape.specs.Fields.{tagged, kind_in, form_in, source_in};
+ghost use Rattle.tape.specs.Fields.{name_form_in, name_source_in, value_of, name_of};
 ghost use Rattle.tape.specs.Fields.{cell_of, row_with};
 
 use crate::layout::{

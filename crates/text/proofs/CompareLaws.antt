@@ -103,7 +103,8 @@ common_texts {form} {other} {a} {b} (more {i} r n e) =
     sym (heads_same (plain_text form a i refl n) (plain_text other b i refl (λ z. n (e ∙ z))) e) ∙ common_texts r
 
 -- the same for a word that is given by its bytes
-pub common_word : {form : ℕ} {a l : Bytes} {n : ℕ} → Common form a 1 l n → (n ≤ length l) × (same_text (text_from form a n) (drop n l) ≡ same_text (text_of form a) l)
+pub common_word : {form : ℕ} {a l : Bytes} {n : ℕ} → Common form a 1 l n → (n ≤ length l) ×
+    (same_text (text_from form a n) (drop n l) ≡ same_text (text_of form a) l)
 unfolding text_of byte
 common_word none = (omega arith, refl)
 common_word {form} {a} {l} (more {i} r n e) =

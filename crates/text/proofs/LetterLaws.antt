@@ -170,7 +170,8 @@ module _ (s : Bytes) (at : ℕ) (self : stands_for_itself (byte s at) ≡ true) 
   self_letter form l m = go (eqb form 1) (eqb form 2) (eqb form 3) refl refl refl
     where
       go : (one two three : Bool) → eqb form 1 ≡ one → eqb form 2 ≡ two → eqb form 3 ≡ three →
-          (if one then character_in s at else if two then character_in s at else if three then token_letter s at else refused not_json at) ≡ ok (byte s at, at + 1)
+          (if one then character_in s at else if two then character_in s at else if three then token_letter s at else refused not_json at) ≡ ok
+          (byte s at, at + 1)
       go true two three p q r = self-string
       go false true three p q r = self-string
       go false false true p q r = self_token

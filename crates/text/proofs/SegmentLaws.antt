@@ -19,7 +19,8 @@ no_slash [] = true
 no_slash (c ∷ cs) = not (eqb c (code "/")) && no_slash cs
 
 -- the first character of a segment
-segment_more : (c : ℕ) (cs t u : Text) (ts : List Text) → no_slash (c ∷ cs) ≡ true → (no_slash cs ≡ true → segments u ≡ t ∷ ts) → segments (c ∷ u) ≡ (c ∷ t) ∷ ts
+segment_more : (c : ℕ) (cs t u : Text) (ts : List Text) → no_slash (c ∷ cs) ≡ true → (no_slash cs ≡ true → segments u ≡ t ∷ ts) → segments (c ∷ u) ≡ (c ∷ t)
+    ∷ ts
 unfolding segments prepend no_slash
 segment_more c cs t u ts h ih = go (eqb c (code "/")) h
   where

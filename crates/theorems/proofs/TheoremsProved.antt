@@ -34,15 +34,25 @@ use Rattle.sequence.proofs.ExamplesTheorem as InARow
 use Rattle.sequence_call.proofs.CallsTheorem.{calls}
 use Rattle.fragment.proofs.ClaimTheorems as Link
 use Rattle.json_patch.proofs.apply.Met as Apply
+use Rattle.json_patch.proofs.json_patch_apply.Met as ApplyForC
 use Rattle.region_call.proofs.apply_within.Met as ApplyWithin
+use Rattle.region_call.proofs.json_patch_apply_within.Met as ApplyWithinForC
 use Rattle.undo.proofs.apply_with_undo.Met as ApplyWithUndo
+use Rattle.undo.proofs.json_patch_apply_with_undo.Met as ApplyWithUndoForC
 use Rattle.merge.proofs.merge.Met as Merge
+use Rattle.merge.proofs.json_patch_merge.Met as MergeForC
 use Rattle.compare.proofs.compare.Met as Compare
+use Rattle.compare.proofs.json_patch_compare.Met as CompareForC
 use Rattle.inspect.proofs.inspect.Met as Inspect
+use Rattle.inspect.proofs.json_patch_inspect.Met as InspectForC
 use Rattle.listing.proofs.apply_listing.Met as ApplyListing
+use Rattle.listing.proofs.json_patch_apply_origins.Met as ApplyListingForC
 use Rattle.region_listing.proofs.apply_within_listing.Met as ApplyWithinListing
+use Rattle.region_listing.proofs.json_patch_apply_within_origins.Met as ApplyWithinListingForC
 use Rattle.merge_listing.proofs.merge_listing.Met as MergeListing
+use Rattle.merge_listing.proofs.json_patch_merge_origins.Met as MergeListingForC
 use Rattle.undo_listing.proofs.apply_with_undo_listing.Met as ApplyWithUndoListing
+use Rattle.undo_listing.proofs.json_patch_apply_with_undo_origins.Met as ApplyWithUndoListingForC
 use Rattle.fragment.proofs.write_link.Met as WriteLink
 use Rattle.fragment.proofs.read_link.Met as ReadLink
 use Rattle.intel_hex.proofs.write_hex.Met as WriteHex
@@ -52,7 +62,7 @@ use Rattle.theorems.specs.Theorems.{Theorems}
 pub theorems : Theorems
 theorems =
     record {
-      demands = record { total_and_exact = Apply.met; shuffles = demand3; calls = call_in_regions };
+      demands = record { total_and_exact = Apply.met; for_c = ApplyForC.met; shuffles = demand3; calls = call_in_regions };
       grammar =
           record {
             exactness = Grammar.exactness;
@@ -125,16 +135,25 @@ theorems =
       calls =
           record {
             merge = Merge.met;
+            merge_for_c = MergeForC.met;
             apply_within = ApplyWithin.met;
+            apply_within_for_c = ApplyWithinForC.met;
             write_hex = WriteHex.met;
             read_hex = ReadHex.met;
             apply_with_undo = ApplyWithUndo.met;
+            apply_with_undo_for_c = ApplyWithUndoForC.met;
             compare = Compare.met;
+            compare_for_c = CompareForC.met;
             apply_listing = ApplyListing.met;
+            apply_listing_for_c = ApplyListingForC.met;
             apply_within-listing = ApplyWithinListing.met;
+            apply_within-listing_for_c = ApplyWithinListingForC.met;
             merge_listing = MergeListing.met;
+            merge_listing_for_c = MergeListingForC.met;
             apply_with_undo_listing = ApplyWithUndoListing.met;
+            apply_with_undo_listing_for_c = ApplyWithUndoListingForC.met;
             inspect = Inspect.met;
+            inspect_for_c = InspectForC.met;
             write-link = WriteLink.met;
             read-link = ReadLink.met;
           };

@@ -1,7 +1,5 @@
 -- The page of theorems: what is proved, each statement in one line and where it stands. proofs/TheoremsProved has a proof of each: one citation.
 -- What must be believed is the definitions that these statements cite: crates/spec/specs, and for a standard's words crates/grammar/specs.
--- Of each call, the export for C is in a static library, which no crate can depend on: that its code meets its contract stands there, in
--- crates/json_patch_c/proofs/ForC and its likes.
 use Rattle.spec.specs.Demand3.{Demand3}
 use Rattle.spec.specs.Effects.{EffectsStatement}
 use Rattle.spec.specs.Shape.{ShapeStatement}
@@ -41,15 +39,25 @@ use Rattle.sequence.specs.Examples as InARow
 use Rattle.sequence_call.specs.Calls.{CallsStatement}
 use Rattle.fragment.specs.Claims as Link
 use Rattle.json_patch.proofs.apply.Statement as Apply
+use Rattle.json_patch.proofs.json_patch_apply.Statement as ApplyForC
 use Rattle.region_call.proofs.apply_within.Statement as ApplyWithin
+use Rattle.region_call.proofs.json_patch_apply_within.Statement as ApplyWithinForC
 use Rattle.undo.proofs.apply_with_undo.Statement as ApplyWithUndo
+use Rattle.undo.proofs.json_patch_apply_with_undo.Statement as ApplyWithUndoForC
 use Rattle.merge.proofs.merge.Statement as Merge
+use Rattle.merge.proofs.json_patch_merge.Statement as MergeForC
 use Rattle.compare.proofs.compare.Statement as Compare
+use Rattle.compare.proofs.json_patch_compare.Statement as CompareForC
 use Rattle.inspect.proofs.inspect.Statement as Inspect
+use Rattle.inspect.proofs.json_patch_inspect.Statement as InspectForC
 use Rattle.listing.proofs.apply_listing.Statement as ApplyListing
+use Rattle.listing.proofs.json_patch_apply_origins.Statement as ApplyListingForC
 use Rattle.region_listing.proofs.apply_within_listing.Statement as ApplyWithinListing
+use Rattle.region_listing.proofs.json_patch_apply_within_origins.Statement as ApplyWithinListingForC
 use Rattle.merge_listing.proofs.merge_listing.Statement as MergeListing
+use Rattle.merge_listing.proofs.json_patch_merge_origins.Statement as MergeListingForC
 use Rattle.undo_listing.proofs.apply_with_undo_listing.Statement as ApplyWithUndoListing
+use Rattle.undo_listing.proofs.json_patch_apply_with_undo_origins.Statement as ApplyWithUndoListingForC
 use Rattle.fragment.proofs.write_link.Statement as WriteLink
 use Rattle.fragment.proofs.read_link.Statement as ReadLink
 use Rattle.intel_hex.proofs.write_hex.Statement as WriteHex
@@ -61,6 +69,8 @@ pub record Demands : Type 2 where
   -- crates/json_patch/specs/Call: on every input the call returns, answers what `answer` defines (crates/spec/specs/Answer), and leaves all lent
   -- memory as it says. It asks nothing of the caller.
   pub total_and_exact : {M : Type 1} → Apply.statement M
+  -- the same for the export for C
+  pub for_c : {M : Type 1} → ApplyForC.statement M
   -- shuffles of two patches in regions of their own don't matter: of the definition, with an example that meets the premises,
   pub shuffles : Demand3
   -- and of whatever the call answers
@@ -167,22 +177,31 @@ pub record Requests : Type 0 where
 pub record Calls : Type 2 where
   -- T-02
   pub merge : {M : Type 1} → Merge.statement M
+  pub merge_for_c : {M : Type 1} → MergeForC.statement M
   -- T-05
   pub apply_within : {M : Type 1} → ApplyWithin.statement M
+  pub apply_within_for_c : {M : Type 1} → ApplyWithinForC.statement M
   -- T-07
   pub write_hex : {M : Type 1} → WriteHex.statement M
   pub read_hex : {M : Type 1} → ReadHex.statement M
   -- T-09
   pub apply_with_undo : {M : Type 1} → ApplyWithUndo.statement M
+  pub apply_with_undo_for_c : {M : Type 1} → ApplyWithUndoForC.statement M
   -- T-10
   pub compare : {M : Type 1} → Compare.statement M
+  pub compare_for_c : {M : Type 1} → CompareForC.statement M
   -- T-11
   pub apply_listing : {M : Type 1} → ApplyListing.statement M
+  pub apply_listing_for_c : {M : Type 1} → ApplyListingForC.statement M
   pub apply_within-listing : {M : Type 1} → ApplyWithinListing.statement M
+  pub apply_within-listing_for_c : {M : Type 1} → ApplyWithinListingForC.statement M
   pub merge_listing : {M : Type 1} → MergeListing.statement M
+  pub merge_listing_for_c : {M : Type 1} → MergeListingForC.statement M
   pub apply_with_undo_listing : {M : Type 1} → ApplyWithUndoListing.statement M
+  pub apply_with_undo_listing_for_c : {M : Type 1} → ApplyWithUndoListingForC.statement M
   -- T-12
   pub inspect : {M : Type 1} → Inspect.statement M
+  pub inspect_for_c : {M : Type 1} → InspectForC.statement M
   -- T-14
   pub write-link : {M : Type 1} → WriteLink.statement M
   pub read-link : {M : Type 1} → ReadLink.statement M

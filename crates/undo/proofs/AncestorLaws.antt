@@ -1,17 +1,17 @@
 -- Laws of a move: what is at `from` can be removed; and a value that holds `from` and is replaced at `path`.
 use Prim.Native.Nat.{ℕ}
-use mathlib.Core.Path.{◌≡◌, refl, ap, sym, subst, ◌∙◌}
-use mathlib.Core.Bool.{Bool, true, false, ◌&&◌, true≢false, false≢true}
-use mathlib.Core.List.{List, [], ◌∷◌}
+use mathlib.Core.Path.{◌≡◌, refl, ap, sym, ◌∙◌}
+use mathlib.Core.Bool.{true, false, false≢true}
+use mathlib.Core.List.{[], ◌∷◌}
 use lib.Dec.{eqb}
 use borrow.Author.Tests.{eqb-true}
-use Rattle.spec.specs.Outcome.{Outcome, ok, refused, ◌>>=◌}
+use Rattle.spec.specs.Outcome.{ok, ◌>>=◌}
 use Rattle.spec.specs.Bytes.{Text}
 use Rattle.spec.specs.Forest.{remove_at}
 use Rattle.spec.specs.Value as Value
 use Rattle.spec.specs.Value.{Label, tag, is_array, is_object, value_of, has, same_text}
 use Rattle.spec.specs.Pointer.{Tokens, child_at, child, farther, walk}
-use Rattle.spec.specs.Operation.{Operation, with_kids, put, at_parent, remove_child, remove_at_path}
+use Rattle.spec.specs.Operation.{with_kids, put, at_parent, remove_child, remove_at_path}
 use Rattle.spec.specs.Patch.{proper_prefix}
 use Rattle.spec.proofs.OutcomeLaws.{refused≢ok, both_ok}
 use Rattle.spec.proofs.TextLaws.{both_true, same_text_true}
@@ -19,8 +19,8 @@ use Rattle.spec.proofs.FartherLaws.{farther_ok}
 use Rattle.spec.proofs.PlaceLaws.{walk_on}
 use Rattle.reversal.specs.Undo.{result_or, value_at, parent_tokens, last_token, mended_in, mended, is_replace}
 use Rattle.reversal.proofs.IndexToken.{by_test}
-use Rattle.reversal.proofs.LikeChildren.{object-child, named_there, named_nowhere}
-use Rattle.reversal.proofs.Mended.{mended_element, mended_old, mended_new}
+use Rattle.reversal.proofs.LikeChildren.{object-child, named_nowhere}
+use Rattle.reversal.proofs.Mended.{mended_element, mended_old}
 use Rattle.reversal.proofs.UndoOne.{kind_below, still_there, value-put}
 use Rattle.undo.specs.Mend.{Present}
 

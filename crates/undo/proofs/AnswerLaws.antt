@@ -2,13 +2,12 @@
 use Prim.Native.Nat.{ℕ, ◌≤◌, ◌<◌}
 use native.Mathlib.Omega.{arith}
 use mathlib.Core.Path.{◌≡◌, refl, sym, ap, subst, ◌∙◌}
-use mathlib.Core.Bool.{Bool, true, false, true≢false}
-use mathlib.Core.List.{List, [], ◌++◌}
+use mathlib.Core.Bool.{false, true≢false}
 use lib.Dec.{leb, eqb}
-use lib.ListN.{length, drop}
+use lib.ListN.{length}
 use borrow.Author.Tests.{le-leb, lt-leb, leb-true}
-use Rattle.spec.specs.Outcome.{Outcome, ok, refused, if◌then◌else◌}
-use Rattle.spec.specs.Refusal.{done, input_too_long, too_deep, too_many_nodes, too_many_operations, output_too_short}
+use Rattle.spec.specs.Outcome.{Outcome, refused}
+use Rattle.spec.specs.Refusal.{output_too_short}
 use Rattle.spec.specs.Limits.{max_bytes, max_depth, max_nodes, max_operations}
 use Rattle.spec.specs.Bytes.{Bytes}
 use Rattle.spec.specs.Forest.{count}

@@ -1,14 +1,14 @@
 -- Laws of the call: what is lent in part, and cleared.
+use Rattle.std.specs.Prelude.{if◌then◌else◌}
 use Prim.Native.Nat.{ℕ, ◌≤◌, ◌<◌}
 use native.Mathlib.Omega.{arith}
 use mathlib.Core.Path.{◌≡◌, refl, sym, ap, subst, ◌∙◌}
 use mathlib.Core.Bool.{Bool, true, false, ◌&&◌}
 use mathlib.Core.List.{List, ◌++◌}
-use lib.Dec.{leb, eqb}
+use lib.Dec.{leb}
 use lib.ListN.{length, take, drop}
 use lib.Seq.{length-take-le}
 use borrow.Author.Tests.{le-leb, lt-leb}
-use Rattle.spec.specs.Outcome.{if◌then◌else◌}
 use Rattle.spec.specs.Refusal.{work_too_short}
 use Rattle.spec.specs.Limits.{max_bytes, work_nodes, work_entries}
 use Rattle.spec.specs.Bytes.{Bytes}
@@ -20,11 +20,11 @@ use Rattle.tape.specs.Fields.{Row, no_node}
 use Rattle.tape.specs.Lent.{Texts}
 use Rattle.json_patch.specs.Call.{Memory, RefusalIs, Answered, wiped, lent_of}
 use Rattle.json_patch.specs.declared.answer.Answer.{Answer}
-use Rattle.json_patch.proofs.AnswerLaws.{answered-refusal, answered_as, work_suffices_lem, nodes_short, index_short, answer_work_short, answer-read, answer_same}
+use Rattle.json_patch.proofs.AnswerLaws.{answered-refusal, work_suffices_lem, nodes_short, index_short, answer_work_short, answer-read, answer_same}
 use Rattle.json_patch.proofs.CallLaws.{part-wiped}
 use Rattle.reversal.specs.UndoValue.{undo_value}
 use Rattle.reversal.specs.UndoAnswer.{UndoLent, undo_refusal, undo_read, undo_operations, after_patch, undo_answer}
-use Rattle.undo.specs.Call.{UndoMemory, undo_lent_of, undo_suffices, Outputs, outputs_of, UndoAnswered, UndoIs}
+use Rattle.undo.specs.Call.{UndoMemory, undo_lent_of, undo_suffices, UndoIs}
 use Rattle.undo.specs.Stages.{WithoutIs, CheckedIs}
 use Rattle.undo.specs.declared.answer.UndoAnswer.{UndoAnswer}
 use Rattle.undo.proofs.AnswerLaws.{undo_as}

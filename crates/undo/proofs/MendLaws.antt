@@ -1,49 +1,37 @@
 -- Laws of what takes back a value that is put in at a location.
-use Prim.Native.Nat.{ℕ, suc, ◌+◌, ◌%◌, ◌≤◌, ◌<◌, min}
+use Prim.Native.Nat.{ℕ}
 use native.Mathlib.Omega.{arith}
-use mathlib.Core.Path.{◌≡◌, refl, ap, sym, subst, ◌∙◌}
-use mathlib.Core.Bool.{Bool, true, false, true≢false}
-use mathlib.Core.List.{List, [], ◌∷◌, ◌++◌, append_assoc}
-use lib.ListN.{length, take, drop, get_or}
-use lib.Dec.{eqb, ltb}
-use Rattle.spec.specs.Outcome.{Outcome, ok, refused, if◌then◌else◌}
-use Rattle.spec.specs.Limits.{max_depth}
+use mathlib.Core.Path.{◌≡◌, ap, sym, subst, ◌∙◌}
+use mathlib.Core.Bool.{Bool, true, false}
+use mathlib.Core.List.{[], ◌∷◌}
+use lib.Dec.{ltb}
 use Rattle.spec.specs.Bytes.{Bytes, Text}
-use Rattle.spec.specs.Forest.{Forest, count}
 use Rattle.spec.specs.Worth.{decimal}
 use Rattle.spec.specs.Value as Value
 use Rattle.spec.specs.Value.{depth, is_array, is_object, has, find, value_of}
-use Rattle.spec.specs.Pointer.{Tokens, tokens, walk, child_at, child, member_named, is_dash, is_index}
-use Rattle.spec.specs.Operation.{Operation, add_at, insert_child}
+use Rattle.spec.specs.Pointer.{Tokens, is_dash, is_index}
 use Rattle.spec.proofs.OutcomeLaws.{refused≢ok}
-use Rattle.claims.specs.Pointers.{escape_token, pointer_of}
-use Rattle.claims.specs.Operations.{adding, removing, replacing}
+use Rattle.claims.specs.Pointers.{pointer_of}
 use Rattle.claims.proofs.PointersTheorem.{pointers}
-use Rattle.text.specs.Decode.{decode, decode_from, text_of}
+use Rattle.text.specs.Decode.{decode}
 use Rattle.tape.specs.Layout.{document_row}
 use Rattle.tape.specs.declared.fields.Spelling.{Spelling}
-use Rattle.tape.specs.declared.fields.Name.{Name}
-use Rattle.tape.specs.declared.fields.Cell.{Cell}
 use Rattle.tape.specs.Lent.{Texts, Table}
 use Rattle.table.specs.Meaning.{part_of, meant}
-use Rattle.table.specs.Sound.{NodeHeld}
 use Rattle.walk.specs.Names.{Short}
 use Rattle.walk.specs.Path.{PathIs, WalkIs}
 use Rattle.walk.specs.declared.path.Reached.{Reached}
-use Rattle.walk.specs.declared.path.Reached.TheVariants as Reached
-use Rattle.pointer.specs.Tokens.{FirstOf, tokens_from}
+use Rattle.pointer.specs.Tokens.{FirstOf}
 use Rattle.pointer.specs.declared.answers.First.{First}
-use Rattle.pointer.specs.declared.answers.First.TheVariants as First
 use Rattle.pointer.proofs.WalkLaws.{first_root, first_at, first_malformed}
 use Rattle.pointer.specs.Index.{index_at, index_of, index_limit}
 use Rattle.pointer.specs.declared.answers.Index.{Index}
-use Rattle.pointer.specs.declared.answers.Index.TheVariants as Index
 use Rattle.changes.specs.Document.{Document}
 use Rattle.changes.proofs.TokenLaws.{some_token}
 use Rattle.changes.proofs.DocumentLaws.{the_value, no_value}
-use Rattle.reversal.specs.Undo.{value_at, parent_tokens, last_token, mended_in, mended}
+use Rattle.reversal.specs.Undo.{value_at, mended}
 use Rattle.reversal.proofs.IndexToken.{by_test}
-use Rattle.undo_log.specs.Log.{Noted, target_text, ValueHeld, Undoes, undo_add, undo_remove, undo_replace, NoteIs}
+use Rattle.undo_log.specs.Log.{Noted, target_text, ValueHeld, undo_add, undo_replace, NoteIs}
 use Rattle.undo.specs.Mend.{Present, Addable, NoteRemovedIs, NoteReplacedIs, MendIs, MendBelowIs}
 use Rattle.undo_log.specs.declared.log.Log.{Log}
 use Rattle.undo_log.specs.declared.note.Action.TheVariants as Action

@@ -1,10 +1,10 @@
 -- Laws of a move with its undo noted, each for one way out of a function.
-use Prim.Native.Nat.{ℕ, ◌+◌, ◌≤◌, ◌<◌}
+use Prim.Native.Nat.{ℕ, ◌+◌, ◌<◌}
 use native.Mathlib.Omega.{arith}
-use mathlib.Core.Path.{◌≡◌, refl, ap, sym, subst, ◌∙◌}
-use mathlib.Core.Bool.{Bool, true, false, ◌&&◌, true≢false}
+use mathlib.Core.Path.{◌≡◌, ap, sym, subst, ◌∙◌}
+use mathlib.Core.Bool.{Bool, true, false, ◌&&◌}
 use mathlib.Core.List.{List, [], ◌∷◌, ◌++◌}
-use Rattle.spec.specs.Outcome.{Outcome, ok, refused, ◌>>=◌, if◌then◌else◌}
+use Rattle.spec.specs.Outcome.{Outcome, ok, ◌>>=◌}
 use Rattle.spec.specs.Bytes.{Bytes, Text, ascii}
 use Rattle.spec.specs.Forest.{Forest, size}
 use Rattle.spec.specs.Value as Value
@@ -32,15 +32,12 @@ use Rattle.walk.specs.Bearing.{borne}
 use Rattle.pointer.specs.Tokens.{FirstOf}
 use Rattle.pointer.specs.Prefix.{PrefixOf}
 use Rattle.pointer.specs.declared.answers.First.{First}
-use Rattle.pointer.specs.declared.answers.First.TheVariants as First
 use Rattle.pointer.proofs.WalkLaws.{first_root, first_at, first_malformed}
 use Rattle.walk.specs.Names.{Short}
 use Rattle.walk.specs.Path.{PathIs, WalkIs}
 use Rattle.walk.specs.declared.path.Reached.{Reached}
-use Rattle.walk.specs.declared.path.Reached.TheVariants as Reached
 use Rattle.shape.specs.Members.{StringIs}
 use Rattle.shape.specs.declared.members.Spelled.{Spelled}
-use Rattle.shape.specs.declared.members.Spelled.TheVariants as Spelled
 use Rattle.changes.specs.Site.{table}
 use Rattle.changes.specs.Document.{Document, judged, Results, results, refusal, removes_at, ChangeAtIs, Bearing, judged_bearing, ResultsBearing}
 use Rattle.changes.specs.declared.answers.Change.TheVariants.{Add, Remove}
@@ -49,7 +46,7 @@ use Rattle.changes.specs.declared.answers.Altered.TheVariants.{Done, Refused}
 use Rattle.changes.proofs.TokenLaws.{some_token}
 use Rattle.changes.proofs.DocumentLaws.{the_value, no_value, the_bearing}
 use Rattle.operations.specs.Answers.{from_or_path, at_path}
-use Rattle.operations.specs.Perform.{SamePatch, SetAsideIs, MoveAsideIs, Listed, OperationFor, PerformIs}
+use Rattle.operations.specs.Perform.{SetAsideIs, MoveAsideIs, Listed, OperationFor}
 use Rattle.operations.proofs.AnswerLaws.{which_from, from_there, bearing_there, same_performs, path_performs}
 use Rattle.operations.proofs.BearingLaws.{move_with}
 use Rattle.operations.proofs.PatchLaws.{patch_then, patch_aside}
@@ -60,7 +57,7 @@ use Rattle.operations.proofs.ToldLaws.{told}
 use Rattle.operations.proofs.PerformLaws.{move_is, spelled_not, source}
 use Rattle.reversal.specs.Undo.{result_or, value_at, remaining, mended, is_replace, undo_moved, undo_move, undo_of}
 use Rattle.undo_log.specs.Log.{Noted, ValueHeld, undo_add, NoteIs}
-use Rattle.undo.specs.Mend.{Present, Addable, NoteReplacedIs, MendIs}
+use Rattle.undo.specs.Mend.{NoteReplacedIs, MendIs}
 use Rattle.undo.specs.Step.{StepsTo, StepsBearing, PlainIs, InObjectIs, HoldsIs, MoveApartIs, MoveFromIs, MoveBelowIs, MoveStepIs}
 use Rattle.undo_log.specs.declared.log.Log.{Log}
 use Rattle.undo.specs.declared.moving.Stepped.{Stepped}

@@ -2,22 +2,19 @@
 use Prim.Native.Nat.{ℕ, zero, suc, ◌+◌, ◌/◌, ◌%◌, ◌≤◌, ◌<◌}
 use native.Mathlib.Omega.{arith}
 use mathlib.Core.Path.{◌≡◌, refl, ap, sym, ◌∙◌}
-use mathlib.Core.Bool.{Bool, true, false}
-use mathlib.Core.List.{List, [], ◌∷◌, ◌++◌, append-nil, append_assoc}
-use lib.ListN.{length}
-use lib.Dec.{eqb, ltb}
+use mathlib.Core.List.{[], ◌∷◌, ◌++◌, append-nil, append_assoc}
+use lib.Dec.{ltb}
 use borrow.Author.Tests.{ltb-true, ne_eqb}
-use Rattle.spec.specs.Outcome.{Outcome, ok, refused, ◌>>=◌, if◌then◌else◌}
-use Rattle.spec.specs.Bytes.{Text, ascii}
+use Rattle.spec.specs.Outcome.{ok}
+use Rattle.spec.specs.Bytes.{Text}
 use Rattle.spec.specs.Value as Value
 use Rattle.spec.specs.Value.{value_of, depth}
 use Rattle.spec.specs.Pointer.{Tokens, child_at, child, farther, walk}
-use Rattle.spec.specs.Operation.{put, at_parent, insert_child}
+use Rattle.spec.specs.Operation.{at_parent, insert_child}
 use Rattle.spec.proofs.OutcomeLaws.{both_ok}
 use Rattle.spec.proofs.FartherLaws.{farther_ok}
 use Rattle.spec.proofs.PlaceLaws.{walk_on, plant_walk, depth_plant}
 use Rattle.claims.specs.Pointers.{escape_character, escape_token, pointer_of}
-use Rattle.claims.proofs.PointersTheorem.{pointers}
 use Rattle.reversal.specs.Undo.{result_or, value_at, digits_before, index_token, parent_tokens, last_token}
 use Rattle.reversal.proofs.IndexToken.{by_test}
 

@@ -5,12 +5,12 @@ use mathlib.Core.Path.{◌≡◌, refl, sym, ap, subst, ◌∙◌}
 use mathlib.Core.Bool.{Bool}
 use mathlib.Core.List.{List, [], ◌∷◌, ◌++◌, append_assoc}
 use lib.ListN.{length}
-use Rattle.spec.specs.Outcome.{Outcome, ok}
+use Rattle.spec.specs.Outcome.{ok}
 use Rattle.spec.specs.Bytes.{Bytes}
 use Rattle.spec.specs.Forest.{Forest, none, tree, size}
 use Rattle.spec.specs.Value as Value
 use Rattle.spec.specs.Operation.{Operation, limited}
-use Rattle.spec.specs.Patch.{Run, finished, stopped, which_pointer, operations, run}
+use Rattle.spec.specs.Patch.{Run, finished, which_pointer, operations, run}
 use Rattle.spec.specs.Proper.{ProperItems}
 use Rattle.tape.specs.Layout.{patch_row, scratch_row, values}
 use Rattle.tape.specs.Fields.{Row}
@@ -18,7 +18,6 @@ use Rattle.tape.specs.declared.fields.Cell.{Cell}
 use Rattle.tape.specs.Lent.{Texts, Table}
 use Rattle.tape.specs.Rows.{end_of}
 use Rattle.tape.specs.Map.{map_forest}
-use Rattle.tape.proofs.Forests.{size_none}
 use Rattle.table.specs.Meaning.{members, meant}
 use Rattle.table.specs.Sound.{RowsHeld}
 use Rattle.walk.specs.Names.{Short}
@@ -26,10 +25,9 @@ use Rattle.shape.proofs.RunLaws.{rows_children}
 use Rattle.changes.specs.Site.{table}
 use Rattle.changes.specs.Document.{Document}
 use Rattle.operations.specs.Answers.{Performs, performs}
-use Rattle.operations.specs.Run.{RanTo, ran, halted}
+use Rattle.operations.specs.Run.{RanTo, halted}
 use Rattle.operations.specs.declared.answers.Performed.TheVariants as Performed
 use Rattle.operations.specs.declared.runs.Ran.{Ran}
-use Rattle.operations.specs.declared.runs.Ran.TheVariants as Ran
 use Rattle.operations.proofs.RunLaws.{Going, First, going_none, going_inside, going_first, going_refused, going_done, shape-operations}
 use Rattle.operations.proofs.RunLaws.{GoingAny, going_all, run_ends, run_inside, run_halts, run_next, run-patch}
 use Rattle.reversal.specs.Undo.{result_or, undo_of, undo_run}

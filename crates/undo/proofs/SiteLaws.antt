@@ -1,32 +1,28 @@
 -- Laws of the parent of a location where a value is put in, and of its last token.
-use Prim.Native.Nat.{ℕ, suc, ◌+◌, ◌-◌, ◌%◌, ◌≤◌, ◌<◌, min}
+use Prim.Native.Nat.{ℕ, ◌%◌, ◌≤◌, ◌<◌}
 use native.Mathlib.Omega.{arith}
-use mathlib.Core.Path.{◌≡◌, refl, ap, sym, subst, ◌∙◌}
+use mathlib.Core.Path.{◌≡◌, ap, sym, subst, ◌∙◌}
 use mathlib.Core.Bool.{Bool, true, false, true≢false}
-use mathlib.Core.List.{List, [], ◌∷◌, ◌++◌, append_assoc}
+use mathlib.Core.List.{[], ◌∷◌, ◌++◌, append_assoc}
 use lib.ListN.{length, take, drop, get_or, length-drop, length-take}
-use lib.Seq.{take-take, length-take-le}
-use lib.Dec.{eqb, ltb}
-use borrow.Author.Tests.{eq-eqb, ne_eqb}
-use Rattle.spec.specs.Outcome.{Outcome, ok, refused, if◌then◌else◌}
-use Rattle.spec.specs.Limits.{max_depth}
+use lib.Seq.{take-take}
+use lib.Dec.{eqb}
+use Rattle.spec.specs.Outcome.{Outcome, ok, refused}
 use Rattle.spec.specs.Bytes.{Bytes, Text}
-use Rattle.spec.specs.Forest.{Forest, count, nth}
+use Rattle.spec.specs.Forest.{count, nth}
 use Rattle.spec.specs.Value as Value
 use Rattle.spec.specs.Value.{depth, is_array, is_object, has, find, value_of}
 use Rattle.spec.specs.Pointer.{Tokens, tokens, walk, child_at, child, member_named, is_dash, farther}
-use Rattle.spec.specs.Operation.{Operation, add_at, insert_child}
+use Rattle.spec.specs.Operation.{add_at}
 use Rattle.spec.proofs.OutcomeLaws.{refused≢ok}
 use Rattle.spec.proofs.PlaceLaws.{walk_on}
-use Rattle.claims.specs.Pointers.{escape_token, pointer_of}
-use Rattle.claims.specs.Operations.{adding, removing, replacing}
+use Rattle.claims.specs.Pointers.{pointer_of}
 use Rattle.claims.proofs.PointersTheorem.{pointers}
 use Rattle.text.specs.Decode.{decode, text_of}
 use Rattle.tape.specs.Layout.{document_row, array_kind, object_kind, values}
 use Rattle.tape.specs.Fields.{kind_of}
 use Rattle.tape.specs.declared.fields.Spelling.{Spelling}
 use Rattle.tape.specs.declared.fields.Name.{Name}
-use Rattle.tape.specs.declared.fields.Cell.{Cell}
 use Rattle.tape.specs.Rows.{ArityIs, child_row}
 use Rattle.tape.specs.Lent.{Texts, Table}
 use Rattle.tape.proofs.Cells.{blank, formed_fit}
@@ -34,32 +30,28 @@ use Rattle.tape.proofs.Map.{count_map}
 use Rattle.tape.proofs.Rows.{kind_here}
 use Rattle.tape.proofs.Held.{held_node}
 use Rattle.table.specs.Meaning.{source_text, part_of, spelled, name_text, meant, entry_of}
-use Rattle.table.specs.Sound.{NodeHeld}
 use Rattle.table.proofs.MeaningLaws.{is_array_label, is_object_label}
 use Rattle.walk.specs.Names.{Short, NamesToken, TokenNameIs}
 use Rattle.walk.specs.Step.{Stepped, stepped, missed, StepIs}
 use Rattle.walk.specs.Path.{PathIs, WalkIs}
 use Rattle.walk.specs.declared.steps.Child.{Child}
-use Rattle.walk.specs.declared.steps.Child.TheVariants as Child
 use Rattle.walk.specs.declared.path.Reached.{Reached}
-use Rattle.walk.specs.declared.path.Reached.TheVariants as Reached
 use Rattle.walk.proofs.Children.{child-meant, child_held}
-use Rattle.pointer.specs.Tokens.{TokenAt, token_bytes, tokens_from}
+use Rattle.pointer.specs.Tokens.{TokenAt, token_bytes}
 use Rattle.pointer.specs.declared.answers.Token.{Token}
 use Rattle.pointer.proofs.WalkLaws.{first-token}
 use Rattle.changes.specs.Document.{Document}
-use Rattle.reversal.specs.Undo.{value_at, index_token, element_token, parent_tokens, last_token, mended_in, mended}
+use Rattle.reversal.specs.Undo.{value_at, index_token, element_token, parent_tokens, last_token, mended_in}
 use Rattle.reversal.proofs.IndexToken.{by_test}
 use Rattle.reversal.proofs.LikeChildren.{object-child, named_there, named_nowhere}
 use Rattle.reversal.proofs.Mended.{value-here, mended_element, mended_old, mended_new, inserted_by}
-use Rattle.undo_log.specs.Log.{Noted, target_text, ValueHeld, Undoes, undo_add, undo_remove, undo_replace, NoteIs}
-use Rattle.undo.specs.Mend.{Cuts, CutIs, shortened, Present, Addable, Site, MendBelowIs, MendChildIs, MendElementIs, MendMemberIs}
-use Rattle.undo_log.specs.declared.log.Log.{Log}
+use Rattle.undo_log.specs.Log.{target_text, ValueHeld, Undoes, undo_remove, undo_replace}
+use Rattle.undo.specs.Mend.{Cuts, CutIs, shortened, Present, Addable, Site}
 use Rattle.undo.specs.declared.cuts.Cut.{Cut}
 use Rattle.undo_log.specs.declared.note.Action.TheVariants as Action
 use Rattle.undo_log.specs.declared.note.Target.TheVariants as Target
-use Rattle.undo.proofs.PathLaws.{parent_last, pointer_then, index_escape, Parent, parent_there, value-walked, depth_walked}
-use Rattle.undo.proofs.MendLaws.{target_at, walked-value, not_lost}
+use Rattle.undo.proofs.PathLaws.{parent_last, pointer_then, index_escape, parent_there, value-walked, depth_walked}
+use Rattle.undo.proofs.MendLaws.{target_at, walked-value}
 
 -- ---- the first bytes of a pointer
 source_short : (T : Texts) (source : ℕ) → Short T → length (source_text T source) < values

@@ -1,23 +1,23 @@
 -- A pointer cut at its last slash: before it the pointer of all tokens but the last, behind it the last one.
-use Prim.Native.Nat.{ℕ, zero, suc, ◌+◌, ◌-◌, ◌≤◌, ◌<◌}
+use Prim.Native.Nat.{ℕ, ◌-◌, ◌<◌}
 use native.Mathlib.Omega.{arith}
 use native.Mathlib.Nat.{sub-zero}
-use mathlib.Core.Path.{◌≡◌, refl, ap, sym, subst, ◌∙◌}
+use mathlib.Core.Path.{◌≡◌, refl, ap, sym, ◌∙◌}
 use mathlib.Core.Bool.{Bool, true, false, not, ◌&&◌, true≢false}
-use mathlib.Core.List.{List, [], ◌∷◌, ◌++◌, append-nil, append_assoc}
-use lib.ListN.{length, take, drop}
+use mathlib.Core.List.{[], ◌∷◌, ◌++◌, append-nil, append_assoc}
+use lib.ListN.{length, take}
 use lib.Dec.{eqb}
-use borrow.Author.Tests.{eq-eqb, ne_eqb}
+use borrow.Author.Tests.{ne_eqb}
 use Rattle.spec.specs.Outcome.{ok, refused}
-use Rattle.spec.specs.Bytes.{Bytes, Text, ascii}
+use Rattle.spec.specs.Bytes.{Bytes, Text}
 use Rattle.spec.specs.Pointer.{Tokens, tokens, segments, unescape_all}
 use Rattle.spec.proofs.TextLaws.{both_true}
-use Rattle.claims.specs.Pointers.{escape_character, escape_token, pointer_of}
+use Rattle.claims.specs.Pointers.{escape_token, pointer_of}
 use Rattle.claims.proofs.PointersTheorem.{Escaped, tilde-escaped, slash_escaped, plain, escaped, pointers}
 use Rattle.lexer.specs.Names.{part}
 use Rattle.text.specs.Decode.{character_in, decode_from, decode}
 use Rattle.text.proofs.SegmentLaws.{no_slash}
-use Rattle.text.proofs.DecodeLaws.{in_past, decode_more, decode_ends, Reads, nothing, one_more, reads_past, reads_decode, reads_part}
+use Rattle.text.proofs.DecodeLaws.{in_past, decode_more, decode_ends, Reads, nothing, one_more, reads_decode, reads_part}
 use Rattle.pointer.specs.Tokens.{tokens_from}
 use Rattle.reversal.specs.Undo.{parent_tokens, last_token}
 use Rattle.undo.specs.Mend.{Cuts, CutIs}

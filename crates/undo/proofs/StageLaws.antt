@@ -4,19 +4,17 @@ use native.Mathlib.Omega.{arith}
 use mathlib.Core.Path.{◌≡◌, refl, sym, subst, ap, ap₂, ◌∙◌}
 use mathlib.Core.Bool.{Bool, true, false}
 use mathlib.Core.List.{List, [], ◌++◌, append-nil}
-use lib.Dec.{leb, eqb}
+use lib.Dec.{leb}
 use lib.ListN.{length, drop}
-use borrow.Author.Tests.{leb-true, leb-false, le-leb, ne_eqb}
-use Rattle.spec.specs.Outcome.{Outcome, ok, refused}
+use borrow.Author.Tests.{leb-true, ne_eqb}
 use Rattle.spec.specs.Refusal.{output_too_short}
 use Rattle.spec.specs.Limits.{max_bytes, max_depth, work_nodes, work_entries}
 use Rattle.spec.specs.Bytes.{Bytes}
 use Rattle.spec.specs.Value as Value
 use Rattle.spec.specs.Write.{write}
 use Rattle.spec.specs.Read.{read}
-use Rattle.spec.specs.Operation as Operation
 use Rattle.spec.specs.Operation.{Operation, limited}
-use Rattle.spec.specs.Patch.{Run, finished, stopped, on_finish, shape, run}
+use Rattle.spec.specs.Patch.{Run, finished, on_finish, shape, run}
 use Rattle.spec.specs.Answer as Plain
 use Rattle.spec.specs.Answer.{fitting, answer_of, patched, on_patch, on_document, answer}
 use Rattle.spec.proofs.ReadLaws.{read-depth}
@@ -29,32 +27,29 @@ use Rattle.tape.specs.Lent.{Texts, Table}
 use Rattle.walk.specs.Names.{Short}
 use Rattle.shape.specs.Patch.{ShapeIs, right, wrong, PatchIs}
 use Rattle.shape.specs.declared.patch.Shape.{Shape}
-use Rattle.shape.specs.declared.patch.Shape.TheVariants as Shape
 use Rattle.reader.specs.Work.{Work}
 use Rattle.reader.specs.Texts as Texts
 use Rattle.reader.specs.Texts.{reading, DocumentIs}
 use Rattle.reader.specs.declared.values.Read.{Read}
-use Rattle.reader.specs.declared.values.Read.TheVariants as Read
 use Rattle.writer.specs.Writing.{FitsIs, WriteIs}
 use Rattle.writer.proofs.CallerLaws.{fits_is, written_whole}
 use Rattle.changes.specs.Site.{table}
 use Rattle.changes.specs.Document.{Document}
 use Rattle.operations.specs.Run.{RanTo, ran, halted}
 use Rattle.operations.specs.declared.runs.Ran.{Ran}
-use Rattle.operations.specs.declared.runs.Ran.TheVariants as Ran
 use Rattle.json_patch.specs.Stages.{UnreadIs, MisshapenIs, StoppedIs, PatchHeld}
 use Rattle.json_patch.specs.Call.{Answered, SuccessIs, RefusalIs}
 use Rattle.json_patch.specs.declared.answer.Answer.{Answer}
-use Rattle.json_patch.proofs.AnswerLaws.{answered-refusal, answered-failure, answered-success, answered_as, fitting_short, fitting_whole}
+use Rattle.json_patch.proofs.AnswerLaws.{answered-refusal, answered-failure, answered-success, answered_as, fitting_whole}
 use Rattle.json_patch.proofs.StageLaws.{text_refused}
 use Rattle.json_patch.proofs.TextLaws.{read_into, text-value, text_refusal, patch_held, document_held, document-kept}
 use Rattle.reversal.specs.UndoValue.{undo_value}
 use Rattle.reversal.specs.UndoText.{undo_text}
 use Rattle.reversal.specs.Undo.{undo_run}
-use Rattle.reversal.specs.UndoAnswer.{undo_success, undo_refusal, undo_fitting, undo_written, undo_shaped, undo_read, after_patch}
+use Rattle.reversal.specs.UndoAnswer.{undo_refusal, undo_fitting, undo_written, undo_shaped, undo_read, after_patch}
 use Rattle.reversal.proofs.UndoTextLaws.{undo_text_lem}
 use Rattle.reversal.proofs.Numbered.{NumberedRun, read-numbered, shape-numbered, run-numbered}
-use Rattle.undo_log.specs.Log.{Noted, undo_number, VerdictIs, LengthIs, CopyOutIs, BeginIs}
+use Rattle.undo_log.specs.Log.{Noted, VerdictIs, LengthIs, CopyOutIs, BeginIs}
 use Rattle.undo_log.specs.declared.log.Log.{Log}
 use Rattle.undo.specs.Run.{LoggedTo, LoggedIs}
 use Rattle.undo.specs.Call.{Outputs, UndoAnswered}

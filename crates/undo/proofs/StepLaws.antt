@@ -1,43 +1,37 @@
 -- Laws of one operation with its undo noted, each for one way out of a function.
 use Prim.Native.Nat.{ℕ}
-use native.Mathlib.Omega.{arith}
-use mathlib.Core.Path.{◌≡◌, refl, ap, sym, subst, ◌∙◌}
-use mathlib.Core.Bool.{Bool, true, false, true≢false, false≢true}
-use mathlib.Core.List.{List, [], ◌∷◌, ◌++◌}
-use Rattle.spec.specs.Outcome.{Outcome, ok, refused, ◌>>=◌}
-use Rattle.spec.specs.Refusal.{wrong_shape}
+use mathlib.Core.Path.{◌≡◌, refl, ap, sym, ◌∙◌}
+use mathlib.Core.Bool.{true, false, false≢true}
+use mathlib.Core.List.{List, [], ◌∷◌}
+use Rattle.spec.specs.Outcome.{Outcome, ok, refused}
 use Rattle.spec.specs.Bytes.{Bytes, Text, ascii}
 use Rattle.spec.specs.Value as Value
 use Rattle.spec.specs.Value.{value_of}
 use Rattle.spec.specs.Pointer.{Tokens, child_at, child, farther, walk}
 use Rattle.spec.specs.Operation as Operation
-use Rattle.spec.specs.Operation.{Operation, at_parent, insert_child, remove_child, replace_child, add_at, remove_at_path, replace_at_path, copy_to, perform, limited}
+use Rattle.spec.specs.Operation.{Operation, at_parent, insert_child, remove_child, replace_child, add_at, remove_at_path}
+use Rattle.spec.specs.Operation.{replace_at_path, copy_to, perform, limited}
 use Rattle.spec.specs.Patch.{is_move}
 use Rattle.spec.proofs.OutcomeLaws.{refused≢ok, both_ok}
 use Rattle.spec.proofs.FartherLaws.{farther_ok}
 use Rattle.spec.proofs.PlaceLaws.{walk_on}
 use Rattle.tape.specs.Fields.{Row}
 use Rattle.tape.specs.declared.fields.Spelling.{Spelling}
-use Rattle.tape.specs.Lent.{Texts, Table}
-use Rattle.walk.specs.Names.{Short}
+use Rattle.tape.specs.Lent.{Table}
 use Rattle.walk.specs.Path.{PathIs}
-use Rattle.shape.specs.Kinds.{kind_outcome, answered, asks, uses_of}
+use Rattle.shape.specs.Kinds.{kind_outcome, answered, uses_of}
 use Rattle.shape.specs.Members.{StringIs}
 use Rattle.shape.specs.Operation.{KindIs, Knows}
 use Rattle.shape.specs.declared.kinds.Kind.{Kind}
-use Rattle.shape.specs.declared.kinds.Kind.TheVariants as Kind
 use Rattle.shape.specs.declared.kinds.Uses.{Uses}
 use Rattle.shape.specs.declared.members.Spelled.{Spelled}
-use Rattle.shape.specs.declared.members.Spelled.TheVariants as Spelled
-use Rattle.changes.specs.Document.{Document}
 use Rattle.operations.specs.Perform.{Listed}
 use Rattle.operations.proofs.ToldLaws.{told}
 use Rattle.operations.proofs.PerformLaws.{spelled_not, spelled_path, of_kind}
-use Rattle.reversal.specs.Undo.{mended, undo_of}
-use Rattle.undo_log.specs.Log.{Noted}
+use Rattle.reversal.specs.Undo.{undo_of}
 use Rattle.undo_log.specs.declared.log.Log.{Log}
 use Rattle.undo.specs.Mend.{Present, Addable, NoteRemovedIs, NoteReplacedIs, MendIs}
-use Rattle.undo.specs.Step.{StepsTo, PlainIs, NoteBeforeIs, MoveStepIs, StepIs}
+use Rattle.undo.specs.Step.{PlainIs, NoteBeforeIs, MoveStepIs, StepIs}
 use Rattle.undo.specs.declared.moving.Stepped.{Stepped}
 use Rattle.undo.proofs.MoveLaws.{judged_result, plain_steps}
 

@@ -3,7 +3,7 @@ use Rattle.std.specs.Prelude.{ℕ, ◌≡◌, Bool, ◌&&◌, List, [], ◌∷�
 use Rattle.spec.specs.Limits.{max_bytes, work_nodes, work_entries}
 use Rattle.spec.specs.Bytes.{Bytes}
 use Rattle.spec.specs.Answer.{work_suffices}
-use Rattle.tape.specs.Fields.{Row, no_node}
+use Rattle.tape.specs.Fields.{no_node}
 use Rattle.tape.specs.Lent.{Texts}
 use Rattle.json_patch.specs.Call.{Memory, lent_of, Answered, wiped}
 use Rattle.reversal.specs.UndoAnswer as Spec

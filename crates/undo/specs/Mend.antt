@@ -1,26 +1,25 @@
 -- What takes back a value that is put in at a location, by the document before.
-use Rattle.std.specs.Prelude.{ℕ, ◌≤◌, ◌%◌, ◌≡◌, Bool, true, false, List, [], ◌∷◌, ◌++◌, length, take}
+use Rattle.std.specs.Prelude.{ℕ, ◌≤◌, ◌%◌, ◌≡◌, true, false, List, [], ◌∷◌, ◌++◌, length, take}
 use Prim.Native.Char.{code}
 use Rattle.spec.specs.Outcome.{ok}
 use Rattle.spec.specs.Bytes.{Bytes, Text}
 use Rattle.spec.specs.Value as Value
 use Rattle.spec.specs.Value.{is_array}
 use Rattle.spec.specs.Pointer.{Tokens, tokens, walk}
-use Rattle.spec.specs.Operation.{Operation, add_at, insert_child, remove_at_path}
-use Rattle.spec.specs.Patch.{proper_prefix}
+use Rattle.spec.specs.Operation.{Operation, add_at, insert_child}
 use Rattle.claims.specs.Pointers.{pointer_of}
 use Rattle.claims.specs.Operations.{adding, replacing}
 use Rattle.text.specs.Decode.{decode}
 use Rattle.tape.specs.Layout.{values}
 use Rattle.tape.specs.declared.fields.Spelling.{Spelling}
 use Rattle.tape.specs.declared.fields.Name.{Name}
-use Rattle.tape.specs.Lent.{Texts, Table}
-use Rattle.table.specs.Meaning.{part_of, name_text}
+use Rattle.tape.specs.Lent.{Table}
+use Rattle.table.specs.Meaning.{part_of}
 use Rattle.pointer.specs.Tokens.{tokens_from}
 use Rattle.walk.specs.Names.{Short, NamesToken}
 use Rattle.walk.specs.Path.{PathIs}
 use Rattle.changes.specs.Document.{Document}
-use Rattle.reversal.specs.Undo.{value_at, parent_tokens, last_token, mended_in, mended, is_replace}
+use Rattle.reversal.specs.Undo.{value_at, parent_tokens, last_token, mended_in, mended}
 use Rattle.undo_log.specs.Log.{Noted, ValueHeld}
 use Rattle.undo_log.specs.declared.log.Log.{Log}
 use Rattle.undo.specs.declared.cuts.Cut.{Cut}

@@ -1,5 +1,5 @@
 -- One operation of the patch, with its undo noted.
-use Rattle.std.specs.Prelude.{ℕ, suc, ◌+◌, ◌≤◌, ◌<◌, ◌≡◌, Bool, true, false, ◌&&◌, List, [], ◌∷◌, ◌++◌}
+use Rattle.std.specs.Prelude.{ℕ, ◌+◌, ◌<◌, ◌≡◌, Bool, false, ◌&&◌, List, ◌∷◌, ◌++◌}
 use Rattle.spec.specs.Outcome.{Outcome, ok}
 use Rattle.spec.specs.Bytes.{Bytes, Text}
 use Rattle.spec.specs.Forest.{Forest, size}
@@ -9,7 +9,6 @@ use Rattle.spec.specs.Pointer.{Tokens, walk}
 use Rattle.spec.specs.Operation as Operation
 use Rattle.spec.specs.Operation.{Operation, move_to, remove_at_path, limited}
 use Rattle.spec.specs.Patch.{proper_prefix, is_move, which_pointer}
-use Rattle.tape.specs.Layout.{scratch_row}
 use Rattle.tape.specs.Fields.{Row}
 use Rattle.tape.specs.declared.fields.Spelling.{Spelling}
 use Rattle.tape.specs.declared.fields.Cell.{Cell}

@@ -24,7 +24,8 @@ pub fn apply_with_undo<'a>(
     index: &mut [u16],
     work: &mut [u8],
 ) -> UndoAnswer
-    ensures { UndoIs (given document.now patch.now) (with_before (memory_before output.old nodes.old index.old) undo.old work.old)
+    ensures { UndoIs (given document.now patch.now)
+        (with_before (memory_before output.old nodes.old index.old) undo.old work.old)
         (with_after (memory_after output.new nodes.new index.new) undo.new work.new) result }
 {
     if nodes.len() < layout::ROWS {

@@ -19,7 +19,9 @@ mod runs; // the operations one after another
 mod answer; // what the call answers
 mod stages; // the stages of the call
 mod call; // the call
+mod exports; // the call for C
 
 pub use answer::{UndoAnswer, without};
 pub use call::apply_with_undo;
+pub use exports::json_patch_apply_with_undo;
 pub use runs::{Logged, run};

@@ -23,7 +23,6 @@ use Rattle.tape.specs.Lent.{Texts, Table}
 use Rattle.walk.specs.Names.{Short}
 use Rattle.shape.specs.Patch.{ShapeIs, right, wrong, PatchIs}
 use Rattle.shape.specs.declared.patch.Shape.{Shape}
-use Rattle.shape.specs.declared.patch.Shape.TheVariants as Shape
 use Rattle.reversal.specs.Undo.{undo_run}
 use Rattle.reversal.specs.UndoValue.{undo_value}
 use Rattle.reversal.specs.UndoAnswer as PlainUndo
@@ -37,7 +36,6 @@ use Rattle.changes.specs.Site.{table}
 use Rattle.changes.specs.Document.{Document, Bearing}
 use Rattle.operations.specs.Run.{RanTo, RanBearing, ran, halted}
 use Rattle.operations.specs.declared.runs.Ran.{Ran}
-use Rattle.operations.specs.declared.runs.Ran.TheVariants as Ran
 use Rattle.json_patch.specs.Stages.{MisshapenIs, StoppedIs, PatchHeld}
 use Rattle.json_patch.specs.Call.{RefusalIs}
 use Rattle.json_patch.specs.declared.answer.Answer.{Answer}

@@ -25,7 +25,8 @@ pub fn apply_with_undo_listing<'a>(
     index: &mut [u16],
     work: &mut [u8],
 ) -> UndoAnswer
-    ensures { UndoListingIs (given document.now patch.now) (memory_before output.old undo.old origins.old nodes.old index.old work.old)
+    ensures { UndoListingIs (given document.now patch.now)
+        (memory_before output.old undo.old origins.old nodes.old index.old work.old)
         (memory_after output.new undo.new origins.new nodes.new index.new work.new) result }
 {
     if nodes.len() < layout::ROWS {

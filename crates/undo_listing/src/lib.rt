@@ -7,6 +7,8 @@
 #![tactic(auto)]
 
 mod call; // the call
+mod exports; // the call for C
 mod stages; // its stages: two texts read, the patch run, the result, the list and the undo written
 
 pub use call::apply_with_undo_listing;
+pub use exports::json_patch_apply_with_undo_origins;

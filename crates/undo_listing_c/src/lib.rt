@@ -5,7 +5,6 @@ ghost use Rattle.json_patch.specs.Call.{given};
 ghost use Rattle.undo_listing.specs.Call.{memory_before, memory_after, ExportIs};
 
 use tape::layout::Node;
-use undo_listing::apply_with_undo_listing;
 
 // As `apply_with_undo_listing`. The answer's fields are laid down in `answer`, in the order of the header's struct; the
 // number is returned too.
@@ -25,16 +24,7 @@ pub extern "C" fn json_patch_apply_with_undo_origins<'a>(
         (memory_before output.old undo.old origins.old nodes.old index.old work.old)
         (memory_after output.new undo.new origins.new nodes.new index.new work.new) answer.new result }
 {
-    let r = apply_with_undo_listing(document, patch, output, undo, origins, nodes, index, work);
-    let plain = r.answer;
-    *answer = [
-        plain.number as u64,
-        plain.text as u64,
-        plain.op as u64,
-        plain.place as u64,
-        plain.pointer as u64,
-        plain.length as u64,
-        r.undo as u64,
-    ];
-    plain.number as u32
+    undo_listing::json_patch_apply_with_undo_origins(
+        document, patch, output, undo, origins, nodes, index, work, answer,
+    )
 }

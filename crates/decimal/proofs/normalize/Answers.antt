@@ -24,9 +24,16 @@ signed-requires c = c.if-size-gt-MAX_EXPONENT.false
 
 pub normal_form-requires : goal.normal_form-requires
 normal_form-requires c =
-    let is = exponent_is _ _ _ c.after_letter-letter.ensures c.exponent_size-size.ensures c.if-size-gt-MAX_EXPONENT.false _ _ c.minus_at.ensures c.signed.ensures in
-    let read = back c.signed.result c.signed.type_inv ∙ is in
-    (c.if-t-gt-MAX_NUMBER.false, (read, rw read (exponent_small _ _ _ c.after_letter-letter.ensures c.exponent_size-size.ensures c.if-size-gt-MAX_EXPONENT.false)))
+    let is = exponent_is _ _ _ c.after_letter-letter.ensures c.exponent_size-size.ensures c.if-size-gt-MAX_EXPONENT.false _ _ c.minus_at.ensures
+    c.signed.ensures in
+    let read = back c.signed.result c.signed.type_inv ∙ is in (
+      c.if-t-gt-MAX_NUMBER.false,
+      (
+        read,
+        rw read
+            (exponent_small _ _ _ c.after_letter-letter.ensures c.exponent_size-size.ensures c.if-size-gt-MAX_EXPONENT.false),
+      ),
+    )
 
 pub returns : goal.returns
 returns c =

@@ -18,7 +18,8 @@ same_power-requires c = tt
 
 pub returns-then-not-same_power : goal.returns-then-not-same_power
 returns-then-not-same_power c =
-    power_differs _ _ _ _ c.requires.0 c.requires.1 (told (c.same_power.ensures ∙ rw (back c.args.x.power (omega arith), back c.args.y.power (omega arith))) c.if-not-same_power.true)
+    power_differs _ _ _ _ c.requires.0 c.requires.1
+    (told (c.same_power.ensures ∙ rw (back c.args.x.power (omega arith), back c.args.y.power (omega arith))) c.if-not-same_power.true)
 
 pub returns-then-x-y : goal.returns-then-x-y
 returns-then-x-y c =

@@ -8,7 +8,6 @@ use Rattle.equality.proofs.EqualLaws.{equal_outside, equal_outside_other, equal_
 use Rattle.equality.proofs.EqualLaws.{Comparing, comparing_all, comparing_next, equal_end, equal_more, equal_alone, equal_differs}
 use Rattle.equality.proofs.+equal.Given as goal
 
--- TODO measure: a.1.1.1.1.1.1.0
 abbrev pub decreases-equal : goal.decreases-equal
 decreases-equal l = l.levels
 

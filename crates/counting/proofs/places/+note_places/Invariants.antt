@@ -2,7 +2,6 @@ use Rattle.std.proofs.Common.{ℕ, ◌-◌, ◌<◌, arith, rules}
 use Rattle.counting.proofs.NoteLaws.{noted_flat, noted-first, noted_high, noted_outside, Noting, noting_all, noting_end, noting_next}
 use Rattle.counting.proofs.places.+note_places.Given as goal
 
--- TODO measure: a.1.1.0
 abbrev pub decreases-note_places : goal.decreases-note_places
 decreases-note_places l = l.levels
 

@@ -5,7 +5,6 @@ use Rattle.equality.specs.Compare.{Hints}
 use Rattle.counting.proofs.CountLaws.{counted_unlike, counted_flat, Counting, counting_all, counted_end, counted_alone, counted_differs, counting_next}
 use Rattle.counting.proofs.values.+counted.Given as goal
 
--- TODO measure: a.1.1.1.1.1.1.0
 abbrev pub decreases-counted : goal.decreases-counted
 decreases-counted l = l.levels
 

@@ -14,7 +14,12 @@ is_e-requires c = tt
 pub returns-then-is_e : goal.returns-then-is_e
 returns-then-is_e c =
     let e = told c.is_e.ensures c.if-is_e.true in
-    omega (arith, ap length (mantissa_ends c.args.t.now c.loop-i.i c.loop-i-test.true e), fraction_ends c.args.t.now c.loop-i.i c.loop-i-test.true c.if-b-eq46.false e)
+    omega (
+      arith,
+      ap length (mantissa_ends c.args.t.now c.loop-i.i c.loop-i-test.true e),
+      fraction_ends c.args.t.now c.loop-i.i c.loop-i-test.true
+          c.if-b-eq46.false e,
+    )
 
 pub loop-i-preserved : goal.loop-i-preserved
 loop-i-preserved c =

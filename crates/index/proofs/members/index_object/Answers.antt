@@ -13,7 +13,8 @@ loop-row-init c = (refl, indexing_none)
 pub loop-row-preserved : goal.loop-row-preserved
 loop-row-preserved c = (
   omega arith,
-  indexing_next c.loop-row.invariant.1 (omega (arith, c.requires)) (omega arith) (omega arith) (omega arith) (omega (arith, c.behind.ensures)) c.enter.ensures c.parent.ensures _ c.set_slot.ensures _
+  indexing_next c.loop-row.invariant.1 (omega (arith, c.requires)) (omega arith) (omega arith) (omega arith) (omega (arith, c.behind.ensures))
+      c.enter.ensures c.parent.ensures _ c.set_slot.ensures _
       c.behind-row.ensures.0,
 )
 

@@ -9,7 +9,8 @@ pub returns-then-texts-gt-MAX_BYTES : goal.returns-then-texts-gt-MAX_BYTES
 returns-then-texts-gt-MAX_BYTES c h i = answered_as (answer-document_long _ _ _ (work_suffices_lem _ h i) (omega arith)) (answered-refusal c.refused.ensures)
 
 pub returns-then-texts-gt-MAX_BYTES-2 : goal.returns-then-texts-gt-MAX_BYTES-2
-returns-then-texts-gt-MAX_BYTES-2 c h i = answered_as (answer-patch_long _ _ _ (work_suffices_lem _ h i) (omega arith) (omega arith)) (answered-refusal c.refused-then-texts-gt-MAX_BYTES-2.ensures)
+returns-then-texts-gt-MAX_BYTES-2 c h i = answered_as (answer-patch_long _ _ _ (work_suffices_lem _ h i) (omega arith) (omega arith))
+    (answered-refusal c.refused-then-texts-gt-MAX_BYTES-2.ensures)
 
 pub returns-in_default : goal.returns-in_default
 returns-in_default c h i =

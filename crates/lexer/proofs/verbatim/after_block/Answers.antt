@@ -31,7 +31,8 @@ loop-k-preserved c =
     let place = c.args.at + c.loop-k.k in (
       omega (arith, look_small c.args.columns.now c.args.steps.now c.loop-k.state (byte c.args.s.now place), c.next_state-state.ensures),
       omega arith,
-      λ left e. over_next c.args.columns.now c.args.steps.now left c.loop-k.state c.args.s.now place c.next_state-state.ensures (omega arith) ∙ c.loop-k.invariant.2 (suc left) (omega arith),
+      λ left e. over_next c.args.columns.now c.args.steps.now left c.loop-k.state c.args.s.now place c.next_state-state.ensures (omega arith) ∙
+          c.loop-k.invariant.2 (suc left) (omega arith),
     )
 
 pub returns : goal.returns

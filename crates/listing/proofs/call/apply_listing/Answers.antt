@@ -13,7 +13,8 @@ pub returns-then-nodes-lt-ROWS : goal.returns-then-nodes-lt-ROWS
 returns-then-nodes-lt-ROWS c = let e = nodes_short _ (omega arith) in call_short e (answer_work_short _ _ _ e) c.refused.ensures
 
 pub returns-then-index-lt-SLOTS : goal.returns-then-index-lt-SLOTS
-returns-then-index-lt-SLOTS c = let e = index_short _ (omega arith) (omega arith) in call_short e (answer_work_short _ _ _ e) c.refused-then-index-lt-SLOTS.ensures
+returns-then-index-lt-SLOTS c = let e = index_short _ (omega arith) (omega arith) in call_short e (answer_work_short _ _ _ e)
+    c.refused-then-index-lt-SLOTS.ensures
 
 pub slice_bounds-checked-end-2 : goal.slice_bounds-checked-end-2
 slice_bounds-checked-end-2 c =

@@ -11,11 +11,13 @@ pub returns-then-texts-gt-MAX_BYTES : goal.returns-then-texts-gt-MAX_BYTES
 returns-then-texts-gt-MAX_BYTES c h i = listed_as (answer-document_long _ _ _ (work_suffices_lem _ h i) (omega arith)) (listed-refusal c.refused.ensures)
 
 pub returns-then-texts-gt-MAX_BYTES-2 : goal.returns-then-texts-gt-MAX_BYTES-2
-returns-then-texts-gt-MAX_BYTES-2 c h i = listed_as (answer-patch_long _ _ _ (work_suffices_lem _ h i) (omega arith) (omega arith)) (listed-refusal c.refused-then-texts-gt-MAX_BYTES-2.ensures)
+returns-then-texts-gt-MAX_BYTES-2 c h i = listed_as (answer-patch_long _ _ _ (work_suffices_lem _ h i) (omega arith) (omega arith))
+    (listed-refusal c.refused-then-texts-gt-MAX_BYTES-2.ensures)
 
 pub returns-in_default : goal.returns-in_default
 returns-in_default c h i =
-    listed_as (answer-document_unread _ _ _ (work_suffices_lem _ h i) (omega (arith, c.if-texts-gt-MAX_BYTES.false)) (omega (arith, c.if-texts-gt-MAX_BYTES-2.false))
+    listed_as (answer-document_unread _ _ _ (work_suffices_lem _ h i) (omega (arith, c.if-texts-gt-MAX_BYTES.false))
+    (omega (arith, c.if-texts-gt-MAX_BYTES-2.false))
     (document_refused h i (omega (arith, c.if-texts-gt-MAX_BYTES.false)) (omega (arith, c.if-texts-gt-MAX_BYTES-2.false))
     c.read_document-document.ensures c.in_default.is))
     (listed-refusal (c.unread.ensures _ _ c.in_default.is))
@@ -26,7 +28,8 @@ returns-in_default-patch c h i =
     c.read_document-document.ensures c.in-Value.is
     c.read_document-document.auto.nodes c.read_document-document.auto.index
     c.read_patch-patch.ensures c.in_default-patch.is λ v document-is patch-is.
-    listed_as (answer-patch_unread _ _ _ (work_suffices_lem _ h i) (omega (arith, c.if-texts-gt-MAX_BYTES.false)) (omega (arith, c.if-texts-gt-MAX_BYTES-2.false)) document-is patch-is)
+    listed_as (answer-patch_unread _ _ _ (work_suffices_lem _ h i) (omega (arith, c.if-texts-gt-MAX_BYTES.false))
+    (omega (arith, c.if-texts-gt-MAX_BYTES-2.false)) document-is patch-is)
     (listed-refusal (c.unread-in_default-patch.ensures _ _ c.in_default-patch.is))
 
 pub returns : goal.returns
@@ -36,5 +39,6 @@ returns c h i =
     c.read_document-document.auto.nodes c.read_document-document.auto.index
     c.read_patch-patch.ensures c.in-Value-patch.is
     c.read_patch-patch.auto.nodes λ v p document-is patch-is document patch short.
-    listed_as (answer-applied _ _ _ (work_suffices_lem _ h i) (omega (arith, c.if-texts-gt-MAX_BYTES.false)) (omega (arith, c.if-texts-gt-MAX_BYTES-2.false)) document-is patch-is)
+    listed_as (answer-applied _ _ _ (work_suffices_lem _ h i) (omega (arith, c.if-texts-gt-MAX_BYTES.false)) (omega (arith, c.if-texts-gt-MAX_BYTES-2.false))
+    document-is patch-is)
     (c.run_patch.ensures v p document patch short)

@@ -5,7 +5,6 @@ use borrow.Author.Tests.{not-true, not-false}
 use Rattle.listing.proofs.StageLaws.{text_short, list_short, both-written}
 use Rattle.listing.proofs.stages.write_listed.Goals as goal
 
--- TODO step before.before.fits.ensures
 pub returns-then-not-fits : goal.returns-then-not-fits
 returns-then-not-fits c v b = text_short b _ c.fits.ensures c.if-not-fits.true c.refused.ensures
 

@@ -11,7 +11,8 @@ pub loop-row-init : goal.loop-row-init
 loop-row-init c = (refl, search rules, numbering_all _ _ _)
 
 pub returns-then-nodes-row : goal.returns-then-nodes-row
-returns-then-nodes-row c f after holds formed ends long few = numbering_inside (c.loop-row.invariant.2 f after holds formed ends long few) c.loop-row-test.true c.if-nodes-row.true
+returns-then-nodes-row c f after holds formed ends long few = numbering_inside (c.loop-row.invariant.2 f after holds formed ends long few)
+    c.loop-row-test.true c.if-nodes-row.true
 
 pub overflow_sub-next : goal.overflow_sub-next
 overflow_sub-next c = omega (arith, c.end_of-next.ensures, c.if-nodes-row.false)
@@ -29,7 +30,8 @@ loop-row-preserved c = (
   search rules,
   omega (arith, c.end_of-next.ensures, c.if-nodes-row.false, c.loop-row.invariant.1),
   λ f after holds formed ends long few.
-      numbering_next (c.loop-row.invariant.2 f after holds formed ends long few) c.loop-row-test.true c.loop-row.invariant.1 few _ c.end_of-next.ensures c.narrow.ensures c.stamp.ensures,
+      numbering_next (c.loop-row.invariant.2 f after holds formed ends long few) c.loop-row-test.true c.loop-row.invariant.1 few _ c.end_of-next.ensures
+      c.narrow.ensures c.stamp.ensures,
 )
 
 pub returns : goal.returns

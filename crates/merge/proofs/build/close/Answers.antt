@@ -1,7 +1,6 @@
 -- `close` meets its contract.
 use borrow.Author.Tests.{eq-eqb, ne_eqb}
 use Rattle.merge.specs.Building.{closed}
-use borrow.Author.Rules.{rules}
 use Rattle.merge.proofs.build.close.Goals as goal
 
 pub returns-then-next-to : goal.returns-then-next-to

@@ -1,7 +1,4 @@
 -- `copy` meets its contract.
-use mathlib.Core.Path.{sym, ap, ◌∙◌}
-use native.Mathlib.Omega.{arith}
-use borrow.Author.Rules.{rules}
 use Rattle.merge.proofs.build.copy.Goals as goal
 
 pub returns : goal.returns

@@ -1,6 +1,5 @@
 -- `object_origin` meets its contract.
 use mathlib.Core.Path.{sym, ap, ◌∙◌}
-use borrow.Author.Rules.{rules}
 use Rattle.tape.specs.Fields.{origin_of}
 use Rattle.merge.proofs.BuildLaws.{origin-object, origin_other}
 use Rattle.merge.proofs.build.object_origin.Goals as goal

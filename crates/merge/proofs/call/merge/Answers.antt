@@ -5,7 +5,6 @@ use lib.Seq.{length-take-le}
 use Rattle.spec.specs.Limits.{work_nodes, work_entries}
 use Rattle.json_patch.proofs.AnswerLaws.{nodes_short, index_short}
 use Rattle.merge.proofs.CallLaws.{work_short, work_done}
-use borrow.Author.Rules.{rules}
 use Rattle.merge.proofs.call.merge.Goals as goal
 
 pub returns-then-nodes-lt-ROWS : goal.returns-then-nodes-lt-ROWS

@@ -1,10 +1,7 @@
 -- `note_members` meets its contract: its loop passes the members one by one.
-use Prim.Native.Nat.{◌-◌}
 use native.Mathlib.Omega.{arith}
-use mathlib.Core.Path.{◌≡◌, refl}
-use lib.ListN.{length}
-use Rattle.merge.proofs.MarkLaws.{Noting, noting_none, noting_next, noting_done, noting_over}
-use borrow.Author.Rules.{rules}
+use mathlib.Core.Path.{refl}
+use Rattle.merge.proofs.MarkLaws.{noting_none, noting_next, noting_done, noting_over}
 use Rattle.merge.proofs.marks.note_members.Goals as goal
 
 pub loop-row-init : goal.loop-row-init

@@ -1,9 +1,7 @@
 use Prim.Native.Nat.{◌-◌}
-use native.Mathlib.Omega.{arith}
-use mathlib.Core.Path.{◌≡◌, refl}
+use mathlib.Core.Path.{◌≡◌}
 use lib.ListN.{length}
-use Rattle.merge.proofs.MarkLaws.{Noting, noting_none, noting_next, noting_done, noting_over}
-use borrow.Author.Rules.{rules}
+use Rattle.merge.proofs.MarkLaws.{Noting}
 use Rattle.merge.proofs.marks.note_members.Given as goal
 
 abbrev pub invariant-loop-row : goal.invariant-loop-row

@@ -1,6 +1,5 @@
 -- `put_note` meets its contract.
 use Rattle.index.specs.Slots.{slot_set}
-use borrow.Author.Rules.{rules}
 use Rattle.merge.proofs.marks.put_note.Goals as goal
 
 pub returns : goal.returns

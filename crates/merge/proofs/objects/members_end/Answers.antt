@@ -3,7 +3,6 @@ use borrow.Author.Tests.{eq-eqb, ne_eqb}
 use Rattle.tape.specs.Layout.{object_kind}
 use Rattle.merge.specs.Merged.{members_end}
 use mathlib.Core.Path.{sym, ◌∙◌}
-use borrow.Author.Rules.{rules}
 use Rattle.merge.proofs.objects.members_end.Goals as goal
 
 pub returns-then-kind-eq-OBJECT : goal.returns-then-kind-eq-OBJECT

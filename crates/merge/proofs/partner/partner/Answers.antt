@@ -1,10 +1,8 @@
 -- `partner` meets its contract: by the index, by the search path of the name, and otherwise by a search.
 use native.Mathlib.Omega.{arith}
 use mathlib.Core.Path.{refl}
-use borrow.Author.Tests.{not-true}
 use Rattle.index.proofs.WayLaws.{entered_after}
 use Rattle.merge.proofs.PartnerLaws.{partner_absent, partner_searched, partner_hinted}
-use borrow.Author.Rules.{rules}
 use Rattle.merge.proofs.partner.partner.Goals as goal
 
 pub returns-then-enter_by_hash : goal.returns-then-enter_by_hash

@@ -1,21 +1,9 @@
 -- `enter_members` meets its contract, by the levels, which fall. Its loop passes the members one by one.
-use Prim.Native.Nat.{ℕ, ◌<◌, ◌-◌}
 use native.Mathlib.Omega.{arith}
-use mathlib.Core.Path.{◌≡◌, refl, ap, ◌∙◌}
-use lib.ListN.{length}
-use borrow.Author.Rules.{rules}
+use mathlib.Core.Path.{refl, ap, ◌∙◌}
 use Rattle.tape.specs.Fields.{name_of}
-use Rattle.tape.specs.Lent.{table_of}
-use Rattle.merge.proofs.PathLaws.{Entering, entered_other, entered_flat, entering_none, entering_next, entering_done, entering_over}
+use Rattle.merge.proofs.PathLaws.{entered_other, entered_flat, entering_none, entering_next, entering_done, entering_over}
 use Rattle.merge.proofs.paths.+enter_members.Goals as goal
-
--- the levels fall
-
-abbrev enter-members-at : ℕ → In 3 enter-members-kinds.ps
-enter-members-at t = and 3 enter-members-kinds.ps (is 3 enter-members-kinds.ps μ_enter-members t) enter-members.Pre
-
-abbrev enter-members-below : ℕ → In 3 enter-members-kinds.ps
-enter-members-below t = and 3 enter-members-kinds.ps (falls 3 enter-members-kinds.ps ◌<◌ μ_enter-members t) enter-members.Pre
 
 pub returns-then-kind-ne-OBJECT : goal.returns-then-kind-ne-OBJECT
 returns-then-kind-ne-OBJECT t c = entered_other c.kind.ensures c.if-kind-ne-OBJECT.true

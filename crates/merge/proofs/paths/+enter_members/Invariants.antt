@@ -1,14 +1,11 @@
-use Prim.Native.Nat.{ℕ, ◌<◌, ◌-◌}
-use native.Mathlib.Omega.{arith}
-use mathlib.Core.Path.{◌≡◌, refl, ap, ◌∙◌}
+use Prim.Native.Nat.{◌-◌}
+use mathlib.Core.Path.{◌≡◌}
 use lib.ListN.{length}
-use borrow.Author.Rules.{rules}
-use Rattle.tape.specs.Fields.{name_of}
 use Rattle.tape.specs.Lent.{table_of}
-use Rattle.merge.proofs.PathLaws.{Entering, entered_other, entered_flat, entering_none, entering_next, entering_done, entering_over}
+use Rattle.merge.proofs.PathLaws.{Entering}
 use Rattle.merge.proofs.paths.+enter_members.Given as goal
 
--- TODO measure: a.1.1.1.1.0
+-- the levels fall
 abbrev pub decreases-enter_members : goal.decreases-enter_members
 decreases-enter_members l = l.levels
 

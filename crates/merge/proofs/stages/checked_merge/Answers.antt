@@ -2,14 +2,16 @@
 use native.Mathlib.Omega.{arith}
 use Rattle.json_patch.proofs.AnswerLaws.{answered-refusal, answered_as, work_suffices_lem}
 use Rattle.merge.proofs.StageLaws.{merge_document_long, merge_patch_long, merge_read, document_unread, patch_unread, patch-read}
-use borrow.Author.Rules.{rules}
 use Rattle.merge.proofs.stages.checked_merge.Goals as goal
 
 pub returns-then-texts-gt-MAX_BYTES : goal.returns-then-texts-gt-MAX_BYTES
-returns-then-texts-gt-MAX_BYTES c h i = answered_as (merge_document_long _ _ _ (work_suffices_lem _ h i) (omega arith)) (answered-refusal c.refused.ensures)
+returns-then-texts-gt-MAX_BYTES c h i =
+    answered_as (merge_document_long _ _ _ (work_suffices_lem _ h i) (omega arith)) (answered-refusal c.refused.ensures)
 
 pub returns-then-texts-gt-MAX_BYTES-2 : goal.returns-then-texts-gt-MAX_BYTES-2
-returns-then-texts-gt-MAX_BYTES-2 c h i = answered_as (merge_patch_long _ _ _ (work_suffices_lem _ h i) (omega arith) (omega arith)) (answered-refusal c.refused-then-texts-gt-MAX_BYTES-2.ensures)
+returns-then-texts-gt-MAX_BYTES-2 c h i =
+    answered_as (merge_patch_long _ _ _ (work_suffices_lem _ h i) (omega arith) (omega arith))
+    (answered-refusal c.refused-then-texts-gt-MAX_BYTES-2.ensures)
 
 pub returns-in_default : goal.returns-in_default
 returns-in_default c h i =

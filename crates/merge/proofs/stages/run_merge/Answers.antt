@@ -1,7 +1,5 @@
 -- `run_merge` meets its contract, by the kind of the patch and by the rows that the result takes.
-use native.Mathlib.Omega.{arith}
 use Rattle.merge.proofs.StageLaws.{run_whole, run_many, run-done}
-use borrow.Author.Rules.{rules}
 use Rattle.merge.proofs.stages.run_merge.Goals as goal
 
 pub returns-then-kind-ne-OBJECT : goal.returns-then-kind-ne-OBJECT

@@ -1,11 +1,7 @@
 -- `write_at` meets its contract, by whether the text fits.
-use native.Mathlib.Omega.{arith}
-use borrow.Author.Tests.{not-true, not-false}
 use Rattle.merge.proofs.StageLaws.{text_refused, text_written}
-use borrow.Author.Rules.{rules}
 use Rattle.merge.proofs.stages.write_at.Goals as goal
 
--- TODO step before.before.fits.ensures
 pub returns-then-not-fits : goal.returns-then-not-fits
 returns-then-not-fits c v d low = text_refused d low _ c.fits.ensures c.if-not-fits.true c.refused.ensures
 

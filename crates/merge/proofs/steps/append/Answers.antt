@@ -1,9 +1,7 @@
 -- `append` meets its contract.
 use borrow.Author.Tests.{le-leb, lt-leb}
 use Rattle.merge.specs.Steps.{append_step}
-use native.Mathlib.Omega.{arith}
 use mathlib.Core.Path.{sym, ◌∙◌}
-use borrow.Author.Rules.{rules}
 use Rattle.merge.proofs.steps.append.Goals as goal
 
 pub returns-then-row-ge-SCRATCH : goal.returns-then-row-ge-SCRATCH

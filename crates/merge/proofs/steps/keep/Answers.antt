@@ -1,9 +1,8 @@
 -- `keep` meets its contract, by the member of the patch that has the name.
 use native.Mathlib.Omega.{arith}
-use mathlib.Core.Path.{refl, ap, ◌∙◌}
+use mathlib.Core.Path.{ap, ◌∙◌}
 use Rattle.tape.specs.Fields.{name_of}
 use Rattle.merge.proofs.StepLaws.{keep_missing, keep_outside, keep_found}
-use borrow.Author.Rules.{rules}
 use Rattle.merge.proofs.steps.keep.Goals as goal
 
 pub returns-in_default : goal.returns-in_default

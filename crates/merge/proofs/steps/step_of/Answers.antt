@@ -2,7 +2,6 @@
 use borrow.Author.Tests.{eq-eqb, ne_eqb}
 use Rattle.merge.specs.Steps.{step_for}
 use mathlib.Core.Path.{sym, ◌∙◌}
-use borrow.Author.Rules.{rules}
 use Rattle.merge.proofs.steps.step_of.Goals as goal
 
 pub returns-then-kind-eq-NULL : goal.returns-then-kind-eq-NULL

@@ -1,7 +1,6 @@
 -- `merge_read` meets its contract, by the work area's lengths.
 use native.Mathlib.Omega.{arith}
 use mathlib.Core.Path.{refl}
-use borrow.Author.Rules.{rules}
 use Rattle.merge.proofs.trees.merge_read.Goals as goal
 
 pub returns-then-nodes-ne-ROWS : goal.returns-then-nodes-ne-ROWS

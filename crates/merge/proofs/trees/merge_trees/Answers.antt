@@ -1,7 +1,6 @@
 -- `merge_trees` meets its contract: the members are entered, and then the two are merged.
 use native.Mathlib.Omega.{arith}
 use Rattle.merge.proofs.TreeLaws.{trees_merged}
-use borrow.Author.Rules.{rules}
 use Rattle.merge.proofs.trees.merge_trees.Goals as goal
 
 pub returns : goal.returns

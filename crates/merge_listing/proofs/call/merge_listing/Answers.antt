@@ -1,6 +1,5 @@
 -- `merge_listing` meets its contract, by the work area's lengths, and then by what the checked call answers.
 use native.Mathlib.Omega.{arith}
-use borrow.Author.Rules.{rules}
 use mathlib.Core.Path.{refl, sym}
 use lib.Seq.{length-take-le}
 use Rattle.spec.specs.Limits.{work_nodes, work_entries}
@@ -10,10 +9,12 @@ use Rattle.merge_listing.proofs.StageLaws.{merge_work_short, merge_same}
 use Rattle.merge_listing.proofs.call.merge_listing.Goals as goal
 
 pub returns-then-nodes-lt-ROWS : goal.returns-then-nodes-lt-ROWS
-returns-then-nodes-lt-ROWS c = let e = nodes_short _ (omega arith) in call_short e (merge_work_short _ _ _ e) c.refused.ensures
+returns-then-nodes-lt-ROWS c =
+    let e = nodes_short _ (omega arith) in call_short e (merge_work_short _ _ _ e) c.refused.ensures
 
 pub returns-then-index-lt-SLOTS : goal.returns-then-index-lt-SLOTS
-returns-then-index-lt-SLOTS c = let e = index_short _ (omega arith) (omega arith) in call_short e (merge_work_short _ _ _ e) c.refused-then-index-lt-SLOTS.ensures
+returns-then-index-lt-SLOTS c =
+    let e = index_short _ (omega arith) (omega arith) in call_short e (merge_work_short _ _ _ e) c.refused-then-index-lt-SLOTS.ensures
 
 pub slice_bounds-checked_listed-end-2 : goal.slice_bounds-checked_listed-end-2
 slice_bounds-checked_listed-end-2 c =

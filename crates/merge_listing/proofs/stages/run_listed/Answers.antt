@@ -1,6 +1,5 @@
 -- `run_listed` meets its contract, by the kind of the patch and by the rows that the result takes.
 use native.Mathlib.Omega.{arith}
-use borrow.Author.Rules.{rules}
 use Rattle.merge_listing.proofs.StageLaws.{run_whole, run_many, run-done}
 use Rattle.merge_listing.proofs.stages.run_listed.Goals as goal
 

@@ -1,11 +1,8 @@
 -- `write_listed` meets its contract, by whether the text and the list fit.
 use native.Mathlib.Omega.{arith}
-use borrow.Author.Rules.{rules}
-use borrow.Author.Tests.{not-true, not-false}
 use Rattle.merge_listing.proofs.StageLaws.{text_short, list_short, both-written}
 use Rattle.merge_listing.proofs.stages.write_listed.Goals as goal
 
--- TODO step before.before.fits.ensures
 pub returns-then-not-fits : goal.returns-then-not-fits
 returns-then-not-fits c v b low counts = text_short b low _ c.fits.ensures c.if-not-fits.true c.refused.ensures
 

@@ -1,5 +1,4 @@
 -- `stamp_both` meets its contract: the patch first, then the document.
-use borrow.Author.Rules.{rules}
 use Rattle.merge_listing.proofs.StampLaws.{both-stamped}
 use Rattle.merge_listing.proofs.stamps.stamp_both.Goals as goal
 

@@ -5,7 +5,6 @@ pub returns-in-Root : goal.returns-in-Root
 unfolding accepted tokens_after
 returns-in-Root c = rw (c.first.ensures.gives, c.in-Root.is)
 
--- TODO step well-formed-2.ensures
 pub returns-in-At : goal.returns-in-At
 unfolding accepted tokens_after
 returns-in-At c = rw (c.first.ensures.gives, c.in-At.is) c.well_formed-in-At.ensures

@@ -12,4 +12,5 @@ returns-then-read-closing_bracket c =
 
 pub returns : goal.returns
 returns c =
-    item_next _ _ _ _ _ c.blanks-place.ensures (λ e. c.if-read-closing_bracket.false (c.read-read.ensures.byte_is ∙ e ∙ sym c.closing_bracket.ensures)) c.next_name.ensures c.item_of.ensures
+    item_next _ _ _ _ _ c.blanks-place.ensures (λ e. c.if-read-closing_bracket.false (c.read-read.ensures.byte_is ∙ e ∙ sym c.closing_bracket.ensures))
+    c.next_name.ensures c.item_of.ensures

@@ -36,7 +36,13 @@ loop-first-init t c =
 pub next_item-requires : goal.next_item-requires
 next_item-requires t c = record {
   lent = lent_filling c.requires.lent c.loop-first.invariant;
-  inside = record { from_base = c.requires.kind_value.2; grows = omega (arith, c.loop-first.invariant.filled.ends); room = c.loop-first.invariant.room; low = c.requires.kind_value.3 };
+  inside = record {
+    from_base = c.requires.kind_value.2;
+    grows = omega (arith, c.loop-first.invariant.filled.ends);
+    room = c.loop-first.invariant.room;
+    low
+        = c.requires.kind_value.3;
+  };
 }
 
 pub scalar_value-r-requires : goal.scalar_value-r-requires

@@ -15,7 +15,8 @@ pub loop-i-preserved : goal.loop-i-preserved
 loop-i-preserved c = (
   omega arith,
   simp length-set c.loop-i.invariant.1,
-  copied-one c.loop-i.nodes (c.args.to + c.loop-i.i) (c.args.start + c.loop-i.i) [] (omega arith) (omega arith) ∙ ap (λ xs. copied xs (c.args.to + c.loop-i.i) (c.args.start + c.loop-i.i) 1)
+  copied-one c.loop-i.nodes (c.args.to + c.loop-i.i) (c.args.start + c.loop-i.i) [] (omega arith) (omega arith) ∙ ap
+      (λ xs. copied xs (c.args.to + c.loop-i.i) (c.args.start + c.loop-i.i) 1)
       c.loop-i.invariant.2
       ∙ copied_further c.args.nodes.now c.args.to c.args.start c.loop-i.i 1 (omega arith) (omega arith),
 )

@@ -19,7 +19,8 @@ loop-i-preserved c = (
   simp length-set c.loop-i.invariant.1,
   copied-one c.loop-i.nodes (c.args.to + (c.loop-i.i - 1)) (c.args.start + (c.loop-i.i - 1)) [] (omega arith) (omega arith)
       ∙ ap (λ xs. copied xs (c.args.to + (c.loop-i.i - 1)) (c.args.start + (c.loop-i.i - 1)) 1) c.loop-i.invariant.2
-      ∙ copied_upwards c.args.nodes.now c.args.to c.args.start c.args.count 1 c.loop-i.i (c.loop-i.i - 1) (omega arith) (omega arith) (omega arith) (omega arith),
+      ∙ copied_upwards c.args.nodes.now c.args.to c.args.start c.args.count 1 c.loop-i.i (c.loop-i.i - 1) (omega arith) (omega arith) (omega arith)
+      (omega arith),
 )
 
 pub returns : goal.returns

@@ -3,7 +3,6 @@ use lib.ListN.{length}
 use Rattle.tape.proofs.Depth.{Judging}
 use Rattle.tape.proofs.nodes.+within.Given as goal
 
--- TODO measure: a.1.1.0
 abbrev pub decreases-within : goal.decreases-within
 decreases-within l = l.levels
 

@@ -20,4 +20,9 @@ returns-in-49 c = rw (scalar_ok _ _ c.string_letter.ensures c.in-Scalar.is, c.in
 pub returns-in_default-c : goal.returns-in_default-c
 unfolding after_tilde character_outcome
 returns-in_default-c c =
-    rw (scalar_ok _ _ c.string_letter.ensures c.in-Scalar.is, ne_eqb c.in-Scalar.c 0x30 (λ e. omega (arith, e)), ne_eqb c.in-Scalar.c 0x31 (λ e. omega (arith, e)))
+    rw (
+      scalar_ok _ _ c.string_letter.ensures c.in-Scalar.is,
+      ne_eqb c.in-Scalar.c 0x30 (λ e. omega (arith, e)),
+      ne_eqb c.in-Scalar.c 0x31
+          (λ e. omega (arith, e)),
+    )

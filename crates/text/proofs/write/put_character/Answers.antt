@@ -8,7 +8,8 @@ use Rattle.text.proofs.write.put_character.Goals as goal
 
 pub returns-then-e-ne0 : goal.returns-then-e-ne0
 returns-then-e-ne0 c =
-    stored (code "\\" ∷ c.short_letter-e.result ∷ []) ((writes c.args.c).short (λ z. c.if-e-ne0.true (c.short_letter-e.ensures ∙ z)) ∙ ap (λ l. code "\\" ∷ l ∷ []) (sym c.short_letter-e.ensures))
+    stored (code "\\" ∷ c.short_letter-e.result ∷ [])
+    ((writes c.args.c).short (λ z. c.if-e-ne0.true (c.short_letter-e.ensures ∙ z)) ∙ ap (λ l. code "\\" ∷ l ∷ []) (sym c.short_letter-e.ensures))
     c.put_two.ensures (omega arith)
 
 pub returns-then-c-lt32 : goal.returns-then-c-lt32

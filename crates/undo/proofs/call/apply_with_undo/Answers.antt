@@ -1,6 +1,5 @@
 -- `apply_with_undo` meets its contract, by the lengths that are lent, and then by what the checked call answers.
 use native.Mathlib.Omega.{arith}
-use borrow.Author.Rules.{rules}
 use mathlib.Core.Path.{sym, ◌∙◌}
 use lib.Seq.{length-take-le, length_front}
 use Rattle.spec.specs.Limits.{max_bytes, work_nodes, work_entries}
@@ -11,10 +10,12 @@ pub returns-then-nodes-lt-ROWS : goal.returns-then-nodes-lt-ROWS
 returns-then-nodes-lt-ROWS c = nodes_missing c.refused.ensures c.without.ensures (omega arith)
 
 pub returns-then-index-lt-SLOTS : goal.returns-then-index-lt-SLOTS
-returns-then-index-lt-SLOTS c = index_missing c.refused-then-index-lt-SLOTS.ensures c.without-then-index-lt-SLOTS.ensures (omega arith) (omega arith)
+returns-then-index-lt-SLOTS c =
+    index_missing c.refused-then-index-lt-SLOTS.ensures c.without-then-index-lt-SLOTS.ensures (omega arith) (omega arith)
 
 pub returns-then-work-lt-MAX_BYTES : goal.returns-then-work-lt-MAX_BYTES
-returns-then-work-lt-MAX_BYTES c = buffer_missing c.refused-then-work-lt-MAX_BYTES.ensures c.without-then-work-lt-MAX_BYTES.ensures (omega arith) (omega arith) (omega arith)
+returns-then-work-lt-MAX_BYTES c =
+    buffer_missing c.refused-then-work-lt-MAX_BYTES.ensures c.without-then-work-lt-MAX_BYTES.ensures (omega arith) (omega arith) (omega arith)
 
 pub slice_bounds-checked-end-2 : goal.slice_bounds-checked-end-2
 slice_bounds-checked-end-2 c = sym (length-take-le work_nodes

@@ -1,5 +1,4 @@
 -- `shortened` meets its contract.
-use borrow.Author.Rules.{rules}
 use mathlib.Core.Path.{ap}
 use Rattle.undo.proofs.cuts.shortened.Goals as goal
 

@@ -1,6 +1,4 @@
 -- `is_dash` meets its contract: there are four variants.
-use native.Mathlib.Omega.{arith}
-use borrow.Author.Rules.{rules}
 use Rattle.undo.proofs.MendLaws.{told_dash, told_at, told_beyond, told_not}
 use Rattle.undo.proofs.mending.is_dash.Goals as goal
 

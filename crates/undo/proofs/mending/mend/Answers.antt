@@ -1,6 +1,4 @@
 -- `mend` meets its contract, by how the pointer begins.
-use native.Mathlib.Omega.{arith}
-use borrow.Author.Rules.{rules}
 use Rattle.walk.proofs.PathLaws.{first_of}
 use Rattle.undo.proofs.MendLaws.{root_noted, below_noted, malformed_noted}
 use Rattle.undo.proofs.mending.mend.Goals as goal

@@ -1,6 +1,4 @@
 -- `mend_below` meets its contract, by what the walk to the parent leads to.
-use native.Mathlib.Omega.{arith}
-use borrow.Author.Rules.{rules}
 use Rattle.reversal.specs.Undo.{mended}
 use Rattle.undo.proofs.MendLaws.{not_lost}
 use Rattle.undo.proofs.SiteLaws.{parent_path, parent_present, site_there}

@@ -1,6 +1,4 @@
 -- `mend_child` meets its contract, by the kind of the parent.
-use native.Mathlib.Omega.{arith}
-use borrow.Author.Rules.{rules}
 use mathlib.Core.Path.{◌∙◌}
 use borrow.Author.Tests.{eq-eqb, ne_eqb}
 use Rattle.undo.proofs.SiteLaws.{row-array}

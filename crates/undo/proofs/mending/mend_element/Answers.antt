@@ -1,6 +1,4 @@
 -- `mend_element` meets its contract, by whether the token is `-`.
-use native.Mathlib.Omega.{arith}
-use borrow.Author.Rules.{rules}
 use mathlib.Core.Bool.{true, false}
 use Rattle.undo.proofs.SiteLaws.{dash_told, dash_undoes, index_undoes}
 use Rattle.undo.proofs.mending.mend_element.Goals as goal

@@ -1,6 +1,4 @@
 -- `mend_member` meets its contract, by whether there is such a member.
-use native.Mathlib.Omega.{arith}
-use borrow.Author.Rules.{rules}
 use Rattle.undo.proofs.SiteLaws.{old_undoes, new_undoes}
 use Rattle.undo.proofs.mending.mend_member.Goals as goal
 

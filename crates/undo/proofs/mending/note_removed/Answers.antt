@@ -1,6 +1,4 @@
 -- `note_removed` meets its contract, by what the walk leads to.
-use native.Mathlib.Omega.{arith}
-use borrow.Author.Rules.{rules}
 use Rattle.undo.proofs.MendLaws.{removed_noted, not_lost}
 use Rattle.undo.proofs.mending.note_removed.Goals as goal
 

@@ -1,6 +1,4 @@
 -- `note_replaced` meets its contract, by what the walk leads to.
-use native.Mathlib.Omega.{arith}
-use borrow.Author.Rules.{rules}
 use Rattle.undo.proofs.MendLaws.{replaced-noted, not_lost}
 use Rattle.undo.proofs.mending.note_replaced.Goals as goal
 

@@ -1,9 +1,6 @@
 -- `in_object` meets its contract, by what the walk to the parent leads to.
-use native.Mathlib.Omega.{arith}
-use borrow.Author.Rules.{rules}
-use mathlib.Core.Path.{◌≡◌, sym, ◌∙◌, ap}
+use mathlib.Core.Path.{sym, ◌∙◌, ap}
 use Rattle.spec.specs.Value.{is_object}
-use Rattle.undo.specs.Mend.{Present}
 use Rattle.undo.proofs.MendLaws.{not_lost, walked-value}
 use Rattle.undo.proofs.PathLaws.{value-walked}
 use Rattle.undo.proofs.SiteLaws.{parent_path, row-object}

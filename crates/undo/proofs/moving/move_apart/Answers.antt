@@ -1,6 +1,4 @@
 -- `move_apart` meets its contract, by what the removal answers.
-use native.Mathlib.Omega.{arith}
-use borrow.Author.Rules.{rules}
 use mathlib.Core.Path.{refl}
 use Rattle.undo.proofs.MoveLaws.{apart_refused, apart-done}
 use Rattle.undo.proofs.moving.move_apart.Goals as goal

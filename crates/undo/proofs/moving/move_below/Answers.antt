@@ -1,6 +1,4 @@
 -- `move_below` meets its contract, by what the walk leads to.
-use native.Mathlib.Omega.{arith}
-use borrow.Author.Rules.{rules}
 use Rattle.undo.proofs.MoveLaws.{below_lost, below_found}
 use Rattle.undo.proofs.moving.move_below.Goals as goal
 

@@ -1,6 +1,4 @@
 -- `move_from` meets its contract, by whether the value that is replaced holds the one that is moved.
-use native.Mathlib.Omega.{arith}
-use borrow.Author.Rules.{rules}
 use Rattle.undo.proofs.MoveLaws.{from_over, from-apart}
 use Rattle.undo.proofs.moving.move_from.Goals as goal
 

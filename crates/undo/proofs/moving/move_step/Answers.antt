@@ -1,6 +1,4 @@
 -- `move_step` meets its contract, by how `from` begins.
-use native.Mathlib.Omega.{arith}
-use borrow.Author.Rules.{rules}
 use Rattle.spec.specs.Bytes.{ascii}
 use Rattle.undo.proofs.MoveLaws.{from_missing, step_root, step_at, step_malformed}
 use Rattle.undo.proofs.moving.move_step.Goals as goal

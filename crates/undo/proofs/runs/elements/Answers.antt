@@ -1,12 +1,9 @@
 -- `elements` meets its contract: what the run of the operations that are left gives is what the whole run gives, and so for the undo; the measure is the
 -- rows that are left.
-use Prim.Native.Nat.{◌≤◌, ◌-◌}
 use native.Mathlib.Omega.{arith}
-use mathlib.Core.Path.{◌≡◌, refl}
-use lib.ListN.{length}
+use mathlib.Core.Path.{refl}
 use borrow.Author.Rules.{rules}
-use Rattle.tape.specs.Lent.{table_of}
-use Rattle.undo.proofs.RunLaws.{LoggingAny, logging_all, logged_ends, logged_inside, logged_halts, logged_next}
+use Rattle.undo.proofs.RunLaws.{logging_all, logged_ends, logged_inside, logged_halts, logged_next}
 use Rattle.undo.proofs.runs.elements.Goals as goal
 
 pub loop-row-init : goal.loop-row-init

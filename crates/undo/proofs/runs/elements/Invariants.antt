@@ -1,10 +1,8 @@
 use Prim.Native.Nat.{◌≤◌, ◌-◌}
-use native.Mathlib.Omega.{arith}
-use mathlib.Core.Path.{◌≡◌, refl}
+use mathlib.Core.Path.{◌≡◌}
 use lib.ListN.{length}
-use borrow.Author.Rules.{rules}
 use Rattle.tape.specs.Lent.{table_of}
-use Rattle.undo.proofs.RunLaws.{LoggingAny, logging_all, logged_ends, logged_inside, logged_halts, logged_next}
+use Rattle.undo.proofs.RunLaws.{LoggingAny}
 use Rattle.undo.proofs.runs.elements.Given as goal
 
 abbrev pub invariant-loop-row : goal.invariant-loop-row

@@ -1,6 +1,4 @@
 -- `run` meets its contract, by its elements.
-use native.Mathlib.Omega.{arith}
-use borrow.Author.Rules.{rules}
 use Rattle.undo.proofs.RunLaws.{logged_patch}
 use Rattle.undo.proofs.runs.run.Goals as goal
 

@@ -1,6 +1,4 @@
 -- `run_patch` meets its contract, by the patch's shape and by its run.
-use native.Mathlib.Omega.{arith}
-use borrow.Author.Rules.{rules}
 use Rattle.undo.proofs.StageLaws.{run_misshapen, run_stopped, run-done}
 use Rattle.undo.proofs.stages.run_patch.Goals as goal
 

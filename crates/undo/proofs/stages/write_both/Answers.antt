@@ -1,34 +1,25 @@
 -- `write_both` meets its contract, by what is refused.
 use native.Mathlib.Omega.{arith}
-use borrow.Author.Rules.{rules}
-use borrow.Author.Tests.{not-true, not-false}
 use Rattle.undo.proofs.StageLaws.{both_short, both_unreadable, both_narrow, both-written}
 use Rattle.undo.proofs.stages.write_both.Goals as goal
 
--- TODO step before.before.before.fits.ensures
 pub returns-then-not-fits : goal.returns-then-not-fits
 returns-then-not-fits c = both_short _ _ _ c.fits.ensures c.if-not-fits.true c.refused.ensures
     c.without.ensures
 
--- TODO step before.before.before.before.before.fits.ensures
 pub returns-then-number-ne0 : goal.returns-then-number-ne0
-returns-then-number-ne0 c = both_unreadable _ _ _ c.fits.ensures (not-false _
-    c.if-not-fits.false-raw) c.verdict-number.ensures c.if-number-ne0.true
+returns-then-number-ne0 c = both_unreadable _ _ _ c.fits.ensures c.if-not-fits.false c.verdict-number.ensures c.if-number-ne0.true
     c.refused-then-number-ne0.ensures
     c.without-then-number-ne0.ensures
 
--- TODO step before.before.before.before.before.before.before.fits.ensures
 pub returns-then-undo-length : goal.returns-then-undo-length
-returns-then-undo-length c = both_narrow _ _ _ c.fits.ensures (not-false _
-    c.if-not-fits.false-raw) c.verdict-number.ensures
+returns-then-undo-length c = both_narrow _ _ _ c.fits.ensures c.if-not-fits.false c.verdict-number.ensures
     c.if-number-ne0.false c.text_length-length.ensures c.if-undo-length.true
     c.refused-then-undo-length.ensures c.without-then-undo-length.ensures
 
--- TODO step before.before.before.before.before.before.before.before.before.before.before.before.before.before.fits.ensures
 pub returns : goal.returns
 returns c = both-written _ _ _
-    c.fits.ensures (not-false _
-    c.if-not-fits.false-raw)
+    c.fits.ensures c.if-not-fits.false
     c.verdict-number.ensures
     c.if-number-ne0.false
     c.text_length-length.ensures (omega arith)

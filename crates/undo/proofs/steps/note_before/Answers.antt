@@ -1,6 +1,4 @@
 -- `note_before` meets its contract: there are seven variants.
-use native.Mathlib.Omega.{arith}
-use borrow.Author.Rules.{rules}
 use Rattle.undo.proofs.StepLaws.{before_add, before_remove, before_replace, before_move, before_copy, before_test, before_unknown}
 use Rattle.undo.proofs.steps.note_before.Goals as goal
 

@@ -1,6 +1,4 @@
 -- `step` meets its contract, by the path and the kind, which every operation has.
-use native.Mathlib.Omega.{arith}
-use borrow.Author.Rules.{rules}
 use Rattle.spec.specs.Bytes.{ascii}
 use Rattle.undo.proofs.StepLaws.{path_missing, step_moves, step_other}
 use Rattle.undo.proofs.steps.step.Goals as goal

@@ -1,6 +1,5 @@
 -- `apply_with_undo_listing` meets its contract, by the lengths that are lent, and then by what the checked call answers.
 use native.Mathlib.Omega.{arith}
-use borrow.Author.Rules.{rules}
 use mathlib.Core.Path.{sym, ◌∙◌}
 use lib.Seq.{length-take-le, length_front}
 use Rattle.spec.specs.Limits.{max_bytes, work_nodes, work_entries}
@@ -11,10 +10,12 @@ pub returns-then-nodes-lt-ROWS : goal.returns-then-nodes-lt-ROWS
 returns-then-nodes-lt-ROWS c = nodes_missing c.refused.ensures c.without.ensures (omega arith)
 
 pub returns-then-index-lt-SLOTS : goal.returns-then-index-lt-SLOTS
-returns-then-index-lt-SLOTS c = index_missing c.refused-then-index-lt-SLOTS.ensures c.without-then-index-lt-SLOTS.ensures (omega arith) (omega arith)
+returns-then-index-lt-SLOTS c =
+    index_missing c.refused-then-index-lt-SLOTS.ensures c.without-then-index-lt-SLOTS.ensures (omega arith) (omega arith)
 
 pub returns-then-work-lt-MAX_BYTES : goal.returns-then-work-lt-MAX_BYTES
-returns-then-work-lt-MAX_BYTES c = buffer_missing c.refused-then-work-lt-MAX_BYTES.ensures c.without-then-work-lt-MAX_BYTES.ensures (omega arith) (omega arith) (omega arith)
+returns-then-work-lt-MAX_BYTES c =
+    buffer_missing c.refused-then-work-lt-MAX_BYTES.ensures c.without-then-work-lt-MAX_BYTES.ensures (omega arith) (omega arith) (omega arith)
 
 pub slice_bounds-checked-end-2 : goal.slice_bounds-checked-end-2
 slice_bounds-checked-end-2 c =
@@ -30,15 +31,15 @@ slice_bounds-checked-end-6 c =
 
 pub shape_of-output : goal.shape_of-output
 shape_of-output c =
-    c.checked-answer.kept.1.0
+    c.checked-answer.auto.output
 
 pub shape_of-undo : goal.shape_of-undo
 shape_of-undo c =
-    c.checked-answer.kept.1.1.0
+    c.checked-answer.auto.undo
 
 pub shape_of-origins : goal.shape_of-origins
 shape_of-origins c =
-    c.checked-answer.kept.1.1.1.0
+    c.checked-answer.auto.origins
 
 pub shape_of-nodes : goal.shape_of-nodes
 shape_of-nodes c =
@@ -52,8 +53,8 @@ shape_of-index c =
 
 pub shape_of-work : goal.shape_of-work
 shape_of-work c =
-    c.clear.auto.work ∙ length_front c.args.work.now c.checked-answer.last.1.1.1.1.1.1.0 max_bytes
-    c.checked-answer.kept.1.1.1.1.1.1.0
+    c.clear.auto.work ∙ length_front c.args.work.now c.checked-answer.new.work max_bytes
+    c.checked-answer.auto.work
 
 pub returns : goal.returns
 returns c =

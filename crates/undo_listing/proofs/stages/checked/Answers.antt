@@ -1,6 +1,5 @@
 -- `checked` meets its contract, by the two lengths and by what is read of both texts.
 use native.Mathlib.Omega.{arith}
-use borrow.Author.Rules.{rules}
 use mathlib.Core.Path.{refl, ◌∙◌}
 use Rattle.json_patch.proofs.AnswerLaws.{work_suffices_lem}
 use Rattle.reversal.proofs.Numbered.{read-numbered}
@@ -11,17 +10,19 @@ use Rattle.undo_listing.proofs.AnswerLaws.{listed_as, call_refused, call_applied
 use Rattle.undo_listing.proofs.stages.checked.Goals as goal
 
 pub returns-then-texts-gt-MAX_BYTES : goal.returns-then-texts-gt-MAX_BYTES
-returns-then-texts-gt-MAX_BYTES c h i j = call_refused _ _ _ (omega (arith, j)) (answer-document_long _ _ _ (work_suffices_lem _ h i) (omega arith)) refl c.refused.ensures
+returns-then-texts-gt-MAX_BYTES c h i j =
+    call_refused _ _ _ (omega (arith, j)) (answer-document_long _ _ _ (work_suffices_lem _ h i) (omega arith)) refl c.refused.ensures
     c.without.ensures
 
 pub returns-then-texts-gt-MAX_BYTES-2 : goal.returns-then-texts-gt-MAX_BYTES-2
-returns-then-texts-gt-MAX_BYTES-2 c h i j = call_refused _ _ _ (omega (arith, j)) (answer-patch_long _ _ _ (work_suffices_lem _ h i) (omega arith) (omega arith)) refl
+returns-then-texts-gt-MAX_BYTES-2 c h i j =
+    call_refused _ _ _ (omega (arith, j)) (answer-patch_long _ _ _ (work_suffices_lem _ h i) (omega arith) (omega arith)) refl
     c.refused-then-texts-gt-MAX_BYTES-2.ensures c.without-then-texts-gt-MAX_BYTES-2.ensures
 
 pub returns-in_default : goal.returns-in_default
 returns-in_default c h i j =
-    let e = document_refused h i (omega (arith, c.if-texts-gt-MAX_BYTES.false)) (omega (arith, c.if-texts-gt-MAX_BYTES-2.false)) c.read_document-document.ensures
-    c.in_default.is in
+    let e = document_refused h i (omega (arith, c.if-texts-gt-MAX_BYTES.false)) (omega (arith, c.if-texts-gt-MAX_BYTES-2.false))
+    c.read_document-document.ensures c.in_default.is in
     call_refused _ _ _ (omega (arith, j))
     (answer-document_unread _ _ _ (work_suffices_lem _ h i) (omega (arith, c.if-texts-gt-MAX_BYTES.false)) (omega (arith, c.if-texts-gt-MAX_BYTES-2.false)) e)
     (outcome-number (read-numbered _) e) (c.unread.ensures _ _ c.in_default.is) c.without-in_default.ensures
@@ -33,7 +34,8 @@ returns-in_default-patch c h i j =
     c.read_document-document.auto.nodes c.read_document-document.auto.index c.read_patch-patch.ensures
     c.in_default-patch.is λ v document-is patch-is.
     call_refused _ _ _ (omega (arith, j))
-    (answer-patch_unread _ _ _ (work_suffices_lem _ h i) (omega (arith, c.if-texts-gt-MAX_BYTES.false)) (omega (arith, c.if-texts-gt-MAX_BYTES-2.false)) document-is patch-is)
+    (answer-patch_unread _ _ _ (work_suffices_lem _ h i) (omega (arith, c.if-texts-gt-MAX_BYTES.false)) (omega (arith, c.if-texts-gt-MAX_BYTES-2.false))
+    document-is patch-is)
     (outcome-number (read-numbered _) patch-is) (c.unread-in_default-patch.ensures _ _ c.in_default-patch.is) c.without-in_default-patch.ensures
 
 pub shape_of-output : goal.shape_of-output
@@ -67,6 +69,6 @@ returns c h i j =
     c.read_document-document.auto.nodes c.read_document-document.auto.index c.read_patch-patch.ensures
     c.in-Value-patch.is c.read_patch-patch.auto.nodes
     λ v p document-is patch-is document patch short.
-    listed_as (call_applied _ _ _ (omega (arith, j)) (work_suffices_lem _ h i) (omega (arith, c.if-texts-gt-MAX_BYTES.false)) (omega
-    (arith, c.if-texts-gt-MAX_BYTES-2.false)) document-is patch-is)
+    listed_as (call_applied _ _ _ (omega (arith, j)) (work_suffices_lem _ h i) (omega (arith, c.if-texts-gt-MAX_BYTES.false))
+    (omega (arith, c.if-texts-gt-MAX_BYTES-2.false)) document-is patch-is)
     (c.run_patch.ensures v p document patch short j)

@@ -1,6 +1,5 @@
 -- `run_patch` meets its contract, by the patch's shape and by its run.
 use native.Mathlib.Omega.{arith}
-use borrow.Author.Rules.{rules}
 use mathlib.Core.Path.{◌∙◌}
 use Rattle.undo_listing.proofs.StageLaws.{run_misshapen, run_stopped, run-done}
 use Rattle.undo_listing.proofs.stages.run_patch.Goals as goal
@@ -39,15 +38,15 @@ shape_of-origins c = c.write_all.auto.origins
 
 pub shape_of-nodes : goal.shape_of-nodes
 shape_of-nodes c =
-    c.run-logged.kept.1.0 ∙ c.stamp_texts.kept.0
+    c.run-logged.auto.nodes ∙ c.stamp_texts.auto.nodes
 
 pub shape_of-index : goal.shape_of-index
 shape_of-index c =
-    c.run-logged.kept.1.1.0
+    c.run-logged.auto.index
 
 pub shape_of-work : goal.shape_of-work
 shape_of-work c =
-    c.run-logged.kept.1.1.1.1.1.0 ∙ c.begin-log.kept.0
+    c.run-logged.auto.work ∙ c.begin-log.auto.work
 
 pub returns : goal.returns
 returns c =

@@ -1,7 +1,6 @@
 -- `write_all` meets its contract, by what is refused.
 use native.Mathlib.Omega.{arith}
-use borrow.Author.Rules.{rules}
-use borrow.Author.Tests.{not-true, not-false, ne_eqb}
+use borrow.Author.Tests.{ne_eqb}
 use mathlib.Core.Path.{refl}
 use Rattle.undo.proofs.StageLaws.{both_short, both_unreadable, both_narrow, both-written}
 use Rattle.undo_listing.proofs.StageLaws.{list_short, all_refused, all_written}
@@ -19,14 +18,15 @@ pub returns-then-number-ne0 : goal.returns-then-number-ne0
 returns-then-number-ne0 c =
     all_refused (both_unreadable _ _ _ c.fits.ensures c.if-not-fits.false c.verdict-number.ensures c.if-number-ne0.true
     c.refused-then-number-ne0.ensures
-    c.without-then-number-ne0.ensures) (omega (arith, c.if-origins-used.false)) c.refused-then-number-ne0.ensures c.without-then-number-ne0.ensures (ne_eqb _ 0 c.if-number-ne0.true)
+    c.without-then-number-ne0.ensures) (omega (arith, c.if-origins-used.false))
+    c.refused-then-number-ne0.ensures c.without-then-number-ne0.ensures (ne_eqb _ 0 c.if-number-ne0.true)
 
 pub returns-then-undo-length : goal.returns-then-undo-length
 returns-then-undo-length c =
     all_refused (both_narrow _ _ _ c.fits.ensures c.if-not-fits.false c.verdict-number.ensures c.if-number-ne0.false
     c.text_length-length.ensures
-    c.if-undo-length.true c.refused-then-undo-length.ensures c.without-then-undo-length.ensures) (omega (arith, c.if-origins-used.false)) c.refused-then-undo-length.ensures
-    c.without-then-undo-length.ensures refl
+    c.if-undo-length.true c.refused-then-undo-length.ensures c.without-then-undo-length.ensures) (omega (arith, c.if-origins-used.false))
+    c.refused-then-undo-length.ensures c.without-then-undo-length.ensures refl
 
 pub returns : goal.returns
 returns c =

@@ -1,6 +1,7 @@
 -- `json_patch_compare` meets its contract: the fields are the answer's.
+use borrow.Author.Rules.{rules}
 use Rattle.compare.proofs.StageLaws.{exported}
-use Rattle.compare_c.proofs.json_patch_compare.Goals as goal
+use Rattle.compare.proofs.exports.json_patch_compare.Goals as goal
 
 pub returns : goal.returns
 returns c = exported c.compare-r.ensures c.one_if.ensures

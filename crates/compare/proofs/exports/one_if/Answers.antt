@@ -1,6 +1,7 @@
 -- `one_if` meets its contract, by its test.
+use borrow.Author.Rules.{rules}
 use Rattle.compare.specs.Call.{bit}
-use Rattle.compare_c.proofs.one_if.Goals as goal
+use Rattle.compare.proofs.exports.one_if.Goals as goal
 
 pub returns-then-b : goal.returns-then-b
 unfolding bit

@@ -1,0 +1,31 @@
+// The call for C: include/json_patch.h declares it.
+ghost use Rattle.json_patch.specs.Call.{given, memory_before, memory_after, ExportIs};
+
+use crate::call::apply;
+use tape::layout::Node;
+
+// As `apply`. The answer's fields are laid down in `answer`, in the order of the header's struct; the number is
+// returned too.
+pub fn json_patch_apply<'a>(
+    document: &'a [u8],
+    patch: &'a [u8],
+    output: &mut [u8],
+    nodes: &mut [Node],
+    index: &mut [u16],
+    answer: &mut [u64; 6],
+) -> u32
+    ensures { ExportIs (given document.now patch.now) (memory_before output.old nodes.old index.old)
+        (memory_after output.new nodes.new index.new)
+        answer.new result }
+{
+    let r = apply(document, patch, output, nodes, index);
+    *answer = [
+        r.number as u64,
+        r.text as u64,
+        r.op as u64,
+        r.place as u64,
+        r.pointer as u64,
+        r.length as u64,
+    ];
+    r.number as u32
+}

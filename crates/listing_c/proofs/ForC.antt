@@ -1,7 +1,0 @@
--- The export for C: the code of `json_patch_apply_origins` meets its contract, in every model of the machine. It stands here and not on the page of
--- theorems, crate `theorems`, since no crate can depend on a static library.
-use Rattle.listing_c.proofs.json_patch_apply_origins.Statement.{statement}
-use Rattle.listing_c.proofs.json_patch_apply_origins.Met.{met}
-
-pub for_c : {M : Type 1} → statement M
-for_c = met

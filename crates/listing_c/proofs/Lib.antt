@@ -1,2 +1,0 @@
--- The theorem on the export.
-pub mod ForC

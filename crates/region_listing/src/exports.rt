@@ -1,0 +1,34 @@
+// The call for C.
+ghost use Rattle.json_patch.specs.Call.{given};
+ghost use Rattle.listing.specs.Call.{list_before, list_after};
+ghost use Rattle.region_listing.specs.Call.{ExportIs};
+
+use crate::call::apply_within_listing;
+use tape::layout::Node;
+
+// As `apply_within_listing`. The answer's fields are laid down in `answer`, in the order of the header's struct; the
+// number is returned too.
+pub fn json_patch_apply_within_origins<'a>(
+    document: &'a [u8],
+    patch: &'a [u8],
+    region: &[u8],
+    output: &mut [u8],
+    origins: &mut [u16],
+    nodes: &mut [Node],
+    index: &mut [u16],
+    answer: &mut [u64; 6],
+) -> u32
+    ensures { ExportIs (given document.now patch.now) region.now (list_before output.old origins.old nodes.old index.old)
+        (list_after output.new origins.new nodes.new index.new) answer.new result }
+{
+    let r = apply_within_listing(document, patch, region, output, origins, nodes, index);
+    *answer = [
+        r.number as u64,
+        r.text as u64,
+        r.op as u64,
+        r.place as u64,
+        r.pointer as u64,
+        r.length as u64,
+    ];
+    r.number as u32
+}
