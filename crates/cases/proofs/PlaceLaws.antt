@@ -1,16 +1,15 @@
 -- A case ends behind its beginning, and its parts lie in the file.
-use Rattle.std.specs.Prelude.{if◌then◌else◌}
-use Prim.Native.Nat.{ℕ, ◌+◌, ◌-◌, ◌≤◌, ◌<◌}
+use Prim.Native.Nat.{ℕ, ◌+◌, ◌-◌, ◌<◌}
 use mathlib.Core.Path.{◌≡◌, refl, sym, subst, ◌∙◌}
 use mathlib.Core.Bool.{Bool, true, false}
 use mathlib.Core.List.{List}
 use native.Mathlib.Omega.{arith}
 use borrow.Author.Tests.{ltb-true}
 use lib.Dec.{eqb, leb, ltb}
-use lib.ListN.{length, take, drop, get_or}
-use lib.Seq.{length-take-le}
+use lib.ListN.{length, drop, get_or}
+use Rattle.std.specs.Prelude.{if◌then◌else◌}
 use Rattle.spec.specs.Value.{same_text}
-use Rattle.cases.specs.Places.{Met, Behind, Onward, Lies, TakenIs, Numbered, Counted, Measured, TextIs, AllLie, TextsAre, Stands, FoundIs}
+use Rattle.cases.specs.Places.{Met, Behind, TakenIs, Numbered, Counted, Measured, TextIs, TextsAre, FoundIs}
 use Rattle.cases.specs.Taking.{before, placed, found, cut, on_place, on_taken, word_at, bytes_at}
 use Rattle.cases.specs.Numerals.{worth, on_digits, on_number, on_numbers, number_at, counted, three_at}
 use Rattle.cases.specs.CaseFile.{name_at, text_at, texts_at, on_standing, case_at}

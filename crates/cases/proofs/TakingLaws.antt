@@ -1,8 +1,8 @@
 -- Words and parts of a file, byte by byte.
-use Rattle.std.specs.Prelude.{if◌then◌else◌}
 use Prim.Native.Nat.{ℕ, ◌+◌, ◌-◌, ◌≤◌, ◌<◌}
 use mathlib.Core.Path.{◌≡◌, refl, sym, ◌∙◌}
-use mathlib.Core.Bool.{Bool, true, false, true≢false}
+use mathlib.Core.Bool.{Bool, true, false, not}
+use lib.Pointwise.{pointwise}
 use mathlib.Core.List.{List, [], ◌∷◌}
 use native.Mathlib.Numerals.{add-one}
 use native.Mathlib.Nat.{add-suc, add-zero, suc-add}
@@ -10,8 +10,8 @@ use borrow.Author.Tests.{eq-eqb, ne_eqb, lt-ltb, le-ltb, le-leb, lt-leb}
 use lib.Dec.{eqb, leb, ltb}
 use lib.ListN.{length, take, drop, get_or, replicate, length-replicate, drop_of_length-le}
 use lib.Seq.{drop-cons}
+use Rattle.std.specs.Prelude.{if◌then◌else◌}
 use Rattle.spec.specs.Value.{same_text}
-use Rattle.spec.proofs.TextLaws.{same_text_refl, same_text-apart}
 use Rattle.cases.specs.Taking.{before, placed, found, cut, bytes_at}
 use Rattle.cases.specs.declared.words.Part.{Part}
 use Rattle.cases.specs.declared.words.Place.TheVariants.{At, Nowhere}
@@ -79,9 +79,25 @@ module _ (s : List ℕ) (at count : ℕ) where
 pub told : {A : Type 0} {r d v : A} → r ≡ d → r ≡ v → d ≡ v
 told e t = sym e ∙ t
 
--- ---- a comparison of two texts
-pub same_so : (s t : List ℕ) → s ≡ t → same_text s t ≡ true
-same_so s t e = rw e (same_text_refl t)
+-- ---- a comparison of two texts, entry by entry
+pub compared : (s t : List ℕ) → pointwise eqb s t ≡ same_text s t
+unfolding same_text
+compared [] [] = refl
+compared [] (b ∷ t) = refl
+compared (a ∷ s) [] = refl
+compared (a ∷ s) (b ∷ t) = rw (compared s t)
 
-pub same_not : {r : Bool} (s t : List ℕ) → (s ≡ t → r ≡ true) → r ≡ false → same_text s t ≡ false
-same_not s t h e = same_text-apart s t (λ q. true≢false (sym (h q) ∙ e))
+-- they are not the same where a test for another text holds, and are the same where it fails
+pub same_not : {r : Bool} (s t : List ℕ) → r ≡ not (pointwise eqb s t) → r ≡ true → same_text s t ≡ false
+same_not s t h e = sym (compared s t) ∙ off (pointwise eqb s t) (sym h ∙ e)
+  where
+    off : (b : Bool) → not b ≡ true → b ≡ false
+    off true h = sym h
+    off false h = refl
+
+pub same_so : {r : Bool} (s t : List ℕ) → r ≡ not (pointwise eqb s t) → r ≡ false → same_text s t ≡ true
+same_so s t h e = sym (compared s t) ∙ on (pointwise eqb s t) (sym h ∙ e)
+  where
+    on : (b : Bool) → not b ≡ false → b ≡ true
+    on true h = refl
+    on false h = sym h

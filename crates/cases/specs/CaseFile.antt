@@ -1,5 +1,6 @@
 -- A case in a file of cases: `WORD NAME ROOM .. LENGTH ..`, a newline, and texts of those lengths with a newline behind each.
-use Rattle.std.specs.Prelude.{ℕ, List, [], ◌∷◌, leb, if◌then◌else◌}
+use Rattle.std.specs.Prelude.{ℕ, List, [], ◌∷◌, leb}
+use Rattle.std.specs.Prelude.{if◌then◌else◌}
 use Rattle.spec.specs.Value.{same_text}
 use Rattle.cases.specs.Taking.{cut, on_taken, word_at, bytes_at}
 use Rattle.cases.specs.Numerals.{on_numbers, three_at}
@@ -7,7 +8,6 @@ use Rattle.cases.specs.declared.words.Taken as Taken
 use Rattle.cases.specs.declared.numbers.Three.{Three}
 use Rattle.cases.specs.declared.reading.Texts.{Texts}
 use Rattle.cases.specs.declared.reading.Standing as Standing
-use Rattle.cases.specs.declared.reading.Case.{Case}
 use Rattle.cases.specs.declared.reading.Found.{Found}
 use Rattle.cases.specs.declared.reading.Found.TheVariants.{Here, Nothing}
 

@@ -1,5 +1,6 @@
 -- The numbers of a header.
-use Rattle.std.specs.Prelude.{ℕ, ◌+◌, ◌-◌, ◌*◌, List, [], ◌∷◌, eqb, leb, if◌then◌else◌}
+use Rattle.std.specs.Prelude.{ℕ, ◌+◌, ◌-◌, ◌*◌, List, [], ◌∷◌, eqb, leb}
+use Rattle.std.specs.Prelude.{if◌then◌else◌}
 use Rattle.cases.specs.Taking.{cut, on_taken, word_at}
 use Rattle.cases.specs.declared.numbers.Digits.{Digits}
 use Rattle.cases.specs.declared.numbers.Digits.TheVariants.{Say, Unclear}

@@ -1,5 +1,6 @@
 -- A buffer that holds the same value everywhere.
-use Rattle.std.specs.Prelude.{ℕ, Bool, true, false, List, [], ◌∷◌, eqb, if◌then◌else◌}
+use Rattle.std.specs.Prelude.{ℕ, Bool, true, false, List, [], ◌∷◌, eqb}
+use Rattle.std.specs.Prelude.{if◌then◌else◌}
 
 -- each passes a test
 unfoldable pub every : {A : Type 0} → (A → Bool) → List A → Bool

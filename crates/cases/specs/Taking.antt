@@ -1,5 +1,6 @@
 -- Words and parts of a file, by places in it.
-use Rattle.std.specs.Prelude.{ℕ, suc, ◌+◌, ◌-◌, List, [], ◌∷◌, eqb, leb, ltb, length, take, drop, get_or, if◌then◌else◌}
+use Rattle.std.specs.Prelude.{ℕ, suc, ◌+◌, ◌-◌, List, [], ◌∷◌, eqb, leb, ltb, length, take, drop, get_or}
+use Rattle.std.specs.Prelude.{if◌then◌else◌}
 use Rattle.cases.specs.declared.words.Place.{Place}
 use Rattle.cases.specs.declared.words.Place.TheVariants.{At, Nowhere}
 use Rattle.cases.specs.declared.words.Part.{Part}

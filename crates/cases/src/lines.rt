@@ -1,16 +1,16 @@
-// What is printed.
-use libc::STDOUT_FILENO;
+// What is printed. A write that fails is the answer's error.
+use std::io;
 
-pub fn say(text: &[u8]) {
-    io::write_all(STDOUT_FILENO, text);
+pub fn say<P: Print>(rt: &P, text: &[u8]) -> io::Result<()> {
+    rt.write_all(text)
 }
 
-pub fn say_number(n: u64) {
-    io::print_decimal(STDOUT_FILENO, n);
+pub fn say_number<P: Print>(rt: &P, n: u64) -> io::Result<()> {
+    rt.print(n)
 }
 
-pub fn print_no_case(at: usize) {
-    say(b"no case at byte ");
-    say_number(at as u64);
-    say(b"\n");
+pub fn print_no_case<P: Print>(rt: &P, at: usize) -> io::Result<()> {
+    say(rt, b"no case at byte ")?;
+    say_number(rt, at as u64)?;
+    say(rt, b"\n")
 }

@@ -5,7 +5,6 @@ ghost use Rattle.cases.specs.CaseFile.{name_at, text_at, texts_at, case_word, ca
 
 use crate::numbers::{Numbers, Three, three_at};
 use crate::words::{Part, Taken, bytes_at, bytes_of, word_at};
-use check::same;
 
 // The name of the case that begins with `word` at the place `at`.
 fn name_at(file: &[u8], at: usize, word: &[u8]) -> Taken
@@ -14,7 +13,7 @@ fn name_at(file: &[u8], at: usize, word: &[u8]) -> Taken
     let Taken::Is(first, a) = word_at(file, at, b' ') else {
         return Taken::Missing;
     };
-    if !same(bytes_of(file, first), word) {
+    if bytes_of(file, first) != word {
         return Taken::Missing;
     }
     word_at(file, a, b' ')

@@ -8,6 +8,7 @@ use cases::{
 };
 use compare::{Answer, compare};
 use index;
+use std::io;
 use tape::fields::narrow;
 use tape::layout;
 
@@ -15,80 +16,77 @@ use tape::layout;
 const SHORT_ROWS: usize = 6_143;
 
 // The refusal's line, as the patch tool prints it.
-fn print_refusal(answer: Answer) {
-    say(b"refused ");
-    say_number(answer.number as u64);
-    say(b" text ");
-    say_number(answer.text as u64);
-    say(b" op 0 place ");
-    say_number(answer.place as u64);
-    say(b" pointer 0\n");
+fn print_refusal(rt: &impl Print, answer: Answer) -> io::Result<()> {
+    say(rt, b"refused ")?;
+    say_number(rt, answer.number as u64)?;
+    say(rt, b" text ")?;
+    say_number(rt, answer.text as u64)?;
+    say(rt, b" op 0 place ")?;
+    say_number(rt, answer.place as u64)?;
+    say(rt, b" pointer 0\n")
 }
 
 // The answer's line.
-fn print_answer(answer: Answer) {
+fn print_answer(rt: &impl Print, answer: Answer) -> io::Result<()> {
     if answer.number != 0 {
-        print_refusal(answer);
-        return;
+        return print_refusal(rt, answer);
     }
     if answer.equal {
-        say(b"equal ");
+        say(rt, b"equal ")?;
     } else {
-        say(b"different ");
+        say(rt, b"different ")?;
     }
-    say_number(answer.names);
-    say(b"\n");
+    say_number(rt, answer.names)?;
+    say(rt, b"\n")
 }
 
 // The case's line, with another text in it where the call has not left the memory as it must. Before the call, the work
 // area holds the case's number everywhere, as rubbish.
-fn run_case(file: &[u8], c: Case) {
+fn run_case(rt: &impl Print, file: &[u8], c: Case) -> io::Result<()> {
     let texts = c.texts;
     let target = bytes_of(file, texts.first);
     let other = bytes_of(file, texts.second);
     let rubbish = narrow(c.rooms.first);
-    say(bytes_of(file, c.name));
-    say(b": ");
+    say(rt, bytes_of(file, c.name))?;
+    say(rt, b": ")?;
     let node = [rubbish; 8];
     let mut nodes = [node; layout::ROWS];
     let mut index = [rubbish; index::SLOTS];
     let answer = compare(target, other, &mut nodes, &mut index);
     if !work_clear(&nodes, &index) {
-        say(b"the work area is not all zero\n");
-        return;
+        return say(rt, b"the work area is not all zero\n");
     }
-    print_answer(answer);
+    print_answer(rt, answer)
 }
 
 // One case after another, to the end of the file.
-fn run_all(file: &[u8]) {
+fn run_all(rt: &impl Print, file: &[u8]) -> io::Result<()> {
     let mut at = 0;
     while at < file.len() {
         let Found::Here(c) = case_at(file, at, 1, 2) else {
-            print_no_case(at);
-            return;
+            return print_no_case(rt, at);
         };
-        run_case(file, c);
+        run_case(rt, file, c)?;
         at = c.next;
     }
+    Ok(())
 }
 
 // The call with a node table one record too short, which no case can express: the answer is 1, before anything else.
-fn run_short() {
+fn run_short(rt: &impl Print) -> io::Result<()> {
     let node = [1u16; 8];
     let mut nodes = [node; SHORT_ROWS];
     let mut index = [1u16; index::SLOTS];
     let answer = compare(b"[]", b"[]", &mut nodes, &mut index);
-    say(b"work-a-record-short: ");
-    print_answer(answer);
+    say(rt, b"work-a-record-short: ")?;
+    print_answer(rt, answer)
 }
 
-fn main() {
+fn main(rt: HostRuntime) -> io::Result<()> {
     let mut room = buffer();
-    let Contents::Bytes(n) = read_cases(&mut room) else {
-        say(b"unreadable\n");
-        return;
+    let Contents::Bytes(n) = read_cases(&rt, &mut room) else {
+        return say(&rt, b"unreadable\n");
     };
-    run_all(front(&room, n));
-    run_short();
+    run_all(&rt, front(&room, n))?;
+    run_short(&rt)
 }

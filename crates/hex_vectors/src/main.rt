@@ -10,6 +10,7 @@ use cases::{
     say, say_number,
 };
 use intel_hex::{Answer, read_hex, write_hex};
+use std::io;
 
 // Room for the longest text as records: 180,236 bytes.
 const OUTPUT: usize = 180_240;
@@ -18,17 +19,16 @@ const OUTPUT: usize = 180_240;
 const UNWRITTEN: u8 = 255;
 
 // The text that was written, or the number of the refusal and its place; and a newline.
-fn print_answer(answer: Answer, output: &[u8]) {
+fn print_answer(rt: &impl Print, answer: Answer, output: &[u8]) -> io::Result<()> {
     if answer.number == 0 {
-        say(front(output, answer.length));
-        say(b"\n");
-        return;
+        say(rt, front(output, answer.length))?;
+        return say(rt, b"\n");
     }
-    say(b"refused ");
-    say_number(answer.number as u64);
-    say(b" place ");
-    say_number(answer.place as u64);
-    say(b"\n");
+    say(rt, b"refused ")?;
+    say_number(rt, answer.number as u64)?;
+    say(rt, b" place ")?;
+    say_number(rt, answer.place as u64)?;
+    say(rt, b"\n")
 }
 
 // The calls, with the first `room` bytes of the output lent.
@@ -45,66 +45,62 @@ fn lend_read(text: &[u8], room: usize, output: &mut [u8]) -> Answer
 }
 
 // What was answered, with another text where the call has not left the output as it must.
-fn print_checked(answer: Answer, output: &[u8]) {
+fn print_checked(rt: &impl Print, answer: Answer, output: &[u8]) -> io::Result<()> {
     if !all_bytes(output, answer.length, UNWRITTEN) {
-        say(b"the output is changed behind the text\n");
-        return;
+        return say(rt, b"the output is changed behind the text\n");
     }
-    print_answer(answer, output);
+    print_answer(rt, answer, output)
 }
 
-fn run_write<'a>(name: &'a [u8], room: usize, text: &'a [u8]) {
-    say(name);
-    say(b" written: ");
+fn run_write<'a>(rt: &impl Print, name: &'a [u8], room: usize, text: &'a [u8]) -> io::Result<()> {
+    say(rt, name)?;
+    say(rt, b" written: ")?;
     if OUTPUT < room {
-        say(b"there is less room\n");
-        return;
+        return say(rt, b"there is less room\n");
     }
     let mut output = [UNWRITTEN; OUTPUT];
     let answer = lend_write(text, room, &mut output);
-    print_checked(answer, &output);
+    print_checked(rt, answer, &output)
 }
 
-fn run_read<'a>(name: &'a [u8], room: usize, text: &'a [u8]) {
-    say(name);
-    say(b" read: ");
+fn run_read<'a>(rt: &impl Print, name: &'a [u8], room: usize, text: &'a [u8]) -> io::Result<()> {
+    say(rt, name)?;
+    say(rt, b" read: ")?;
     if OUTPUT < room {
-        say(b"there is less room\n");
-        return;
+        return say(rt, b"there is less room\n");
     }
     let mut output = [UNWRITTEN; OUTPUT];
     let answer = lend_read(text, room, &mut output);
-    print_checked(answer, &output);
+    print_checked(rt, answer, &output)
 }
 
 // The case, both ways.
-fn run_case(file: &[u8], c: Case) {
+fn run_case(rt: &impl Print, file: &[u8], c: Case) -> io::Result<()> {
     let name = bytes_of(file, c.name);
     let texts = c.texts;
     let text = bytes_of(file, texts.first);
     let room = c.rooms.first;
-    run_write(name, room, text);
-    run_read(name, room, text);
+    run_write(rt, name, room, text)?;
+    run_read(rt, name, room, text)
 }
 
 // One case after another, to the end of the file.
-fn run_all(file: &[u8]) {
+fn run_all(rt: &impl Print, file: &[u8]) -> io::Result<()> {
     let mut at = 0;
     while at < file.len() {
         let Found::Here(c) = case_at(file, at, 1, 1) else {
-            print_no_case(at);
-            return;
+            return print_no_case(rt, at);
         };
-        run_case(file, c);
+        run_case(rt, file, c)?;
         at = c.next;
     }
+    Ok(())
 }
 
-fn main() {
+fn main(rt: HostRuntime) -> io::Result<()> {
     let mut room = buffer();
-    let Contents::Bytes(n) = read_cases(&mut room) else {
-        say(b"unreadable\n");
-        return;
+    let Contents::Bytes(n) = read_cases(&rt, &mut room) else {
+        return say(&rt, b"unreadable\n");
     };
-    run_all(front(&room, n));
+    run_all(&rt, front(&room, n))
 }

@@ -7,6 +7,7 @@ use cases::{Case, Three, bytes_of};
 use index;
 use json_patch::Answer;
 use merge_listing::merge_listing;
+use std::io;
 use tape::layout;
 use tape::layout::Node;
 
@@ -36,7 +37,7 @@ fn lend_merged<'a>(
 }
 
 // The case's lines. Before the call the work area holds rubbish.
-pub fn run_merged(file: &[u8], c: Case, rubbish: u16)
+pub fn run_merged(rt: &impl Print, file: &[u8], c: Case, rubbish: u16) -> io::Result<()>
     requires first_bound { c.rooms.first ≤ 65_536 }
     requires third_bound { c.rooms.third ≤ 2_048 }
 {
@@ -57,13 +58,14 @@ pub fn run_merged(file: &[u8], c: Case, rubbish: u16)
         &mut nodes,
         &mut index,
     );
-    if left_well(answer, &output, &origins, &nodes, &index) {
-        print_listed(bytes_of(file, c.name), answer, &mut output, &origins);
+    if left_well(rt, answer, &output, &origins, &nodes, &index)? {
+        print_listed(rt, bytes_of(file, c.name), answer, &mut output, &origins)?;
     }
+    Ok(())
 }
 
 // The call with a node table that is a record too short.
-pub fn short_merged() {
+pub fn short_merged(rt: &impl Print) -> io::Result<()> {
     let mut output = [UNWRITTEN; 80];
     let mut origins = [UNLISTED; 4];
     let node = [1u16; 8];
@@ -77,5 +79,12 @@ pub fn short_merged() {
         &mut nodes,
         &mut index,
     );
-    print_short(b"merge", b"-work-a-record", answer, &mut output, &origins);
+    print_short(
+        rt,
+        b"merge",
+        b"-work-a-record",
+        answer,
+        &mut output,
+        &origins,
+    )
 }

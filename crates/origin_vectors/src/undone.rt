@@ -6,6 +6,7 @@ use crate::rooms::{ENTRIES, LINE, SHORT_BYTES, SHORT_ROWS, UNDO_LINE, UNLISTED, 
 use cases::{Case, Three, all_bytes, bytes_of, front, say};
 use index;
 use spec::limits;
+use std::io;
 use tape::layout;
 use tape::layout::Node;
 use undo::UndoAnswer;
@@ -43,37 +44,45 @@ fn lend_undone<'a>(
 }
 
 // Whether the buffer is all zero and the undo's output unchanged behind the undo. Where not, a line says it.
-fn undo_left_well(r: UndoAnswer, undo: &[u8], work: &[u8]) -> bool {
+fn undo_left_well(rt: &impl Print, r: UndoAnswer, undo: &[u8], work: &[u8]) -> io::Result<bool> {
     if !all_bytes(work, 0, 0) {
-        say(b"the work area is not all zero\n");
-        return false;
+        say(rt, b"the work area is not all zero\n")?;
+        return Ok(false);
     }
     if !all_bytes(undo, r.undo, UNWRITTEN) {
-        say(b"the undo's output is changed behind the undo\n");
-        return false;
+        say(rt, b"the undo's output is changed behind the undo\n")?;
+        return Ok(false);
     }
-    true
+    Ok(true)
 }
 
 // The undo's line.
-fn print_undo(name: &[u8], undo: &[u8]) {
-    say(name);
-    say(b" undo: ");
-    say(undo);
-    say(b"\n");
+fn print_undo(rt: &impl Print, name: &[u8], undo: &[u8]) -> io::Result<()> {
+    say(rt, name)?;
+    say(rt, b" undo: ")?;
+    say(rt, undo)?;
+    say(rt, b"\n")
 }
 
 // The lines of the call.
-fn print_undone(name: &[u8], r: UndoAnswer, output: &mut [u8], undo: &[u8], origins: &[u16]) {
-    print_answer(r.answer, output);
+fn print_undone(
+    rt: &impl Print,
+    name: &[u8],
+    r: UndoAnswer,
+    output: &mut [u8],
+    undo: &[u8],
+    origins: &[u16],
+) -> io::Result<()> {
+    print_answer(rt, r.answer, output)?;
     if r.answer.number == 0 {
-        print_undo(name, front(undo, r.undo));
-        print_origins(name, origins);
+        print_undo(rt, name, front(undo, r.undo))?;
+        print_origins(rt, name, origins)?;
     }
+    Ok(())
 }
 
 // The case's lines. Before the call the work area holds rubbish.
-pub fn run_undone(file: &[u8], c: Case, rubbish: u16)
+pub fn run_undone(rt: &impl Print, file: &[u8], c: Case, rubbish: u16) -> io::Result<()>
     requires first_bound { c.rooms.first ≤ 65_536 }
     requires second_bound { c.rooms.second ≤ 32_768 }
     requires third_bound { c.rooms.third ≤ 2_048 }
@@ -99,16 +108,17 @@ pub fn run_undone(file: &[u8], c: Case, rubbish: u16)
         &mut index,
         &mut work,
     );
-    if !undo_left_well(r, &undo, &work) {
-        return;
+    if !undo_left_well(rt, r, &undo, &work)? {
+        return Ok(());
     }
-    if left_well(r.answer, &output, &origins, &nodes, &index) {
-        print_undone(bytes_of(file, c.name), r, &mut output, &undo, &origins);
+    if left_well(rt, r.answer, &output, &origins, &nodes, &index)? {
+        print_undone(rt, bytes_of(file, c.name), r, &mut output, &undo, &origins)?;
     }
+    Ok(())
 }
 
 // The call with a node table that is a record too short.
-pub fn short_undone() {
+pub fn short_undone(rt: &impl Print) -> io::Result<()> {
     let mut output = [UNWRITTEN; 80];
     let mut undo = [UNWRITTEN; 80];
     let mut origins = [UNLISTED; 4];
@@ -127,14 +137,20 @@ pub fn short_undone() {
         &mut work,
     );
     if !all_bytes(&undo, 0, UNWRITTEN) {
-        say(b"the undo's output is changed\n");
-        return;
+        return say(rt, b"the undo's output is changed\n");
     }
-    print_short(b"undo", b"-work-a-record", r.answer, &mut output, &origins);
+    print_short(
+        rt,
+        b"undo",
+        b"-work-a-record",
+        r.answer,
+        &mut output,
+        &origins,
+    )
 }
 
 // The call with a buffer that is a byte too short.
-pub fn short_buffer() {
+pub fn short_buffer(rt: &impl Print) -> io::Result<()> {
     let mut output = [UNWRITTEN; 80];
     let mut undo = [UNWRITTEN; 80];
     let mut origins = [UNLISTED; 4];
@@ -153,8 +169,14 @@ pub fn short_buffer() {
         &mut work,
     );
     if !all_bytes(&undo, 0, UNWRITTEN) {
-        say(b"the undo's output is changed\n");
-        return;
+        return say(rt, b"the undo's output is changed\n");
     }
-    print_short(b"undo", b"-buffer-a-byte", r.answer, &mut output, &origins);
+    print_short(
+        rt,
+        b"undo",
+        b"-buffer-a-byte",
+        r.answer,
+        &mut output,
+        &origins,
+    )
 }

@@ -1,4 +1,3 @@
 pub mod SumLaws
 pub mod LineLaws
-pub mod ContentsLaws
 pub mod NameLaws

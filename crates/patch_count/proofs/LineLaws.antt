@@ -1,10 +1,9 @@
 -- Laws of the line: its pieces, and that there is room for it.
-use Prim.Native.Nat.{ℕ, ◌+◌, ◌-◌, ◌*◌, ◌≤◌, ◌<◌}
+use Prim.Native.Nat.{ℕ, ◌-◌, ◌*◌, ◌≤◌}
 use native.Mathlib.Omega.{arith}
 use mathlib.Core.Path.{◌≡◌, refl, sym, ap, ◌∙◌}
-use mathlib.Core.List.{List, [], ◌∷◌, ◌++◌, append_assoc}
-use lib.Dec.{ltb}
-use lib.ListN.{length, take, drop, length-append}
+use mathlib.Core.List.{List, ◌++◌, append_assoc}
+use lib.ListN.{length, length-append}
 use lib.Seq.{length-take-le, take-append_seam}
 use borrow.Author.Tests.{le-ltb}
 use Rattle.spec.specs.Limits.{max_operations}
@@ -16,8 +15,8 @@ use Rattle.report.proofs.DecimalLaws.{in_decimal_short}
 use Rattle.inspect.specs.Counts.{counts_in}
 use Rattle.inspection.specs.Inspection.{total}
 use Rattle.inspection.specs.Tally.{File, results, fields_of, line, tally, max_names}
-use Rattle.patch_count.specs.Line.{field_bytes, others, line_bytes, too_long, printed}
-use Rattle.patch_count.specs.Pieces.{first_piece, second_piece, last_piece, whole_line}
+use Rattle.patch_count.specs.Line.{field_bytes, others, line_bytes, printed}
+use Rattle.patch_count.specs.Pieces.{whole_line}
 use Rattle.patch_count.specs.Sums.{tally_in, Sums, LineIs}
 use Rattle.patch_count.specs.declared.tally.Tally.{Tally}
 use Rattle.patch_count.proofs.SumLaws.{sums_refused, sums_patches_few, sums_few}

@@ -2,7 +2,7 @@
 use Prim.Native.Nat.{ℕ, ◌+◌, ◌≤◌, ◌<◌}
 use native.Mathlib.Omega.{arith}
 use native.Mathlib.Decide.{ℕ_discrete}
-use mathlib.Core.Path.{◌≡◌, subst, sym}
+use mathlib.Core.Path.{◌≡◌, subst}
 use lib.ListN.{length, get_or}
 use Rattle.spec.specs.Bytes.{Bytes}
 use Rattle.patch_count.specs.Names.{LineEnd}

@@ -1,5 +1,6 @@
 -- The bytes of the line that the program prints: SPECIFICATION 14.3, T-12, words and numbers with a space between them.
-use Rattle.std.specs.Prelude.{ℕ, List, [], ◌∷◌, ◌++◌, ltb, length, if◌then◌else◌}
+use Rattle.std.specs.Prelude.{List, [], ◌∷◌, ◌++◌, ltb, length}
+use Rattle.std.specs.Prelude.{if◌then◌else◌}
 use Rattle.spec.specs.Bytes.{Bytes, ascii}
 use Rattle.report.specs.Line.{in_decimal, newline}
 use Rattle.inspection.specs.Tally.{File, results, Field, line, max_names}

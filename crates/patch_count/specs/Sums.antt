@@ -2,14 +2,13 @@
 use Rattle.std.specs.Prelude.{ℕ, ◌*◌, ◌≤◌, ◌<◌, ◌≡◌, List, length, take}
 use Rattle.spec.specs.Limits.{max_operations}
 use Rattle.spec.specs.Bytes.{Bytes}
-use Rattle.io.specs.Counts as Io
+use Rattle.streams.specs.Counts as Io
 use Rattle.inspect.specs.Counts.{counts_in}
-use Rattle.inspection.specs.Inspection.{Counts, total}
+use Rattle.inspection.specs.Inspection.{total}
 use Rattle.inspection.specs.Tally as Spec
 use Rattle.inspection.specs.Tally.{File, result_of, results, both, one, tally, max_names}
 use Rattle.patch_count.specs.Line.{printed}
 use Rattle.patch_count.specs.declared.tally.Tally.{Tally}
-use Rattle.patch_count.specs.declared.names.State.{State}
 use Rattle.patch_count.specs.declared.names.Fed.{Fed}
 use Rattle.patch_count.specs.declared.names.Fed.TheVariants.{Going, TooMany}
 

@@ -6,6 +6,9 @@ ghost use Rattle.patch_count.specs.Sums.{Room, Adds, Visits};
 
 use crate::tally::{Tally, one_inspected, one_refused};
 use index;
+use std::io::Read;
+use std::rt::Files;
+use streams::{open_named, read_full};
 use tape::layout;
 use tape::layout::Node;
 
@@ -19,32 +22,29 @@ pub enum Contents {
 }
 
 // The file's first bytes, as many as there is room for.
-fn read_all(fd: i32, buf: &mut [u8]) -> Contents
+fn read_all<R: Read>(file: &mut R, buf: &mut [u8]) -> Contents
     ensures { Within (length buf.new) result }
 {
-    let n = io::read_full(fd, buf);
+    let n = read_full(file, buf);
     if n == buf.len() {
         return Contents::Bytes(n);
     }
     // another read answers 0 where the file has ended, and fails where it cannot be read
     let mut more = [0u8; 1];
-    if libc::read(fd, &mut more) < 0 {
+    let Ok(_) = file.read(&mut more) else {
         return Contents::Unreadable;
-    }
+    };
     Contents::Bytes(n)
 }
 
-// The contents of the file of that name. A name with a zero byte names none.
-fn read_file(name: &[u8], buf: &mut [u8]) -> Contents
+// The contents of the file of that name. A name that is no text, or has a zero byte, names none.
+fn read_file<R: Files>(rt: &R, name: &[u8], buf: &mut [u8]) -> Contents
     ensures { Within (length buf.new) result }
 {
-    let fd = os::open_read(name);
-    if fd < 0 {
+    let Some(mut file) = open_named(rt, name) else {
         return Contents::Unreadable;
-    }
-    let r = read_all(fd, buf);
-    libc::close(fd);
-    r
+    };
+    read_all(&mut file, buf)
 }
 
 // A file of these bytes is counted.
@@ -62,7 +62,8 @@ fn count_text<'a>(
 }
 
 // The file of that name is counted. `text` has room for as many of its bytes as are read.
-pub fn count_file(
+pub fn count_file<R: Files>(
+    rt: &R,
     name: &[u8],
     text: &mut [u8],
     nodes: &mut [Node; layout::ROWS],
@@ -72,7 +73,7 @@ pub fn count_file(
     requires { Room t }
     ensures { Visits t result }
 {
-    let Contents::Bytes(n) = read_file(name, text) else {
+    let Contents::Bytes(n) = read_file(rt, name, text) else {
         return one_refused(t);
     };
     count_text(&text[..n], nodes, index, t)

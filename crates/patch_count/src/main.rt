@@ -14,24 +14,32 @@ ghost use Rattle.patch_count.specs.Sums.{Sums, FedIs};
 
 use files::INPUT;
 use index;
-use libc::{STDERR_FILENO, STDIN_FILENO, STDOUT_FILENO};
 use line::{LINE, line};
 use names::{Fed, State, feed, finish};
+use std::io;
+use std::io::{IsTerminal, Read};
+use std::rt::Files;
+use streams::NAME;
 use tally::{Tally, nothing};
 use tape::layout;
 use tape::layout::Node;
 
-// The progress so far, on standard error where that is a terminal.
-fn progress(terminal: bool, t: Tally) {
+// Room for a part of the input.
+const CHUNK: usize = 65_536;
+
+// The progress so far, on standard error where that is a terminal. What cannot be shown is left out.
+fn progress(rt: &impl Eprint, terminal: bool, t: Tally) {
     if !terminal {
         return;
     }
-    io::write_all(STDERR_FILENO, b"\r");
-    io::print_decimal(STDERR_FILENO, t.patches as u64);
+    rt.eprint("\r").ok();
+    rt.eprint(t.patches).ok();
 }
 
-// All names except an unfinished one at the end of the input. `chunk` has room for a part of the input.
-fn read_names(
+// All names except an unfinished one at the end of the input, which a read that fails is as well. `chunk` has room for
+// a part of the input.
+fn read_names<R: Input + Files + Eprint>(
+    rt: &R,
     chunk: &mut [u8],
     name: &mut [u8],
     text: &mut [u8],
@@ -45,62 +53,63 @@ fn read_names(
         pending: 0,
         tally: nothing(),
     };
+    let mut input = rt.reader();
     // a loop must end: no input is long enough to use up its turns
     let mut turns = u64::MAX;
     while turns > 0 {
-        let got = libc::read(STDIN_FILENO, chunk);
-        let n = io::count(got, chunk);
+        let n = input.read(chunk).unwrap_or(0);
         if n == 0 {
             return Fed::Going(state);
         }
-        let Fed::Going(next) = feed(&chunk[..n], name, text, nodes, index, state) else {
+        let Fed::Going(next) = feed(rt, &chunk[..n], name, text, nodes, index, state) else {
             return Fed::TooMany;
         };
         state = next;
         let so_far = state.tally;
-        progress(terminal, so_far);
+        progress(rt, terminal, so_far);
         turns -= 1;
     }
     Fed::Going(state)
 }
 
 // All names.
-fn count_names(terminal: bool) -> Fed
+fn count_names<R: Input + Files + Eprint>(rt: &R, terminal: bool) -> Fed
     ensures { FedIs result }
 {
-    let mut chunk = io::large_buffer();
-    let mut name = io::buffer();
+    let mut chunk = [0u8; CHUNK];
+    let mut name = [0u8; NAME];
     let mut text = [0u8; INPUT];
     let mut nodes = [layout::NO_NODE; layout::ROWS];
     let mut index = [0u16; index::SLOTS];
     let Fed::Going(s) = read_names(
-        &mut chunk, &mut name, &mut text, &mut nodes, &mut index, terminal,
+        rt, &mut chunk, &mut name, &mut text, &mut nodes, &mut index, terminal,
     ) else {
         return Fed::TooMany;
     };
     let tally = s.tally;
-    finish(&name, s.pending, &mut text, &mut nodes, &mut index, tally)
+    finish(
+        rt, &name, s.pending, &mut text, &mut nodes, &mut index, tally,
+    )
 }
 
 // The line is printed.
-fn print_line(t: Tally)
+fn print_line(rt: &impl Print, t: Tally) -> io::Result<()>
     requires { Sums t }
 {
     let mut out = [0u8; LINE];
     let n = line(t, &mut out);
-    io::write_all(STDOUT_FILENO, &out[..n]);
+    rt.write_all(&out[..n])
 }
 
-fn main() {
-    let terminal = libc::isatty(STDERR_FILENO) == 1;
-    let counted = count_names(terminal);
+fn main(rt: HostRuntime) -> io::Result<()> {
+    let terminal = rt.stderr().is_terminal();
+    let counted = count_names(&rt, terminal);
     if terminal {
-        io::write_all(STDERR_FILENO, b"\r            \r");
+        rt.eprint("\r            \r").ok();
     }
     let Fed::Going(s) = counted else {
-        io::write_all(STDOUT_FILENO, b"too long\n");
-        return;
+        return rt.write_all(b"too long\n");
     };
     let tally = s.tally;
-    print_line(tally);
+    print_line(&rt, tally)
 }

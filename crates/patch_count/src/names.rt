@@ -7,6 +7,7 @@ ghost use Rattle.patch_count.specs.Sums.{Sums, FedIs};
 use crate::files::count_file;
 use crate::tally::{Tally, one_refused};
 use index;
+use std::rt::Files;
 use tape::layout;
 use tape::layout::Node;
 
@@ -63,7 +64,8 @@ fn append(name: &mut [u8], pending: usize, chunk: &[u8], start: usize, end: usiz
 }
 
 // The name of `pending` bytes is complete.
-pub fn finish(
+pub fn finish<R: Files>(
+    rt: &R,
     name: &[u8],
     pending: usize,
     text: &mut [u8],
@@ -87,12 +89,13 @@ pub fn finish(
         let tally = one_refused(t);
         return Fed::Going(State { pending: 0, tally });
     }
-    let tally = count_file(&name[..pending], text, nodes, index, t);
+    let tally = count_file(rt, &name[..pending], text, nodes, index, t);
     Fed::Going(State { pending: 0, tally })
 }
 
 // The names in a part of the input.
-pub fn feed(
+pub fn feed<R: Files>(
+    rt: &R,
     chunk: &[u8],
     name: &mut [u8],
     text: &mut [u8],
@@ -112,7 +115,7 @@ pub fn feed(
         if end == chunk.len() {
             return Fed::Going(State { pending, tally });
         }
-        let Fed::Going(next) = finish(name, pending, text, nodes, index, tally) else {
+        let Fed::Going(next) = finish(rt, name, pending, text, nodes, index, tally) else {
             return Fed::TooMany;
         };
         s = next;

@@ -1,2 +1,1 @@
-pub mod ContentsLaws
 pub mod LineLaws

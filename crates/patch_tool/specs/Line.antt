@@ -1,6 +1,6 @@
 -- What the tool prints of two readable files: SPECIFICATION 10.2.
 use Rattle.std.specs.Prelude.{ℕ, ◌≡◌, take}
-use Rattle.io.specs.Counts.{IsPrefixLen}
+use Rattle.streams.specs.Counts.{IsPrefixLen}
 use Rattle.spec.specs.Limits.{work_nodes, work_entries}
 use Rattle.spec.specs.Bytes.{Bytes}
 use Rattle.spec.specs.Answer.{Lent, answer}

@@ -7,7 +7,11 @@ ghost use Rattle.patch_tool.specs.Contents.{Within};
 ghost use Rattle.patch_tool.specs.Line.{LineIs};
 
 use index;
-use libc::STDOUT_FILENO;
+use std::env::FillError;
+use std::io;
+use std::io::Read;
+use std::rt::{Env, Files};
+use streams::{NAME, argument, open_named, read_full};
 use tape::layout;
 
 // One byte more than a text may have, so that a longer one is seen to be too long.
@@ -25,10 +29,10 @@ fn answer_line<'a>(document: &'a [u8], patch: &'a [u8], line: &mut [u8; LINE]) -
     report::run(document, patch, line, &mut nodes, &mut index)
 }
 
-fn run<'a>(document: &'a [u8], patch: &'a [u8]) {
+fn run<'a>(rt: &impl Print, document: &'a [u8], patch: &'a [u8]) -> io::Result<()> {
     let mut line = [0u8; LINE];
     let n = answer_line(document, patch, &mut line);
-    io::write_all(STDOUT_FILENO, &line[..n]);
+    rt.write_all(&line[..n])
 }
 
 #[derive(Clone, Copy)]
@@ -38,54 +42,54 @@ pub enum Contents {
 }
 
 // The file's first bytes, as many as there is room for.
-fn read_all(fd: i32, buf: &mut [u8]) -> Contents
+fn read_all<R: Read>(file: &mut R, buf: &mut [u8]) -> Contents
     ensures { Within (length buf.new) result }
 {
-    let n = io::read_full(fd, buf);
+    let n = read_full(file, buf);
     if n == buf.len() {
         return Contents::Bytes(n);
     }
     // another read answers 0 where the file has ended, and fails where it cannot be read
     let mut more = [0u8; 1];
-    if libc::read(fd, &mut more) < 0 {
+    let Ok(_) = file.read(&mut more) else {
         return Contents::Unreadable;
-    }
+    };
     Contents::Bytes(n)
 }
 
 // The contents of the file that argument i names.
-fn read_file(i: usize, buf: &mut [u8]) -> Contents
+fn read_file<R: Env + Files>(rt: &R, i: usize, buf: &mut [u8]) -> Contents
     ensures { Within (length buf.new) result }
 {
-    let mut path = io::buffer();
-    let n = os::arg(i, &mut path);
-    let fd = os::open_read(&path[..n]);
-    if fd < 0 {
+    let mut path = [0u8; NAME];
+    let n = argument(rt, i, &mut path);
+    let Some(mut file) = open_named(rt, &path[..n]) else {
         return Contents::Unreadable;
-    }
-    let r = read_all(fd, buf);
-    libc::close(fd);
-    r
+    };
+    read_all(&mut file, buf)
 }
 
-fn unreadable() {
-    io::write_all(STDOUT_FILENO, b"unreadable\n");
+fn unreadable(rt: &impl Print) -> io::Result<()> {
+    rt.write_all(b"unreadable\n")
 }
 
-fn main() {
-    if os::arg_count() != 3 {
-        unreadable();
-        return;
+// Whether there are arguments behind the two file names.
+fn more_than_two<R: Env>(rt: &R) -> bool {
+    let mut none = [0u8; 1];
+    !matches!(rt.arg(3, &mut none), Err(FillError::NotPresent))
+}
+
+fn main(rt: HostRuntime) -> io::Result<()> {
+    if more_than_two(&rt) {
+        return unreadable(&rt);
     }
     let mut document = [0u8; INPUT];
     let mut patch = [0u8; INPUT];
-    let Contents::Bytes(d) = read_file(1, &mut document) else {
-        unreadable();
-        return;
+    let Contents::Bytes(d) = read_file(&rt, 1, &mut document) else {
+        return unreadable(&rt);
     };
-    let Contents::Bytes(p) = read_file(2, &mut patch) else {
-        unreadable();
-        return;
+    let Contents::Bytes(p) = read_file(&rt, 2, &mut patch) else {
+        return unreadable(&rt);
     };
-    run(&document[..d], &patch[..p]);
+    run(&rt, &document[..d], &patch[..p])
 }

@@ -1,7 +1,8 @@
 -- The line that the patch tool prints: SPECIFICATION 10.2. It is the written text and a newline, or `refused`, the number, `text`, its
 -- value, `op`, its value, `place`, its value, on one line. T-01: "the refusal line ends in `pointer` and its value, on every line".
-use Rattle.std.specs.Prelude.{ℕ, zero, suc, ◌+◌, ◌/◌, ◌%◌, [], ◌∷◌, ◌++◌, eqb, ltb, if◌then◌else◌}
+use Rattle.std.specs.Prelude.{ℕ, zero, suc, ◌+◌, ◌/◌, ◌%◌, [], ◌∷◌, ◌++◌, eqb, ltb}
 use Prim.Native.Char.{code}
+use Rattle.std.specs.Prelude.{if◌then◌else◌}
 use Rattle.spec.specs.Bytes.{Bytes, ascii}
 use Rattle.spec.specs.Refusal.{done}
 use Rattle.spec.specs.Answer.{Answer}

@@ -1,6 +1,6 @@
 // The pieces of the line, each laid down at the front of `out`, which is the rest of the output: as many bytes as
 // there is room for. The answer is how many.
-ghost use Rattle.std.specs.Prelude.{◌≡◌, ◌++◌, min};
+ghost use Rattle.std.specs.Prelude.{◌≡◌, ◌+◌, ◌%◌, ◌++◌, min};
 ghost use Rattle.writer.specs.Writing.{Placed};
 ghost use Rattle.report.specs.Line.{in_decimal, last_field};
 ghost use Rattle.report.specs.Report.{refusal_of, ending};
@@ -9,6 +9,7 @@ use json_patch::Answer;
 use tape::fields::long;
 use tape::layout::PLAIN_STRING;
 use text::write_text;
+use writer::put_byte;
 
 // The smaller of two numbers.
 fn least(a: usize, b: usize) -> usize
@@ -24,13 +25,22 @@ pub fn put_bytes(s: &[u8], out: &mut [u8]) -> usize
     least(count, out.len())
 }
 
+fn last_digit(n: u64) -> u8
+    ensures { result ≡ 48 + n % 10 }
+{
+    b'0' + (n % 10) as u8
+}
+
 // The digits of a number.
 fn put_decimal(n: u64, out: &mut [u8]) -> usize
     ensures { Placed (in_decimal n) 0 out.old out.new result }
 {
-    let mut digits = [0u8; 20];
-    let count = io::decimal(n, &mut digits);
-    put_bytes(&digits[..count], out)
+    if n < 10 {
+        return put_byte(last_digit(n), out);
+    }
+    let put = put_decimal(n / 10, out);
+    let last = put_byte(last_digit(n), &mut out[put..]);
+    put + last
 }
 
 // A number after a word.

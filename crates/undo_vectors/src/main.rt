@@ -14,6 +14,7 @@ use index;
 use json_patch::{Answer, apply};
 use report::report;
 use spec::limits;
+use std::io;
 use tape::fields::narrow;
 use tape::layout;
 use tape::layout::Node;
@@ -34,17 +35,17 @@ const SHORT_BYTES: usize = 32_767;
 const UNWRITTEN: u8 = 255;
 
 // The answer's line. It is laid down in the output, which begins with the text.
-fn print_answer(answer: Answer, output: &mut [u8]) {
+fn print_answer(rt: &impl Print, answer: Answer, output: &mut [u8]) -> io::Result<()> {
     let n = report(answer, output);
-    say(front(output, n));
+    say(rt, front(output, n))
 }
 
 // The undo's line.
-fn print_undo(name: &[u8], undo: &[u8]) {
-    say(name);
-    say(b" undo: ");
-    say(undo);
-    say(b"\n");
+fn print_undo(rt: &impl Print, name: &[u8], undo: &[u8]) -> io::Result<()> {
+    say(rt, name)?;
+    say(rt, b" undo: ")?;
+    say(rt, undo)?;
+    say(rt, b"\n")
 }
 
 // The plain call, with the first `room` bytes of the output lent.
@@ -97,28 +98,41 @@ fn zeroed(nodes: &[Node], index: &[u16], work: &[u8]) -> bool {
 }
 
 // The undo on the patched text, as the patch tool would print it.
-fn run_back<'a>(name: &[u8], text: &'a [u8], undo: &'a [u8]) {
-    say(name);
-    say(b" back: ");
+fn run_back<'a>(rt: &impl Print, name: &[u8], text: &'a [u8], undo: &'a [u8]) -> io::Result<()> {
+    say(rt, name)?;
+    say(rt, b" back: ")?;
     let mut output = [UNWRITTEN; LINE];
     let node = [0u16; 8];
     let mut nodes = [node; layout::ROWS];
     let mut index = [0u16; index::SLOTS];
     let answer = lend(text, undo, OUTPUT, &mut output, &mut nodes, &mut index);
-    print_answer(answer, &mut output);
+    print_answer(rt, answer, &mut output)
 }
 
 // The undo's line, and that of what it gives back.
-fn print_undone<'a>(name: &[u8], r: UndoAnswer, output: &'a [u8], undo: &'a [u8]) {
+fn print_undone<'a>(
+    rt: &impl Print,
+    name: &[u8],
+    r: UndoAnswer,
+    output: &'a [u8],
+    undo: &'a [u8],
+) -> io::Result<()> {
     let text = front(output, r.answer.length);
     let back = front(undo, r.undo);
-    print_undo(name, back);
-    run_back(name, text, back);
+    print_undo(rt, name, back)?;
+    run_back(rt, name, text, back)
 }
 
 // The case's lines, with another text in them where the call has not left the memory as it must. Before the call the
 // work area holds rubbish.
-fn run_case<'a>(name: &'a [u8], rooms: Three, document: &'a [u8], patch: &'a [u8], rubbish: u16)
+fn run_case<'a>(
+    rt: &impl Print,
+    name: &'a [u8],
+    rooms: Three,
+    document: &'a [u8],
+    patch: &'a [u8],
+    rubbish: u16,
+) -> io::Result<()>
     requires first_bound { rooms.first ≤ 65_536 }
     requires second_bound { rooms.second ≤ 32_768 }
 {
@@ -139,62 +153,72 @@ fn run_case<'a>(name: &'a [u8], rooms: Three, document: &'a [u8], patch: &'a [u8
         &mut work,
     );
     if !zeroed(&nodes, &index, &work) {
-        say(b"the work area is not all zero\n");
-        return;
+        return say(rt, b"the work area is not all zero\n");
     }
     if !all_bytes(&output, r.answer.length, UNWRITTEN) {
-        say(b"the output is changed behind the text\n");
-        return;
+        return say(rt, b"the output is changed behind the text\n");
     }
     if !all_bytes(&undo, r.undo, UNWRITTEN) {
-        say(b"the undo's output is changed behind the undo\n");
-        return;
+        return say(rt, b"the undo's output is changed behind the undo\n");
     }
-    print_answer(r.answer, &mut output);
+    print_answer(rt, r.answer, &mut output)?;
     if r.answer.number == 0 {
-        print_undone(name, r, &output, &undo);
+        print_undone(rt, name, r, &output, &undo)?;
     }
+    Ok(())
 }
 
 // The case's lines, with another text where there is less room than the case asks for.
-fn run_with<'a>(name: &'a [u8], rooms: Three, document: &'a [u8], patch: &'a [u8], rubbish: u16) {
-    say(name);
-    say(b": ");
+fn run_with<'a>(
+    rt: &impl Print,
+    name: &'a [u8],
+    rooms: Three,
+    document: &'a [u8],
+    patch: &'a [u8],
+    rubbish: u16,
+) -> io::Result<()> {
+    say(rt, name)?;
+    say(rt, b": ")?;
     if OUTPUT < rooms.first {
-        say(b"there is less room\n");
-        return;
+        return say(rt, b"there is less room\n");
     }
     if UNDO < rooms.second {
-        say(b"there is less room\n");
-        return;
+        return say(rt, b"there is less room\n");
     }
-    run_case(name, rooms, document, patch, rubbish);
+    run_case(rt, name, rooms, document, patch, rubbish)
 }
 
 // The case that was found. Its rooms are those of the output and of the undo's output.
-fn run_found(file: &[u8], c: Case, rubbish: u16) {
+fn run_found(rt: &impl Print, file: &[u8], c: Case, rubbish: u16) -> io::Result<()> {
     let texts = c.texts;
     let document = bytes_of(file, texts.first);
     let patch = bytes_of(file, texts.second);
-    run_with(bytes_of(file, c.name), c.rooms, document, patch, rubbish);
+    run_with(
+        rt,
+        bytes_of(file, c.name),
+        c.rooms,
+        document,
+        patch,
+        rubbish,
+    )
 }
 
 // One case after another, to the end of the file. What the work area holds before a call differs from case to case.
-fn run_all(file: &[u8]) {
+fn run_all(rt: &impl Print, file: &[u8]) -> io::Result<()> {
     let mut at = 0;
     while at < file.len() {
         let Found::Here(c) = case_at(file, at, 2, 2) else {
-            print_no_case(at);
-            return;
+            return print_no_case(rt, at);
         };
-        run_found(file, c, narrow(at));
+        run_found(rt, file, c, narrow(at))?;
         at = c.next;
     }
+    Ok(())
 }
 
 // The call with a buffer that is a byte too short. No case can say this. The answer is 1, before anything else, and
 // both outputs are untouched.
-fn run_short() {
+fn run_short(rt: &impl Print) -> io::Result<()> {
     let mut output = [UNWRITTEN; 80];
     let mut undo = [UNWRITTEN; 80];
     let node = [1u16; 8];
@@ -210,28 +234,24 @@ fn run_short() {
         &mut index,
         &mut work,
     );
-    say(b"buffer-a-byte-short: ");
+    say(rt, b"buffer-a-byte-short: ")?;
     if !all_bytes(&output, 0, UNWRITTEN) {
-        say(b"the output is changed\n");
-        return;
+        return say(rt, b"the output is changed\n");
     }
     if !all_bytes(&undo, 0, UNWRITTEN) {
-        say(b"the undo's output is changed\n");
-        return;
+        return say(rt, b"the undo's output is changed\n");
     }
     if !all_bytes(&work, 0, 1) {
-        say(b"the buffer is changed\n");
-        return;
+        return say(rt, b"the buffer is changed\n");
     }
-    print_answer(r.answer, &mut output);
+    print_answer(rt, r.answer, &mut output)
 }
 
-fn main() {
+fn main(rt: HostRuntime) -> io::Result<()> {
     let mut room = buffer();
-    let Contents::Bytes(n) = read_cases(&mut room) else {
-        say(b"unreadable\n");
-        return;
+    let Contents::Bytes(n) = read_cases(&rt, &mut room) else {
+        return say(&rt, b"unreadable\n");
     };
-    run_all(front(&room, n));
-    run_short();
+    run_all(&rt, front(&room, n))?;
+    run_short(&rt)
 }

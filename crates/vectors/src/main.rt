@@ -12,6 +12,7 @@ use cases::{
 use index;
 use json_patch::{Answer, apply};
 use report::report;
+use std::io;
 use tape::fields::narrow;
 use tape::layout;
 use tape::layout::Node;
@@ -28,9 +29,9 @@ const SHORT_ROWS: usize = 6_143;
 const UNWRITTEN: u8 = 255;
 
 // The answer's line. It is laid down in the output, which begins with the text.
-fn print_answer(answer: Answer, output: &mut [u8]) {
+fn print_answer(rt: &impl Print, answer: Answer, output: &mut [u8]) -> io::Result<()> {
     let n = report(answer, output);
-    say(front(output, n));
+    say(rt, front(output, n))
 }
 
 // The call, with the first `room` bytes of the output lent.
@@ -49,16 +50,15 @@ fn lend<'a>(
 
 // The case's line, with another text in it where there is less room than the case asks for, or where the call has not
 // left the memory as it must. Before the call the work area holds rubbish.
-fn run_case(file: &[u8], c: Case, rubbish: u16) {
+fn run_case(rt: &impl Print, file: &[u8], c: Case, rubbish: u16) -> io::Result<()> {
     let texts = c.texts;
     let document = bytes_of(file, texts.first);
     let patch = bytes_of(file, texts.second);
     let room = c.rooms.first;
-    say(bytes_of(file, c.name));
-    say(b": ");
+    say(rt, bytes_of(file, c.name))?;
+    say(rt, b": ")?;
     if OUTPUT < room {
-        say(b"there is less room\n");
-        return;
+        return say(rt, b"there is less room\n");
     }
     let mut output = [UNWRITTEN; LINE];
     let node = [rubbish; 8];
@@ -66,51 +66,47 @@ fn run_case(file: &[u8], c: Case, rubbish: u16) {
     let mut index = [rubbish; index::SLOTS];
     let answer = lend(document, patch, room, &mut output, &mut nodes, &mut index);
     if !work_clear(&nodes, &index) {
-        say(b"the work area is not all zero\n");
-        return;
+        return say(rt, b"the work area is not all zero\n");
     }
     if !all_bytes(&output, answer.length, UNWRITTEN) {
-        say(b"the output is changed behind the text\n");
-        return;
+        return say(rt, b"the output is changed behind the text\n");
     }
-    print_answer(answer, &mut output);
+    print_answer(rt, answer, &mut output)
 }
 
 // One case after another, to the end of the file. What the work area holds before a call differs from case to case.
-fn run_all(file: &[u8]) {
+fn run_all(rt: &impl Print, file: &[u8]) -> io::Result<()> {
     let mut at = 0;
     while at < file.len() {
         let Found::Here(c) = case_at(file, at, 1, 2) else {
-            print_no_case(at);
-            return;
+            return print_no_case(rt, at);
         };
-        run_case(file, c, narrow(at));
+        run_case(rt, file, c, narrow(at))?;
         at = c.next;
     }
+    Ok(())
 }
 
 // The call with a node table that is a record too short. No case can say this. The answer is 1, before anything else,
 // and the output is untouched.
-fn run_short() {
+fn run_short(rt: &impl Print) -> io::Result<()> {
     let mut output = [UNWRITTEN; 80];
     let node = [1u16; 8];
     let mut nodes = [node; SHORT_ROWS];
     let mut index = [1u16; index::SLOTS];
     let answer = apply(b"[]", b"[]", &mut output, &mut nodes, &mut index);
-    say(b"work-a-record-short: ");
+    say(rt, b"work-a-record-short: ")?;
     if !all_bytes(&output, 0, UNWRITTEN) {
-        say(b"the output is changed\n");
-        return;
+        return say(rt, b"the output is changed\n");
     }
-    print_answer(answer, &mut output);
+    print_answer(rt, answer, &mut output)
 }
 
-fn main() {
+fn main(rt: HostRuntime) -> io::Result<()> {
     let mut room = buffer();
-    let Contents::Bytes(n) = read_cases(&mut room) else {
-        say(b"unreadable\n");
-        return;
+    let Contents::Bytes(n) = read_cases(&rt, &mut room) else {
+        return say(&rt, b"unreadable\n");
     };
-    run_all(front(&room, n));
-    run_short();
+    run_all(&rt, front(&room, n))?;
+    run_short(&rt)
 }

@@ -1,0 +1,8 @@
+-- `put_last` meets its contract: the newline behind the fields.
+use Rattle.writer.proofs.PlacedLaws.{placed_then}
+use Rattle.spec.specs.Bytes.{ascii}
+use Rattle.patch_count.proofs.line.put_last.Goals as goal
+
+pub returns : goal.returns
+unfolding ascii
+returns c = placed_then c.put_two_fields-put.ensures c.put_bytes-more.ensures

@@ -1,0 +1,28 @@
+-- `sum` meets its contract: no sum passes that of all.
+use native.Mathlib.Omega.{arith}
+use Rattle.inspection.specs.Inspection.{total}
+use Rattle.patch_count.proofs.line.sum.Goals as goal
+
+pub overflow_add-result : goal.overflow_add-result
+unfolding total
+overflow_add-result c = omega (arith, c.requires)
+
+pub overflow_add-result-2 : goal.overflow_add-result-2
+unfolding total
+overflow_add-result-2 c = omega (arith, c.requires)
+
+pub overflow_add-result-3 : goal.overflow_add-result-3
+unfolding total
+overflow_add-result-3 c = omega (arith, c.requires)
+
+pub overflow_add-result-4 : goal.overflow_add-result-4
+unfolding total
+overflow_add-result-4 c = omega (arith, c.requires)
+
+pub overflow_add-result-5 : goal.overflow_add-result-5
+unfolding total
+overflow_add-result-5 c = omega (arith, c.requires)
+
+pub returns : goal.returns
+unfolding total
+returns c = omega arith

@@ -1,0 +1,33 @@
+-- `sums` meets its contract: no sum passes that of all.
+use borrow.Author.Rules.{rules}
+use native.Mathlib.Omega.{arith}
+use Rattle.inspection.specs.Inspection.{total, plus}
+use Rattle.patch_count.proofs.tally.sums.Goals as goal
+
+pub overflow_add-result : goal.overflow_add-result
+unfolding total
+overflow_add-result c = omega (arith, c.requires)
+
+pub overflow_add-result-2 : goal.overflow_add-result-2
+unfolding total
+overflow_add-result-2 c = omega (arith, c.requires)
+
+pub overflow_add-result-3 : goal.overflow_add-result-3
+unfolding total
+overflow_add-result-3 c = omega (arith, c.requires)
+
+pub overflow_add-result-4 : goal.overflow_add-result-4
+unfolding total
+overflow_add-result-4 c = omega (arith, c.requires)
+
+pub overflow_add-result-5 : goal.overflow_add-result-5
+unfolding total
+overflow_add-result-5 c = omega (arith, c.requires)
+
+pub overflow_add-result-6 : goal.overflow_add-result-6
+unfolding total
+overflow_add-result-6 c = omega (arith, c.requires)
+
+pub returns : goal.returns
+unfolding plus
+returns c = search rules
