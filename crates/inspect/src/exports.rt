@@ -1,4 +1,4 @@
-// The call for C: include/json_patch.h declares it.
+// The call for C: include/json_patch_inspect.h declares it.
 ghost use Rattle.reader.specs.Work.{work_before, work_after};
 ghost use Rattle.inspect.specs.Call.{ExportIs};
 

@@ -1,4 +1,4 @@
-// The call for C: include/json_patch_region.h declares it.
+// The call for C: include/json_patch.h declares it.
 ghost use Rattle.json_patch.specs.Call.{given, memory_before, memory_after};
 ghost use Rattle.region_call.specs.Call.{ExportIs};
 

@@ -1,4 +1,4 @@
-// The call for C.
+// The call for C: include/json_patch.h declares it.
 ghost use Rattle.json_patch.specs.Call.{given};
 ghost use Rattle.listing.specs.Call.{list_before, list_after};
 ghost use Rattle.region_listing.specs.Call.{ExportIs};

@@ -1,5 +1,4 @@
 -- `json_patch_compare` meets its contract: the fields are the answer's.
-use borrow.Author.Rules.{rules}
 use Rattle.compare.proofs.StageLaws.{exported}
 use Rattle.compare.proofs.exports.json_patch_compare.Goals as goal
 

@@ -1,5 +1,4 @@
 -- `one_if` meets its contract, by its test.
-use borrow.Author.Rules.{rules}
 use Rattle.compare.specs.Call.{bit}
 use Rattle.compare.proofs.exports.one_if.Goals as goal
 
