@@ -123,6 +123,21 @@ fn print_undone<'a>(
     run_back(rt, name, text, back)
 }
 
+// The lines of a call that has left the memory as it must.
+fn print_lines(
+    rt: &impl Print,
+    name: &[u8],
+    r: UndoAnswer,
+    output: &mut [u8],
+    undo: &[u8],
+) -> io::Result<()> {
+    print_answer(rt, r.answer, output)?;
+    if r.answer.number == 0 {
+        print_undone(rt, name, r, output, undo)?;
+    }
+    Ok(())
+}
+
 // The case's lines, with another text in them where the call has not left the memory as it must. Before the call the
 // work area holds rubbish.
 fn run_case<'a>(
@@ -161,11 +176,7 @@ fn run_case<'a>(
     if !all_bytes(&undo, r.undo, UNWRITTEN) {
         return say(rt, b"the undo's output is changed behind the undo\n");
     }
-    print_answer(rt, r.answer, &mut output)?;
-    if r.answer.number == 0 {
-        print_undone(rt, name, r, &output, &undo)?;
-    }
-    Ok(())
+    print_lines(rt, name, r, &mut output, &undo)
 }
 
 // The case's lines, with another text where there is less room than the case asks for.
