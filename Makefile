@@ -4,7 +4,7 @@
 #   make check            everything that is tested outside the gate
 #   make install          PREFIX=/usr/local DESTDIR=
 #   make uninstall        the same
-#   make clean            what make has made; proofs stay
+#   make clean            what make has made; proofs, proved archives and programs stay
 #   make cross            the library for AArch64, RISC-V and WebAssembly (docs/DEVICE.md)
 #   make check-cross      that library under qemu and in node, and the bootloader
 #   make page             one HTML file with the library in it (docs/PAGE.md)

@@ -1,7 +1,7 @@
 #!/bin/sh
 # The count over patch files, on lists of names that the gate's one list cannot
 # be: what is printed is what the second program prints, or what stands here.
-#   PROGRAM=FILE    the program, if not the one that rt makes
+#   PROGRAM=FILE    the program, if not the one that tools/program.sh makes
 #   SECOND=FILE     the second program, if not the one that cargo makes
 set -eu
 root=$(cd "$(dirname "$0")/.." && pwd)

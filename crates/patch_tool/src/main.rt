@@ -73,14 +73,18 @@ fn unreadable(rt: &impl Print) -> io::Result<()> {
     rt.write_all(b"unreadable\n")
 }
 
-// Whether there are arguments behind the two file names.
-fn more_than_two<R: Env>(rt: &R) -> bool {
+// Whether there is an argument of that number.
+fn is_given<R: Env>(rt: &R, i: usize) -> bool {
     let mut none = [0u8; 1];
-    !matches!(rt.arg(3, &mut none), Err(FillError::NotPresent))
+    !matches!(rt.arg(i, &mut none), Err(FillError::NotPresent))
 }
 
 fn main(rt: HostRuntime) -> io::Result<()> {
-    if more_than_two(&rt) {
+    // two file names, and nothing behind them
+    if !is_given(&rt, 2) {
+        return unreadable(&rt);
+    }
+    if is_given(&rt, 3) {
         return unreadable(&rt);
     }
     let mut document = [0u8; INPUT];

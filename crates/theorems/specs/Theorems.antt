@@ -69,7 +69,7 @@ pub record Demands : Type 2 where
   -- crates/json_patch/specs/Call: on every input the call returns, answers what `answer` defines (crates/spec/specs/Answer), and leaves all lent
   -- memory as it says. It asks nothing of the caller.
   pub total_and_exact : {M : Type 1} → Apply.statement M
-  -- the same for the export for C
+  -- the same for the function that the export for C calls, with the same clauses (crate json_patch_c)
   pub for_c : {M : Type 1} → ApplyForC.statement M
   -- shuffles of two patches in regions of their own don't matter: of the definition, with an example that meets the premises,
   pub shuffles : Demand3
@@ -173,7 +173,8 @@ pub record Requests : Type 0 where
   pub link_percents : Link.DifferInPercents
 
 -- ---- the other calls: the code of each meets its contract, in every model of the machine, as the plain call's does. The contract stands in the crate's
--- specs/Call, and says on every input what is answered and what all lent memory is afterwards. None asks anything of the caller.
+-- specs/Call, and says on every input what is answered and what all lent memory is afterwards. None asks anything of the caller. What ends in
+-- `_for_c` is of the function that an export for C calls, with the same clauses (crates NAME_c).
 pub record Calls : Type 2 where
   -- T-02
   pub merge : {M : Type 1} → Merge.statement M
