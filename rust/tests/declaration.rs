@@ -176,7 +176,7 @@ fn the_undos_length_is_the_last_field() {
     let header = header();
     let fields = "\n    json_patch_answer answer;\n    uint64_t undo;\n";
     assert_eq!(between(&header, "typedef struct json_patch_undo_answer {", "}"), fields);
-    let export = file("crates/undo_c/src/lib.rt");
+    let export = file("crates/undo/src/exports.rt");
     let laid_down: Vec<&str> = items(between(&export, "*answer = [", "]"))
         .into_iter()
         .map(|item| between(item, ".", " as u64"))
@@ -204,7 +204,7 @@ fn the_answers_fields_are_those_of_the_call() {
         .map(|field| typed(field).0)
         .collect();
     assert_eq!(of_call, fields);
-    let export = file("crates/json_patch_c/src/lib.rt");
+    let export = file("crates/json_patch/src/exports.rt");
     let laid_down: Vec<&str> = items(between(&export, "*answer = [", "]"))
         .into_iter()
         .map(|item| between(item, "r.", " as u64"))

@@ -33,7 +33,7 @@ fn the_fields_are_those_of_the_call() {
         .filter_map(|line| line.trim().strip_prefix("pub ")?.strip_suffix(": u64,"))
         .collect();
     assert_eq!(of_rust, fields);
-    let export = file("crates/inspect_c/src/lib.rt");
+    let export = file("crates/inspect/src/exports.rt");
     let laid_down: Vec<&str> = between(&export, "*answer = [", "]")
         .split(',')
         .filter_map(|item| item.trim().strip_suffix(" as u64")?.split('.').nth(1))

@@ -96,7 +96,7 @@ fn the_answers_fields_are_in_the_same_order() {
         .filter_map(|line| line.trim().strip_prefix("pub ")?.strip_suffix(": u64,"))
         .collect();
     assert_eq!(of_rust, of_header);
-    let exports = file("crates/fragment_c/src/lib.rt");
+    let exports = file("crates/fragment/src/exports.rt");
     let laid_down = items(between(&exports, "*answer = [", "]"));
     assert_eq!(laid_down, ["r.number as u64", "0", "0", "0", "0", "r.length as u64"]);
     assert_eq!((of_header[0], of_header[5], of_header.len()), ("number", "length", 6));
