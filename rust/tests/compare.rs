@@ -33,13 +33,14 @@ fn the_fields_are_those_of_the_call() {
         .filter_map(|line| line.trim().strip_prefix("pub ")?.strip_suffix(": u64,"))
         .collect();
     assert_eq!(of_rust, fields);
-    let export = file("crates/compare/src/exports.rt");
-    let laid_down: Vec<&str> = between(&export, "*answer = [", "]")
+    let answer = file("crates/compare/src/answer.rt");
+    let laid_down: Vec<&str> = between(&answer, "-> [u64; 5] {", "]")
         .lines()
         .filter_map(|line| line.split("r.").nth(1))
         .filter_map(|item| item.split(|c: char| !c.is_alphabetic()).next())
         .collect();
     assert_eq!(laid_down, fields);
+    let export = file("crates/compare/src/exports.rt");
     assert!(export.contains(&format!("answer: &mut [u64; {}]", fields.len())));
 }
 

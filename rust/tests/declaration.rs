@@ -176,10 +176,11 @@ fn the_undos_length_is_the_last_field() {
     let header = header();
     let fields = "\n    json_patch_answer answer;\n    uint64_t undo;\n";
     assert_eq!(between(&header, "typedef struct json_patch_undo_answer {", "}"), fields);
-    let export = file("crates/undo/src/exports.rt");
-    let laid_down: Vec<&str> = items(between(&export, "*answer = [", "]"))
+    let source = file("crates/undo/src/answer.rt");
+    // the answer's fields by their names, as `From<Answer>` lays them down, and then the undo's length
+    let laid_down: Vec<&str> = items(between(&source, "r.answer.into();\n        [", "]"))
         .into_iter()
-        .map(|item| between(item, ".", " as u64"))
+        .map(|item| item.trim_start_matches("r.").trim_end_matches(" as u64"))
         .collect();
     let mut wanted = fields_of_header("answer", "uint64_t");
     wanted.push("undo".to_string());
@@ -204,8 +205,7 @@ fn the_answers_fields_are_those_of_the_call() {
         .map(|field| typed(field).0)
         .collect();
     assert_eq!(of_call, fields);
-    let export = file("crates/json_patch/src/exports.rt");
-    let laid_down: Vec<&str> = items(between(&export, "*answer = [", "]"))
+    let laid_down: Vec<&str> = items(between(&source, "-> [u64; 6] {", "]"))
         .into_iter()
         .map(|item| between(item, "r.", " as u64"))
         .collect();

@@ -33,12 +33,13 @@ fn the_fields_are_those_of_the_call() {
         .filter_map(|line| line.trim().strip_prefix("pub ")?.strip_suffix(": u64,"))
         .collect();
     assert_eq!(of_rust, fields);
-    let export = file("crates/inspect/src/exports.rt");
-    let laid_down: Vec<&str> = between(&export, "*answer = [", "]")
+    let answer = file("crates/inspect/src/answer.rt");
+    let laid_down: Vec<&str> = between(&answer, "let c = r.counts;", "]")
         .split(',')
         .filter_map(|item| item.trim().strip_suffix(" as u64")?.split('.').nth(1))
         .collect();
     assert_eq!(laid_down, fields);
+    let export = file("crates/inspect/src/exports.rt");
     assert!(export.contains(&format!("answer: &mut [u64; {}]", fields.len())));
 }
 

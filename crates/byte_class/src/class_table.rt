@@ -42,10 +42,8 @@ fn put_row(table: &mut [u8; 256], rows: &[[u8; 16]; 16], i: usize)
     requires { (i < 16) × Filled rows.now (16 * i) table.old }
     ensures { Filled rows.now (16 * i + 16) table.new }
 {
-    let mut j = 0;
-    while j < 16 {
+    for j in 0..16 {
         table[16 * i + j] = rows[i][j];
-        j += 1;
     }
 }
 
@@ -54,10 +52,8 @@ fn flat(rows: &[[u8; 16]; 16]) -> [u8; 256]
     ensures { Filled rows.now 256 result }
 {
     let mut table = [0; 256];
-    let mut i = 0;
-    while i < 16 {
+    for i in 0..16 {
         put_row(&mut table, rows, i);
-        i += 1;
     }
     table
 }

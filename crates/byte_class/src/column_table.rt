@@ -28,10 +28,8 @@ fn lay(table: &mut [u8; 256], low: usize, high: usize, v: u8)
     requires { (low ≤ high) × (high ≤ 256) × (length table.old ≡ 256) }
     ensures { Laid low high v table.old table.new }
 {
-    let mut b = low;
-    while b < high {
+    for b in low..high {
         table[b] = v;
-        b += 1;
     }
 }
 

@@ -1,4 +1,3 @@
 pub mod NumeralLaws
 pub mod PlaceLaws
-pub mod SameLaws
 pub mod TakingLaws

@@ -3,4 +3,3 @@ pub mod Numerals
 pub mod Places
 pub mod Same
 pub mod Taking
-pub mod Within

@@ -1,24 +1,17 @@
 -- Words and parts of a file, by places in it.
-use Rattle.std.specs.Prelude.{ℕ, suc, ◌+◌, ◌-◌, List, [], ◌∷◌, eqb, leb, ltb, length, take, drop, get_or}
-use Rattle.std.specs.Prelude.{if◌then◌else◌}
-use Rattle.cases.specs.declared.words.Place.{Place}
-use Rattle.cases.specs.declared.words.Place.TheVariants.{At, Nowhere}
+use Rattle.std.specs.Prelude.{ℕ, ◌+◌, ◌-◌, List, [], ◌==◌, eqb, leb, ltb, length, take, drop, get_or, position}
+use Rattle.std.specs.Prelude.{if◌then◌else◌, Option, Some, None, option_and_then, option_map}
 use Rattle.cases.specs.declared.words.Part.{Part}
 use Rattle.cases.specs.declared.words.Taken.{Taken}
-use Rattle.cases.specs.declared.words.Taken.TheVariants.{Is, Missing}
 
--- how many bytes stand before the first `byte`; all, where it is not there
-unfoldable pub before : ℕ → List ℕ → ℕ
-before byte [] = 0
-before byte (b ∷ bs) = if eqb b byte then 0 else suc (before byte bs)
-
--- a place in a file of n bytes
-unfoldable pub placed : ℕ → ℕ → Place
-placed n i = if ltb i n then At i else Nowhere
+-- what is done with the value, if there is one
+infixl 10 ◌>>=◌
+abbrev pub ◌>>=◌ : {A B : Type 0} → Option A → (A → Option B) → Option B
+o >>= next = option_and_then next o
 
 -- the first `byte` from `at` on
-unfoldable pub found : List ℕ → ℕ → ℕ → Place
-found s at byte = placed (length s) (at + before byte (drop at s))
+unfoldable pub found : List ℕ → ℕ → ℕ → Option ℕ
+found s at byte = option_map (λ n. at + n) (position (λ b. b == byte) (drop at s))
 
 -- a part's bytes; none, where the file has no such part
 unfoldable pub cut : List ℕ → Part → List ℕ
@@ -27,22 +20,13 @@ cut s p =
     (if leb p.end (length s) then take (p.end - p.start) (drop p.start s) else [])
     else []
 
--- ---- what is done with a place, or with what was taken, if there is one
-abbrev pub on_place : {A : Type 0} → Place → (ℕ → A) → A → A
-on_place (At i) next none = next i
-on_place Nowhere next none = none
-
-abbrev pub on_taken : {A : Type 0} → Taken → (Part → ℕ → A) → A → A
-on_taken (Is p behind) next none = next p behind
-on_taken Missing next none = none
-
 -- what stands from `at` on up to the byte `end`, and the place behind that
-unfoldable pub word_at : List ℕ → ℕ → ℕ → Taken
-word_at s at end = on_place (found s at end) (λ i. Is (record { start = at; end = i }) (i + 1)) Missing
+unfoldable pub word_at : List ℕ → ℕ → ℕ → Option (Taken Part)
+word_at s at end = found s at end >>= (λ i. Some (record { value = record { start = at; end = i }; next = i + 1 }))
 
 -- `count` bytes from `at` on that a newline ends, and the place behind that
-unfoldable pub bytes_at : List ℕ → ℕ → ℕ → Taken
+unfoldable pub bytes_at : List ℕ → ℕ → ℕ → Option (Taken Part)
 bytes_at s at count =
     if ltb (at + count) (length s) then
-    (if eqb (get_or s (at + count) 0) 10 then Is (record { start = at; end = at + count }) (at + count + 1) else Missing)
-    else Missing
+    (if eqb (get_or s (at + count) 0) 10 then Some (record { value = record { start = at; end = at + count }; next = at + count + 1 }) else None)
+    else None

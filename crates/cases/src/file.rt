@@ -1,43 +1,22 @@
 // The file of cases.
-ghost use Rattle.std.specs.Prelude.{◌≡◌, length};
-ghost use Rattle.cases.specs.Within.{Within};
+ghost use Rattle.std.specs.Prelude.{◌≡◌, ◌≤◌, IfSome, length};
 
-use std::io::Read;
+use crate::lines::print_no_case;
+use crate::reading::{Case, case_at};
+use std::io;
 use std::rt::{Env, Files};
-use streams::{NAME, argument, open_named, read_full};
+use streams::{open_argument, read_all};
 
 // Room for the file of cases.
 const FILE: usize = 1_048_576;
 
-#[derive(Clone, Copy)]
-pub enum Contents {
-    Bytes(usize),
-    Unreadable,
-}
-
-// All of the file's bytes, if the buffer has room for them.
-fn read_all<R: Read>(file: &mut R, buf: &mut [u8]) -> Contents
-    ensures { Within (length buf.new) result }
+// All of the file that argument 1 names, which is read to the front of `buf`, if the buffer has room for it.
+pub fn read_cases<'a, R: Env + Files>(rt: &R, buf: &'a mut [u8]) -> Option<&'a [u8]>
+    ensures { IfSome result (λ file. length file.now ≤ length buf.old) }
 {
-    let n = read_full(file, buf);
-    // another read answers 0 at the end of the file, and only there
-    let mut more = [0u8; 1];
-    let Ok(0) = file.read(&mut more) else {
-        return Contents::Unreadable;
-    };
-    Contents::Bytes(n)
-}
-
-// The contents of the file that argument 1 names.
-pub fn read_cases<R: Env + Files>(rt: &R, buf: &mut [u8]) -> Contents
-    ensures { Within (length buf.new) result }
-{
-    let mut path = [0u8; NAME];
-    let n = argument(rt, 1, &mut path);
-    let Some(mut file) = open_named(rt, &path[..n]) else {
-        return Contents::Unreadable;
-    };
-    read_all(&mut file, buf)
+    let mut file = open_argument(rt, 1)?;
+    let n = read_all(&mut file, buf)?;
+    Some(&buf[..n])
 }
 
 // A buffer for the file. The `ensures` gives only the length, which lending it needs.
@@ -45,4 +24,26 @@ pub fn buffer() -> [u8; FILE]
     ensures { 1_048_576 ≡ length result }
 {
     [0; FILE]
+}
+
+// One case after another, to the end of the file, is put to `run`, with the place where it begins. Where no case begins
+// a line says so.
+pub fn each_case<P: Print, F: FnMut(usize, Case) -> io::Result<()>>(
+    rt: &P,
+    file: &[u8],
+    rooms: usize,
+    texts: usize,
+    mut run: F,
+) -> io::Result<()>
+    requires { F.IsAlwaysCallable run }
+{
+    let mut at = 0;
+    while at < file.len() {
+        let Some(case) = case_at(file, at, rooms, texts) else {
+            return print_no_case(rt, at);
+        };
+        run(at, case)?;
+        at = case.next;
+    }
+    Ok(())
 }

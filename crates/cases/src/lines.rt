@@ -1,16 +1,14 @@
 // What is printed. A write that fails is the answer's error.
+use crate::reading::Case;
+use crate::words::bytes_of;
 use std::io;
 
-pub fn say<P: Print>(rt: &P, text: &[u8]) -> io::Result<()> {
-    rt.write_all(text)
-}
-
-pub fn say_number<P: Print>(rt: &P, n: u64) -> io::Result<()> {
-    rt.print(n)
+// What a case's line begins with.
+pub fn print_name<P: Print>(rt: &P, file: &[u8], c: Case) -> io::Result<()> {
+    rt.write_all(bytes_of(file, c.name))?;
+    print!(rt; ": ")
 }
 
 pub fn print_no_case<P: Print>(rt: &P, at: usize) -> io::Result<()> {
-    say(rt, b"no case at byte ")?;
-    say_number(rt, at as u64)?;
-    say(rt, b"\n")
+    println!(rt; "no case at byte {at}")
 }

@@ -1,25 +1,22 @@
 // Words and parts of the file.
-ghost use Rattle.std.specs.Prelude.{◌≡◌, take};
+ghost use Rattle.std.specs.Prelude.{◌≡◌, ◌==◌, ◌<◌, IfSome, length, take, position};
 ghost use Rattle.cases.specs.Taking.{found, cut, word_at, bytes_at};
 
-#[derive(Clone, Copy)]
-pub enum Place {
-    At(usize),
-    Nowhere,
+// The first `byte`.
+fn first(bytes: &[u8], byte: u8) -> Option<usize>
+    ensures { result ≡ position (λ b. b == byte) bytes.now }
+{
+    bytes.iter().position(|b| *b == byte)
 }
 
 // The first `byte` from `at` on.
-fn find(file: &[u8], at: usize, byte: u8) -> Place
-    ensures { result ≡ found file.now at byte }
+#[tactic(auto, unfolding(crate::specs::Taking::found))]
+fn find(file: &[u8], at: usize, byte: u8) -> Option<usize>
+    ensures place { result ≡ found file.now at byte }
+    ensures inside { IfSome result (λ i. i < length file.now) }
 {
-    let mut i = at;
-    while i < file.len() {
-        if file[i] == byte {
-            return Place::At(i);
-        }
-        i += 1;
-    }
-    Place::Nowhere
+    let n = first(file.get(at..)?, byte)?;
+    Some(at + n)
 }
 
 // A part of the file.
@@ -30,60 +27,49 @@ pub struct Part {
 }
 
 // A part's bytes; none if the file has no such part.
+#[tactic(auto, unfolding(crate::specs::Taking::cut))]
 pub fn bytes_of<'a>(file: &'a [u8], p: Part) -> &'a [u8]
     ensures { result.now ≡ cut file.now p }
 {
-    let start = p.start;
-    let end = p.end;
-    if end < start {
-        return &file[..0];
-    }
-    if file.len() < end {
-        return &file[..0];
-    }
-    &file[start..end]
+    file.get(p.start..p.end).unwrap_or(&file[..0])
 }
 
 // The first `n` bytes, or all if there are fewer.
 pub fn front<'a>(bytes: &'a [u8], n: usize) -> &'a [u8]
     ensures { result.now ≡ take n bytes.now }
 {
-    if bytes.len() < n {
-        return bytes;
-    }
-    &bytes[..n]
+    bytes.get(..n).unwrap_or(bytes)
 }
 
-// A part, and the place behind the byte that ends it.
+// What was taken from the file, and the place behind it and the byte that ends it.
 #[derive(Clone, Copy)]
-pub enum Taken {
-    Is(Part, usize),
-    Missing,
+pub struct Taken<T> {
+    pub value: T,
+    pub next: usize,
 }
 
 // What stands from `at` on, up to the byte `end`.
-pub fn word_at(file: &[u8], at: usize, end: u8) -> Taken
+#[tactic(auto, unfolding(crate::specs::Taking::word_at))]
+pub fn word_at(file: &[u8], at: usize, end: u8) -> Option<Taken<Part>>
     ensures { result ≡ word_at file.now at end }
 {
-    let Place::At(i) = find(file, at, end) else {
-        return Taken::Missing;
-    };
-    Taken::Is(Part { start: at, end: i }, i + 1)
+    let i = find(file, at, end)?;
+    let value = Part { start: at, end: i };
+    Some(Taken { value, next: i + 1 })
 }
 
 // `count` bytes that a newline ends.
-pub fn bytes_at(file: &[u8], at: usize, count: usize) -> Taken
+#[tactic(auto, unfolding(crate::specs::Taking::bytes_at))]
+pub fn bytes_at(file: &[u8], at: usize, count: usize) -> Option<Taken<Part>>
     ensures { result ≡ bytes_at file.now at count }
 {
-    if file.len() <= at {
-        return Taken::Missing;
+    let end = at.checked_add(count)?;
+    if *file.get(end)? != b'\n' {
+        return None;
     }
-    if file.len() - at <= count {
-        return Taken::Missing;
-    }
-    let end = at + count;
-    if file[end] != b'\n' {
-        return Taken::Missing;
-    }
-    Taken::Is(Part { start: at, end }, end + 1)
+    let value = Part { start: at, end };
+    Some(Taken {
+        value,
+        next: end + 1,
+    })
 }

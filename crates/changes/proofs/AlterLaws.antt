@@ -1,4 +1,5 @@
 -- Laws of a change at the parent of a location: down to the child that a token names, and up again with the change made there.
+use Rattle.std.specs.Prelude.{Result, Ok, Err}
 use Prim.Native.Nat.{ℕ, suc, ◌+◌, ◌-◌, ◌≤◌, ◌<◌}
 use native.Mathlib.Omega.{arith}
 use native.Mathlib.Decide.{dec_lt}
@@ -7,6 +8,9 @@ use mathlib.Core.List.{List, [], ◌∷◌, ◌++◌}
 use lib.ListN.{length, get_or}
 use Rattle.spec.specs.Outcome.{Outcome, ok, refused, ◌>>=◌}
 use Rattle.spec.specs.Refusal.{location_missing}
+use Rattle.spec.specs.Fault.{number_of}
+use Rattle.spec.specs.declared.refusal.Refusal.{Refusal}
+use Rattle.spec.specs.declared.refusal.Fault.{Fault}
 use Rattle.spec.specs.Limits.{max_depth, max_nodes}
 use Rattle.spec.specs.Bytes.{Text}
 use Rattle.spec.specs.Forest.{Forest, Tree, count, size, before, from, nth, replace_at}
@@ -40,22 +44,19 @@ use Rattle.pointer.proofs.WalkLaws.{next_order}
 use Rattle.walk.specs.Bearing.{borne}
 use Rattle.walk.specs.Path.{farther_by}
 use Rattle.walk.specs.Step.{StepIs}
-use Rattle.walk.specs.declared.steps.Child.{Child}
 use Rattle.walk.proofs.Children.{forget-borne, child-meant, child-borne, child_at-borne, sound_child}
 use Rattle.walk.proofs.StepLaws.{child-scalar}
 use Rattle.changes.specs.Limited.{limited_to}
 use Rattle.changes.specs.Site.{Surroundings, Standing, Site}
-use Rattle.changes.specs.Rows.{SameBehind, framed, unchanged, walked_to, resized}
+use Rattle.changes.specs.Rows.{SameBehind, framed, unchanged, walked_to, told_at, resized}
 use Rattle.changes.specs.Change.{ByToken, ChangeAnswers, done, refusal, SiteOf, Makes, adds, removes, replaces, ChangeChildIs, Alters, AlterIs}
-use Rattle.changes.specs.declared.trees.Parent.{Parent}
+use Rattle.changes.specs.declared.parent.Parent.{Parent}
 use Rattle.changes.specs.declared.answers.Change.{Change}
-use Rattle.changes.specs.declared.answers.Altered.{Altered}
-use Rattle.changes.specs.declared.answers.Altered.TheVariants.{Done, Refused}
 use Rattle.changes.proofs.LimitLaws.{limited-put}
 use Rattle.changes.proofs.KeptLaws.{formed_alone, behind_set, behind_long, frame_done, frame_refused}
 use Rattle.changes.proofs.SiteLaws.{site_fit, site_inside}
 use Rattle.changes.proofs.BorneLaws.{nodes-borne, put-borne, name_fits}
-use Rattle.changes.proofs.ChangeLaws.{same_answers, answers_refused, insert_scalar, no_child, the_child}
+use Rattle.changes.proofs.ChangeLaws.{same_answers, answers_refused, insert_scalar, told_ok, told_err, no_child, the_child}
 use Rattle.changes.proofs.TokenLaws.{TokenRead, one_left, more_left}
 
 -- ---- a scalar has no children
@@ -67,6 +68,7 @@ module _ (w : Table) (c : Cell) (kids : Forest Cell) (fit : Fit c kids) (scalar 
   no-object e = omega arith
 
   scalar-child : (t : Text) → child_at t (borne w.texts c kids) ≡ refused location_missing 0
+  unfolding number_of
   scalar-child t = child_at-borne w.texts t c kids (child-scalar w.texts c kids fit.kind t no-array no-object)
 
   scalar_change : {change : Change} {f : ByToken} → Makes w change f → (t : Text) → f t (borne w.texts c kids) ≡ refused location_missing 0
@@ -83,9 +85,10 @@ module _ (w : Table) (c : Cell) (kids : Forest Cell) (fit : Fit c kids) (scalar 
 
 -- a node that nests no container is one
 alter_scalar : {w : Table} {used row : ℕ} (z : Site w used row 0) {nodes' : List Row} {path : Spelling} {at walked place : ℕ} {change : Change}
-    → place ≡ walked → Alters walked z nodes' path at change (Refused location_missing place)
-alter_scalar {w} z e f t ts makes short inside from =
-    answers_refused (scalar_alters w z.c z.kids (site_fit z) (go (dec_lt z.c.kind array_kind)) makes t ts) e
+    → place ≡ walked → Alters walked z nodes' path at change (Err (record { refusal = Refusal.LocationMissing; place = place }))
+unfolding number_of
+alter_scalar {w} z {place = place} e f t ts makes short inside from =
+    answers_refused (record { refusal = Refusal.LocationMissing; place = place }) (scalar_alters w z.c z.kids (site_fit z) (go (dec_lt z.c.kind array_kind)) makes t ts) e
   where
     go : Dec (z.c.kind < array_kind) → z.c.kind < array_kind
     go (yes l) = l
@@ -97,14 +100,9 @@ alter_scalar {w} z e f t ts makes short inside from =
           level-container z.c (deep z.kids) (omega arith),
         ))
 
--- ---- a parent outside the rows in use is no site
-pub alter_outside : {w : Table} {p : Parent} {path : Spelling} {at place : ℕ} {change : Change} → p.used ≤ p.row
-    → AlterIs w w.nodes p path at change (Refused location_missing place)
-alter_outside h = record { frame = unchanged refl; held = λ z f t ts makes short inside from. absurd (omega (arith, site_inside z)) }
-
 -- ---- the last token
 module _ {w : Table} {p : Parent} {path : Spelling} {at : ℕ} {name : Name} {t : Token} {change : Change} (read : TokenRead w.texts path at t name) where
-  pub alter_last : {nodes' : List Row} {r : Altered} (end : ℕ) → t ≡ Token.Last end → ChangeChildIs w nodes' p name change r
+  pub alter_last : {nodes' : List Row} {r : Result ℕ Fault} (end : ℕ) → t ≡ Token.Last end → ChangeChildIs w nodes' p name change r
       → AlterIs w nodes' p path at change r
   unfolding at_parent
   alter_last end e changed =
@@ -118,15 +116,16 @@ module _ {w : Table} {p : Parent} {path : Spelling} {at : ℕ} {name : Name} {t 
       }
 
   -- ---- a token that names no child
-  pub alter_refused : {end next : ℕ} (s : Child) → StepIs w p.row name s → t ≡ Token.Next end next → (number : ℕ) → s ≡ Child.Refused number
-      → (place : ℕ) → place ≡ walked_to p → AlterIs w w.nodes p path at change (Refused number place)
+  pub alter_refused : {end next : ℕ} (s : Result ℕ Refusal) → StepIs w p.row name s → t ≡ Token.Next end next → {told : Result ℕ Fault}
+      → told ≡ told_at (walked_to p) s → (f : Fault) → told ≡ Err f → AlterIs w w.nodes p path at change (Err f)
   unfolding at_parent ◌>>=◌
-  alter_refused {end} {next} s is e number g place walked =
+  alter_refused {end} {next} s is e tells f g =
+      let found = told_err _ s tells g in
       record {
         frame = unchanged refl;
-        held = λ z f u us makes short inside from.
+        held = λ z change u us makes short inside from.
             more_left read short inside from end next e λ v vs more first later.
-            answers_refused (rw (more, first, no_child s is z (read.named.names short inside).token g)) walked;
+            answers_refused f (rw (more, first, no_child s is z (read.named.names short inside).token found.0)) found.1;
       }
 
 -- ---- down to a child
@@ -252,8 +251,8 @@ module _ {w : Table} {used row levels : ℕ} (z : Site w used row levels) (t : T
 
   -- each way in which the change of the child ends
   module _ {nodes' : List Row} {o : Outcome Value.Value} where
-    up_done : {now : ℕ} → now ≤ max_nodes → SameBehind w.nodes nodes' → ChangeAnswers child_site nodes' o (Done now)
-        → ChangeAnswers z (resized nodes' row used now) (put_back o) (Done now)
+    up_done : {now : ℕ} → now ≤ max_nodes → SameBehind w.nodes nodes' → ChangeAnswers child_site nodes' o (Ok now)
+        → ChangeAnswers z (resized nodes' row used now) (put_back o) (Ok now)
     unfolding child_site ◌>>=◌
     up_done few same (done {kids = changed} e stands) =
         let then-value = borne w.texts z.c (replace_at k (record { root = b.root; kids = changed }) z.kids) in
@@ -261,7 +260,7 @@ module _ {w : Table} {used row levels : ℕ} (z : Site w used row levels) (t : T
         limits o ∙ ap put_back e ∙ ap ok (put-borne w.texts k z.c z.kids b.root changed) in
         done passed (up_standing few same stands)
 
-    up_refused : {number place : ℕ} → ChangeAnswers child_site nodes' o (Refused number place) → ChangeAnswers z nodes' (put_back o) (Refused number place)
+    up_refused : {f : Fault} → ChangeAnswers child_site nodes' o (Err f) → ChangeAnswers z nodes' (put_back o) (Err f)
     unfolding child_site ◌>>=◌
     up_refused (refusal e) = refusal (limits o ∙ ap put_back e)
 
@@ -293,7 +292,7 @@ module _ {w : Table} {used row levels : ℕ} (z : Site w used row levels) (t : T
             sound = all_replace_at k z.standing.sound kept (all_single kept cell stands.sound);
           }
 
-    pub up_same : {y : Value.Value} → ChangeAnswers child_site nodes' (ok y) (Done used) → ChangeAnswers z nodes' (ok (put k y v)) (Done used)
+    pub up_same : {y : Value.Value} → ChangeAnswers child_site nodes' (ok y) (Ok used) → ChangeAnswers z nodes' (ok (put k y v)) (Ok used)
     unfolding child_site ◌>>=◌
     up_same {y} (done {kids = changed} e stands) =
         let then-value = borne w.texts z.c (replace_at k (record { root = b.root; kids = changed }) z.kids) in
@@ -311,11 +310,11 @@ abbrev down : (w : Table) (p : Parent) (name : Name) (inner below : ℕ) → p.b
     → Site w p.used inner below
 down w p name inner below one_less z k n = child_site z (name_text w.texts name) k below (ap suc one_less) n.0 n.1 inner n.2
 
-module _ {w : Table} {p : Parent} {path : Spelling} {at : ℕ} {name : Name} {end next : ℕ} {t : Token} (change : Change)
-    (read : TokenRead w.texts path at t name) (e : t ≡ Token.Next end next) (below : ℕ) (one_less : p.below ≡ below) (s : Child)
-    (is : StepIs w p.row name s) (inner : ℕ) (there : s ≡ Child.At inner) where
+module _ {w : Table} (p : Parent) {path : Spelling} {at : ℕ} {name : Name} {end next : ℕ} {t : Token} (change : Change)
+    (read : TokenRead w.texts path at t name) (e : t ≡ Token.Next end next) (below : ℕ) (one_less : p.below ≡ below) (s : Result ℕ Refusal)
+    (is : StepIs w p.row name s) {told : Result ℕ Fault} (tells : told ≡ told_at (walked_to p) s) (inner : ℕ) (there : told ≡ Ok inner) where
   -- what is done with the child's answer
-  through : {nodes' ended : List Row} {r : Altered} (z : SiteOf w p)
+  through : {nodes' ended : List Row} {r : Result ℕ Fault} (z : SiteOf w p)
       → ((y : Site w p.used inner below) → Alters (walked_to p + 1) y nodes' path next change r)
       → ((k : ℕ) (n : ChildOf w p name inner z k) (o : Outcome Value.Value) → ChangeAnswers (down w p name inner below one_less z k n) nodes' o r
       → ChangeAnswers z ended (o >>= λ x. ok (put k x (borne w.texts z.c z.kids))) r)
@@ -323,7 +322,7 @@ module _ {w : Table} {p : Parent} {path : Spelling} {at : ℕ} {name : Name} {en
   unfolding child_site
   through {nodes'} {ended} {r} z alters up f u us makes short inside from =
       more_left read short inside from end next e λ v vs more first later.
-      the_child s is z (read.named.names short inside).token there λ k named kth place.
+      the_child s is z (read.named.names short inside).token (told_ok _ s tells there) λ k named kth place.
       let n : ChildOf w p name inner z k = (named, kth, place) in
       let o = at_parent f v vs (borne w.texts (nth blank k z.kids).root (nth blank k z.kids).kids) in
       let within = (next_order (part_of w.texts path) at t read.is end next e).2 in
@@ -334,45 +333,58 @@ module _ {w : Table} {p : Parent} {path : Spelling} {at : ℕ} {name : Name} {en
       let behind = farther_back z (name_text w.texts name) k below (ap suc one_less) named kth inner place (walked_to p) o in
       same_answers (ap (farther_by (walked_to p)) same ∙ behind) (up k n (farther_by (walked_to p + 1) o) answer)
 
-  back_refused : {nodes' : List Row} {number told : ℕ} (z : SiteOf w p) (k : ℕ) (n : ChildOf w p name inner z k) (o : Outcome Value.Value)
-      → ChangeAnswers (down w p name inner below one_less z k n) nodes' o (Refused number told)
-      → ChangeAnswers z nodes' (o >>= λ x. ok (put k x (borne w.texts z.c z.kids))) (Refused number told)
+  back_refused : {nodes' : List Row} {f : Fault} (z : SiteOf w p) (k : ℕ) (n : ChildOf w p name inner z k) (o : Outcome Value.Value)
+      → ChangeAnswers (down w p name inner below one_less z k n) nodes' o (Err f)
+      → ChangeAnswers z nodes' (o >>= λ x. ok (put k x (borne w.texts z.c z.kids))) (Err f)
   back_refused z k n o answer = up_refused z (name_text w.texts name) k below (ap suc one_less) n.0 n.1 inner n.2 answer
 
   -- a child that nests no container has no children
-  pub alter_flat : below ≡ 0 → (place : ℕ) → place ≡ walked_to p → AlterIs w w.nodes p path at change (Refused location_missing (place + 1))
+  pub alter_flat : below ≡ 0 → (place : ℕ) → place ≡ walked_to p
+      → AlterIs w w.nodes p path at change (Err (record { refusal = Refusal.LocationMissing; place = place + 1 }))
   alter_flat none place walked =
       record {
         frame = unchanged refl;
         held = λ z. through z (flat below none) (back_refused z);
       }
     where
+      missing : Result ℕ Fault
+      missing = Err (record { refusal = Refusal.LocationMissing; place = place + 1 })
+
       Flat : ℕ → Type 0
-      Flat n = (y : Site w p.used inner n) → Alters (walked_to p + 1) y w.nodes path next change (Refused location_missing (place + 1))
+      Flat n = (y : Site w p.used inner n) → Alters (walked_to p + 1) y w.nodes path next change missing
 
       flat : (n : ℕ) → n ≡ 0 → Flat n
       flat n none = subst Flat (sym none) λ y. alter_scalar y (ap (λ m. m + 1) walked)
 
-  module _ (lower : ℕ) (lower-is : below ≡ suc lower) (levels : p.below < max_depth) {nodes' : List Row} (r : Altered)
-      (alters : AlterIs w nodes' (record { used = p.used; row = inner; below = lower }) path next change r) where
-    at_child : {q : Altered} → r ≡ q → (y : Site w p.used inner below) → Alters (walked_to p + 1) y nodes' path next change q
+  -- a child outside the rows in use is no site
+  pub alter_outside : (f : Fault) → p.used ≤ inner → AlterIs w w.nodes p path at change (Err f)
+  alter_outside f out =
+      record {
+        frame = unchanged refl;
+        held = λ z. through z (λ y g u us makes short inside from. absurd (omega (arith, site_inside y))) (back_refused z);
+      }
+
+  module _ (lower : ℕ) (lower-is : below ≡ suc lower) {low : (p.used ≤ max_nodes) × (inner < p.used) × (lower < max_depth)}
+      {nodes' : List Row} (r : Result ℕ Fault)
+      (alters : AlterIs w nodes' (record { used = p.used; row = inner; below = lower; low = low }) path next change r) where
+    at_child : {q : Result ℕ Fault} → r ≡ q → (y : Site w p.used inner below) → Alters (walked_to p + 1) y nodes' path next change q
     at_child {q} g =
-        let one_more : max_depth - 1 - lower ≡ walked_to p + 1 = omega arith in
+        let one_more : max_depth - 1 - lower ≡ walked_to p + 1 = omega (arith, p.low) in
         subst (λ m. (y : Site w p.used inner m) → Alters (walked_to p + 1) y nodes' path next change q) (sym lower-is)
         λ y.
         subst (λ n. Alters n y nodes' path next change q) one_more
         (subst (λ a. Alters (max_depth - 1 - lower) y nodes' path next change a) g (alters.held y))
 
-    pub alter_done : p.used ≤ max_nodes → p.row < p.used → (now : ℕ) → r ≡ Done now → {ended : List Row} → ended ≡ resized nodes' p.row p.used now
-        → AlterIs w ended p path at change (Done now)
-    alter_done low inside now g is-ended =
+    pub alter_done : (now : ℕ) → r ≡ Ok now → {ended : List Row} → ended ≡ resized nodes' p.row p.used now
+        → AlterIs w ended p path at change (Ok now)
+    alter_done now g is-ended =
         let kept = frame_done g alters.frame in
         record {
-          frame = rw is-ended (framed kept.0 (behind_set p.row _ (omega arith) kept.1));
+          frame = rw is-ended (framed kept.0 (behind_set p.row _ (omega (arith, p.low.0, p.low.1)) kept.1));
           held = λ z.
               through z (at_child g) λ k n o answer.
               rw is-ended (up_done z (name_text w.texts name) k below (ap suc one_less) n.0 n.1 inner n.2 kept.0 kept.1 answer);
         }
 
-    pub alter_not : (number place : ℕ) → r ≡ Refused number place → AlterIs w nodes' p path at change r
-    alter_not number place g = rw g (record { frame = unchanged (frame_refused g alters.frame); held = λ z. through z (at_child g) (back_refused z) })
+    pub alter_not : (f : Fault) → r ≡ Err f → AlterIs w nodes' p path at change (Err f)
+    alter_not f g = record { frame = unchanged (frame_refused g alters.frame); held = λ z. through z (at_child g) (back_refused z) }

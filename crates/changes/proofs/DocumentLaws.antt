@@ -1,10 +1,13 @@
 -- Laws of the document in the table, and of the value at a location of it.
+use Rattle.std.specs.Prelude.{Result, Ok, Err}
 use Prim.Native.Nat.{ℕ, suc, ◌+◌, ◌≤◌, ◌<◌}
 use native.Mathlib.Omega.{arith}
 use mathlib.Core.Path.{◌≡◌, refl, ap, sym, ◌∙◌, subst}
 use mathlib.Core.List.{List, [], append-nil}
 use lib.ListN.{length}
 use Rattle.spec.specs.Outcome.{Outcome, ok, refused}
+use Rattle.spec.specs.Fault.{number_of}
+use Rattle.spec.specs.declared.refusal.Fault.{Fault}
 use Rattle.spec.specs.Limits.{max_depth, max_nodes}
 use Rattle.spec.specs.Forest.{Forest, none, tree, size}
 use Rattle.spec.specs.Value as Value
@@ -30,13 +33,11 @@ use Rattle.origin.specs.Pointer as Origins
 use Rattle.walk.specs.Bearing.{borne}
 use Rattle.walk.specs.Path.{PathIs, WalkedBy, Walked, WalkedBearing, reached, lost, WalkIs}
 use Rattle.walk.proofs.Children.{forget-borne}
-use Rattle.walk.specs.declared.path.Reached.{Reached}
 use Rattle.changes.specs.Site.{Surroundings, Standing, Site, table}
 use Rattle.changes.specs.Rows.{Frame}
 use Rattle.changes.specs.Change.{ChangeAnswers, done, refusal}
 use Rattle.changes.specs.Document as Document
 use Rattle.changes.specs.Document.{Document, judged, Bearing, judged_bearing, ResultsBearing, results}
-use Rattle.changes.specs.declared.answers.Altered.{Altered}
 use Rattle.changes.proofs.LimitLaws as LimitLaws
 use Rattle.changes.proofs.LimitLaws.{limited_whole, limited_same, judged_fits}
 use Rattle.changes.proofs.KeptLaws.{formed_alone, behind_long, frame_done}
@@ -92,7 +93,7 @@ standing_document {T} {c = c} {kids} s few shallow long =
     }
 
 -- what is answered of that node is what becomes of the document
-pub document-answers : {w : Table} {nodes' : List Row} {used : ℕ} {v : Value.Value} (d : Document w used v) {o : Outcome Origin.Value} {r : Altered}
+pub document-answers : {w : Table} {nodes' : List Row} {used : ℕ} {v : Value.Value} (d : Document w used v) {o : Outcome Origin.Value} {r : Result ℕ Fault}
     → Frame w.nodes nodes' r → ChangeAnswers (document_site d) nodes' o r → ResultsBearing w.texts nodes' (judged_bearing o) r
 unfolding document_site
 document-answers {w} d {o} frame (done {kids = kids} e stands) =
@@ -114,30 +115,27 @@ bearing_fits {v = v} b = LimitLaws.bearing_fits v b.document.shallow (few_nodes 
 
 -- ---- the value at a location of the document
 module _ {A : Type 0} {means : Texts → Cell → Forest Cell → A} {w : Table} {start span : ℕ} {o : Outcome A} where
-  walked_to : {C : Type 0} {q : Reached} (row : ℕ) → WalkedBy means w start span o q → q ≡ Reached.At row
+  walked_to : {C : Type 0} {q : Result ℕ Fault} (row : ℕ) → WalkedBy means w start span o q → q ≡ Ok row
       → ((c : Cell) (kids : Forest Cell) → o ≡ ok (means w.texts c kids) → NodeHeld w row c kids → row + size kids ≤ start + span → C) → C
   walked_to row (reached {at} {c} {kids} f node low high) g then-it =
       let same : at ≡ row = cc in
       then-it c kids f (rw same at node) (omega arith)
   walked_to row (lost f) g then-it = absurd (let z : ◌≡◌ {A = ℕ} 0 1 = cc in omega arith)
 
-  walked_off : {number place : ℕ} {q : Reached} → WalkedBy means w start span o q → q ≡ Reached.Lost number place → o ≡ refused number place
+  walked_off : {e : Fault} {q : Result ℕ Fault} → WalkedBy means w start span o q → q ≡ Err e → o ≡ refused (number_of e.refusal) e.place
   walked_off (reached f node low high) g = absurd (let z : ◌≡◌ {A = ℕ} 0 1 = cc in omega arith)
-  walked_off {number} {place} (lost {number = n} {walked = k} f) g =
-      let number_same : n ≡ number = cc in
-      let place_same : k ≡ place = cc in
-      f ∙ ap (λ m. refused m k) number_same ∙ ap (refused number) place_same
+  walked_off {e} (lost {e = d} f) g = let same : d ≡ e = cc in f ∙ ap (λ (x : Fault). refused (number_of x.refusal) x.place) same
 
-module _ {w : Table} {used : ℕ} {path : Spelling} {ts : Tokens} (s : Reached) (is : WalkIs w document_row path s) where
+module _ {w : Table} {used : ℕ} {path : Spelling} {ts : Tokens} (s : Result ℕ Fault) (is : WalkIs w document_row path s) where
   module _ {v : Value.Value} (d : Document w used v) (short : Short w.texts) (path_is : PathIs w.texts path ts) where
     walked : Walked w document_row (size d.kids) (walk ts v) s
     walked = subst (λ u. Walked w document_row (size d.kids) (walk ts u) s) d.means (is.held ts short path_is d.c d.kids d.held)
 
-    pub the_value : {C : Type 0} {row : ℕ} → s ≡ Reached.At row
+    pub the_value : {C : Type 0} {row : ℕ} → s ≡ Ok row
         → ((c : Cell) (kids : Forest Cell) → walk ts v ≡ ok (meant w.texts c kids) → NodeHeld w row c kids → row + size kids < used → C) → C
     the_value {C} {row} e then-it = walked_to row walked e λ c kids f node inside. then-it c kids f node (omega (arith, d.ends))
 
-    pub no_value : {number place : ℕ} → s ≡ Reached.Lost number place → walk ts v ≡ refused number place
+    pub no_value : {e : Fault} → s ≡ Err e → walk ts v ≡ refused (number_of e.refusal) e.place
     no_value e = walked_off walked e
 
   -- and with its origins
@@ -149,9 +147,9 @@ module _ {w : Table} {used : ℕ} {path : Spelling} {ts : Tokens} (s : Reached) 
     walked_bearing =
         subst (λ u. WalkedBearing w document_row (size d.kids) (Origins.walk ts u) s) b.bears (is.bearing ts short path_is d.c d.kids d.held)
 
-    pub the_bearing : {C : Type 0} {row : ℕ} → s ≡ Reached.At row
+    pub the_bearing : {C : Type 0} {row : ℕ} → s ≡ Ok row
         → ((c : Cell) (kids : Forest Cell) → Origins.walk ts v ≡ ok (borne w.texts c kids) → NodeHeld w row c kids → row + size kids < used → C) → C
     the_bearing {C} {row} e then-it = walked_to row walked_bearing e λ c kids f node inside. then-it c kids f node (omega (arith, d.ends))
 
-    pub no_bearing : {number place : ℕ} → s ≡ Reached.Lost number place → Origins.walk ts v ≡ refused number place
+    pub no_bearing : {e : Fault} → s ≡ Err e → Origins.walk ts v ≡ refused (number_of e.refusal) e.place
     no_bearing e = walked_off walked_bearing e

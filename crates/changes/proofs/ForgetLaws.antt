@@ -1,4 +1,5 @@
 -- The origins of a document forgotten: what a change answers with them, it answers without.
+use Rattle.std.specs.Prelude.{Result}
 use Prim.Native.Nat.{ℕ}
 use native.Mathlib.Omega.{arith}
 use mathlib.Core.Path.{◌≡◌, refl, ap, sym, ◌∙◌, subst}
@@ -6,6 +7,7 @@ use mathlib.Core.List.{List}
 use lib.Dec.{leb}
 use Rattle.spec.specs.Outcome.{Outcome, ok, refused, ◌>>=◌}
 use Rattle.spec.specs.Limits.{max_depth, max_nodes}
+use Rattle.spec.specs.declared.refusal.Fault.{Fault}
 use Rattle.spec.specs.Value as Plain
 use Rattle.spec.specs.Pointer.{Tokens}
 use Rattle.spec.specs.Operation as PlainOperation
@@ -26,7 +28,6 @@ use Rattle.changes.specs.Document.{Document, judged, Results, results, refusal, 
 use Rattle.changes.specs.Document.{Bearing, judged_bearing, ResultsBearing, AtLocationBearing}
 use Rattle.changes.specs.Document.{MakesBearing, adds_bearing, removes_bearing, replaces_bearing}
 use Rattle.changes.specs.declared.answers.Change.{Change}
-use Rattle.changes.specs.declared.answers.Altered.{Altered}
 
 -- a document's nodes bear some origins
 pub document-bearing : {w : Table} {used : ℕ} {v : Plain.Value} (d : Document w used v) → Bearing w used (borne w.texts d.c d.kids)
@@ -62,7 +63,7 @@ forget-judged o =
     ∙ ap (λ r. r >>= PlainOperation.not_too_large) (forgotten_then o not_too_deep PlainOperation.not_too_deep bearing-deep)
 
 -- ---- what becomes of the document
-pub plain_results : {T : Texts} {nodes' : List Row} {o : Outcome Value.Value} {r : Altered} → ResultsBearing T nodes' o r → Results T nodes' (forgotten o) r
+pub plain_results : {T : Texts} {nodes' : List Row} {o : Outcome Value.Value} {r : Result ℕ Fault} → ResultsBearing T nodes' o r → Results T nodes' (forgotten o) r
 unfolding forgotten
 plain_results (results e b) = results (ap forgotten e) b.document
 plain_results (refusal e) = refusal (ap forgotten e)
@@ -79,7 +80,7 @@ bearing_makes {w = w} (replaces_at source x kids offered) then-it =
     (λ ts v. forget-replace_at_path ts (borne w.texts x kids) v ∙ ap (λ y. PlainOperation.replace_at_path ts y (forget v)) (forget-borne w.texts x kids))
 
 -- the contract, by what it says with origins
-pub change_at_is : {w : Table} {nodes' : List Row} {used : ℕ} {path : Spelling} {change : Change} {r : Altered} → Frame w.nodes nodes' r
+pub change_at_is : {w : Table} {nodes' : List Row} {used : ℕ} {path : Spelling} {change : Change} {r : Result ℕ Fault} → Frame w.nodes nodes' r
     → ((v : Value.Value) → Bearing w used v → Short w.texts → (ts : Tokens) → PathIs w.texts path ts
     → (f : AtLocationBearing) → MakesBearing w change f → ResultsBearing w.texts nodes' (judged_bearing (f ts v)) r) → ChangeAtIs w nodes' used path change r
 change_at_is {w} {nodes'} {r = r} frame all =

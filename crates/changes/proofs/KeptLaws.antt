@@ -1,4 +1,5 @@
 -- Laws of what a change keeps: a forest stands in its rows as long as they are the same, whatever becomes of the others.
+use Rattle.std.specs.Prelude.{Result, Ok, Err}
 use Prim.Native.Nat.{ℕ, ◌+◌, ◌-◌, ◌≤◌, ◌<◌}
 use native.Mathlib.Omega.{arith}
 use native.Mathlib.Decide.{dec_lt}
@@ -7,6 +8,7 @@ use mathlib.Core.List.{List, ◌∷◌, ◌++◌, append_assoc}
 use lib.ListN.{length, take, drop, set, length-drop, take-append-drop}
 use lib.Seq.{take-take, take_at, drop-drop, drop-set-lt}
 use Rattle.spec.specs.Limits.{max_nodes}
+use Rattle.spec.specs.declared.refusal.Fault.{Fault}
 use Rattle.spec.specs.Forest.{Forest, none, tree, size}
 use Rattle.tape.specs.Layout.{patch_row, rows}
 use Rattle.tape.specs.Columns.{used_after, spliced}
@@ -20,8 +22,6 @@ use Rattle.tape.proofs.Cells.{formed_fit, formed_kids, formed_single}
 use Rattle.tape.proofs.Tape.{length-tape, tape_tree, tape-single}
 use Rattle.changes.specs.Site.{Offered, table}
 use Rattle.changes.specs.Rows.{SameBehind, Frame, framed, unchanged}
-use Rattle.changes.specs.declared.answers.Altered.{Altered}
-use Rattle.changes.specs.declared.answers.Altered.TheVariants.{Done, Refused}
 
 -- ---- a tree without those behind it
 pub formed_alone : {c : Cell} {kids rest : Forest Cell} → Formed (tree c kids rest) → Formed (tree c kids none)
@@ -108,15 +108,15 @@ offered_behind same o =
 
 -- ---- what a frame says of each answer
 module _ {nodes nodes' : List Row} where
-  pub frame_done : {r : Altered} {now : ℕ} → r ≡ Done now → Frame nodes nodes' r → (now ≤ max_nodes) × SameBehind nodes nodes'
+  pub frame_done : {r : Result ℕ Fault} {now : ℕ} → r ≡ Ok now → Frame nodes nodes' r → (now ≤ max_nodes) × SameBehind nodes nodes'
   frame_done {now = now} e (framed {now = n} few same) = let i : n ≡ now = cc in (omega arith, same)
   frame_done e (unchanged f) = absurd (let z : ◌≡◌ {A = ℕ} 0 1 = cc in omega arith)
 
-  pub frame_refused : {r : Altered} {number place : ℕ} → r ≡ Refused number place → Frame nodes nodes' r → nodes' ≡ nodes
+  pub frame_refused : {r : Result ℕ Fault} {e : Fault} → r ≡ Err e → Frame nodes nodes' r → nodes' ≡ nodes
   frame_refused e (framed few same) = absurd (let z : ◌≡◌ {A = ℕ} 0 1 = cc in omega arith)
   frame_refused e (unchanged f) = f
 
   -- the rows behind the document's are the same in any case
-  pub frame_behind : {r : Altered} → Frame nodes nodes' r → SameBehind nodes nodes'
+  pub frame_behind : {r : Result ℕ Fault} → Frame nodes nodes' r → SameBehind nodes nodes'
   frame_behind (framed few same) = same
   frame_behind (unchanged e) = record { is = ap (drop patch_row) e }

@@ -1,4 +1,5 @@
 -- Laws of the rows of the patch, which every change of the document keeps.
+use Rattle.std.specs.Prelude.{Result}
 use Prim.Native.Nat.{ℕ, ◌+◌, ◌-◌, ◌≤◌}
 use native.Mathlib.Omega.{arith}
 use mathlib.Core.Path.{◌≡◌, refl, ap, sym, ◌∙◌}
@@ -8,6 +9,7 @@ use lib.ListN.{length, take, drop}
 use lib.Seq.{take-take, drop-drop}
 use borrow.Author.Tests.{leb-true}
 use Rattle.spec.specs.Limits.{max_nodes}
+use Rattle.spec.specs.declared.refusal.Fault.{Fault}
 use Rattle.spec.specs.Forest.{Forest}
 use Rattle.spec.proofs.ListLaws.{drop-take}
 use Rattle.spec.proofs.TextLaws.{both_true}
@@ -20,7 +22,6 @@ use Rattle.tape.proofs.Columns.{take-replaced}
 use Rattle.table.specs.Sound.{RowsHeld}
 use Rattle.changes.specs.Site.{table}
 use Rattle.changes.specs.Rows.{SameBehind, SamePatch, Frame}
-use Rattle.changes.specs.declared.answers.Altered.{Altered}
 use Rattle.changes.proofs.KeptLaws.{SameRows, held_same, frame_behind}
 
 -- ---- rows copied to the scratch rows, wherever they are from, leave those before as they were
@@ -45,7 +46,7 @@ module _ {xs : List Row} where
   pub patch_behind : {ys : List Row} → SameBehind xs ys → SamePatch xs ys
   patch_behind b = record { is = ap (take max_nodes) b.is }
 
-  pub patch_framed : {ys : List Row} {r : Altered} → Frame xs ys r → SamePatch xs ys
+  pub patch_framed : {ys : List Row} {r : Result ℕ Fault} → Frame xs ys r → SamePatch xs ys
   patch_framed f = patch_behind (frame_behind f)
 
   -- and before those of scratch

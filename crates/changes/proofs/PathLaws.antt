@@ -1,13 +1,17 @@
 -- Laws of a change of the document at a location, which may be the root.
+use Rattle.std.specs.Prelude.{Result, Ok, Err}
 use Prim.Native.Nat.{ℕ, suc, ◌+◌, ◌≤◌, ◌<◌}
 use native.Mathlib.Omega.{arith}
 use mathlib.Core.Path.{◌≡◌, refl, ap, sym, ◌∙◌}
 use mathlib.Core.Bool.{Bool, true, false}
+use mathlib.Core.Logic.{◌⊎◌, inl, inr}
 use mathlib.Core.List.{List, [], ◌∷◌}
 use lib.ListN.{take, drop, get_or}
 use borrow.Author.Tests.{leb-true, leb-false}
 use Rattle.spec.specs.Outcome.{ok, ◌>>=◌}
-use Rattle.spec.specs.Refusal.{too_deep, too_many_nodes, malformed_pointer, remove_of_root}
+use Rattle.spec.specs.Fault.{number_of}
+use Rattle.spec.specs.declared.refusal.Refusal.TheVariants as Refusal
+use Rattle.spec.specs.declared.refusal.Fault.{Fault}
 use Rattle.spec.specs.Limits.{max_depth, max_nodes}
 use Rattle.spec.specs.Bytes.{Bytes, Text}
 use Rattle.spec.specs.Forest.{Forest, none, tree, size, ◌⧺◌}
@@ -43,8 +47,6 @@ use Rattle.changes.specs.Document.{MakesBearing, adds_bearing, removes_bearing, 
 use Rattle.changes.specs.Document.{ReplaceDocumentIs, ChangeDocumentIs, ChangeAtIs}
 use Rattle.changes.specs.declared.answers.Change.{Change}
 use Rattle.changes.specs.declared.answers.Change.TheVariants.{Add, Remove, Replace}
-use Rattle.changes.specs.declared.answers.Altered.{Altered}
-use Rattle.changes.specs.declared.answers.Altered.TheVariants.{Done, Refused}
 use Rattle.changes.proofs.LimitLaws.{bearing-deep, bearing_large, bearing_fits}
 use Rattle.changes.proofs.KeptLaws.{formed_alone, behind_long, behind_spliced}
 use Rattle.changes.proofs.BorneLaws.{depth-borne, nodes-borne}
@@ -57,7 +59,7 @@ use Rattle.changes.proofs.DocumentLaws.{nothing_around, document_site, standing_
 -- ---- another tree in the place of the whole document
 -- whatever the table holds, the rows behind stay
 pub replace_frame : {nodes nodes' : List Row} (used source count : ℕ) → used ≤ max_nodes → count ≤ max_nodes → nodes' ≡ spliced nodes used 0 used source count
-    → Frame nodes nodes' (Done count)
+    → Frame nodes nodes' (Ok count)
 replace_frame used source count low few e = rw e (framed few (behind_spliced used 0 used source count (omega arith) (omega arith)))
 
 -- the rows in use exchanged for those of a tree behind them
@@ -82,7 +84,8 @@ module _ {w : Table} {source : ℕ} {x : Cell} {kids : Forest Cell} (offered : O
   depth_offered = depth-borne w.texts x kids (formed_fit offered.held.held.formed).kind (formed_kids offered.held.held.formed)
 
   pub replace_deep : {nodes' : List Row} {r : Bool} → WithinIs w.nodes source max_depth r → r ≡ false
-      → ResultsBearing w.texts nodes' (judged_bearing (ok new-value)) (Refused too_deep 0)
+      → ResultsBearing w.texts nodes' (judged_bearing (ok new-value)) (Err (record { refusal = Refusal.TooDeep; place = 0 }))
+  unfolding number_of
   replace_deep is e =
       let l = leb-false (level x (deep kids)) max_depth (sym (is x kids (held_node offered.held.held)) ∙ e) in
       refusal (bearing-deep new-value (omega (arith, depth_offered)))
@@ -96,11 +99,13 @@ module _ {w : Table} {source : ℕ} {x : Cell} {kids : Forest Cell} (offered : O
     count-size : count ≡ suc (size kids)
     count-size = omega (arith, offered_size offered)
 
-    pub replace_large : {nodes' : List Row} → max_nodes < count → ResultsBearing w.texts nodes' (judged_bearing (ok new-value)) (Refused too_many_nodes 0)
+    pub replace_large : {nodes' : List Row} → max_nodes < count
+        → ResultsBearing w.texts nodes' (judged_bearing (ok new-value)) (Err (record { refusal = Refusal.TooManyNodes; place = 0 }))
+    unfolding number_of
     replace_large h = refusal (bearing_large new-value shallow (omega (arith, nodes-borne w.texts x kids, count-size)))
 
     pub replace_done : {nodes' : List Row} {used : ℕ} {v : Value.Value} → Bearing w used v → count ≤ max_nodes
-        → nodes' ≡ spliced w.nodes used 0 used source count → ResultsBearing w.texts nodes' (judged_bearing (ok new-value)) (Done count)
+        → nodes' ≡ spliced w.nodes used 0 used source count → ResultsBearing w.texts nodes' (judged_bearing (ok new-value)) (Ok count)
     unfolding document_site
     replace_done {used = used} b few is-spliced =
         let d = b.document in
@@ -121,39 +126,33 @@ module _ {w : Table} {source : ℕ} {x : Cell} {kids : Forest Cell} (offered : O
         (standing_document stands few shallow (behind_long same d.long)))
 
 -- ---- the whole document changed
-module _ {nodes nodes' : List Row} {used : ℕ} {r : Altered} (change : Change) where
-  pub document_added : (source : ℕ) → change ≡ Add source → ReplaceDocumentIs nodes nodes' used source r → ChangeDocumentIs nodes nodes' used change r
-  unfolding add_at
-  document_added source e is = record { frame = is.frame; bearing = λ T v d f makes. go T v d f makes e }
+module _ {nodes nodes' : List Row} {used : ℕ} {r : Result ℕ Fault} (change : Change) where
+  pub document_put : (source : ℕ) → (change ≡ Add source) ⊎ (change ≡ Replace source) → ReplaceDocumentIs nodes nodes' used source r
+      → ChangeDocumentIs nodes nodes' used change r
+  unfolding add_at replace_at_path
+  document_put source e is = record { frame = is.frame; bearing = λ T v d f makes. go T v d f makes e }
     where
       go : {c : Change} (T : Texts) (v : Value.Value) → Bearing (table T nodes) used v
-          → (f : AtLocationBearing) → MakesBearing (table T nodes) c f → c ≡ Add source
+          → (f : AtLocationBearing) → MakesBearing (table T nodes) c f → (c ≡ Add source) ⊎ (c ≡ Replace source)
           → ResultsBearing T nodes' (judged_bearing (f [] v)) r
-      go T v d f (adds_bearing source' x kids offered) g = let same : source' ≡ source = cc in is.bearing T v d x kids (rw same at offered)
-      go T v d f removes_bearing g = absurd (let w : ◌≡◌ {A = ℕ} 0 1 = cc in omega arith)
-      go T v d f (replaces_bearing source' x kids offered) g = absurd (let w : ◌≡◌ {A = ℕ} 0 1 = cc in omega arith)
-
-  pub document-replaced : (source : ℕ) → change ≡ Replace source → ReplaceDocumentIs nodes nodes' used source r → ChangeDocumentIs nodes nodes' used change r
-  unfolding replace_at_path
-  document-replaced source e is = record { frame = is.frame; bearing = λ T v d f makes. go T v d f makes e }
-    where
-      go : {c : Change} (T : Texts) (v : Value.Value) → Bearing (table T nodes) used v
-          → (f : AtLocationBearing) → MakesBearing (table T nodes) c f → c ≡ Replace source
-          → ResultsBearing T nodes' (judged_bearing (f [] v)) r
-      go T v d f (adds_bearing source' x kids offered) g = absurd (let w : ◌≡◌ {A = ℕ} 0 1 = cc in omega arith)
-      go T v d f removes_bearing g = absurd (let w : ◌≡◌ {A = ℕ} 0 1 = cc in omega arith)
-      go T v d f (replaces_bearing source' x kids offered) g = let same : source' ≡ source = cc in is.bearing T v d x kids (rw same at offered)
+      go T v d f (adds_bearing source' x kids offered) (inl g) = let same : source' ≡ source = cc in is.bearing T v d x kids (rw same at offered)
+      go T v d f (adds_bearing source' x kids offered) (inr g) = absurd (let w : ◌≡◌ {A = ℕ} 0 1 = cc in omega arith)
+      go T v d f removes_bearing (inl g) = absurd (let w : ◌≡◌ {A = ℕ} 0 1 = cc in omega arith)
+      go T v d f removes_bearing (inr g) = absurd (let w : ◌≡◌ {A = ℕ} 0 1 = cc in omega arith)
+      go T v d f (replaces_bearing source' x kids offered) (inl g) = absurd (let w : ◌≡◌ {A = ℕ} 0 1 = cc in omega arith)
+      go T v d f (replaces_bearing source' x kids offered) (inr g) = let same : source' ≡ source = cc in is.bearing T v d x kids (rw same at offered)
 
 -- the root is not removed
 root_kept : {T : Texts} {nodes nodes' : List Row} {change : Change} (v : Value.Value) (f : AtLocationBearing)
     → MakesBearing (table T nodes) change f → change ≡ Remove
-    → ResultsBearing T nodes' (judged_bearing (f [] v)) (Refused remove_of_root 0)
-unfolding remove_at_path ◌>>=◌
+    → ResultsBearing T nodes' (judged_bearing (f [] v)) (Err (record { refusal = Refusal.RemoveOfRoot; place = 0 }))
+unfolding remove_at_path ◌>>=◌ number_of
 root_kept v f (adds_bearing source' x kids offered) e = absurd (let w : ◌≡◌ {A = ℕ} 0 1 = cc in omega arith)
 root_kept v f removes_bearing e = refusal refl
 root_kept v f (replaces_bearing source' x kids offered) e = absurd (let w : ◌≡◌ {A = ℕ} 0 1 = cc in omega arith)
 
-pub document-kept : {nodes : List Row} {used : ℕ} (change : Change) → change ≡ Remove → ChangeDocumentIs nodes nodes used change (Refused remove_of_root 0)
+pub document-kept : {nodes : List Row} {used : ℕ} (change : Change) → change ≡ Remove
+    → ChangeDocumentIs nodes nodes used change (Err (record { refusal = Refusal.RemoveOfRoot; place = 0 }))
 document-kept change e = record { frame = unchanged refl; bearing = λ T v d f makes. root_kept v f makes e }
 
 -- ---- a change below the root is one at a parent
@@ -167,22 +166,27 @@ below_root {w = w} (replaces_bearing source x kids offered) t ts v then-it =
 
 -- ---- a change at a location
 -- a table with more rows in use than a document may have holds no document
-pub change_too_many : {w : Table} {used : ℕ} {path : Spelling} {change : Change} → max_nodes < used
-    → ChangeAtIs w w.nodes used path change (Refused too_many_nodes 0)
-change_too_many h = change_at_is (unchanged refl) (λ v d short ts p f makes. absurd (omega (arith, d.document.few)))
+pub change_too_many : {w : Table} {used : ℕ} {path : Spelling} {change : Change} (f : Fault) → max_nodes < used
+    → ChangeAtIs w w.nodes used path change (Err f)
+change_too_many f h = change_at_is (unchanged refl) (λ v d short ts p f makes. absurd (omega (arith, d.document.few)))
+
+-- nor does one with none
+pub change_too_few : {w : Table} {used : ℕ} {path : Spelling} {change : Change} (f : Fault) → used ≡ 0 → ChangeAtIs w w.nodes used path change (Err f)
+change_too_few f h = change_at_is (unchanged refl) (λ v d short ts p f makes. absurd (omega (arith, d.document.ends)))
 
 -- by where the pointer's tokens begin
 module _ {w : Table} {used : ℕ} {path : Spelling} {change : Change} (pointer : Bytes) (pointer_is : pointer ≡ part_of w.texts path) (first : First)
     (is : FirstOf pointer first) where
-  pub change_root : {nodes' : List Row} {r : Altered} → first ≡ First.Root → ChangeDocumentIs w.nodes nodes' used change r
+  pub change_root : {nodes' : List Row} {r : Result ℕ Fault} → first ≡ First.Root → ChangeDocumentIs w.nodes nodes' used change r
       → ChangeAtIs w nodes' used path change r
   change_root e changes =
       change_at_is changes.frame λ v d short ts p f makes.
       let none : ts ≡ [] = first_root (part_of w.texts path) first (first_of pointer pointer_is is) ts e p.is in
       rw none (changes.bearing w.texts v d f makes)
 
-  pub change_below : {nodes' : List Row} {r : Altered} (at : ℕ) → first ≡ First.At at
-      → AlterIs w nodes' (record { used = used; row = document_row; below = 31 }) path at change r → ChangeAtIs w nodes' used path change r
+  pub change_below : {nodes' : List Row} {r : Result ℕ Fault} {low : (used ≤ max_nodes) × (document_row < used) × (31 < max_depth)} (at : ℕ)
+      → first ≡ First.At at → AlterIs w nodes' (record { used = used; row = document_row; below = 31; low = low }) path at change r
+      → ChangeAtIs w nodes' used path change r
   unfolding document_site
   change_below at e alters =
       change_at_is alters.frame λ v b short ts p f makes.
@@ -196,7 +200,7 @@ module _ {w : Table} {used : ℕ} {path : Spelling} {change : Change} (pointer :
       let outcome : f ts v ≡ at_parent g t us (borne w.texts d.c d.kids) = ap (λ l. f l v) some ∙ same ∙ ap (at_parent g t us) (sym b.bears) in
       rw outcome (document-answers d alters.frame (same_answers (sym (farther_none _)) answers))
 
-  pub change_malformed : first ≡ First.Malformed → ChangeAtIs w w.nodes used path change (Refused malformed_pointer 0)
-  change_malformed e =
+  pub change_malformed : (f : Fault) → first ≡ First.Malformed → ChangeAtIs w w.nodes used path change (Err f)
+  change_malformed f e =
       change_at_is (unchanged refl) λ v d short ts p f makes.
       absurd (first_malformed (part_of w.texts path) first (first_of pointer pointer_is is) ts e p.is)

@@ -1,19 +1,22 @@
 -- Laws of a tree put among the children of a node, in the place of others.
-use Prim.Native.Nat.{ℕ, suc, ◌+◌, ◌-◌, ◌%◌, ◌≤◌, ◌<◌}
+use Rattle.std.specs.Prelude.{Ok, Err}
+use Prim.Native.Nat.{ℕ, suc, ◌+◌, ◌-◌, ◌≤◌, ◌<◌}
 use native.Mathlib.Omega.{arith}
 use mathlib.Core.Path.{◌≡◌, refl, ap, sym, ◌∙◌}
 use mathlib.Core.Bool.{Bool, true, false}
 use mathlib.Core.List.{List, [], ◌∷◌, ◌++◌}
-use lib.ListN.{length, get_or, set}
+use lib.ListN.{length, get_or}
 use borrow.Author.Tests.{leb-true, leb-false}
 use Rattle.spec.specs.Outcome.{Outcome, ok, refused}
 use Rattle.spec.specs.Refusal.{too_deep, too_many_nodes}
+use Rattle.spec.specs.Fault.{number_of}
+use Rattle.spec.specs.declared.refusal.Refusal.TheVariants as Refusal
 use Rattle.spec.specs.Limits.{max_nodes}
 use Rattle.spec.specs.Forest.{Forest, none, single, count, size, before, from, remove_at, ◌⧺◌}
 use Rattle.origin.specs.Value as Value
 use Rattle.origin.specs.Value.{depth}
 use Rattle.tape.specs.Layout.{array_kind, values}
-use Rattle.tape.specs.Fields.{Row, no_node, span_of, with_span, cell_of, row_with}
+use Rattle.tape.specs.Fields.{Row, span_of}
 use Rattle.tape.specs.Columns.{used_after, spliced}
 use Rattle.tape.specs.Tape.{tape, Laid}
 use Rattle.tape.specs.declared.fields.Name.{Name}
@@ -35,44 +38,33 @@ use Rattle.table.specs.Sound.{NameFits, Sound}
 use Rattle.table.proofs.AllLaws.{all_single}
 use Rattle.changes.specs.Limited.{limited_to}
 use Rattle.changes.specs.Site.{Standing, Site, Offered}
-use Rattle.changes.specs.Rows.{Frame, framed, renamed_at, resized, Low, put-rows, taken_rows}
+use Rattle.changes.specs.Rows.{Frame, framed, renamed_at, resized, put-rows, taken_rows}
 use Rattle.changes.specs.Cut.{Cut, renamed}
 use Rattle.changes.specs.Change.{ChangeAnswers, done, refusal, PutIs, TakeOutIs}
-use Rattle.changes.specs.declared.trees.Parent.{Parent}
-use Rattle.changes.specs.declared.answers.Altered.TheVariants.{Done, Refused}
+use Rattle.changes.specs.declared.parent.Parent.{Parent}
 use Rattle.changes.proofs.LimitLaws.{limited-deep, limited_large, limited_fits}
 use Rattle.changes.proofs.BorneLaws.{depth-borne, nodes-borne}
 use Rattle.changes.proofs.CutLaws.{cut_inside, cut_formed, cut_sound, cut-size, cut-deep, cut_around, past_front, laid_exchange}
 use Rattle.changes.proofs.KeptLaws.{behind_set, behind_spliced}
 use Rattle.changes.proofs.SiteLaws.{site_fit, site_inside, site_deep, child-rows, renamed_fit, laid_rename}
 
--- ---- one row changed
-pub rename_is : (nodes : List Row) (row : ℕ) (name : Name) {node new : Row} {old : Cell} {span : ℕ} → node ≡ get_or nodes row no_node → old ≡ cell_of node
-    → span ≡ span_of node → new ≡ row_with (record { kind = old.kind; value = old.value; name = name; origin = old.origin }) (span % values)
-    → set nodes row new ≡ renamed_at nodes row name
-rename_is nodes row name e f g h = rw (h, g, f, e)
-
-pub resize_is : (nodes : List Row) (row used now : ℕ) {old new : ℕ} → old ≡ span_of (get_or nodes row []) → new ≡ old + now - used
-    → set nodes row (with_span (get_or nodes row []) (new % values)) ≡ resized nodes row used now
-resize_is nodes row used now e f = rw (f, e)
-
 -- ---- whatever the list holds
-module _ {nodes : List Row} (p : Parent) (low : Low p) (at removed source count now : ℕ)
+module _ {nodes : List Row} (p : Parent) (at removed source count now : ℕ)
     (now-is : now ≡ used_after p.used removed count) (few : now ≤ max_nodes) where
   pub put_frame : (name : Name) → at < max_nodes → {nodes' : List Row}
-      → nodes' ≡ resized (renamed_at (spliced nodes p.used at removed source count) at name) p.row p.used now → Frame nodes nodes' (Done now)
+      → nodes' ≡ resized (renamed_at (spliced nodes p.used at removed source count) at name) p.row p.used now → Frame nodes nodes' (Ok now)
   put_frame name inside e =
       rw e
       (framed few
-      (behind_set p.row _ (omega (arith, low.0, low.1))
-      (behind_set at _ (omega arith) (behind_spliced p.used at removed source count (omega (arith, low.0)) (omega arith)))))
+      (behind_set p.row _ (omega (arith, p.low.0, p.low.1))
+      (behind_set at _ (omega arith) (behind_spliced p.used at removed source count (omega (arith, p.low.0)) (omega arith)))))
 
   pub take_frame : {nodes' : List Row} → nodes' ≡ resized (spliced nodes p.used at removed source count) p.row p.used now
-      → Frame nodes nodes' (Done now)
+      → Frame nodes nodes' (Ok now)
   take_frame e =
       rw e
       (framed few
-      (behind_set p.row _ (omega (arith, low.0, low.1)) (behind_spliced p.used at removed source count (omega (arith, low.0)) (omega arith))))
+      (behind_set p.row _ (omega (arith, p.low.0, p.low.1)) (behind_spliced p.used at removed source count (omega (arith, p.low.0)) (omega arith))))
 
 -- ---- other trees in the place of some children, and the node's row changed to match
 module _ {w : Table} {used row levels : ℕ} (z : Site w used row levels) {at removed : ℕ} {left right : Forest Cell} (container : array_kind ≤ z.c.kind)
@@ -181,7 +173,9 @@ module _ {w : Table} {source : ℕ} {x : Cell} {kids : Forest Cell} (offered : O
       abbrev outcome : Outcome Value.Value
       outcome = ok (borne w.texts z.c (left ⧺ new ⧺ right))
 
-      pub put-deep : {nodes' : List Row} {r : Bool} → WithinIs w.nodes source below r → r ≡ false → ChangeAnswers z nodes' outcome (Refused too_deep 0)
+      pub put-deep : {nodes' : List Row} {r : Bool} → WithinIs w.nodes source below r → r ≡ false
+          → ChangeAnswers z nodes' outcome (Err (record { refusal = Refusal.TooDeep; place = 0 }))
+      unfolding number_of
       put-deep is e =
           let l = leb-false (level x (deep kids)) below (sym (is x kids (held_node offered.held.held)) ∙ e) in
           refusal (changed_deep z container cut new new_formed (omega (arith, deep_new)))
@@ -196,7 +190,9 @@ module _ {w : Table} {source : ℕ} {x : Cell} {kids : Forest Cell} (offered : O
         count-size : count ≡ size new
         count-size = omega (arith, offered_size, size_new)
 
-        pub put_large : {nodes' : List Row} → max_nodes - kept < count → ChangeAnswers z nodes' outcome (Refused too_many_nodes 0)
+        pub put_large : {nodes' : List Row} → max_nodes - kept < count
+            → ChangeAnswers z nodes' outcome (Err (record { refusal = Refusal.TooManyNodes; place = 0 }))
+        unfolding number_of
         put_large h = refusal (changed_large z container cut new new_formed levels_fit (omega (arith, count-size)))
 
         module _ (now : ℕ) (now-is : now ≡ kept + count) (few : now ≤ max_nodes) where
@@ -221,7 +217,7 @@ module _ {w : Table} {source : ℕ} {x : Cell} {kids : Forest Cell} (offered : O
               (cut.place ∙ past_front z.around.front (row_of z.c z.kids) row (size left) z.standing.place) exchanged
 
           pub put-done : {nodes' : List Row} → nodes' ≡ resized (renamed_at (spliced w.nodes used at removed source count) at name) row used now
-              → ChangeAnswers z nodes' outcome (Done now)
+              → ChangeAnswers z nodes' outcome (Ok now)
           put-done e =
               rw e
               (done (changed_fits z container cut new new_formed levels_fit (omega (arith, now_used, count-size)))
@@ -240,7 +236,7 @@ module _ {w : Table} {used row levels : ℕ} (z : Site w used row levels) (k : �
   no_rows = record { before = omega arith; after = omega arith; there = omega (arith, z.few, z.long) }
 
   pub taken_out : (now : ℕ) → now ≡ used - removed → {nodes' : List Row} → nodes' ≡ resized (spliced w.nodes used at removed used 0) row used now
-      → ChangeAnswers z nodes' (ok (borne w.texts z.c (remove_at k z.kids))) (Done now)
+      → ChangeAnswers z nodes' (ok (borne w.texts z.c (remove_at k z.kids))) (Ok now)
   unfolding remove_at ◌⧺◌ tape deep size
   taken_out now now-is e =
       let left : used_after used removed 0 ≡ now = omega arith in
@@ -250,30 +246,30 @@ module _ {w : Table} {used row levels : ℕ} (z : Site w used row levels) (k : �
       (rw left at (laid_exchange none used 0 z.standing.laid z.standing.place cut no_rows refl))))
 
 -- ---- as the code goes: the rows spliced, the new child named, the parent's span set
-module _ {nodes : List Row} (p : Parent) (low : Low p) (at : ℕ) where
+module _ {nodes : List Row} (p : Parent) (at : ℕ) where
   module _ (removed source : ℕ) (name : Name) (count kept : ℕ) (count_is : count ≡ span_of (get_or nodes source []) + 1) (kept-is : kept ≡ p.used - removed)
       {within : Bool} (is : WithinIs nodes source p.below within) (fits : within ≡ true) (room : count ≤ max_nodes - kept) (inside : at ≤ kept) where
     few : kept + count ≤ max_nodes
-    few = omega (arith, low.0)
+    few = omega (arith, p.low.0)
 
     pub put_made : {a b c : List Row} → a ≡ spliced nodes p.used at removed source count → b ≡ renamed_at a at name
-        → c ≡ resized b p.row p.used (kept + count) → PutIs nodes c p at removed source name (Done (kept + count))
+        → c ≡ resized b p.row p.used (kept + count) → PutIs nodes c p at removed source name (Ok (kept + count))
     put_made {c = c} e f g =
         let now : kept + count ≡ used_after p.used removed count = omega arith in
         let ended : c ≡ resized (renamed_at (spliced nodes p.used at removed source count) at name) p.row p.used (kept + count) = rw (g, f, e) in
         record {
           rows = put-rows count (kept + count) count_is now ended;
-          frame = put_frame p low at removed source count (kept + count) now few name (omega (arith, few)) ended;
+          frame = put_frame p at removed source count (kept + count) now few name (omega (arith, few)) ended;
           held = λ T z x kids left right container offered named told cut.
               put-done offered name named told z container cut is fits count kept count_is kept-is (kept + count) refl few ended;
         }
 
   pub take_made : (removed left : ℕ) → removed ≡ span_of (get_or nodes at []) + 1 → left ≡ p.used - removed → {a b : List Row}
-      → a ≡ spliced nodes p.used at removed p.used 0 → b ≡ resized a p.row p.used left → TakeOutIs nodes b p at (Done left)
+      → a ≡ spliced nodes p.used at removed p.used 0 → b ≡ resized a p.row p.used left → TakeOutIs nodes b p at (Ok left)
   take_made removed left removed-is left_is {b = b} e f =
       let ended : b ≡ resized (spliced nodes p.used at removed p.used 0) p.row p.used left = rw (f, e) in
       record {
         rows = taken_rows removed left removed-is left_is ended;
-        frame = take_frame p low at removed p.used 0 left (omega arith) (omega (arith, low.0)) ended;
+        frame = take_frame p at removed p.used 0 left (omega arith) (omega (arith, p.low.0)) ended;
         held = λ T z k kth place. taken_out z k kth at place removed removed-is left left_is ended;
       }

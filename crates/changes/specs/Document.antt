@@ -1,6 +1,8 @@
 -- The document in the table, and what a change at a location makes of it.
-use Rattle.std.specs.Prelude.{ℕ, suc, ◌≤◌, ◌≡◌, List, [], length}
+use Rattle.std.specs.Prelude.{ℕ, suc, ◌≤◌, ◌≡◌, List, [], length, Result, Ok, Err}
 use Rattle.spec.specs.Outcome.{Outcome, ok, refused, ◌>>=◌}
+use Rattle.spec.specs.Fault.{number_of}
+use Rattle.spec.specs.declared.refusal.Fault.{Fault}
 use Rattle.spec.specs.Limits.{max_depth, max_nodes}
 use Rattle.spec.specs.Forest.{Forest, size}
 use Rattle.spec.specs.Value as Value
@@ -24,8 +26,6 @@ use Rattle.changes.specs.Site.{Offered, table}
 use Rattle.changes.specs.Rows.{Frame}
 use Rattle.changes.specs.declared.answers.Change.{Change}
 use Rattle.changes.specs.declared.answers.Change.TheVariants.{Add, Remove, Replace}
-use Rattle.changes.specs.declared.answers.Altered.{Altered}
-use Rattle.changes.specs.declared.answers.Altered.TheVariants.{Done, Refused}
 
 -- the document is a value: its tree is the first `used` rows of a table of the work area's length; and it is within the limits
 pub record Document (w : Table) (used : ℕ) (v : Value.Value) : Type 0 where
@@ -44,11 +44,11 @@ judged o = o >>= not_too_deep >>= not_too_large
 
 -- The outcome of changing the document, given the outcome by the definitions: the document is then the result, or the answer is the refusal's number
 -- and its place. `Is` says what the document is, with its origins or without them.
-pub data ResultsBy {A : Type 0} (Is : ℕ → A → Type 0) (o : Outcome A) : Altered → Type 0 where
-  results : {used : ℕ} {v : A} → o ≡ ok v → Is used v → ResultsBy Is o (Done used)
-  refusal : {number place : ℕ} → o ≡ refused number place → ResultsBy Is o (Refused number place)
+pub data ResultsBy {A : Type 0} (Is : ℕ → A → Type 0) (o : Outcome A) : Result ℕ Fault → Type 0 where
+  results : {used : ℕ} {v : A} → o ≡ ok v → Is used v → ResultsBy Is o (Ok used)
+  refusal : {e : Fault} → o ≡ refused (number_of e.refusal) e.place → ResultsBy Is o (Err e)
 
-abbrev pub Results : Texts → List Row → Outcome Value.Value → Altered → Type 0
+abbrev pub Results : Texts → List Row → Outcome Value.Value → Result ℕ Fault → Type 0
 Results T nodes' o r = ResultsBy (Document (table T nodes')) o r
 
 -- a value changed at a location, as the definitions have it
@@ -71,7 +71,7 @@ pub record Bearing (w : Table) (used : ℕ) (v : Origin.Value) : Type 0 where
 abbrev pub judged_bearing : Outcome Origin.Value → Outcome Origin.Value
 judged_bearing o = o >>= Origins.not_too_deep >>= Origins.not_too_large
 
-abbrev pub ResultsBearing : Texts → List Row → Outcome Origin.Value → Altered → Type 0
+abbrev pub ResultsBearing : Texts → List Row → Outcome Origin.Value → Result ℕ Fault → Type 0
 ResultsBearing T nodes' o r = ResultsBy (Bearing (table T nodes')) o r
 
 abbrev pub AtLocationBearing : Type 0
@@ -88,18 +88,18 @@ pub data MakesBearing (w : Table) : Change → AtLocationBearing → Type 0 wher
 -- ---- Each contract says what holds of every table, and what holds of one that holds a document. Of any other, the answer and the document's rows are
 -- free within that frame; so they are where the path spells no pointer, or where no tree is offered in the row of a new value.
 -- the tree in a row behind the document's becomes the document
-pub record ReplaceDocumentIs (nodes nodes' : List Row) (used source : ℕ) (r : Altered) : Type 0 where
+pub record ReplaceDocumentIs (nodes nodes' : List Row) (used source : ℕ) (r : Result ℕ Fault) : Type 0 where
   pub frame : Frame nodes nodes' r
   pub bearing : (T : Texts) (v : Origin.Value) → Bearing (table T nodes) used v → (x : Cell) (kids : Forest Cell) → Offered (table T nodes) source x kids
       → ResultsBearing T nodes' (judged_bearing (ok (borne T x kids))) r
 
-pub record ChangeDocumentIs (nodes nodes' : List Row) (used : ℕ) (change : Change) (r : Altered) : Type 0 where
+pub record ChangeDocumentIs (nodes nodes' : List Row) (used : ℕ) (change : Change) (r : Result ℕ Fault) : Type 0 where
   pub frame : Frame nodes nodes' r
   pub bearing : (T : Texts) (v : Origin.Value) → Bearing (table T nodes) used v → (f : AtLocationBearing) → MakesBearing (table T nodes) change f
       → ResultsBearing T nodes' (judged_bearing (f [] v)) r
 
 -- the field `bearing` speaks of values with their origins, and `held` of the same values without them
-pub record ChangeAtIs (w : Table) (nodes' : List Row) (used : ℕ) (path : Spelling) (change : Change) (r : Altered) : Type 0 where
+pub record ChangeAtIs (w : Table) (nodes' : List Row) (used : ℕ) (path : Spelling) (change : Change) (r : Result ℕ Fault) : Type 0 where
   pub frame : Frame w.nodes nodes' r
   pub held : (v : Value.Value) → Document w used v → Short w.texts → (ts : Tokens) → PathIs w.texts path ts
       → (f : AtLocation) → MakesAt w change f → Results w.texts nodes' (judged (f ts v)) r

@@ -1,13 +1,13 @@
 -- What becomes of the list of nodes when a child is put or taken out, whatever the list holds.
-use Rattle.std.specs.Prelude.{ℕ, ◌+◌, ◌-◌, ◌%◌, ◌≤◌, ◌<◌, ◌≡◌, List, [], get_or, set, take, drop}
+use Rattle.std.specs.Prelude.{ℕ, ◌+◌, ◌-◌, ◌%◌, ◌≤◌, ◌≡◌, List, [], get_or, set, take, drop, Result, Ok, Err}
 use Rattle.spec.specs.Limits.{max_depth, max_nodes}
+use Rattle.spec.specs.declared.refusal.Refusal.{Refusal}
+use Rattle.spec.specs.declared.refusal.Fault.{Fault}
 use Rattle.tape.specs.Layout.{patch_row, values}
 use Rattle.tape.specs.Columns.{spliced, used_after}
 use Rattle.tape.specs.Fields.{Row, no_node, kind_of, value_of, origin_of, span_of, with_span, row_with}
 use Rattle.tape.specs.declared.fields.Name.{Name}
-use Rattle.changes.specs.declared.trees.Parent.{Parent}
-use Rattle.changes.specs.declared.answers.Altered.{Altered}
-use Rattle.changes.specs.declared.answers.Altered.TheVariants.{Done, Refused}
+use Rattle.changes.specs.declared.parent.Parent.{Parent}
 
 -- a list, and the same with other rows for the document
 pub record SameBehind (xs ys : List Row) : Type 0 where
@@ -18,17 +18,18 @@ pub record SamePatch (xs ys : List Row) : Type 0 where
   pub is : take max_nodes (drop patch_row ys) ≡ take max_nodes (drop patch_row xs)
 
 -- A refusal changes nothing. Otherwise no row from the patch's first on changes, and the document gets no more rows than it may have.
-pub data Frame (nodes nodes' : List Row) : Altered → Type 0 where
-  framed : {now : ℕ} → now ≤ max_nodes → SameBehind nodes nodes' → Frame nodes nodes' (Done now)
-  unchanged : {number place : ℕ} → nodes' ≡ nodes → Frame nodes nodes' (Refused number place)
+pub data Frame (nodes nodes' : List Row) : Result ℕ Fault → Type 0 where
+  framed : {now : ℕ} → now ≤ max_nodes → SameBehind nodes nodes' → Frame nodes nodes' (Ok now)
+  unchanged : {e : Fault} → nodes' ≡ nodes → Frame nodes nodes' (Err e)
 
--- a node among the document's rows, no deeper than a node may be; the document has no more rows than it may have
-abbrev pub Low : Parent → Type 0
-Low p = (p.used ≤ max_nodes) × (p.row < p.used) × (p.below < max_depth)
-
--- the number of tokens that lead to it from the document; with each token, a child may nest one container fewer
+-- the number of tokens that lead to a parent from the document; with each token, a child may nest one container fewer
 abbrev pub walked_to : Parent → ℕ
 walked_to p = max_depth - 1 - p.below
+
+-- what is answered of a child, behind some tokens: a refusal's place is their number
+unfoldable pub told_at : {A : Type 0} → ℕ → Result A Refusal → Result A Fault
+told_at walked (Ok a) = Ok a
+told_at walked (Err e) = Err (record { refusal = e; place = walked })
 
 -- ---- one row changed
 -- the row of the same node under another name
@@ -43,13 +44,13 @@ abbrev pub resized : List Row → ℕ → ℕ → ℕ → List Row
 resized nodes row used now = set nodes row (with_span (get_or nodes row []) ((span_of (get_or nodes row []) + now - used) % values))
 
 -- ---- nothing has changed, or the rows are spliced, the new child is named, and the parent's span is set
-pub data PutRows (nodes nodes' : List Row) (p : Parent) (at removed source : ℕ) (name : Name) : Altered → Type 0 where
-  put_nothing : {number place : ℕ} → nodes' ≡ nodes → PutRows nodes nodes' p at removed source name (Refused number place)
+pub data PutRows (nodes nodes' : List Row) (p : Parent) (at removed source : ℕ) (name : Name) : Result ℕ Fault → Type 0 where
+  put_nothing : {e : Fault} → nodes' ≡ nodes → PutRows nodes nodes' p at removed source name (Err e)
   put-rows : (count now : ℕ) → count ≡ span_of (get_or nodes source []) + 1 → now ≡ used_after p.used removed count
       → nodes' ≡ resized (renamed_at (spliced nodes p.used at removed source count) at name) p.row p.used now
-      → PutRows nodes nodes' p at removed source name (Done now)
+      → PutRows nodes nodes' p at removed source name (Ok now)
 
 -- the rows of a child are taken out, and the parent's span is set
-pub data TakenRows (nodes nodes' : List Row) (p : Parent) (at : ℕ) : Altered → Type 0 where
+pub data TakenRows (nodes nodes' : List Row) (p : Parent) (at : ℕ) : Result ℕ Fault → Type 0 where
   taken_rows : (removed now : ℕ) → removed ≡ span_of (get_or nodes at []) + 1 → now ≡ p.used - removed
-      → nodes' ≡ resized (spliced nodes p.used at removed p.used 0) p.row p.used now → TakenRows nodes nodes' p at (Done now)
+      → nodes' ≡ resized (spliced nodes p.used at removed p.used 0) p.row p.used now → TakenRows nodes nodes' p at (Ok now)

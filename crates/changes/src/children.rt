@@ -1,47 +1,45 @@
 // A node's child added, removed and replaced, by its token.
 ghost use Rattle.pointer.specs.declared.answers.Index.TheVariants as Index;
 ghost use Rattle.tape.specs.Lent.{before};
-ghost use Rattle.changes.specs.Rows.{Low};
 ghost use Rattle.changes.specs.Change.{InsertionIs, ReplaceTreeIs, AddElementIs, AddMemberIs, AddIs};
 ghost use Rattle.changes.specs.Change.{RemoveIs, ReplaceIs, ChangeChildIs};
 
-use crate::answers::{Altered, Change};
+use crate::answers::Change;
+use crate::parent::Parent;
 use crate::trees;
-use crate::trees::{Parent, walked};
 use pointer::{Index, index};
-use spec::refusal;
-use table::find::{Member, find};
+use spec::refusal::{Fault, Refusal};
+use table::find::find;
 use table::spellings::part;
 use tape::fields::{Name, name_of};
 use tape::layout::{Node, Texts};
-use tape::nodes::Located;
 use tape::{layout, moves, nodes};
-use walk::{Child, no_name, step};
+use walk::{no_name, step};
 
 // The row where an element is added at a position. The position may be the one behind the last element.
-fn position(nodes: &[Node], row: usize, k: usize) -> Child
+fn position(nodes: &[Node], row: usize, k: usize) -> Result<usize, Refusal>
     ensures { InsertionIs nodes.now row (Index.At k) result }
 {
     match nodes::child(nodes, row, k) {
-        Located::At(at) => return Child::At(at),
-        Located::Fewer(n) => {
+        Ok(at) => Ok(at),
+        Err(n) => {
             if n < k {
-                return Child::Refused(refusal::LOCATION_MISSING);
+                return Err(Refusal::LocationMissing);
             }
-            return Child::At(nodes::end_of(nodes, row));
+            Ok(nodes::end_of(nodes, row))
         }
     }
 }
 
 // The row where an element is added.
-fn insertion(nodes: &[Node], row: usize, i: Index) -> Child
+fn insertion(nodes: &[Node], row: usize, i: Index) -> Result<usize, Refusal>
     ensures { InsertionIs nodes.now row i result }
 {
     match i {
-        Index::Dash => return Child::At(nodes::end_of(nodes, row)),
-        Index::At(k) => return position(nodes, row, k),
-        Index::Beyond => return Child::Refused(refusal::LOCATION_MISSING),
-        Index::Not => return Child::Refused(refusal::NO_INDEX),
+        Index::Dash => Ok(nodes::end_of(nodes, row)),
+        Index::At(k) => position(nodes, row, k),
+        Index::Beyond => Err(Refusal::LocationMissing),
+        Index::Not => Err(Refusal::NoIndex),
     }
 }
 
@@ -52,20 +50,21 @@ fn add_element<'a>(
     parent: Parent,
     token: Name,
     source: usize,
-) -> Altered
-    requires { Low parent }
+) -> Result<usize, Fault>
     ensures { AddElementIs (before texts nodes.old) nodes.new parent token source result }
 {
     let i = index(part(texts, token.text));
-    match insertion(nodes, parent.row, i) {
-        Child::At(at) => return trees::put(nodes, parent, at, 0, source, no_name()),
-        Child::Refused(n) => return Altered::Refused(n, walked(parent)),
-    }
+    let at = parent.told(insertion(nodes, parent.row, i))?;
+    trees::put(nodes, parent, at, 0, source, no_name())
 }
 
 // The child in the row `at` is replaced, and its name kept.
-fn replace_child(nodes: &mut [Node], parent: Parent, at: usize, source: usize) -> Altered
-    requires { Low parent }
+fn replace_child(
+    nodes: &mut [Node],
+    parent: Parent,
+    at: usize,
+    source: usize,
+) -> Result<usize, Fault>
     ensures { ReplaceTreeIs nodes.old nodes.new parent at source result }
 {
     let removed = trees::size(nodes, at);
@@ -80,14 +79,13 @@ fn add_member<'a>(
     parent: Parent,
     token: Name,
     source: usize,
-) -> Altered
-    requires { Low parent }
+) -> Result<usize, Fault>
     ensures { AddMemberIs (before texts nodes.old) nodes.new parent token source result }
 {
     let end = nodes::end_of(nodes, parent.row);
     match find(texts, nodes, parent.row + 1, end, token) {
-        Member::At(at) => return replace_child(nodes, parent, at, source),
-        Member::Missing => return trees::put(nodes, parent, end, 0, source, token),
+        Some(at) => replace_child(nodes, parent, at, source),
+        None => trees::put(nodes, parent, end, 0, source, token),
     }
 }
 
@@ -97,28 +95,26 @@ fn add<'a>(
     parent: Parent,
     token: Name,
     source: usize,
-) -> Altered
-    requires { Low parent }
+) -> Result<usize, Fault>
     ensures { AddIs (before texts nodes.old) nodes.new parent token source result }
 {
-    let k = nodes::kind(nodes, parent.row);
-    if k == layout::ARRAY {
-        return add_element(texts, nodes, parent, token, source);
+    match nodes::kind(nodes, parent.row) {
+        layout::ARRAY => add_element(texts, nodes, parent, token, source),
+        layout::OBJECT => add_member(texts, nodes, parent, token, source),
+        _ => Err(Refusal::LocationMissing.at(parent.walked())),
     }
-    if k == layout::OBJECT {
-        return add_member(texts, nodes, parent, token, source);
-    }
-    Altered::Refused(refusal::LOCATION_MISSING, walked(parent))
 }
 
-fn remove<'a>(texts: Texts<'a>, nodes: &mut [Node], parent: Parent, token: Name) -> Altered
-    requires { Low parent }
+fn remove<'a>(
+    texts: Texts<'a>,
+    nodes: &mut [Node],
+    parent: Parent,
+    token: Name,
+) -> Result<usize, Fault>
     ensures { RemoveIs (before texts nodes.old) nodes.new parent token result }
 {
-    match step(texts, nodes, parent.row, token) {
-        Child::At(at) => return trees::take_out(nodes, parent, at),
-        Child::Refused(n) => return Altered::Refused(n, walked(parent)),
-    }
+    let at = parent.told(step(texts, nodes, parent.row, token))?;
+    trees::take_out(nodes, parent, at)
 }
 
 fn replace<'a>(
@@ -127,14 +123,11 @@ fn replace<'a>(
     parent: Parent,
     token: Name,
     source: usize,
-) -> Altered
-    requires { Low parent }
+) -> Result<usize, Fault>
     ensures { ReplaceIs (before texts nodes.old) nodes.new parent token source result }
 {
-    match step(texts, nodes, parent.row, token) {
-        Child::At(at) => return replace_child(nodes, parent, at, source),
-        Child::Refused(n) => return Altered::Refused(n, walked(parent)),
-    }
+    let at = parent.told(step(texts, nodes, parent.row, token))?;
+    replace_child(nodes, parent, at, source)
 }
 
 // The parent's child that a token names, or is to name, is changed.
@@ -144,13 +137,12 @@ pub fn change_child<'a>(
     parent: Parent,
     token: Name,
     change: Change,
-) -> Altered
-    requires { Low parent }
+) -> Result<usize, Fault>
     ensures { ChangeChildIs (before texts nodes.old) nodes.new parent token change result }
 {
     match change {
-        Change::Add(source) => return add(texts, nodes, parent, token, source),
-        Change::Remove => return remove(texts, nodes, parent, token),
-        Change::Replace(source) => return replace(texts, nodes, parent, token, source),
+        Change::Add(source) => add(texts, nodes, parent, token, source),
+        Change::Remove => remove(texts, nodes, parent, token),
+        Change::Replace(source) => replace(texts, nodes, parent, token, source),
     }
 }

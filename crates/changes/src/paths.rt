@@ -4,40 +4,41 @@ ghost use Rattle.tape.specs.Lent.{before};
 ghost use Rattle.changes.specs.Document.{ReplaceDocumentIs, ChangeDocumentIs, ChangeAtIs};
 
 use crate::alter::alter;
-use crate::answers::{Altered, Change};
-use crate::trees::{Parent, size};
+use crate::answers::Change;
+use crate::parent::Parent;
+use crate::trees::size;
 use pointer::{First, first};
-use spec::{limits, refusal};
+use spec::limits;
+use spec::refusal::{Fault, Refusal};
 use table::spellings::part;
 use tape::fields::Spelling;
 use tape::layout::{Node, Texts};
 use tape::{layout, moves, nodes};
 
 // The tree in the row `source` becomes the document. The limits are judged before anything moves.
-fn replace_document(nodes: &mut [Node], used: usize, source: usize) -> Altered
+fn replace_document(nodes: &mut [Node], used: usize, source: usize) -> Result<usize, Fault>
     requires { used ≤ 2048 }
     ensures { ReplaceDocumentIs nodes.old nodes.new used source result }
 {
     if !nodes::within(nodes, source, limits::MAX_DEPTH) {
-        return Altered::Refused(refusal::TOO_DEEP, 0);
+        return Err(Refusal::TooDeep.at(0));
     }
     let count = size(nodes, source);
     if limits::MAX_NODES < count {
-        return Altered::Refused(refusal::TOO_MANY_NODES, 0);
+        return Err(Refusal::TooManyNodes.at(0));
     }
     moves::splice(nodes, used, layout::DOCUMENT, used, source, count);
-    Altered::Done(count)
+    Ok(count)
 }
 
 // The whole document changed.
-fn change_document(nodes: &mut [Node], used: usize, change: Change) -> Altered
+fn change_document(nodes: &mut [Node], used: usize, change: Change) -> Result<usize, Fault>
     requires { used ≤ 2048 }
     ensures { ChangeDocumentIs nodes.old nodes.new used change result }
 {
     match change {
-        Change::Add(source) => return replace_document(nodes, used, source),
-        Change::Remove => return Altered::Refused(refusal::REMOVE_OF_ROOT, 0),
-        Change::Replace(source) => return replace_document(nodes, used, source),
+        Change::Add(source) | Change::Replace(source) => replace_document(nodes, used, source),
+        Change::Remove => Err(Refusal::RemoveOfRoot.at(0)),
     }
 }
 
@@ -48,22 +49,26 @@ pub fn change_at<'a>(
     used: usize,
     path: Spelling,
     change: Change,
-) -> Altered
+) -> Result<usize, Fault>
     ensures { ChangeAtIs (before texts nodes.old) nodes.new used path change result }
 {
     if limits::MAX_NODES < used {
-        return Altered::Refused(refusal::TOO_MANY_NODES, 0);
+        return Err(Refusal::TooManyNodes.at(0));
     }
     match first(part(texts, path)) {
-        First::Root => return change_document(nodes, used, change),
+        First::Root => change_document(nodes, used, change),
         First::At(at) => {
+            // where no row is in use, the table holds no document
+            if used == 0 {
+                return Err(Refusal::LocationMissing.at(0));
+            }
             let root = Parent {
                 used,
                 row: layout::DOCUMENT,
                 below: limits::MAX_DEPTH - 1,
             };
-            return alter(texts, nodes, root, path, at, change);
+            alter(texts, nodes, root, path, at, change)
         }
-        First::Malformed => return Altered::Refused(refusal::MALFORMED_POINTER, 0),
+        First::Malformed => Err(Refusal::MalformedPointer.at(0)),
     }
 }

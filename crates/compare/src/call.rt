@@ -6,10 +6,10 @@ ghost use Rattle.compare.specs.Call.{CompareIs};
 use crate::answer::{Answer, refused};
 use crate::stages::checked;
 use index;
-use spec::refusal;
+use json_patch::{clear, suffices};
+use spec::refusal::Refusal;
 use tape::layout;
 use tape::layout::Node;
-use tape::moves::wipe;
 
 // Both texts are read and their values compared, or the call is refused. The first is the target: its members are taken
 // in order. `nodes` and `index` are the work area, as `json_patch::apply` takes it: at least ROWS records and SLOTS
@@ -23,18 +23,14 @@ pub fn compare<'a>(
     ensures { CompareIs (given first.now second.now) (work_before nodes.old index.old)
         (work_after nodes.new index.new) result }
 {
-    if nodes.len() < layout::ROWS {
-        return refused(refusal::WORK_TOO_SHORT, 0, 0);
+    if !suffices(nodes, index) {
+        return refused(Refusal::WorkTooShort, 0, 0);
     }
-    if index.len() < index::SLOTS {
-        return refused(refusal::WORK_TOO_SHORT, 0, 0);
-    }
-    let answer = checked(
+    let done = checked(
         [first, second],
         &mut nodes[..layout::ROWS],
         &mut index[..index::SLOTS],
     );
-    wipe(nodes);
-    index::empty(index);
-    answer
+    clear(nodes, index);
+    Answer::from(done)
 }

@@ -1,21 +1,10 @@
 // The call for C: include/json_patch_compare.h declares it.
-ghost use Rattle.std.specs.Prelude.{◌≡◌};
 ghost use Rattle.reader.specs.Work.{work_before, work_after};
 ghost use Rattle.json_patch.specs.Call.{given};
-ghost use Rattle.compare.specs.Call.{bit, ExportIs};
+ghost use Rattle.compare.specs.Call.{ExportIs};
 
 use crate::call::compare;
 use tape::layout::Node;
-
-// 1 for true.
-fn one_if(b: bool) -> u64
-    ensures { result ≡ bit b }
-{
-    if b {
-        return 1;
-    }
-    0
-}
 
 // As `compare`. The answer's fields are laid down in `answer`, in the order of the header's struct, `equal` as 1 or 0;
 // the number is returned too.
@@ -30,12 +19,6 @@ pub fn json_patch_compare<'a>(
         answer.new result }
 {
     let r = compare(first, second, nodes, index);
-    *answer = [
-        r.number as u64,
-        r.text as u64,
-        r.place as u64,
-        one_if(r.equal),
-        r.names,
-    ];
-    r.number as u32
+    *answer = r.into();
+    u32::from(r.number)
 }

@@ -4,22 +4,22 @@ ghost use Rattle.tape.specs.Lent.{lent, before};
 ghost use Rattle.reader.specs.Work.{work_before};
 ghost use Rattle.compare.specs.Stages.{ComparedIs, CheckedIs};
 
-use crate::answer::{Answer, refused, success, unread};
-use counting::{counted, note_places};
+use crate::answer::Answer;
+use counting::{Comparison, counted, note_places};
 use index::index_tree;
-use reader::{Read, read_document, read_patch};
-use spec::{limits, refusal};
+use json_patch::{check_lengths, read_texts};
+use spec::limits;
 use tape::layout;
 use tape::layout::{Node, Texts};
 
 // The two values, both read. The places of the second one's members are noted, and its members indexed, so that each is
 // found and counted without a search.
-fn compared<'a>(texts: Texts<'a>, nodes: &mut [Node], index: &mut [u16]) -> Answer
+fn compared<'a>(texts: Texts<'a>, nodes: &mut [Node], index: &mut [u16]) -> Comparison
     ensures { ComparedIs (lent texts) (work_before nodes.old index.old) result }
 {
     note_places(nodes, layout::PATCH, limits::MAX_DEPTH);
     index_tree(texts, nodes, index, layout::PATCH);
-    success(counted(
+    counted(
         texts,
         nodes,
         index,
@@ -27,26 +27,18 @@ fn compared<'a>(texts: Texts<'a>, nodes: &mut [Node], index: &mut [u16]) -> Answ
         layout::DOCUMENT,
         layout::PATCH,
         limits::MAX_DEPTH,
-    ))
+    )
 }
 
 // All of it, where the work area is long enough.
-pub fn checked<'a>(texts: Texts<'a>, nodes: &mut [Node], index: &mut [u16]) -> Answer
+pub fn checked<'a>(
+    texts: Texts<'a>,
+    nodes: &mut [Node],
+    index: &mut [u16],
+) -> Result<Comparison, Answer>
     ensures { CheckedIs (lent texts) (work_before nodes.old index.old) result }
 {
-    if limits::MAX_BYTES < texts[0].len() {
-        return refused(refusal::INPUT_TOO_LONG, 1, 0);
-    }
-    if limits::MAX_BYTES < texts[1].len() {
-        return refused(refusal::INPUT_TOO_LONG, 2, 0);
-    }
-    let first = read_document(texts, nodes, index);
-    let Read::Value(_, _) = first else {
-        return unread(1, first);
-    };
-    let second = read_patch(texts, nodes, index);
-    let Read::Value(_, _) = second else {
-        return unread(2, second);
-    };
-    compared(texts, nodes, index)
+    check_lengths(texts)?;
+    read_texts(texts, nodes, index)?;
+    Ok(compared(texts, nodes, index))
 }

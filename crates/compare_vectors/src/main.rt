@@ -2,91 +2,55 @@
 // count of names, or the refusal. The stored output is what the second program answers, so each run compares the two.
 #![tactic(auto)]
 
-use cases::{
-    Case, Contents, Found, buffer, bytes_of, case_at, front, print_no_case, read_cases, say,
-    say_number, work_clear,
-};
+use cases::{Case, buffer, bytes_of, each_case, print_name, read_cases, work_clear};
 use compare::{Answer, compare};
 use index;
 use std::io;
 use tape::fields::narrow;
 use tape::layout;
 
-// One record fewer than the work area has.
-const SHORT_ROWS: usize = 6_143;
-
-// The refusal's line, as the patch tool prints it.
-fn print_refusal(rt: &impl Print, answer: Answer) -> io::Result<()> {
-    say(rt, b"refused ")?;
-    say_number(rt, answer.number as u64)?;
-    say(rt, b" text ")?;
-    say_number(rt, answer.text as u64)?;
-    say(rt, b" op 0 place ")?;
-    say_number(rt, answer.place as u64)?;
-    say(rt, b" pointer 0\n")
-}
-
-// The answer's line.
+// The answer's line. A refusal's is as the patch tool prints it.
 fn print_answer(rt: &impl Print, answer: Answer) -> io::Result<()> {
     if answer.number != 0 {
-        return print_refusal(rt, answer);
+        return println!(rt;
+            "refused {} text {} op 0 place {} pointer 0",
+            answer.number, answer.text, answer.place
+        );
     }
-    if answer.equal {
-        say(rt, b"equal ")?;
-    } else {
-        say(rt, b"different ")?;
-    }
-    say_number(rt, answer.names)?;
-    say(rt, b"\n")
+    let verdict = if answer.equal { "equal" } else { "different" };
+    println!(rt; "{verdict} {}", answer.names)
 }
 
 // The case's line, with another text in it where the call has not left the memory as it must. Before the call, the work
 // area holds the case's number everywhere, as rubbish.
 fn run_case(rt: &impl Print, file: &[u8], c: Case) -> io::Result<()> {
-    let texts = c.texts;
-    let target = bytes_of(file, texts.first);
-    let other = bytes_of(file, texts.second);
+    let target = bytes_of(file, c.texts.first);
+    let other = bytes_of(file, c.texts.second);
     let rubbish = narrow(c.rooms.first);
-    say(rt, bytes_of(file, c.name))?;
-    say(rt, b": ")?;
-    let node = [rubbish; 8];
-    let mut nodes = [node; layout::ROWS];
+    print_name(rt, file, c)?;
+    let mut nodes = [[rubbish; 8]; layout::ROWS];
     let mut index = [rubbish; index::SLOTS];
     let answer = compare(target, other, &mut nodes, &mut index);
     if !work_clear(&nodes, &index) {
-        return say(rt, b"the work area is not all zero\n");
+        return println!(rt; "the work area is not all zero");
     }
     print_answer(rt, answer)
 }
 
-// One case after another, to the end of the file.
-fn run_all(rt: &impl Print, file: &[u8]) -> io::Result<()> {
-    let mut at = 0;
-    while at < file.len() {
-        let Found::Here(c) = case_at(file, at, 1, 2) else {
-            return print_no_case(rt, at);
-        };
-        run_case(rt, file, c)?;
-        at = c.next;
-    }
-    Ok(())
-}
-
 // The call with a node table one record too short, which no case can express: the answer is 1, before anything else.
 fn run_short(rt: &impl Print) -> io::Result<()> {
-    let node = [1u16; 8];
-    let mut nodes = [node; SHORT_ROWS];
-    let mut index = [1u16; index::SLOTS];
+    let mut nodes = [[1; 8]; layout::ROWS - 1];
+    let mut index = [1; index::SLOTS];
     let answer = compare(b"[]", b"[]", &mut nodes, &mut index);
-    say(rt, b"work-a-record-short: ")?;
+    print!(rt; "work-a-record-short: ")?;
     print_answer(rt, answer)
 }
 
 fn main(rt: HostRuntime) -> io::Result<()> {
     let mut room = buffer();
-    let Contents::Bytes(n) = read_cases(&rt, &mut room) else {
-        return say(&rt, b"unreadable\n");
+    let Some(file) = read_cases(&rt, &mut room) else {
+        return println!(rt; "unreadable");
     };
-    run_all(&rt, front(&room, n))?;
+    each_case(&rt, file, 1, 2, |_, c| run_case(&rt, file, c))?;
     run_short(&rt)
 }

@@ -1,10 +1,9 @@
 -- Laws of the definition's comparison: one value after another, and the place of a name.
 use Rattle.std.specs.Prelude.{if◌then◌else◌}
-use Rattle.std.proofs.Common.{◌≡◌, ℕ, zero, suc, ◌+◌, ◌%◌, ◌<◌, Bool, true, false, eqb, sym, refl, ap, ◌∙◌, subst, ap₂, add-zero, add_assoc, zero-add, arith}
+use Rattle.std.proofs.Common.{◌≡◌, ℕ, zero, suc, ◌+◌, ◌%◌, ◌<◌, Bool, true, false, eqb, sym, refl, ap, ◌∙◌, subst, ap₂, add-zero, zero-add, arith}
 use native.Mathlib.Nat.{mod-add-mod, add-mod-mod}
 use Rattle.spec.specs.Bytes.{Text}
 use Rattle.spec.specs.Forest.{none, tree, count, from}
-use Rattle.spec.specs.Value as Value
 use Rattle.spec.specs.Value.{Entry, Members, find, same_text, is_object}
 use Rattle.spec.specs.Equality.{same_label}
 use Rattle.spec.proofs.MatchLaws.{partner}

@@ -1,31 +1,29 @@
 -- Each way out of `alike` and of `counted`, for whatever values the table holds in the two rows.
-use Rattle.std.specs.Prelude.{if◌then◌else◌}
+use Rattle.std.specs.Prelude.{Option, Some, None, if◌then◌else◌}
 use Rattle.std.proofs.Common.{◌≡◌, ℕ, suc, ◌+◌, ◌-◌, ◌%◌, ◌^◌, ◌<◌, ◌≤◌, Bool, true, false, ◌&&◌, eqb}
-use Rattle.std.proofs.Common.{List, [], length, get_or, sym, refl, ap, ◌∙◌, subst, ap₂, add-zero, add_assoc, zero-add, arith, eqb-true}
+use Rattle.std.proofs.Common.{[], length, get_or, sym, refl, ap, ◌∙◌, subst, ap₂, add-zero, zero-add, arith, eqb-true}
 use Rattle.spec.specs.Forest.{Forest, none, tree, count, from}
 use Rattle.spec.specs.Value as Value
 use Rattle.spec.specs.Value.{Label, is_object, depth, depths, tag}
 use Rattle.spec.specs.Equality.{same_label}
 use Rattle.spec.specs.Distinct.{NoRepeats, Distinct}
 use Rattle.comparison.specs.Comparison.{Compared, after, ◌then◌, compared}
-use Rattle.comparison.proofs.ItemLaws.{searched, compared_items, compared_is}
+use Rattle.comparison.proofs.ItemLaws.{compared_items, compared_is}
 use Rattle.tape.specs.Layout.{object_kind}
 use Rattle.tape.specs.Fields.{kind_of}
 use Rattle.tape.specs.declared.fields.Cell.{Cell}
-use Rattle.tape.specs.Cell.{Formed, level, deep}
+use Rattle.tape.specs.Cell.{level, deep}
 use Rattle.tape.specs.Rows.{end_of, ArityIs}
 use Rattle.tape.specs.Map.{map_forest}
-use Rattle.tape.specs.Lent.{Texts, Table}
+use Rattle.tape.specs.Lent.{Table}
 use Rattle.tape.proofs.Cells.{formed_kids}
 use Rattle.tape.proofs.Forests.{from_suc}
 use Rattle.tape.proofs.Map.{count_map, depths-map}
-use Rattle.table.specs.Meaning.{label_of, name_text, entry_of, members, meant}
+use Rattle.table.specs.Meaning.{entry_of, members, meant}
 use Rattle.table.specs.Sound.{NodeHeld}
-use Rattle.table.specs.declared.find.Member.{Member}
-use Rattle.table.specs.declared.find.Member.TheVariants.{At, Missing}
 use Rattle.table.proofs.MeaningLaws.{tag_label, depth-meant}
 use Rattle.equality.specs.Compare.{SameLabelIs, PartnerIs}
-use Rattle.equality.proofs.MatchLaws.{value_of, if_same, inside}
+use Rattle.equality.proofs.MatchLaws.{if_same}
 use Rattle.equality.proofs.LabelLaws.{same_label-tag}
 use Rattle.equality.proofs.SiblingLaws.{value-node, value-inside, value-fit, Children, children_all}
 use Rattle.equality.proofs.SiblingLaws.{Siblings, siblings_all, siblings_none, siblings_first, siblings-value, siblings_next}
@@ -34,10 +32,9 @@ use Rattle.equality.proofs.EqualLaws.{labelled, labels, object-is}
 use Rattle.counting.specs.Places.{place_at, HavePlaces}
 use Rattle.counting.specs.Values.{names_for, AlikeIs, Tells, CountedIs}
 use Rattle.counting.specs.declared.values.Comparison.{Comparison}
-use Rattle.counting.proofs.PlaceLaws.{siblings_place}
 use Rattle.counting.proofs.NoteLaws.{level_none, level_kids}
 use Rattle.counting.proofs.ComparedLaws.{then_on, then_differs, then_further, compared_pair, compared_alone, sum_on, sum_wrapped}
-use Rattle.counting.proofs.PairLaws.{among, unmatched, Match, matched}
+use Rattle.counting.proofs.PairLaws.{among, unmatched, matched}
 
 -- ---- each way out of `alike`
 module _ {w : Table} {at other : ℕ} where
@@ -179,9 +176,9 @@ module _ {w : Table} {o : Bool} {other row end next stop levels : ℕ} {all : Fo
         → whole ≡ (after p.so_far true then compared_items o (members w.texts f) (among w o all g))
     now_left f g e d = p.is ∙ ap₂ (λ f g. after p.so_far true then compared_items o (members w.texts f) (among w o all g)) e d
 
-    module _ (children : Children w other stop all) (q : Member) (t : PartnerIs w other stop row next o q) where
+    module _ (children : Children w other stop all) (q : Option ℕ) (t : PartnerIs w other stop row next o q) where
       -- no member has the name
-      pub pending_alone : {r : Comparison} → q ≡ Missing → {n : ℕ} → n ≡ count all → r.same ≡ false → r.names ≡ (names + n) % 2 ^ 64 → Tells whole r
+      pub pending_alone : {r : Comparison} → q ≡ None → {n : ℕ} → n ≡ count all → r.same ≡ false → r.names ≡ (names + n) % 2 ^ 64 → Tells whole r
       unfolding map_forest
       pending_alone e {n} n-is f g =
           step λ c ks rest d ds behind is are x y.
@@ -194,7 +191,7 @@ module _ {w : Table} {o : Bool} {other row end next stop levels : ℕ} {all : Fo
           f (sum_on (2 ^ 64) p.so_far p.sum n g)
 
       -- one has it: its names, then the two values
-      module _ (pair : ℕ) (e : q ≡ At pair) (r : Comparison) (inner : CountedIs w row pair levels r) where
+      module _ (pair : ℕ) (e : q ≡ Some pair) (r : Comparison) (inner : CountedIs w row pair levels r) where
         turn : {C : Type 0}
             → ((c : Cell) (ks rest : Forest Cell) (d : Cell) (ds behind : Forest Cell) → p.rest ≡ tree c ks rest → p.beside ≡ tree d ds behind
             → Siblings w row end (tree c ks rest) → Siblings w next stop (tree d ds behind) → depths (members w.texts (tree c ks rest)) ≤ levels
@@ -313,13 +310,13 @@ module _ {w : Table} {at other : ℕ} (levels : ℕ) (o : Bool) (end stop row ne
   pub counted_end : {r : Comparison} → end ≤ row → r.same ≡ true → r.names ≡ names → CountedIs w at other levels r
   counted_end h f g c kids e below x y low apart placed = pending_end (counting c kids e below x y low apart placed) h f g
 
-  module _ (more : row < end) (stops : stop ≡ end_of w.nodes other) (q : Member) (t : PartnerIs w other stop row next o q) where
-    pub counted_alone : {r : Comparison} {n : ℕ} → q ≡ Missing → ArityIs w.nodes other n → r.same ≡ false → r.names ≡ (names + n) % 2 ^ 64
+  module _ (more : row < end) (stops : stop ≡ end_of w.nodes other) (q : Option ℕ) (t : PartnerIs w other stop row next o q) where
+    pub counted_alone : {r : Comparison} {n : ℕ} → q ≡ None → ArityIs w.nodes other n → r.same ≡ false → r.names ≡ (names + n) % 2 ^ 64
         → CountedIs w at other levels r
     counted_alone m arity f g c kids e below x y low apart placed =
         pending_alone (counting c kids e below x y low apart placed) more (children_all stop stops y) q t m (arity.held e below (value-node y)) f g
 
-    module _ (pair : ℕ) (is : q ≡ At pair) (r : Comparison) (inner : CountedIs w row pair (levels - 1) r) {n names' names'' : ℕ}
+    module _ (pair : ℕ) (is : q ≡ Some pair) (r : Comparison) (inner : CountedIs w row pair (levels - 1) r) {n names' names'' : ℕ}
         (place : n ≡ names_for o w.nodes pair) (sum : names' ≡ (names + n) % 2 ^ 64) (added : names'' ≡ (names' + r.names) % 2 ^ 64) where
       noted : names' ≡ (names + names_for o w.nodes pair) % 2 ^ 64
       noted = sum ∙ ap (λ k. (names + k) % 2 ^ 64) place

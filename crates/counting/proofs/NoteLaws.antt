@@ -1,5 +1,5 @@
 -- Each way out of `note_places`, and its loop.
-use Rattle.std.proofs.Common.{◌≡◌, ℕ, suc, ◌+◌, ◌-◌, ◌%◌, ◌<◌, ◌≤◌, Bool, true, false}
+use Rattle.std.proofs.Common.{◌≡◌, ℕ, ◌+◌, ◌-◌, ◌%◌, ◌<◌, ◌≤◌, Bool, true, false}
 use Rattle.std.proofs.Common.{leb, List, length, set, sym, refl, ap, ◌∙◌, subst, arith, leb-false, leb-true}
 use Rattle.spec.specs.Forest.{Forest, none, tree, size}
 use Rattle.tape.specs.Layout.{values, array_kind, patch_row, scratch_row, rows}
@@ -10,7 +10,7 @@ use Rattle.tape.specs.Cell.{Node, level, deep}
 use Rattle.tape.specs.Rows.{end_of}
 use Rattle.tape.proofs.Cells.{formed_fit}
 use Rattle.tape.proofs.Depth.{level-container}
-use Rattle.tape.proofs.Rows.{inside_here, end_here}
+use Rattle.tape.proofs.Rows.{end_here}
 use Rattle.tape.proofs.Held.{Remaining, remaining_all, remaining_next, remaining_none, remaining-first, held_node}
 use Rattle.counting.specs.Places.{apart, place_row, place_at, HavePlaces, placed_none, placed_tree, NotedIs}
 use Rattle.counting.proofs.PlaceLaws.{placed_same, scratched_none, scratched_then, scratched_set, end_same, node_still, noted_here, noted_other}

@@ -1,9 +1,8 @@
 -- What `partner` answers, with the place of what it found.
-use Rattle.std.specs.Prelude.{if◌then◌else◌}
-use Rattle.std.proofs.Common.{◌≡◌, ℕ, suc, ◌+◌, ◌<◌, Bool, true, false, sym, refl, ap, ◌∙◌, subst, arith}
-use Rattle.spec.specs.Bytes.{Text}
+use Rattle.std.specs.Prelude.{Option, Some, None, if◌then◌else◌}
+use Rattle.std.proofs.Common.{◌≡◌, ℕ, suc, ◌+◌, Bool, true, false, sym, refl, ap, ◌∙◌, subst, arith}
 use Rattle.spec.specs.Forest.{Forest, none, tree, Tree, count, from, nth, ◌⧺◌}
-use Rattle.spec.specs.Value.{Members, find}
+use Rattle.spec.specs.Value.{Members}
 use Rattle.spec.proofs.MatchLaws.{partner}
 use Rattle.spec.specs.Distinct.{NoRepeats, Distinct}
 use Rattle.comparison.specs.Comparison.{lookups}
@@ -16,8 +15,6 @@ use Rattle.tape.proofs.Cells.{blank}
 use Rattle.tape.proofs.Map.{map-from, count_map}
 use Rattle.table.specs.Meaning.{name_text, entry_of, members, meant}
 use Rattle.table.specs.Find.{Found, found, missing}
-use Rattle.table.specs.declared.find.Member.{Member}
-use Rattle.table.specs.declared.find.Member.TheVariants.{At, Missing}
 use Rattle.equality.specs.Compare as Compare
 use Rattle.equality.specs.Compare.{PartnerIs, element, in_step, sought, hinted}
 use Rattle.equality.proofs.MatchLaws.{inside, partner_find, partner_there}
@@ -38,7 +35,7 @@ module _ {w : Table} {other row end next stop : ℕ} {all : Forest Cell} (second
     {c : Cell} {ks rest : Forest Cell} (x : Siblings w row end (tree c ks rest))
     {d : Cell} {ds after : Forest Cell} (y : Siblings w next stop (tree d ds after)) where
   -- no member has the name: all names were compared
-  pub unmatched : (o : Bool) (q : Member) → PartnerIs w other stop row next o q → q ≡ Missing
+  pub unmatched : (o : Bool) (q : Option ℕ) → PartnerIs w other stop row next o q → q ≡ None
       → (partner o (name_text w.texts c.name) (among w o all (tree d ds after)) ≡ none)
       × (searched o (name_text w.texts c.name) (among w o all (tree d ds after)) ≡ count all)
   unfolding searched
@@ -46,7 +43,7 @@ module _ {w : Table} {other row end next stop : ℕ} {all : Forest Cell} (second
       let nowhere = subst (Found w.texts (other + 1) all (name_text w.texts c.name)) e (sought_name second x y f) in
       (member-missing second.siblings nowhere, looked nowhere)
     where
-      looked : Found w.texts (other + 1) all (name_text w.texts c.name) Missing
+      looked : Found w.texts (other + 1) all (name_text w.texts c.name) None
           → lookups (name_text w.texts c.name) (members w.texts all) ≡ count all
       looked (missing f) =
           lookups_missing (name_text w.texts c.name) (members w.texts all) (f ∙ sym (count_map (entry_of w.texts) all))
@@ -75,7 +72,7 @@ module _ {w : Table} {other row end next stop : ℕ} {all : Forest Cell} (second
     still k is = sym (map-from (entry_of w.texts) k all) ∙ ap (members w.texts) is
 
     -- by a search
-    by_search : NoRepeats true (members w.texts all) → Found w.texts (other + 1) all (name_text w.texts c.name) (At pair) → Match true
+    by_search : NoRepeats true (members w.texts all) → Found w.texts (other + 1) all (name_text w.texts c.name) (Some pair) → Match true
     unfolding ◌⧺◌ map_forest searched names_for
     by_search distinct (found k row e few place) =
         let n = name_text w.texts c.name in
@@ -120,10 +117,10 @@ module _ {w : Table} {other row end next stop : ℕ} {all : Forest Cell} (second
           names_are = omega (arith, looked, own);
         }
 
-    at_pair : {place : ℕ} {f : Forest Cell} → At place ≡ At pair → Siblings w place stop f → Siblings w pair stop f
+    at_pair : {place : ℕ} {f : Forest Cell} → Some place ≡ Some pair → Siblings w place stop f → Siblings w pair stop f
     at_pair {place} {f} e s = let same : place ≡ pair = cc in subst (λ n. Siblings w n stop f) same s
 
-    pub matched : (o : Bool) → NoRepeats o (members w.texts all) → (q : Member) → PartnerIs w other stop row next o q → q ≡ At pair → Match o
+    pub matched : (o : Bool) → NoRepeats o (members w.texts all) → (q : Option ℕ) → PartnerIs w other stop row next o q → q ≡ Some pair → Match o
     unfolding map_forest partner searched names_for
     matched true distinct q (sought (Compare.searched f)) e =
         by_search distinct (subst (Found w.texts (other + 1) all (name_text w.texts c.name)) e (sought_name second x y f))

@@ -1,7 +1,6 @@
 -- Laws of places, and of a table whose scratch rows change.
 use Rattle.std.proofs.Common.{◌≡◌, ℕ, zero, suc, ◌+◌, ◌-◌, ◌<◌, ◌≤◌, List, [], length, get_or, take, drop}
-use Rattle.std.proofs.Common.{set, sym, refl, ap, ◌∙◌, subst, ap₂, arith, length-set, get_or-set_other, get_or-take, get_or-set_same, take-take, drop-set-lt}
-use lib.ListN.{get_or-eq_default}
+use Rattle.std.proofs.Common.{set, sym, refl, ap, ◌∙◌, subst, arith, length-set, get_or-set_other, get_or-take, get_or-set_same, take-take, drop-set-lt}
 use lib.Seq.{take-set-le}
 use Rattle.spec.specs.Forest.{Forest, none, tree, size, before, from}
 use Rattle.spec.proofs.ListLaws.{drop-take}
@@ -84,10 +83,6 @@ module _ {xs ys : List Row} (s : Scratched xs ys) where
 pub value-still : {w : Table} {ys : List Row} {row : ℕ} {c : Cell} {kids : Forest Cell} → Scratched w.nodes ys → NodeHeld w row c kids
     → row + 1 + size kids ≤ scratch_row → NodeHeld (table w.texts ys) row c kids
 value-still s x low = record { rest = none; held = held_still s x.held low; label = x.label; sound = x.sound }
-
--- ---- there is no place behind the table
-pub place_outside : (xs : List Row) (row : ℕ) → length xs ≤ row → 0 ≡ place_at xs row
-place_outside xs row h = sym (ap span_of (get_or-eq_default xs [] (omega arith)))
 
 -- ---- a place noted
 module _ (xs : List Row) (row k : ℕ) where

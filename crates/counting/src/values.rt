@@ -7,7 +7,6 @@ ghost use Rattle.counting.specs.Values.{names_for, AlikeIs, CountedIs};
 use crate::places::place_of;
 use equality::{Pair, partner, same_label};
 use std::num::wrapping_add_u64;
-use table::find::Member;
 use tape::layout;
 use tape::layout::{Node, Texts};
 use tape::nodes::{arity, end_of, kind};
@@ -17,12 +16,6 @@ use tape::nodes::{arity, end_of, kind};
 pub struct Comparison {
     pub same: bool,
     pub names: u64,
-}
-
-fn told(same: bool, names: u64) -> Comparison
-    ensures { (result.same ≡ same) × (result.names ≡ names) }
-{
-    Comparison { same, names }
 }
 
 // How many names are compared until the one in the row `found` matches.
@@ -68,10 +61,16 @@ pub fn counted<'a>(
         → CountedIs (before texts nodes.now) at other levels result }
 {
     if !alike(texts, nodes, at, other) {
-        return told(false, 0);
+        return Comparison {
+            same: false,
+            names: 0,
+        };
     }
     if levels == 0 {
-        return told(true, 0);
+        return Comparison {
+            same: true,
+            names: 0,
+        };
     }
     let end = end_of(nodes, at);
     let pair = Pair {
@@ -84,17 +83,20 @@ pub fn counted<'a>(
     let mut next = other + 1;
     let mut names: u64 = 0;
     while row < end {
-        let Member::At(found) = partner(texts, nodes, index, pair, row, next) else {
-            return told(false, wrapping_add_u64(names, arity(nodes, other) as u64));
+        let Some(found) = partner(texts, nodes, index, pair, row, next) else {
+            return Comparison {
+                same: false,
+                names: wrapping_add_u64(names, arity(nodes, other) as u64),
+            };
         };
         names = wrapping_add_u64(names, names_for(nodes, pair.object, found));
         let values = counted(texts, nodes, index, top, row, found, levels - 1);
         names = wrapping_add_u64(names, values.names);
         if !values.same {
-            return told(false, names);
+            return Comparison { same: false, names };
         }
         row = end_of(nodes, row);
         next = end_of(nodes, next);
     }
-    told(true, names)
+    Comparison { same: true, names }
 }

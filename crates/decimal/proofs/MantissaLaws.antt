@@ -1,4 +1,7 @@
 -- Laws of a number's digits, for the loops that go over its text byte by byte.
+use Rattle.std.specs.Prelude.{Some, None, cond, not, ◌||◌, nat_lt, unwrap_or, filter, count_by, if◌then◌else◌}
+use Rattle.std.specs.List.{position, position_or_len, take_while}
+use Rattle.std.proofs.lemmas.List.Sums.{take_while-cons, length-filter}
 use Prim.Native.Nat.{ℕ, suc, ◌+◌, ◌-◌, ◌≤◌, ◌<◌}
 use Prim.Native.Char.{code}
 use mathlib.Core.Path.{◌≡◌, refl, sym, ◌∙◌, ap}
@@ -7,9 +10,9 @@ use mathlib.Core.Bool.{Bool, true, false, ◌&&◌, true≢false}
 use native.Mathlib.Numerals.{add-one}
 use native.Mathlib.Omega.{arith}
 use native.Mathlib.Decide.{dec_lt}
-use borrow.Author.Tests.{eq-eqb, ne_eqb, leb-true}
-use lib.ListN.{length, get_or, take, drop, length-append, drop_of_length-le}
-use lib.Seq.{drop-cons, append_snoc}
+use borrow.Author.Tests.{eq-eqb, ne_eqb, eqb-true, leb-true, ltb-false}
+use lib.ListN.{length, get_or, take, drop, length-append, length-drop, drop_of_length-le}
+use lib.Seq.{drop-cons, append_snoc, take_all}
 use lib.Dec.{eqb, leb}
 use Rattle.spec.specs.Bytes.{Bytes, within}
 use Rattle.spec.specs.Numbers.{is_digit, is_e}
@@ -30,6 +33,8 @@ within_bounds low high n t = go (leb low n) (leb n high) refl refl t
     go true false p q e = absurd (true≢false (sym e))
     go false b p q e = absurd (true≢false (sym e))
 
+-- ---- places
+
 -- the text from a place on begins with the byte there
 pub from_here : (t : Bytes) (i : ℕ) → i < length t → drop i t ≡ get_or t i 0 ∷ drop (i + 1) t
 from_here t i h = rw (add-one, drop-cons t i 0)
@@ -48,49 +53,103 @@ module _ (t : Bytes) (i : ℕ) (h : i < length t) where
     unfolding mantissa
     mantissa-other d = rw (from_here t i h, e, d)
 
-  -- ---- the first significant digit
-
-  pub first_ends : is_e (get_or t i 0) ≡ true → first_digit (drop i t) ≡ 0
-  unfolding first_digit
-  first_ends e = rw (from_here t i h, e)
-
-  pub first_here : is_e (get_or t i 0) ≡ false → is_nonzero_digit (get_or t i 0) ≡ true → first_digit (drop i t) ≡ 0
-  unfolding first_digit
-  first_here e d = rw (from_here t i h, e, d)
-
-  pub first-later : is_e (get_or t i 0) ≡ false → is_nonzero_digit (get_or t i 0) ≡ false → first_digit (drop i t) ≡ suc (first_digit (drop (i + 1) t))
-  unfolding first_digit
-  first-later e d = rw (from_here t i h, e, d)
-
-  -- ---- the digits after the point
-
-  pub fraction_point : get_or t i 0 ≡ code "." → fraction_digits (drop i t) ≡ length (mantissa (drop (i + 1) t))
-  unfolding fraction_digits
-  fraction_point p = rw (from_here t i h, eq-eqb _ _ p)
-
-  module _ (p : get_or t i 0 ≡ code "." → ⊥) where
-    pub fraction_ends : is_e (get_or t i 0) ≡ true → fraction_digits (drop i t) ≡ 0
-    unfolding fraction_digits
-    fraction_ends e = rw (from_here t i h, ne_eqb _ _ p, e)
-
-    pub fraction_later : is_e (get_or t i 0) ≡ false → fraction_digits (drop i t) ≡ fraction_digits (drop (i + 1) t)
-    unfolding fraction_digits
-    fraction_later e = rw (from_here t i h, ne_eqb _ _ p, e)
-
--- ---- at the end of the text
-
 module _ (t : Bytes) (i : ℕ) (h : length t ≤ i) where
   pub mantissa_past : mantissa (drop i t) ≡ []
   unfolding mantissa
   mantissa_past = rw (drop_of_length-le t h)
 
-  pub first_past : first_digit (drop i t) ≡ 0
-  unfolding first_digit
-  first_past = rw (drop_of_length-le t h)
+-- a part to the end
+pub rest : (n : ℕ) (t : Bytes) → take (length t - n) (drop n t) ≡ drop n t
+rest n t = take_all (length t - n) (drop n t) (omega (arith, length-drop n t))
 
-  pub fraction_past : fraction_digits (drop i t) ≡ 0
-  unfolding fraction_digits
-  fraction_past = rw (drop_of_length-le t h)
+-- the place of the first byte that passes a test, or the end
+module _ (p : ℕ → Bool) where
+  pub place_most : (t : Bytes) → position_or_len p t ≤ length t
+  place_most [] = omega arith
+  place_most (b ∷ t) = go (p b) (place_most t)
+    where
+      go : (passes : Bool) → position_or_len p t ≤ length t → cond (not passes) (1 + position_or_len p t) 0 ≤ suc (length t)
+      go true ih = omega arith
+      go false ih = omega arith
+
+  module _ (t : Bytes) where
+    pub place_found : (k : ℕ) → position p t ≡ Some k → k ≡ position_or_len p t
+    place_found k e = go (nat_lt (position_or_len p t) (length t)) e
+      where
+        go : (b : Bool) → cond b (Some (position_or_len p t)) None ≡ Some k → k ≡ position_or_len p t
+        go true e = cc
+        go false e = absurd (cc)
+
+    pub place_missing : position p t ≡ None → length t ≤ position_or_len p t
+    place_missing e = go (nat_lt (position_or_len p t) (length t)) refl e
+      where
+        go : (b : Bool) → nat_lt (position_or_len p t) (length t) ≡ b → cond b (Some (position_or_len p t)) None ≡ None → length t ≤ position_or_len p t
+        go true l e = absurd (cc)
+        go false l e = ltb-false (position_or_len p t) (length t) l
+
+    pub place_or : unwrap_or (position p t) (length t) ≡ position_or_len p t
+    place_or = go (nat_lt (position_or_len p t) (length t)) refl
+      where
+        go : (b : Bool) → nat_lt (position_or_len p t) (length t) ≡ b → unwrap_or (cond b (Some (position_or_len p t)) None) (length t) ≡ position_or_len p t
+        go true l = refl
+        go false l = omega (arith, ltb-false (position_or_len p t) (length t) l, place_most t)
+
+-- ---- the digits as the code finds them
+
+-- the numbers that pass a test, one more before them
+filter_one : (p : ℕ → Bool) (b : ℕ) (t : Bytes) → filter p (b ∷ t) ≡ cond (p b) (b ∷ filter p t) (filter p t)
+filter_one p b t = refl
+
+mantissa_found : (t : Bytes) → filter is_digit (take_while (λ b. not (is_e b)) t) ≡ mantissa t
+unfolding mantissa
+mantissa_found [] = refl
+mantissa_found (b ∷ t) = go (is_e b) (is_digit b) refl refl (mantissa_found t)
+  where
+    go : (e d : Bool) → is_e b ≡ e → is_digit b ≡ d → filter is_digit (take_while (λ b. not (is_e b)) t) ≡ mantissa t
+        → filter is_digit (take_while (λ b. not (is_e b)) (b ∷ t)) ≡ (if e then [] else if d then b ∷ mantissa t else mantissa t)
+    go true d f g ih = rw (take_while-cons _ b t, f) refl
+    go false true f g ih = rw (take_while-cons _ b t, f, filter_one, g) (ap (λ d. b ∷ d) ih)
+    go false false f g ih = rw (take_while-cons _ b t, f, filter_one, g) ih
+
+pub mantissa_counted : (t : Bytes) → count_by is_digit (take_while (λ b. not (is_e b)) t) ≡ length (mantissa t)
+mantissa_counted t = sym (length-filter is_digit (take_while (λ b. not (is_e b)) t)) ∙ ap length (mantissa_found t)
+
+pub first_found : (t : Bytes) → position_or_len (λ b. is_e b || is_nonzero_digit b) t ≡ first_digit t
+unfolding first_digit
+first_found [] = refl
+first_found (b ∷ t) = go (is_e b) (is_nonzero_digit b) (first_found t)
+  where
+    go : (e d : Bool) → position_or_len (λ b. is_e b || is_nonzero_digit b) t ≡ first_digit t
+        → cond (not (e || d)) (1 + position_or_len (λ b. is_e b || is_nonzero_digit b) t) 0 ≡ (if e then 0 else if d then 0 else suc (first_digit t))
+    go true d ih = refl
+    go false true ih = refl
+    go false false ih = omega arith
+
+pub first_inside : (t : Bytes) → first_digit t ≤ length t
+first_inside t = omega (arith, first_found t, place_most (λ b. is_e b || is_nonzero_digit b) t)
+
+-- from the point on, or from where the mantissa ends
+fraction_found : (t : Bytes) → length (mantissa (drop (position_or_len (λ b. eqb b (code ".") || is_e b) t) t)) ≡ fraction_digits t
+unfolding fraction_digits mantissa is_e is_digit within
+fraction_found [] = refl
+fraction_found (b ∷ t) = go (eqb b (code ".")) (is_e b) refl refl (fraction_found t)
+  where
+    p : ℕ → Bool
+    p = λ b. eqb b (code ".") || is_e b
+
+    go : (point e : Bool) → eqb b (code ".") ≡ point → is_e b ≡ e → length (mantissa (drop (position_or_len p t) t)) ≡ fraction_digits t
+        → length (mantissa (drop (cond (not (point || e)) (1 + position_or_len p t) 0) (b ∷ t))) ≡ (if point then length (mantissa t) else if e then 0 else fraction_digits t)
+    go true e f g ih = let dot : b ≡ code "." = eqb-true _ _ f in rw dot refl
+    go false true f g ih = rw g refl
+    go false false f g ih = let next : 1 + position_or_len p t ≡ suc (position_or_len p t) = omega arith in rw next ih
+
+module _ (t : Bytes) where
+  pub point_found : (k : ℕ) → position (λ b. eqb b (code ".") || is_e b) t ≡ Some k → length (mantissa (take (length t - k) (drop k t))) ≡ fraction_digits t
+  point_found k e = rw (rest k t, place_found _ t k e) (fraction_found t)
+
+  pub point_missing : position (λ b. eqb b (code ".") || is_e b) t ≡ None → 0 ≡ fraction_digits t
+  unfolding mantissa
+  point_missing e = rw (drop_of_length-le t (place_missing _ t e)) at (fraction_found t)
 
 -- ---- digits without the zeros at their end, counted from the left
 

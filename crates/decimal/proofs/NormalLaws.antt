@@ -1,10 +1,10 @@
 -- The normal form says what a number is worth, and two normal forms say whether the numbers are equal.
-use Rattle.std.specs.Prelude.{if◌then◌else◌}
+use Rattle.std.specs.Prelude.{Some, None, if◌then◌else◌}
 use Prim.Native.Nat.{ℕ, suc, ◌+◌, ◌-◌, ◌≤◌, ◌<◌, min}
 use Prim.Native.Char.{code}
 use mathlib.Core.Path.{◌≡◌, refl, sym, ◌∙◌, ap}
 use mathlib.Core.List.{[], ◌∷◌, reverse, reverse-cons, reverse-reverse}
-use mathlib.Core.Bool.{Bool, true, false, ◌&&◌, and-true, and-false, true≢false}
+use mathlib.Core.Bool.{Bool, true, false, not, beq, ◌&&◌, and-true, and-false, true≢false}
 use native.Mathlib.Omega.{arith}
 use native.Mathlib.Nat.{min-le_left, min-eq_left, min-eq_right}
 use native.Mathlib.Decide.{dec_lt}
@@ -20,7 +20,6 @@ use Rattle.spec.specs.Worth.{mantissa, fraction_digits, exponent, signed_exponen
 use Rattle.spec.specs.Value.{same_text}
 use Rattle.spec.specs.Equality.{same_bool, same_integer, same_worth}
 use Rattle.decimal.specs.declared.Normal.{Normal}
-use Rattle.decimal.specs.declared.Normalized.TheVariants.{Number, OverLimit}
 use Rattle.decimal.specs.Normal.{is_nonzero_digit, first_digit, within_limits, normal_form, normalized, same_number}
 use Rattle.decimal.proofs.MantissaLaws.{within_bounds}
 use Rattle.decimal.proofs.ExponentLaws.{signed_size}
@@ -141,14 +140,14 @@ module _ (t : Bytes) (n : Normal) (e : ℤ) (fraction all : ℕ) where
 
 -- ---- the limits
 
-pub over_length : (t : Bytes) → max_number < length t → OverLimit ≡ normalized t
+pub over_length : (t : Bytes) → max_number < length t → None ≡ normalized t
 unfolding normalized within_limits
 over_length t h = rw (lt-leb (length t) max_number h)
 
 -- The code finds the exponent as it is written, and its size, capped at one past the limit.
 module _ (t written : Bytes) (size : ℕ)
     (found : signed_exponent written ≡ exponent t) (capped : size ≡ min (nat_abs (signed_exponent written)) (max_exponent + 1)) where
-  pub over_exponent : max_exponent < size → OverLimit ≡ normalized t
+  pub over_exponent : max_exponent < size → None ≡ normalized t
   unfolding normalized within_limits
   over_exponent h =
       let n = nat_abs (signed_exponent written) in
@@ -169,9 +168,9 @@ module _ (t written : Bytes) (size : ℕ)
     pub exponent_is : (minus : Bool) (e : ℤ) → minus ≡ is_negative written → e ≡ (if minus then neg_ℤ (pos size) else pos size) → e ≡ exponent t
     exponent_is minus e m is = is ∙ rw (m, size_is) (signed_size written ∙ found)
 
-pub within_limits_lem : (t : Bytes) (n : Normal) → length t ≤ max_number → nat_abs (exponent t) ≤ max_exponent → n ≡ normal_form t → Number n ≡ normalized t
+pub within_limits_lem : (t : Bytes) (n : Normal) → length t ≤ max_number → nat_abs (exponent t) ≤ max_exponent → n ≡ normal_form t → Some n ≡ normalized t
 unfolding normalized within_limits
-within_limits_lem t n l e h = rw (le-leb (length t) max_number l, le-leb (nat_abs (exponent t)) max_exponent e) (ap Number h)
+within_limits_lem t n l e h = rw (le-leb (length t) max_number l, le-leb (nat_abs (exponent t)) max_exponent e) (ap Some h)
 
 -- ---- two normal forms
 
@@ -181,6 +180,21 @@ same_length [] [] h = absurd (h refl)
 same_length [] (b ∷ t) h = refl
 same_length (a ∷ s) [] h = refl
 same_length (a ∷ s) (b ∷ t) h = rw (same_length s t (λ e. h (ap suc e))) (and-false (eqb a b))
+
+-- what the code's `!=` tells of two signs
+pub signs_differ : (a b : Bool) → not (beq a b) ≡ true → same_bool a b ≡ false
+unfolding same_bool
+signs_differ true true h = absurd (true≢false (sym h))
+signs_differ true false h = refl
+signs_differ false true h = refl
+signs_differ false false h = absurd (true≢false (sym h))
+
+pub signs_same : (a b : Bool) → not (beq a b) ≡ false → same_bool a b ≡ true
+unfolding same_bool
+signs_same true true h = refl
+signs_same true false h = absurd (true≢false h)
+signs_same false true h = absurd (true≢false h)
+signs_same false false h = refl
 
 module _ (a b : Bytes) (x y : Normal) (is_x : x ≡ normal_form a) (is_y : y ≡ normal_form b) where
   pub sign-differs : same_bool x.negative y.negative ≡ false → false ≡ same_worth (worth a) (worth b)
@@ -211,19 +225,19 @@ module _ (a b : Bytes) (x y : Normal) (is_x : x ≡ normal_form a) (is_y : y ≡
 
 -- ---- what the code's answer says of the text
 
-pub is_over : (t : Bytes) → normalized t ≡ OverLimit → within_limits t ≡ false
+pub is_over : (t : Bytes) → normalized t ≡ None → within_limits t ≡ false
 unfolding normalized
 is_over t h = go (within_limits t) h
   where
-    go : (l : Bool) → (if l then Number (normal_form t) else OverLimit) ≡ OverLimit → l ≡ false
+    go : (l : Bool) → (if l then Some (normal_form t) else None) ≡ None → l ≡ false
     go true e = let z : ◌≡◌ {A = ℕ} 0 1 = cc in absurd (omega arith)
     go false e = refl
 
-pub is_number : (t : Bytes) (n : Normal) → normalized t ≡ Number n → (within_limits t ≡ true) × (n ≡ normal_form t)
+pub is_number : (t : Bytes) (n : Normal) → normalized t ≡ Some n → (within_limits t ≡ true) × (n ≡ normal_form t)
 unfolding normalized
 is_number t n h = go (within_limits t) h
   where
-    go : (l : Bool) → (if l then Number (normal_form t) else OverLimit) ≡ Number n → (l ≡ true) × (n ≡ normal_form t)
+    go : (l : Bool) → (if l then Some (normal_form t) else None) ≡ Some n → (l ≡ true) × (n ≡ normal_form t)
     go true e = (refl, cc)
     go false e = let z : ◌≡◌ {A = ℕ} 0 1 = cc in absurd (omega arith)
 

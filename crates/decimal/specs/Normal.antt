@@ -1,6 +1,6 @@
 -- A number's normal form as the code holds it: SPECIFICATION 7.3, without the zeros on both ends of the digits, and with a signed power of
 -- ten. No digit is copied: the form says where in the text the significant digits begin, and how many they are.
-use Rattle.std.specs.Prelude.{ℕ, suc, [], ◌∷◌, Bool, ◌&&◌, length, leb, nat_abs, if◌then◌else◌}
+use Rattle.std.specs.Prelude.{ℕ, suc, [], ◌∷◌, Bool, ◌&&◌, length, leb, nat_abs, Option, Some, None, if◌then◌else◌}
 use Prim.Native.Char.{code}
 use Rattle.spec.specs.Limits.{max_number, max_exponent}
 use Rattle.spec.specs.Bytes.{Bytes, within}
@@ -8,8 +8,6 @@ use Rattle.spec.specs.Numbers.{is_e}
 use Rattle.spec.specs.Worth.{exponent, worth}
 use Rattle.spec.specs.Equality.{same_worth}
 use Rattle.decimal.specs.declared.Normal.{Normal}
-use Rattle.decimal.specs.declared.Normalized.{Normalized}
-use Rattle.decimal.specs.declared.Normalized.TheVariants.{Number, OverLimit}
 
 unfoldable pub is_nonzero_digit : ℕ → Bool
 is_nonzero_digit b = within (code "1") (code "9") b
@@ -33,8 +31,8 @@ normal_form t =
       power = (worth t).power;
     }
 
-unfoldable pub normalized : Bytes → Normalized
-normalized t = if within_limits t then Number (normal_form t) else OverLimit
+unfoldable pub normalized : Bytes → Option Normal
+normalized t = if within_limits t then Some (normal_form t) else None
 
 -- the equality of two numbers' texts; a text over a limit equals none
 unfoldable pub same_number : Bytes → Bytes → Bool

@@ -1,71 +1,57 @@
 // A number's exponent as it is written: its letter, its sign and its digits.
 
-ghost use Rattle.std.specs.Prelude.{◌≡◌, ◌+◌, ◌-◌, min, drop, nat_abs};
+ghost use Rattle.std.specs.Prelude.{◌≡◌, ◌+◌, min, nat_abs, position};
+ghost use Rattle.spec.specs.Numbers.{is_e};
 ghost use Rattle.spec.specs.Limits.{max_exponent};
 ghost use Rattle.spec.specs.Worth.{decimal, signed_exponent, exponent};
 
 use super::MAX_EXPONENT;
 use super::mantissa::is_e;
 
-// The place after the letter of the exponent, or the end if there is none.
-pub fn after_letter(t: &[u8]) -> usize
-    ensures { signed_exponent (drop result t.now) ≡ exponent t.now }
+// What is written after the letter of the exponent, and nothing if there is none.
+pub fn after_letter(t: &[u8]) -> &[u8]
+    ensures { signed_exponent result.now ≡ exponent t.now }
 {
-    let mut i = 0;
-    while i < t.len() {
-        if is_e(t[i]) {
-            return i + 1;
-        }
-        i += 1;
+    match letter(t) {
+        Some(at) => &t[at + 1..],
+        None => &[],
     }
-    i
 }
 
-// The size of an exponent that begins at a place with its sign, if it has one; 10,000 if it is larger.
-pub fn exponent_size(t: &[u8], at: usize) -> usize
-    ensures { result ≡ min (nat_abs (signed_exponent (drop at t.now))) (max_exponent + 1) }
+// The place of the exponent's letter.
+fn letter(t: &[u8]) -> Option<usize>
+    ensures { result ≡ position is_e t.now }
 {
-    integer(t, after_sign(t, at))
+    t.iter().position(|b| is_e(*b))
 }
 
-// The place after a sign, if one stands at the place.
-fn after_sign(t: &[u8], at: usize) -> usize
-    ensures { decimal 0 (drop result t.now) ≡ nat_abs (signed_exponent (drop at t.now)) }
+// The size of an exponent with its sign, if it has one; 10,000 if it is larger.
+pub fn exponent_size(t: &[u8]) -> usize
+    ensures { result ≡ min (nat_abs (signed_exponent t.now)) (max_exponent + 1) }
 {
-    if at < t.len() {
-        let b = t[at];
-        if b == b'-' {
-            return at + 1;
-        }
-        if b == b'+' {
-            return at + 1;
-        }
+    integer(after_sign(t))
+}
+
+// What is written after the sign, if there is one.
+fn after_sign(t: &[u8]) -> &[u8]
+    ensures { decimal 0 result.now ≡ nat_abs (signed_exponent t.now) }
+{
+    match t.split_first() {
+        Some((b, rest)) if *b == b'-' || *b == b'+' => rest,
+        _ => t,
     }
-    at
 }
 
-// The integer that digits write from a place on, or 10,000 if it is larger.
-fn integer(t: &[u8], at: usize) -> usize
-    ensures { result ≡ min (decimal 0 (drop at t.now)) (max_exponent + 1) }
+// The integer that digits write, or 10,000 if it is larger. A byte below the digits counts as 0.
+fn integer(t: &[u8]) -> usize
+    ensures { result ≡ min (decimal 0 t.now) (max_exponent + 1) }
 {
-    let mut i = at;
     let mut n = 0;
-    while i < t.len() {
-        n = n * 10 + digit_value(t[i]);
+    for b in t {
+        n = n * 10 + usize::from(b.saturating_sub(b'0'));
         if MAX_EXPONENT < n {
             return MAX_EXPONENT + 1;
         }
-        i += 1;
     }
     n
-}
-
-// A digit's value, and 0 for a byte below the digits.
-fn digit_value(b: u8) -> usize
-    ensures { result ≡ b - 48 }
-{
-    if b < b'0' {
-        return 0;
-    }
-    (b - b'0') as usize
 }

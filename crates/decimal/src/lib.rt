@@ -11,7 +11,7 @@ ghost use Rattle.std.specs.Prelude.{ltb, pos, neg_ℤ, nat_abs, ◌+ℤ◌, ◌-
 ghost use Rattle.spec.specs.Limits.{max_number, max_exponent};
 ghost use Rattle.spec.specs.Worth.{mantissa as mantissaOf, exponent as exponentOf, is_negative, worth};
 ghost use Rattle.spec.specs.Value.{same_text};
-ghost use Rattle.spec.specs.Equality.{same_bool, same_integer, same_worth};
+ghost use Rattle.spec.specs.Equality.{same_worth};
 ghost use Rattle.decimal.specs.Normal.{normal_form, normalized, same_number};
 
 use exponent::{after_letter, exponent_size};
@@ -32,39 +32,32 @@ pub struct Normal {
     pub power: i32,
 }
 
-#[derive(Clone, Copy)]
-pub enum Normalized {
-    Number(Normal),
-    // The text is longer than a number may be, or its exponent larger.
-    OverLimit,
-}
-
 // Whether two numbers are equal by their exact value. A text that is over a limit of numbers equals none.
 pub fn same_number(a: &[u8], b: &[u8]) -> bool
     ensures { result ≡ same_number a.now b.now }
 {
-    let Normalized::Number(x) = normalize(a) else {
+    let Some(x) = normalize(a) else {
         return false;
     };
-    let Normalized::Number(y) = normalize(b) else {
+    let Some(y) = normalize(b) else {
         return false;
     };
     same_normal(a, x, b, y)
 }
 
-// A number's text in normal form.
-pub fn normalize(t: &[u8]) -> Normalized
+// A number's text in normal form, if it is no longer than a number may be and its exponent no larger.
+pub fn normalize(t: &[u8]) -> Option<Normal>
     ensures { result ≡ normalized t.now }
 {
     if limits::MAX_NUMBER < t.len() {
-        return Normalized::OverLimit;
+        return None;
     }
-    let letter = after_letter(t);
-    let size = exponent_size(t, letter);
+    let exponent = after_letter(t);
+    let size = exponent_size(exponent);
     if MAX_EXPONENT < size {
-        return Normalized::OverLimit;
+        return None;
     }
-    Normalized::Number(normal_form(t, signed(minus_at(t, letter), size)))
+    Some(normal_form(t, signed(has_minus(exponent), size)))
 }
 
 // The same where the text is within the limits and its exponent is given.
@@ -73,24 +66,22 @@ fn normal_form(t: &[u8], exponent: i32) -> Normal
     ensures { result ≡ normal_form t.now }
 {
     let first = first_digit(t);
-    let count = significant(t, first);
-    let dropped = digits(t, first) - count;
+    let significand = &t[first..];
+    let count = significant(significand);
+    let dropped = digits(significand) - count;
     Normal {
-        negative: below_zero(minus_at(t, 0), count),
+        negative: below_zero(has_minus(t), count),
         first,
         count,
         power: power(count, exponent, fraction(t), dropped),
     }
 }
 
-// Whether a minus stands at a place.
-fn minus_at(t: &[u8], at: usize) -> bool
-    ensures { result ≡ is_negative (drop at t.now) }
+// Whether a minus stands in front.
+fn has_minus(t: &[u8]) -> bool
+    ensures { result ≡ is_negative t.now }
 {
-    if at < t.len() {
-        return t[at] == b'-';
-    }
-    false
+    t.first() == Some(&b'-')
 }
 
 // Whether a number with `count` significant digits is below zero. SPECIFICATION 7.4, T-04: a zero is not, even
@@ -98,7 +89,7 @@ fn minus_at(t: &[u8], at: usize) -> bool
 fn below_zero(minus: bool, count: usize) -> bool
     ensures { result ≡ (minus && ltb 0 count) }
 {
-    if count == 0 { false } else { minus }
+    minus && 0 < count
 }
 
 // The exponent of a sign and a size.
@@ -129,33 +120,14 @@ fn same_normal(a: &[u8], x: Normal, b: &[u8], y: Normal) -> bool
     requires { (x ≡ normal_form a.now) × (y ≡ normal_form b.now) }
     ensures { result ≡ same_worth (worth a.now) (worth b.now) }
 {
-    if !same_sign(x.negative, y.negative) {
-        return false;
-    }
-    if !same_power(x.power, y.power) {
-        return false;
-    }
-    if x.count != y.count {
+    if x.negative != y.negative || x.power != y.power || x.count != y.count {
         return false;
     }
     same_digits(a, x.first, b, y.first, x.count)
 }
 
-// Whether two numbers are on the same side of zero.
-fn same_sign(a: bool, b: bool) -> bool
-    ensures { result ≡ same_bool a b }
-{
-    if a { b } else { !b }
-}
-
-fn same_power(a: i32, b: i32) -> bool
-    ensures { result ≡ same_integer a b }
-{
-    a == b
-}
-
 // Whether two texts have the same `count` digits, from a place of each on. Neither text ends before those digits do, so
-// no index is tested.
+// no index is tested. `eq` of the two filtered slices would say it in a line; its clauses did not prove it.
 fn same_digits(a: &[u8], first: usize, b: &[u8], other: usize, count: usize) -> bool
     requires { (count ≤ length (mantissaOf (drop first a.now)))
         × (count ≤ length (mantissaOf (drop other b.now))) }

@@ -1,4 +1,5 @@
 -- Each way out of `equal`, for whatever values the table holds in the two rows.
+use Rattle.std.specs.Prelude.{Option, Some, None}
 use Prim.Native.Nat.{ℕ, suc, ◌+◌, ◌-◌, ◌≤◌, ◌<◌}
 use native.Mathlib.Omega.{arith}
 use mathlib.Core.Path.{◌≡◌, refl, sym, ap, ap₂, ◌∙◌, subst}
@@ -20,8 +21,6 @@ use Rattle.tape.specs.Map.{map_forest}
 use Rattle.tape.proofs.Rows.{kind_here, cell_here}
 use Rattle.table.specs.Meaning.{label_of, members, meant}
 use Rattle.table.specs.Sound.{NodeHeld}
-use Rattle.table.specs.declared.find.Member.{Member}
-use Rattle.table.specs.declared.find.Member.TheVariants.{At, Missing}
 use Rattle.table.proofs.MeaningLaws.{tag_label, is_object_label, is_container_label}
 use Rattle.equality.specs.Compare.{SameLabelIs, Hints, PartnerIs, EqualIs}
 use Rattle.equality.proofs.LabelLaws.{same_label-tag}
@@ -136,12 +135,12 @@ module _ {w : Table} {at other : ℕ} (levels : ℕ) (o : Bool) (end stop row ne
     pub equal_more : stop ≤ next → EqualIs w at other levels false
     equal_more h c kids e below x y low apart = sym (pending_more (comparing c kids e below x y low apart) more h)
 
-    module _ (others : next < stop) (stops : stop ≡ end_of w.nodes other) (q : Member) (t : PartnerIs w other stop row next o q) where
-      pub equal_alone : q ≡ Missing → EqualIs w at other levels false
+    module _ (others : next < stop) (stops : stop ≡ end_of w.nodes other) (q : Option ℕ) (t : PartnerIs w other stop row next o q) where
+      pub equal_alone : q ≡ None → EqualIs w at other levels false
       equal_alone f c kids e below x y low apart =
           sym (pending_alone (comparing c kids e below x y low apart) more others (children_all stop stops y) q t f)
 
-      module _ (pair : ℕ) (is : q ≡ At pair) (r : Bool) (compared : EqualIs w row pair (levels - 1) r) where
+      module _ (pair : ℕ) (is : q ≡ Some pair) (r : Bool) (compared : EqualIs w row pair (levels - 1) r) where
         pub equal_differs : r ≡ false → EqualIs w at other levels false
         equal_differs f c kids e below x y low apart =
             sym (pending_differs (comparing c kids e below x y low apart) more others (children_all stop stops y) q t pair is r compared f)

@@ -1,4 +1,5 @@
 -- What `partner` answers, and what the answer means for two containers that have a tree left each.
+use Rattle.std.specs.Prelude.{Option, Some, None}
 use Prim.Native.Nat.{ℕ, ◌+◌, ◌-◌, ◌≤◌, ◌<◌}
 use native.Mathlib.Omega.{arith}
 use mathlib.Core.Path.{◌≡◌, refl, sym, ap, ◌∙◌, subst}
@@ -19,10 +20,8 @@ use Rattle.tape.proofs.Map.{map-from}
 use Rattle.table.specs.Meaning.{name_text, entry_of, members, meant}
 use Rattle.table.specs.Sound.{NodeHeld}
 use Rattle.table.specs.Find.{same_name, sought_over, FindIs, Found}
-use Rattle.table.specs.declared.find.Member.{Member}
-use Rattle.table.specs.declared.find.Member.TheVariants.{At, Missing}
 use Rattle.table.proofs.Search.{named_hashed, finds}
-use Rattle.index.specs.Members.{Child, NotedIs, LookupIs, noted, not_found}
+use Rattle.index.specs.Members.{Child, LookupIs, noted, not_found}
 use Rattle.equality.specs.Compare.{Hints, SoughtIs, searched, hinted, PartnerIs, element, in_step, sought, EqualIs}
 use Rattle.equality.proofs.MatchLaws.{agree, partner_find, inside, partner_there, agree_element, agree-member, agree_alone}
 use Rattle.equality.proofs.SiblingLaws.{Siblings, siblings-value, siblings_name, siblings_hashed, siblings_asked}
@@ -34,33 +33,40 @@ pub name_loaded : (nodes : List Row) (row : ℕ) → name_of (get_or nodes row n
 name_loaded nodes row = sym (get_or-map name_of nodes row no_node) ∙ get_or-map name_of nodes row []
 
 -- ---- each way out of `sought`
-pub sought_outside : {w : Table} {other end : ℕ} {name : Name} → length w.nodes ≤ other → SoughtIs w other end name Missing
+pub sought_outside : {w : Table} {other end : ℕ} {name : Name} → length w.nodes ≤ other → SoughtIs w other end name None
 sought_outside h = searched (finds _ refl (sought_over (omega arith)))
 
 module _ {w : Table} {index : List ℕ} {top other end : ℕ} {name : Name} where
-  pub sought_hinted : Hints w.nodes index top → 0 < top → {r : Member} (pair : ℕ) → LookupIs w index top other name r → r ≡ At pair
-      → SoughtIs w other end name (At pair)
+  pub sought_hinted : Hints w.nodes index top → 0 < top → {r : Option ℕ} (pair : ℕ) → LookupIs w index top other name r → r ≡ Some pair
+      → SoughtIs w other end name (Some pair)
   sought_hinted hints h pair (noted x row place few low told) e =
       let to : row ≡ pair = cc in
       let parent : top + (other - top) ≡ other = omega arith in
       let child : Child w.nodes other row = subst (Child w.nodes other) (sym place)
       (subst (λ o. Child w.nodes o (top + x)) parent ((hints.right h).child x (other - top) few told.parent)) in
-      subst (λ p. SoughtIs w other end name (At p)) to (hinted child (ap (λ n. same_name w.texts n name)
+      subst (λ p. SoughtIs w other end name (Some p)) to (hinted child (ap (λ n. same_name w.texts n name)
       (ap (λ r. name_of (get_or w.nodes r [])) place ∙ sym (name_loaded w.nodes (top + x))) ∙ told.named))
   sought_hinted hints h pair not_found e = absurd (let z : ◌≡◌ {A = ℕ} 0 1 = cc in omega arith)
 
+  -- what the index has, or what a search finds where it has none
+  pub sought_either : Hints w.nodes index top → 0 < top → {q : Option ℕ} → LookupIs w index top other name q → {r : Option ℕ}
+      → (q ≡ None → FindIs w (other + 1) end name r) → ((pair : ℕ) → q ≡ Some pair → r ≡ Some pair) → SoughtIs w other end name r
+  sought_either hints h (noted x row place few low told) without with =
+      subst (SoughtIs w other end name) (sym (with row refl)) (sought_hinted hints h row (noted x row place few low told) refl)
+  sought_either hints h not_found without with = searched (without refl)
+
 -- ---- each way out of `partner`
 module _ {w : Table} {other end row next : ℕ} {object : Bool} where
-  pub partner_element : not object ≡ true → PartnerIs w other end row next object (At next)
-  partner_element e = subst (λ o. PartnerIs w other end row next o (At next)) (sym (not-true object e)) element
+  pub partner_element : not object ≡ true → PartnerIs w other end row next object (Some next)
+  partner_element e = subst (λ o. PartnerIs w other end row next o (Some next)) (sym (not-true object e)) element
 
   module _ (e : not object ≡ false) {name : Name} (is : name ≡ name_of (get_or w.nodes row [])) where
     pub partner_in_step : {beside : Name} {same : Bool} → beside ≡ name_of (get_or w.nodes next []) → same ≡ same_name w.texts name beside → same ≡ true
-        → PartnerIs w other end row next object (At next)
+        → PartnerIs w other end row next object (Some next)
     partner_in_step are compared alike =
-        subst (λ o. PartnerIs w other end row next o (At next)) (sym (not-false object e)) (in_step (rw (is, are, alike) at (sym compared)))
+        subst (λ o. PartnerIs w other end row next o (Some next)) (sym (not-false object e)) (in_step (rw (is, are, alike) at (sym compared)))
 
-    pub partner_sought : {r : Member} → SoughtIs w other end name r → PartnerIs w other end row next object r
+    pub partner_sought : {r : Option ℕ} → SoughtIs w other end name r → PartnerIs w other end row next object r
     partner_sought {r} s =
         subst (λ o. PartnerIs w other end row next o r) (sym (not-false object e))
         (sought (subst (λ n. SoughtIs w other end n r) is s))
@@ -84,13 +90,13 @@ same_names {w} x y same =
 module _ {w : Table} {other row end next stop : ℕ} {all : Forest Cell} (second : Children w other stop all)
     {c : Cell} {ks rest : Forest Cell} (x : Siblings w row end (tree c ks rest))
     {d : Cell} {ds after : Forest Cell} (y : Siblings w next stop (tree d ds after)) where
-  pub sought_name : {q : Member} → FindIs w (other + 1) stop (name_of (get_or w.nodes row [])) q → Found w.texts (other + 1) all
+  pub sought_name : {q : Option ℕ} → FindIs w (other + 1) stop (name_of (get_or w.nodes row [])) q → Found w.texts (other + 1) all
       (name_text w.texts c.name) q
   sought_name {q} f =
       subst (λ n. Found w.texts (other + 1) all (name_text w.texts n) q) (siblings_name x)
       (f.held all (siblings_asked second.siblings) (siblings_hashed x))
 
-  pub alone : (o : Bool) (q : Member) → PartnerIs w other stop row next o q → q ≡ Missing
+  pub alone : (o : Bool) (q : Option ℕ) → PartnerIs w other stop row next o q → q ≡ None
       → agreeing w.texts o all (tree c ks rest) (tree d ds after) ≡ false
   unfolding map_forest
   alone true q (sought (searched f)) e =
@@ -128,10 +134,10 @@ module _ {w : Table} {other row end next stop : ℕ} {all : Forest Cell} (second
     at_place distinct k p ps behind is same there =
         by_name distinct p ps behind (ap (λ n. partner true n (members w.texts all)) same ∙ partner_there k distinct (still k is)) there
 
-    at_pair : {place : ℕ} {p : Cell} {ps : Forest Cell} → At place ≡ At pair → NodeHeld w place p ps → NodeHeld w pair p ps
+    at_pair : {place : ℕ} {p : Cell} {ps : Forest Cell} → Some place ≡ Some pair → NodeHeld w place p ps → NodeHeld w pair p ps
     at_pair {place} {p} {ps} e there = let same : place ≡ pair = cc in subst (λ n. NodeHeld w n p ps) same there
 
-    pub paired : (o : Bool) → NoRepeats o (members w.texts all) → (q : Member) → PartnerIs w other stop row next o q → q ≡ At pair
+    pub paired : (o : Bool) → NoRepeats o (members w.texts all) → (q : Option ℕ) → PartnerIs w other stop row next o q → q ≡ Some pair
         → agreeing w.texts o all (tree c ks rest) (tree d ds after) ≡ r && agreeing w.texts o all rest after
     unfolding map_forest
     paired true distinct q (sought (searched f)) e =

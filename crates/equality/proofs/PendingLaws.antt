@@ -1,9 +1,9 @@
 -- Two containers in the table, compared tree by tree: what is left to compare, and what a turn of the loop makes of it.
+use Rattle.std.specs.Prelude.{Option, Some, None}
 use Prim.Native.Nat.{ℕ, suc, ◌≤◌, ◌<◌}
 use native.Mathlib.Omega.{arith}
 use mathlib.Core.Path.{◌≡◌, refl, sym, ap, ap₂, ◌∙◌, subst}
 use mathlib.Core.Bool.{Bool, true, false, ◌&&◌}
-use mathlib.Core.List.{List}
 use lib.Dec.{leb}
 use borrow.Author.Tests.{leb-true, leb-false}
 use Rattle.spec.specs.Forest.{Forest, none, tree, from}
@@ -14,8 +14,6 @@ use Rattle.tape.specs.Rows.{end_of}
 use Rattle.tape.specs.Map.{map_forest}
 use Rattle.tape.proofs.Forests.{from_suc}
 use Rattle.table.specs.Meaning.{entry_of, members, meant}
-use Rattle.table.specs.declared.find.Member.{Member}
-use Rattle.table.specs.declared.find.Member.TheVariants.{At, Missing}
 use Rattle.equality.specs.Compare.{PartnerIs, EqualIs}
 use Rattle.equality.proofs.MatchLaws.{agree_end, agree_less, agree_more}
 use Rattle.equality.proofs.SiblingLaws.{Siblings, Children, siblings_none, siblings_first, siblings_next}
@@ -71,14 +69,14 @@ module _ {w : Table} {o : Bool} {row end next stop levels : ℕ} {all : Forest C
         now_left (tree c ks rest) none is (siblings_none p.second h)
         ∙ agree_more o (members w.texts all) (entry_of w.texts c) (members w.texts ks) (members w.texts rest)
 
-    module _ (others : next < stop) {other : ℕ} (whole : Children w other stop all) (q : Member) (t : PartnerIs w other stop row next o q) where
-      pub pending_alone : q ≡ Missing → verdict ≡ false
+    module _ (others : next < stop) {other : ℕ} (whole : Children w other stop all) (q : Option ℕ) (t : PartnerIs w other stop row next o q) where
+      pub pending_alone : q ≡ None → verdict ≡ false
       pending_alone e =
           siblings_first p.first more λ c ks rest is x.
           siblings_first p.second others λ d ds after are y.
           now_left (tree c ks rest) (tree d ds after) is are ∙ alone whole x y o q t e
 
-      module _ (pair : ℕ) (e : q ≡ At pair) (r : Bool) (compared : EqualIs w row pair levels r) where
+      module _ (pair : ℕ) (e : q ≡ Some pair) (r : Bool) (compared : EqualIs w row pair levels r) where
         step : {C : Type 0}
             → ((c : Cell) (ks rest : Forest Cell) (d : Cell) (ds after : Forest Cell)
             → Siblings w row end (tree c ks rest) → Siblings w next stop (tree d ds after) → from p.passed all ≡ tree d ds after

@@ -1,4 +1,5 @@
 -- Trees that the table holds in the rows from one to another, ready to be compared.
+use Rattle.std.specs.Prelude.{Some, None}
 use Prim.Native.Nat.{ℕ, suc, ◌+◌, ◌≤◌, ◌<◌}
 use native.Mathlib.Omega.{arith}
 use mathlib.Core.Path.{◌≡◌, sym, ap, ◌∙◌, subst}
@@ -20,7 +21,6 @@ use Rattle.tape.proofs.Map.{map-from, count_map}
 use Rattle.table.specs.Meaning.{entry_of, members, Hashed}
 use Rattle.table.specs.Sound.{NumberFits, Sound, NodeHeld, RowsHeld}
 use Rattle.table.specs.Find.{Found, found, missing}
-use Rattle.table.specs.declared.find.Member.TheVariants.{At, Missing}
 use Rattle.table.proofs.AllLaws.{all_first, all_kids, all_rest, all_from}
 use Rattle.index.specs.Members.{Among, first, later, Child}
 use Rattle.equality.specs.Compare.{Labelled}
@@ -120,7 +120,7 @@ module _ {w : Table} where
     pub siblings_asked : RowsHeld w start end f
     siblings_asked = record { held = s.left.held; ends = s.left.ends; sound = s.sound }
 
-    pub member-found : {C : Type 0} {name : Text} {row : ℕ} → Found w.texts start f name (At row)
+    pub member-found : {C : Type 0} {name : Text} {row : ℕ} → Found w.texts start f name (Some row)
         → ((c : Cell) (kids after : Forest Cell) → partner true name (members w.texts f) ≡ members w.texts (tree c kids after)
         → NodeHeld w row c kids → C)
         → C
@@ -134,6 +134,6 @@ module _ {w : Table} where
         (members w.texts) cut)
         (siblings-value (subst (Siblings w row end) cut here))
 
-    pub member-missing : {name : Text} → Found w.texts start f name Missing → partner true name (members w.texts f) ≡ none
+    pub member-missing : {name : Text} → Found w.texts start f name None → partner true name (members w.texts f) ≡ none
     member-missing {name} (missing e) =
         partner_find name (members w.texts f) ∙ from_all _ (members w.texts f) (omega (arith, e, count_map (entry_of w.texts) f))

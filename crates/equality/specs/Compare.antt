@@ -1,5 +1,5 @@
 -- What the comparison of two values in the table answers.
-use Rattle.std.specs.Prelude.{ℕ, ◌+◌, ◌≤◌, ◌<◌, ◌≡◌, Bool, true, false, List, [], get_or}
+use Rattle.std.specs.Prelude.{ℕ, ◌+◌, ◌≤◌, ◌<◌, ◌≡◌, Bool, true, false, List, [], get_or, Option, Some}
 use Rattle.spec.specs.Forest.{Forest}
 use Rattle.spec.specs.Value.{Label, depth}
 use Rattle.spec.specs.Equality.{same_label, equal}
@@ -11,8 +11,6 @@ use Rattle.tape.specs.declared.fields.Cell.{Cell}
 use Rattle.table.specs.Meaning.{label_of, meant}
 use Rattle.table.specs.Sound.{NumberFits, NodeHeld}
 use Rattle.table.specs.Find.{same_name, FindIs}
-use Rattle.table.specs.declared.find.Member.{Member}
-use Rattle.table.specs.declared.find.Member.TheVariants.{At}
 use Rattle.index.specs.Members.{Child, Parents}
 use Rattle.tape.specs.Lent.{Texts, Table}
 use Rattle.equality.specs.declared.Pair.{Pair}
@@ -35,17 +33,17 @@ pub record Hints (nodes : List Row) (index : List ℕ) (top : ℕ) : Type 0 wher
   pub right : 0 < top → Parents top nodes index
 
 -- a member of a name among the children of the node in the row `other`: the first by a search, or a child that has the name
-pub data SoughtIs (w : Table) (other end : ℕ) (name : Name) : Member → Type 0 where
-  searched : {r : Member} → FindIs w (other + 1) end name r → SoughtIs w other end name r
-  hinted : {pair : ℕ} → Child w.nodes other pair → same_name w.texts (name_of (get_or w.nodes pair [])) name ≡ true → SoughtIs w other end name (At pair)
+pub data SoughtIs (w : Table) (other end : ℕ) (name : Name) : Option ℕ → Type 0 where
+  searched : {r : Option ℕ} → FindIs w (other + 1) end name r → SoughtIs w other end name r
+  hinted : {pair : ℕ} → Child w.nodes other pair → same_name w.texts (name_of (get_or w.nodes pair [])) name ≡ true → SoughtIs w other end name (Some pair)
 
 -- in an array the one in the row `next`; in an object that one, where it has the same name, otherwise the one that is sought
-pub data PartnerIs (w : Table) (other end row next : ℕ) : Bool → Member → Type 0 where
-  element : PartnerIs w other end row next false (At next)
-  in_step : same_name w.texts (name_of (get_or w.nodes row [])) (name_of (get_or w.nodes next [])) ≡ true → PartnerIs w other end row next true (At next)
-  sought : {r : Member} → SoughtIs w other end (name_of (get_or w.nodes row [])) r → PartnerIs w other end row next true r
+pub data PartnerIs (w : Table) (other end row next : ℕ) : Bool → Option ℕ → Type 0 where
+  element : PartnerIs w other end row next false (Some next)
+  in_step : same_name w.texts (name_of (get_or w.nodes row [])) (name_of (get_or w.nodes next [])) ≡ true → PartnerIs w other end row next true (Some next)
+  sought : {r : Option ℕ} → SoughtIs w other end (name_of (get_or w.nodes row [])) r → PartnerIs w other end row next true r
 
-abbrev pub PartnerOf : Table → Pair → ℕ → ℕ → Member → Type 0
+abbrev pub PartnerOf : Table → Pair → ℕ → ℕ → Option ℕ → Type 0
 PartnerOf w pair row next r = PartnerIs w pair.other pair.end row next pair.object r
 
 -- ---- two values

@@ -7,7 +7,7 @@ ghost use Rattle.equality.specs.Compare.{SameLabelIs, Hints, SoughtIs, PartnerOf
 
 use decimal::same_number;
 use index::{SLOTS, index_tree, lookup};
-use table::find::{Member, find, same_name};
+use table::find::{find, same_name};
 use table::spellings;
 use tape::fields::Name;
 use tape::layout::{Node, Texts};
@@ -45,20 +45,18 @@ fn sought<'a>(
     other: usize,
     end: usize,
     name: Name,
-) -> Member
+) -> Option<usize>
     ensures { Hints nodes.now index.now top
         → SoughtIs (before texts nodes.now) other end name result }
 {
     if nodes.len() <= other {
-        return Member::Missing;
+        return None;
     }
     if top == 0 {
         return find(texts, nodes, other + 1, end, name);
     }
-    let Member::At(pair) = lookup(texts, nodes, index, top, other, name) else {
-        return find(texts, nodes, other + 1, end, name);
-    };
-    Member::At(pair)
+    let noted = lookup(texts, nodes, index, top, other, name);
+    noted.or_else(|| find(texts, nodes, other + 1, end, name))
 }
 
 // Two containers whose children are compared in step. The second is in the row `other` and ends before the row `end`.
@@ -80,16 +78,16 @@ pub fn partner<'a>(
     pair: Pair,
     row: usize,
     next: usize,
-) -> Member
+) -> Option<usize>
     ensures { Hints nodes.now index.now pair.top
         → PartnerOf (before texts nodes.now) pair row next result }
 {
     if !pair.object {
-        return Member::At(next);
+        return Some(next);
     }
     let name = fields::name_of(load(nodes, row));
     if same_name(texts, name, fields::name_of(load(nodes, next))) {
-        return Member::At(next);
+        return Some(next);
     }
     sought(texts, nodes, index, pair.top, pair.other, pair.end, name)
 }
@@ -139,7 +137,7 @@ fn equal<'a>(
         if pair.end <= next {
             return false;
         }
-        let Member::At(found) = partner(texts, nodes, index, pair, row, next) else {
+        let Some(found) = partner(texts, nodes, index, pair, row, next) else {
             return false;
         };
         if !equal(texts, nodes, index, top, row, found, levels - 1) {

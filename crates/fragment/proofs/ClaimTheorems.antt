@@ -27,7 +27,8 @@ use Rattle.fragment.specs.Claims.{KeptSet, RoundTrip, Written, raw, percents, Sp
 use Rattle.fragment.specs.Scan.{awaiting, between, broken, lowest, highest, first_byte, next_byte, awaited, syntax, may_end, judge, verdict}
 use Rattle.fragment.specs.declared.scan.Awaited.{Awaited}
 use Rattle.fragment.specs.declared.scan.Syntax.{Syntax}
-use Rattle.fragment.specs.declared.scan.Verdict.{Verdict}
+use Rattle.std.specs.Prelude.{Result, Ok, Err}
+use Rattle.fragment.specs.declared.scan.NotPointer.{NotPointer}
 use Rattle.fragment.proofs.ByteLaws.{first_above, next_first, next_outside}
 use Rattle.fragment.proofs.ScanLaws.{broken_stays, judged}
 use Rattle.fragment.proofs.CallLaws.{no_text-no_pointer, fitting_whole, not_too_long}
@@ -250,11 +251,11 @@ small_from (b ∷ s) a h e = go (dec_lt b 256) (small_from s (next_byte a b) (ne
         let f : awaited (next_byte a b) s ≡ broken = ap (λ a. awaited a s) (no_byte a b h (omega arith)) ∙ broken_stays s in
         let z : ◌≡◌ {A = ℕ} 1 0 = sym (ap (λ a. a.more) f) ∙ e in absurd (omega arith)
 
-judge_pointer : (a : Awaited) (y : Syntax) → judge a y ≡ Verdict.Pointer → a.more ≡ 0
+judge_pointer : (a : Awaited) (y : Syntax) → judge a y ≡ Ok tt → a.more ≡ 0
 unfolding judge
 judge_pointer a y e = go (eqb a.more 0) refl e
   where
-    go : (t : Bool) → eqb a.more 0 ≡ t → (if t then (if may_end y then Verdict.Pointer else Verdict.Malformed) else Verdict.NotUtf8) ≡ Verdict.Pointer →
+    go : (t : Bool) → eqb a.more 0 ≡ t → ◌≡◌ {A = Result (Unit {0}) NotPointer} (if t then (if may_end y then Ok tt else Err NotPointer.Malformed) else Err NotPointer.NotUtf8) (Ok tt) →
         a.more ≡ 0
     go true t e = eqb-true a.more 0 t
     go false t e = let z : ◌≡◌ {A = ℕ} 0 1 = cc in absurd (omega arith)
@@ -262,7 +263,7 @@ judge_pointer a y e = go (eqb a.more 0) refl e
 small : (p : Bytes) → is_pointer p ≡ true → Small p
 unfolding verdict
 small p h =
-    let right : verdict p ≡ Verdict.Pointer = rw (pointer_utf8 p h, h) in
+    let right : verdict p ≡ Ok tt = rw (pointer_utf8 p h, h) in
     small_from p between (high_is 0 0x80 0xBF (omega arith)) (judge_pointer (awaited between p) (syntax Syntax.Start p) (judged p ∙ right))
 
 -- the digits that are written are read

@@ -1,6 +1,6 @@
 -- Bytes looked at one after another: they end between characters exactly where they are UTF-8, and then what was read of a pointer is what its
 -- characters come to.
-use Rattle.std.specs.Prelude.{if◌then◌else◌}
+use Rattle.std.specs.Prelude.{if◌then◌else◌, Some, None, Result, Err}
 use Prim.Native.Nat.{ℕ, zero, suc, ◌+◌, ◌-◌, ◌*◌, ◌≤◌, ◌<◌}
 use mathlib.Core.Path.{◌≡◌, refl, sym, ap, ◌∙◌}
 use mathlib.Core.Bool.{Bool, true, false}
@@ -22,8 +22,8 @@ use Rattle.fragment.specs.Scan.{awaiting, between, broken, lowest, highest, firs
 use Rattle.fragment.specs.Scan.{octets_after, Onward, OctetAt, counted, fragment_of}
 use Rattle.fragment.specs.declared.scan.Awaited.{Awaited}
 use Rattle.fragment.specs.declared.scan.Syntax.{Syntax}
-use Rattle.fragment.specs.declared.octets.Octet.{Octet}
-use Rattle.fragment.specs.declared.octets.Fragment.{Fragment}
+use Rattle.fragment.specs.declared.scan.NotPointer.{NotPointer}
+use Rattle.fragment.specs.declared.refusal.LinkRefusal.{LinkRefusal}
 use Rattle.fragment.proofs.ByteLaws.{first-ascii, first_below, first_two, first_three, first-four, first_above, next_first, next_outside, next_inside}
 use Rattle.fragment.proofs.OctetLaws.{from_here, at_end}
 use Rattle.fragment.proofs.SyntaxLaws.{Settled, settles, stays, alike, ends_accepted}
@@ -302,8 +302,8 @@ pub record Scanning (s : Bytes) (a : Awaited) (y : Syntax) (at : ℕ) : Type 0 w
   pub same_character : awaited a (drop at s) ≡ awaited between s
   pub same_syntax : syntax y (drop at s) ≡ syntax Syntax.Start s
 
-pub scanning_starts : (s : Bytes) {a : Awaited} → a ≡ between → Scanning s a Syntax.Start 0
-scanning_starts s e = record { in_text = omega arith; same_character = ap (λ a. awaited a s) e; same_syntax = refl }
+pub scanning_starts : (s : Bytes) → Scanning s between Syntax.Start 0
+scanning_starts s = record { in_text = omega arith; same_character = refl; same_syntax = refl }
 
 module _ {s : Bytes} {a : Awaited} {y : Syntax} {at : ℕ} (g : Scanning s a y at) where
   pub scanning_on : at < length s → {a' : Awaited} {y' : Syntax} → a' ≡ next_byte a (byte s at) → y' ≡ next_syntax y (byte s at) → Scanning s a' y' (at + 1)
@@ -322,9 +322,9 @@ module _ {s : Bytes} {a : Awaited} {y : Syntax} {at : ℕ} (g : Scanning s a y a
 
 -- ---- octets counted as they are looked at
 
-abbrev tally : ℕ → Awaited → Syntax → Outcome Bytes → Fragment
+abbrev tally : ℕ → Awaited → Syntax → Outcome Bytes → Result ℕ LinkRefusal
 tally n a y (ok t) = counted (n + length t) (judge (awaited a t) (syntax y t))
-tally n a y (refused number place) = Fragment.Bad
+tally n a y (refused number place) = Err LinkRefusal.BadLink
 
 pub tally_starts : (o : Outcome Bytes) → tally 0 between Syntax.Start o ≡ fragment_of o
 unfolding fragment_of
@@ -346,22 +346,21 @@ pub going_starts : (s : Bytes) (start : ℕ) → start ≤ length s → Going s 
 going_starts s start h = record { in_text = h; few = omega arith; same = tally_starts (octets nothing (drop start s)) }
 
 module _ {s : Bytes} {start : ℕ} {a : Awaited} {y : Syntax} {n at : ℕ} (g : Going s start a y n at) where
-  pub going_on : {b next : ℕ} {r : Octet} → r ≡ Octet.Is b next → OctetAt s at r → Going s start (next_byte a b) (next_syntax y b) (n + 1) next
+  pub going_on : {r : ℕ × ℕ} → OctetAt s at (Some r) → Going s start (next_byte a r.0) (next_syntax y r.0) (n + 1) r.1
   unfolding octets_after Onward
-  going_on {b} {next} {r} e o = go (rw e at o)
-    where
-      go : OctetAt s at (Octet.Is b next) → Going s start (next_byte a b) (next_syntax y b) (n + 1) next
-      go o =
-          record {
-            in_text = o.onward.1;
-            few = omega (arith, g.few, o.onward.0);
-            same = sym (tally-before n a y b (octets nothing (drop next s))) ∙ sym (ap (tally n a y) o.gives) ∙ g.same;
-          }
+  going_on {r} o =
+      record {
+        in_text = o.onward.1;
+        few = omega (arith, g.few, o.onward.0);
+        same = sym (tally-before n a y r.0 (octets nothing (drop r.1 s))) ∙ sym (ap (tally n a y) o.gives) ∙ g.same;
+      }
 
-  pub going_bad : {r : Octet} → r ≡ Octet.Bad → OctetAt s at r → Fragment.Bad ≡ fragment_of (octets nothing (drop start s))
+  pub going_bad : OctetAt s at None → Err LinkRefusal.BadLink ≡ fragment_of (octets nothing (drop start s))
   unfolding octets_after
-  going_bad {r} e o = sym (ap (tally n a y) (o.gives ∙ ap (octets_after s) e)) ∙ g.same
+  going_bad o = sym (ap (tally n a y) o.gives) ∙ g.same
 
-  pub going_ends : length s ≤ at → counted n (judge a y) ≡ fragment_of (octets nothing (drop start s))
+  pub going_ends : length s ≤ at → {v : Result (Unit {0}) NotPointer} → v ≡ judge a y → counted n v ≡ fragment_of (octets nothing (drop start s))
   unfolding octets awaited syntax
-  going_ends h = let m : n + 0 ≡ n = omega arith in sym (ap (λ t. tally n a y (octets nothing t)) (at_end s at h) ∙ ap (λ k. counted k (judge a y)) m) ∙ g.same
+  going_ends h e =
+      let m : n + 0 ≡ n = omega arith in
+      ap (counted n) e ∙ sym (ap (λ t. tally n a y (octets nothing t)) (at_end s at h) ∙ ap (λ k. counted k (judge a y)) m) ∙ g.same

@@ -1,11 +1,11 @@
 -- Texts laid down piece by piece, and a link's length.
-use Prim.Native.Nat.{ℕ, suc, ◌+◌, ◌-◌, ◌/◌, ◌%◌, ◌≤◌, ◌<◌}
+use Rattle.std.specs.Prelude.{Some, None}
+use Prim.Native.Nat.{ℕ, suc, ◌+◌, ◌/◌, ◌%◌, ◌≤◌, ◌<◌}
 use Prim.Native.Char.{code}
 use mathlib.Core.Path.{◌≡◌, refl, sym, ap, ◌∙◌}
 use mathlib.Core.Bool.{true, false}
 use mathlib.Core.List.{[], ◌∷◌, ◌++◌}
 use native.Mathlib.Omega.{arith}
-use borrow.Author.Tests.{lt-ltb, le-ltb}
 use lib.ListN.{length, drop, set, length-set, length-append}
 use lib.Seq.{sets}
 use Rattle.spec.specs.Outcome.{Outcome, ok, refused, ◌>>=◌}
@@ -17,19 +17,9 @@ use Rattle.fragment.specs.Kept.{is_kept}
 use Rattle.text.specs.UpperHex.{upper_hex}
 use Rattle.fragment.specs.Link.{bad_link, encoded, encode_all, link, nothing, octets, precede}
 use Rattle.fragment.specs.Scan.{octets_after, Onward, OctetAt, OctetsPut}
-use Rattle.fragment.specs.declared.octets.Octet.{Octet}
 use Rattle.fragment.proofs.OctetLaws.{from_here, at_end}
 
 -- ---- an octet in a link
-
-module _ (n : ℕ) where
-  pub upper_digit : n < 10 → upper_hex n ≡ 48 + n
-  unfolding upper_hex
-  upper_digit h = rw (lt-ltb n 10 h)
-
-  pub upper_letter : 10 ≤ n → upper_hex n ≡ 65 + (n - 10)
-  unfolding upper_hex
-  upper_letter h = rw (le-ltb n 10 h)
 
 module _ (b : ℕ) where
   pub encoded-kept : is_kept b ≡ true → encoded b ≡ b ∷ []
@@ -89,30 +79,26 @@ precede_ok b (ok t) r e = (t, refl, cc)
 precede_ok b (refused number place) r e = let z : ◌≡◌ {A = ℕ} 0 1 = cc in absurd (omega arith)
 
 module _ {s : Bytes} {start : ℕ} {before out : Bytes} {end at : ℕ} (p : Putting s start before out end at) where
-  pub putting_on : {b next : ℕ} {o : Octet} {out' : Bytes} → o ≡ Octet.Is b next → OctetAt s at o → out' ≡ set out end b →
-      Putting s start before out' (end + 1) next
+  pub putting_on : {r : ℕ × ℕ} {out' : Bytes} → OctetAt s at (Some r) → out' ≡ set out end r.0 → Putting s start before out' (end + 1) r.1
   unfolding octets_after Onward
-  putting_on {b} {next} {o} {out'} e d f = go (rw e at d)
-    where
-      go : OctetAt s at (Octet.Is b next) → Putting s start before out' (end + 1) next
-      go d =
-          record {
-            in_text = d.onward.1;
-            few = omega (arith, p.few, d.onward.0);
-            same_length = ap length f ∙ length-set out end b ∙ p.same_length;
-            left = λ t q.
-                let was = p.left t q in
-                let now = precede_ok b (octets nothing (drop next s)) was.0 (sym d.gives ∙ was.1) in
-                (now.0, now.1, laid_on was.2 (b ∷ []) now.2 (record { next_is = refl; after_is = f }));
-          }
+  putting_on {r} {out'} d f =
+      record {
+        in_text = d.onward.1;
+        few = omega (arith, p.few, d.onward.0);
+        same_length = ap length f ∙ length-set out end r.0 ∙ p.same_length;
+        left = λ t q.
+            let was = p.left t q in
+            let now = precede_ok r.0 (octets nothing (drop r.1 s)) was.0 (sym d.gives ∙ was.1) in
+            (now.0, now.1, laid_on was.2 (r.0 ∷ []) now.2 (record { next_is = refl; after_is = f }));
+      }
 
-  pub putting_bad : {o : Octet} → o ≡ Octet.Bad → OctetAt s at o → OctetsPut (octets nothing (drop start s)) before out end
+  pub putting_bad : OctetAt s at None → OctetsPut (octets nothing (drop start s)) before out end
   unfolding octets_after
-  putting_bad {o} e d =
+  putting_bad d =
       record {
         laid = λ t q.
             let was = p.left t q in
-            let z : refused bad_link 0 ≡ ok was.0 = sym (d.gives ∙ ap (octets_after s) e) ∙ was.1 in
+            let z : refused bad_link 0 ≡ ok was.0 = sym d.gives ∙ was.1 in
             let n : ◌≡◌ {A = ℕ} 0 1 = cc in absurd (omega arith);
       }
 

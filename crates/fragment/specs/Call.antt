@@ -1,10 +1,12 @@
 -- What the calls promise, on every input: the whole answer, and the output afterwards.
-use Rattle.std.specs.Prelude.{ℕ, ◌≡◌, [], ◌∷◌, ◌++◌, length, drop}
-use Rattle.spec.specs.Outcome.{Outcome, ok}
+use Rattle.std.specs.Prelude.{ℕ, ◌≡◌, [], ◌∷◌, ◌++◌, length, drop, Result, Ok, Err}
+use Rattle.spec.specs.Refusal.{done}
 use Rattle.spec.specs.Bytes.{Bytes}
 use Rattle.fragment.specs.Answer as Spec
-use Rattle.fragment.specs.Answer.{fitting, write_answer, octets_answer, read_answer}
+use Rattle.fragment.specs.Answer.{write_answer, read_answer}
+use Rattle.fragment.specs.Refusal.{number_of}
 use Rattle.fragment.specs.declared.answer.Answer.{Answer}
+use Rattle.fragment.specs.declared.refusal.LinkRefusal.{LinkRefusal}
 
 -- the call's answer is this one, and the output afterwards is the written text, then the rest of the output as it was
 pub record Answered (a : Spec.Answer) (before after : Bytes) (r : Answer) : Type 0 where
@@ -31,23 +33,8 @@ WriteExportIs pointer before after fields number = ExportIs (write_answer pointe
 abbrev pub ReadExportIs : Bytes → Bytes → Bytes → Bytes → ℕ → Type 0
 ReadExportIs text before after fields number = ExportIs (read_answer text (length before)) before after fields number
 
--- ---- what the code answers on the way
+-- ---- what a result is laid down as
 
--- a text, or 16
-abbrev pub FittingIs : Bytes → Bytes → Bytes → Answer → Type 0
-FittingIs t before after r = Answered (fitting (length before) t) before after r
-
--- what the octets of a link come to
-abbrev pub OctetsAnswered : Outcome Bytes → Bytes → Bytes → Answer → Type 0
-OctetsAnswered o before after r = Answered (octets_answer o (length before)) before after r
-
--- octets, given their number, written where the output has room
-pub record OctetsFit (o : Outcome Bytes) (n : ℕ) (before after : Bytes) (r : Answer) : Type 0 where
-  pub fits : (t : Bytes) → o ≡ ok t → n ≡ length t → Answered (fitting (length before) t) before after r
-
--- the two kinds of answers
-abbrev pub SuccessIs : ℕ → Answer → Type 0
-SuccessIs written r = (r.number ≡ 0) × (r.length ≡ written)
-
-abbrev pub RefusalIs : ℕ → Answer → Type 0
-RefusalIs number r = (r.number ≡ number) × (r.length ≡ 0)
+abbrev pub answer_of : Result ℕ LinkRefusal → Answer
+answer_of (Ok n) = record { number = done; length = n }
+answer_of (Err refusal) = record { number = number_of refusal; length = 0 }

@@ -1,6 +1,6 @@
 -- How the code goes through octets, one after another: what of a character is to come, and how far a pointer has been read. proofs/ScanLaws
 -- proves that this is UTF-8 and RFC 6901's syntax as Link has them.
-use Rattle.std.specs.Prelude.{ℕ, ◌-◌, ◌<◌, ◌≤◌, ◌≡◌, List, [], ◌∷◌, Bool, true, false, length, get_or, drop, ltb, eqb, if◌then◌else◌}
+use Rattle.std.specs.Prelude.{Option, Some, None, Result, Ok, Err, ℕ, ◌+◌, ◌-◌, ◌<◌, ◌≤◌, ◌≡◌, List, [], ◌∷◌, Bool, true, false, length, get_or, drop, ltb, eqb, if◌then◌else◌}
 use Prim.Native.Char.{code}
 use Rattle.spec.specs.Outcome.{Outcome, ok, refused}
 use Rattle.spec.specs.Bytes.{Bytes, within}
@@ -9,9 +9,9 @@ use Rattle.fragment.specs.Kept.{is_kept}
 use Rattle.fragment.specs.Link.{Pending, nothing, octets, precede, bad_link, is_utf8, is_pointer}
 use Rattle.fragment.specs.declared.scan.Awaited.{Awaited}
 use Rattle.fragment.specs.declared.scan.Syntax.{Syntax}
-use Rattle.fragment.specs.declared.scan.Verdict.{Verdict}
-use Rattle.fragment.specs.declared.octets.Octet.{Octet}
-use Rattle.fragment.specs.declared.octets.Fragment.{Fragment}
+use Rattle.fragment.specs.Refusal.{refusal_for}
+use Rattle.fragment.specs.declared.scan.NotPointer.{NotPointer}
+use Rattle.fragment.specs.declared.refusal.LinkRefusal.{LinkRefusal}
 
 -- ---- the table of kept bytes
 
@@ -84,43 +84,42 @@ may_end Syntax.Malformed = false
 
 -- ---- what the bytes are
 
-unfoldable pub judge : Awaited → Syntax → Verdict
+unfoldable pub judge : Awaited → Syntax → Result (Unit {0}) NotPointer
 judge a y =
-    if eqb a.more 0 then (if may_end y then Verdict.Pointer else Verdict.Malformed) else Verdict.NotUtf8
+    if eqb a.more 0 then (if may_end y then Ok tt else Err NotPointer.Malformed) else Err NotPointer.NotUtf8
 
-unfoldable pub verdict : Bytes → Verdict
-verdict s = if is_utf8 s then (if is_pointer s then Verdict.Pointer else Verdict.Malformed) else Verdict.NotUtf8
+unfoldable pub verdict : Bytes → Result (Unit {0}) NotPointer
+verdict s = if is_utf8 s then (if is_pointer s then Ok tt else Err NotPointer.Malformed) else Err NotPointer.NotUtf8
 
 -- ---- the octets of a fragment
 
 -- the octets from a place on, given the answer there; and that the place after the first octet lies behind it and within the text
-unfoldable pub octets_after : Bytes → Octet → Outcome Bytes
-octets_after s (Octet.Is b next) = precede b (octets nothing (drop next s))
-octets_after s Octet.Bad = refused bad_link 0
+unfoldable pub octets_after : Bytes → Option (ℕ × ℕ) → Outcome Bytes
+octets_after s (Some r) = precede r.0 (octets nothing (drop r.1 s))
+octets_after s None = refused bad_link 0
 
-unfoldable pub Onward : Bytes → ℕ → Octet → Type 0
-Onward s at (Octet.Is b next) = (at < next) × (next ≤ length s)
-Onward s at Octet.Bad = Unit {0}
+unfoldable pub Onward : Bytes → ℕ → Option (ℕ × ℕ) → Type 0
+Onward s at (Some r) = (at < r.1) × (r.1 ≤ length s)
+Onward s at None = Unit {0}
 
-pub record OctetAt (s : Bytes) (at : ℕ) (r : Octet) : Type 0 where
+pub record OctetAt (s : Bytes) (at : ℕ) (r : Option (ℕ × ℕ)) : Type 0 where
   pub gives : octets nothing (drop at s) ≡ octets_after s r
   pub onward : Onward s at r
 
--- the same after a `%`, which stands before the place
-pub record PercentAt (s : Bytes) (at : ℕ) (r : Octet) : Type 0 where
-  pub gives : octets Pending.percent (drop at s) ≡ octets_after s r
-  pub onward : Onward s at r
+-- the same after a `%`, which stands before the place: the octet of the two digits there
+unfoldable pub PercentAt : Bytes → ℕ → Option ℕ → Type 0
+PercentAt s at (Some b) = (octets Pending.percent (drop at s) ≡ precede b (octets nothing (drop (at + 2) s))) × (at + 2 ≤ length s)
+PercentAt s at None = octets Pending.percent (drop at s) ≡ refused bad_link 0
 
 -- what n octets with this verdict are
-unfoldable pub counted : ℕ → Verdict → Fragment
-counted n Verdict.Pointer = Fragment.Pointer n
-counted n Verdict.NotUtf8 = Fragment.Bad
-counted n Verdict.Malformed = Fragment.Malformed
+abbrev pub counted : ℕ → Result (Unit {0}) NotPointer → Result ℕ LinkRefusal
+counted n (Ok u) = Ok n
+counted n (Err reason) = Err (refusal_for reason)
 
 -- what a fragment is, by its octets
-unfoldable pub fragment_of : Outcome Bytes → Fragment
+unfoldable pub fragment_of : Outcome Bytes → Result ℕ LinkRefusal
 fragment_of (ok t) = counted (length t) (verdict t)
-fragment_of (refused number place) = Fragment.Bad
+fragment_of (refused number place) = Err LinkRefusal.BadLink
 
 -- octets, where there are any, laid down at the front of an output
 pub record OctetsPut (o : Outcome Bytes) (before after : Bytes) (count : ℕ) : Type 0 where

@@ -10,8 +10,8 @@ pub fn json_patch_write_link(pointer: &[u8], output: &mut [u8], answer: &mut [u6
         answer.new result }
 {
     let r = write_link(pointer, output);
-    *answer = [r.number as u64, 0, 0, 0, 0, r.length as u64];
-    r.number as u32
+    *answer = [u64::from(r.number), 0, 0, 0, 0, r.length as u64];
+    u32::from(r.number)
 }
 
 // As `read_link`.
@@ -20,6 +20,6 @@ pub fn json_patch_read_link(link: &[u8], output: &mut [u8], answer: &mut [u64; 6
         answer.new result }
 {
     let r = read_link(link, output);
-    *answer = [r.number as u64, 0, 0, 0, 0, r.length as u64];
-    r.number as u32
+    *answer = [u64::from(r.number), 0, 0, 0, 0, r.length as u64];
+    u32::from(r.number)
 }

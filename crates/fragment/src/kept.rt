@@ -22,10 +22,11 @@ pub const KEPT: [u8; 256] = *b"\
     ................\
     ................";
 
-// Whether a byte is kept, by the lent table.
+// Whether a byte is kept, by the lent table. It is lent from the two calls on, and not named here: a constant array is
+// laid out on the stack wherever it is used (docs/PROVING.md, "What the compiler does").
 pub fn is_kept(b: u8, kept: &[u8; 256]) -> bool
     requires { KeptTable kept.now }
     ensures { result ≡ is_kept b }
 {
-    kept[b as usize] == b
+    kept[usize::from(b)] == b
 }

@@ -7,6 +7,7 @@
 // two links with the same pointer differ only in percents.
 #![tactic(auto)]
 
+mod refusal; // why a call is refused
 pub mod answer; // what a call answers
 mod scan; // octets looked at one after another: UTF-8, and a pointer's syntax
 mod octets; // the octets of a fragment
@@ -17,4 +18,4 @@ pub mod exports; // the two calls for C
 
 pub use answer::Answer;
 pub use calls::{read_link, write_link};
-pub use scan::{Verdict, verdict_of};
+pub use scan::{NotPointer, verdict_of};

@@ -1,84 +1,70 @@
 // Octets looked at one after another. Only two things are kept of them: what is to come of a character, and how far a
 // pointer has been read. So a pointer can be judged octet by octet as it stands in a link.
 ghost use Rattle.std.specs.Prelude.{◌≡◌};
-ghost use Rattle.fragment.specs.Scan.{lowest, highest, first_byte, next_byte, next_syntax, may_end, judge, verdict};
+ghost use Rattle.fragment.specs.Scan.{first_byte, next_byte, next_syntax, judge, verdict};
 
-// What is to come of a character in UTF-8: how many bytes, and the bounds of the next one. After a byte that no
-// character has there, the bounds admit no byte.
-#[derive(Clone, Copy)]
+// What is to come of a character in UTF-8: how many bytes, and the bounds of the next one.
+#[derive(Clone, Copy, Debug, PartialEq, Eq)]
 pub struct Awaited {
     pub more: u8,
     pub low: u8,
     pub high: u8,
 }
 
-fn awaiting(more: u8, low: u8, high: u8) -> Awaited
-    ensures { result ≡ Rattle.fragment.specs.Scan.awaiting more low high }
-{
-    Awaited { more, low, high }
-}
+// Between characters.
+pub const BETWEEN: Awaited = Awaited {
+    more: 0,
+    low: 0x80,
+    high: 0xBF,
+};
 
-// The bounds of a character's second byte, given the first: table 3-7 of the Unicode standard.
-fn lowest(b: u8) -> u8
-    ensures { result ≡ lowest b }
-{
-    match b {
-        0xE0 => 0xA0,
-        0xF0 => 0x90,
-        _ => 0x80,
-    }
-}
+// After a byte that no character has there: the bounds admit no byte.
+const BROKEN: Awaited = Awaited {
+    more: 1,
+    low: 1,
+    high: 0,
+};
 
-fn highest(b: u8) -> u8
-    ensures { result ≡ highest b }
-{
-    match b {
-        0xED => 0x9F,
-        0xF4 => 0x8F,
-        _ => 0xBF,
+impl Awaited {
+    // After the first byte of a character: table 3-7 of the Unicode standard.
+    #[tactic(auto, unfolding(crate::specs::Scan::first_byte, crate::specs::Scan::lowest, crate::specs::Scan::highest))]
+    fn first(b: u8) -> Awaited
+        ensures { result ≡ first_byte b }
+    {
+        let (more, low, high) = match b {
+            0x00..=0x7F => return BETWEEN,
+            0xC2..=0xDF => (1, 0x80, 0xBF),
+            0xE0 => (2, 0xA0, 0xBF),
+            0xED => (2, 0x80, 0x9F),
+            0xE1..=0xEF => (2, 0x80, 0xBF),
+            0xF0 => (3, 0x90, 0xBF),
+            0xF1..=0xF3 => (3, 0x80, 0xBF),
+            0xF4 => (3, 0x80, 0x8F),
+            _ => return BROKEN,
+        };
+        Awaited { more, low, high }
     }
-}
 
-// After the first byte of a character.
-fn first_byte(b: u8) -> Awaited
-    ensures { result ≡ first_byte b }
-{
-    if b < 0x80 {
-        return awaiting(0, 0x80, 0xBF);
+    // After any byte.
+    #[tactic(auto, unfolding(crate::specs::Scan::next_byte, spec::specs::Bytes::within))]
+    pub fn next(self, b: u8) -> Awaited
+        ensures { result ≡ next_byte self b }
+    {
+        if self.more == 0 {
+            return Awaited::first(b);
+        }
+        if !(self.low..=self.high).contains(&b) {
+            return BROKEN;
+        }
+        Awaited {
+            more: self.more - 1,
+            ..BETWEEN
+        }
     }
-    if b < 0xC2 {
-        return awaiting(1, 1, 0);
-    }
-    if b < 0xE0 {
-        return awaiting(1, 0x80, 0xBF);
-    }
-    if b < 0xF0 {
-        return awaiting(2, lowest(b), highest(b));
-    }
-    if b < 0xF5 {
-        return awaiting(3, lowest(b), highest(b));
-    }
-    awaiting(1, 1, 0)
-}
-
-// After any byte.
-pub fn next_byte(a: Awaited, b: u8) -> Awaited
-    ensures { result ≡ next_byte a b }
-{
-    if a.more == 0 {
-        return first_byte(b);
-    }
-    if b < a.low {
-        return awaiting(1, 1, 0);
-    }
-    if a.high < b {
-        return awaiting(1, 1, 0);
-    }
-    awaiting(a.more - 1, 0x80, 0xBF)
 }
 
 // How far a pointer has been read: nothing yet; a token, or its beginning; a `~`; what no pointer begins with.
-#[derive(Clone, Copy)]
+#[derive(Clone, Copy, Debug, PartialEq, Eq)]
 pub enum Syntax {
     Start,
     Token,
@@ -86,81 +72,52 @@ pub enum Syntax {
     Malformed,
 }
 
-// After one more byte.
-pub fn next_syntax(y: Syntax, b: u8) -> Syntax
-    ensures { result ≡ next_syntax y b }
-{
-    match y {
-        Syntax::Start => {
-            if b == b'/' {
-                return Syntax::Token;
-            }
-            return Syntax::Malformed;
+impl Syntax {
+    // After one more byte.
+    #[tactic(auto, unfolding(crate::specs::Scan::next_syntax))]
+    pub fn next(self, b: u8) -> Syntax
+        ensures { result ≡ next_syntax self b }
+    {
+        match (self, b) {
+            (Syntax::Start, b'/') => Syntax::Token,
+            (Syntax::Token, b'~') => Syntax::Tilde,
+            (Syntax::Token, _) => Syntax::Token,
+            (Syntax::Tilde, b'0' | b'1') => Syntax::Token,
+            _ => Syntax::Malformed,
         }
-        Syntax::Token => {
-            if b == b'~' {
-                return Syntax::Tilde;
-            }
-            return Syntax::Token;
-        }
-        Syntax::Tilde => {
-            if b == b'0' {
-                return Syntax::Token;
-            }
-            if b == b'1' {
-                return Syntax::Token;
-            }
-            return Syntax::Malformed;
-        }
-        Syntax::Malformed => return Syntax::Malformed,
     }
 }
 
-// Whether a pointer may end here.
-fn may_end(y: Syntax) -> bool
-    ensures { result ≡ may_end y }
-{
-    match y {
-        Syntax::Start => true,
-        Syntax::Token => true,
-        Syntax::Tilde => false,
-        Syntax::Malformed => false,
-    }
-}
-
-// What bytes are: a pointer, bytes that are not UTF-8, or a text that is no pointer.
-#[derive(Clone, Copy)]
-pub enum Verdict {
-    Pointer,
+// Why bytes are no pointer.
+#[derive(Clone, Copy, Debug, PartialEq, Eq)]
+pub enum NotPointer {
     NotUtf8,
     Malformed,
 }
 
 // At the end of the bytes.
-pub fn judge(a: Awaited, y: Syntax) -> Verdict
-    ensures { result ≡ judge a y }
+#[tactic(auto, unfolding(crate::specs::Scan::judge, crate::specs::Scan::may_end))]
+pub fn judge(awaited: Awaited, syntax: Syntax) -> Result<(), NotPointer>
+    ensures { result ≡ judge awaited syntax }
 {
-    if a.more != 0 {
-        return Verdict::NotUtf8;
+    if awaited.more != 0 {
+        return Err(NotPointer::NotUtf8);
     }
-    if may_end(y) {
-        return Verdict::Pointer;
+    match syntax {
+        Syntax::Start | Syntax::Token => Ok(()),
+        Syntax::Tilde | Syntax::Malformed => Err(NotPointer::Malformed),
     }
-    Verdict::Malformed
 }
 
-// What the bytes of a text are.
-pub fn verdict_of(s: &[u8]) -> Verdict
+// Whether the bytes of a text are a pointer.
+pub fn verdict_of(s: &[u8]) -> Result<(), NotPointer>
     ensures { result ≡ verdict s.now }
 {
-    let mut awaited = awaiting(0, 0x80, 0xBF);
+    let mut awaited = BETWEEN;
     let mut syntax = Syntax::Start;
-    let mut at = 0;
-    while at < s.len() {
-        let b = s[at];
-        awaited = next_byte(awaited, b);
-        syntax = next_syntax(syntax, b);
-        at += 1;
+    for b in s {
+        awaited = awaited.next(*b);
+        syntax = syntax.next(*b);
     }
     judge(awaited, syntax)
 }

@@ -6,28 +6,24 @@ ghost use Rattle.fragment.specs.Link.{encoded, link, nothing, octets};
 ghost use Rattle.fragment.specs.Scan.{KeptTable, OctetsPut};
 
 use crate::kept::is_kept;
-use crate::octets::{Octet, octet_at};
+use crate::octets::octet_at;
 
-// A hexadecimal digit in upper case.
+// A hexadecimal digit in upper case. It stands in crate intel_hex too, as `put` does: see `hex_value` in octets.
+#[tactic(auto, unfolding(text::specs::UpperHex::upper_hex))]
 fn hex_digit(n: u8) -> u8
     requires { n < 16 }
     ensures { result ≡ upper_hex n }
 {
-    if n < 10 {
-        return b'0' + n;
-    }
-    b'A' + (n - 10)
+    if n < 10 { b'0' + n } else { b'A' + (n - 10) }
 }
 
 // How many bytes an octet takes in a link.
+#[tactic(auto, unfolding(crate::specs::Link::encoded))]
 fn width(b: u8, kept: &[u8; 256]) -> usize
     requires { KeptTable kept.now }
     ensures { result ≡ length (encoded b) }
 {
-    if is_kept(b, kept) {
-        return 1;
-    }
-    3
+    if is_kept(b, kept) { 1 } else { 3 }
 }
 
 // Whether there is room for the link of a pointer.
@@ -39,14 +35,12 @@ pub fn fits(pointer: &[u8], room: usize, kept: &[u8; 256]) -> bool
         return false;
     }
     let mut left = room - 1;
-    let mut at = 0;
-    while at < pointer.len() {
-        let w = width(pointer[at], kept);
+    for b in pointer {
+        let w = width(*b, kept);
         if left < w {
             return false;
         }
         left -= w;
-        at += 1;
     }
     true
 }
@@ -82,16 +76,14 @@ pub fn put_link(pointer: &[u8], out: &mut [u8], kept: &[u8; 256]) -> usize
 {
     put(out, 0, b'#');
     let mut end = 1;
-    let mut at = 0;
-    while at < pointer.len() {
-        end = put_octet(out, end, pointer[at], kept);
-        at += 1;
+    for b in pointer {
+        end = put_octet(out, end, *b, kept);
     }
     end
 }
 
-// The octets of a fragment, which begins at a place of a text, at the front of the output; the answer is their
-// number.
+// The octets of a fragment, which begins at a place of a text, at the front of the output; the answer is their number.
+// The loop is a `while` as in `fragment_at`.
 pub fn put_octets(s: &[u8], start: usize, out: &mut [u8], kept: &[u8; 256]) -> usize
     requires { (start ≤ length s.now) × KeptTable kept.now }
     ensures { OctetsPut (octets nothing (drop start s.now)) out.old out.new result }
@@ -99,7 +91,7 @@ pub fn put_octets(s: &[u8], start: usize, out: &mut [u8], kept: &[u8; 256]) -> u
     let mut end = 0;
     let mut at = start;
     while at < s.len() {
-        let Octet::Is(b, next) = octet_at(s, at, kept) else {
+        let Some((b, next)) = octet_at(s, at, kept) else {
             return end;
         };
         put(out, end, b);

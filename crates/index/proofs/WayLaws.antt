@@ -5,6 +5,8 @@ use mathlib.Core.Path.{◌≡◌, refl, sym, ap, ◌∙◌, subst}
 use mathlib.Core.Bool.{Bool, true, false, ◌||◌, true≢false}
 use mathlib.Core.List.{List}
 use lib.ListN.{get_or}
+use Rattle.std.specs.Prelude.{Option, Some, None, ◌⊎◌}
+use Rattle.std.proofs.Common.{inl, inr}
 use borrow.Author.Tests.{lt-ltb, le-ltb}
 use Rattle.tape.specs.Layout.{scratch_row}
 use Rattle.tape.specs.Fields.{Row, no_node, name_of}
@@ -13,7 +15,7 @@ use Rattle.tape.specs.Lent.{Texts, Table}
 use Rattle.table.specs.Meaning.{name_text}
 use Rattle.table.specs.Find.{same_name}
 use Rattle.table.proofs.Search.{other-named}
-use Rattle.index.specs.Slots.{room, branches, parents, slots, bucket_slot, branch_slot, slot_at, slot_set}
+use Rattle.index.specs.Slots.{room, branches, parents, bucket_slot, branch_slot, slot_at, slot_set}
 use Rattle.index.specs.Bits.{hash_bits, Stream, refill, bit_of, rest_of, stream_of}
 use Rattle.index.specs.Ways.{owner_of, Leads, Meets, here, there, Way, begun, further, bits_of, MeetsName, Descended}
 use Rattle.index.specs.Ways.{DescendedByHash, Entered, EnteredByHash}
@@ -114,11 +116,9 @@ module _ (w : Table) (xs : List ℕ) (base limit start : ℕ) (name : Name) wher
           others = λ f t h m. d.ahead f t h m (λ further. let r = meets_first further in absurd (ends r.row (omega (arith, r.low)) r.leads));
         }
 
-    pub descended_none : row ≤ last → Descended w xs base limit start name (record { slot = at; same = same })
-    descended_none h = ended (λ x k l. omega (arith, l.is, l.above, d.owner))
-
-    pub descended_past : limit ≤ row → Descended w xs base limit start name (record { slot = at; same = same })
-    descended_past h = ended (λ x k l. omega (arith, l.is))
+    pub descended_end : (row ≤ last) ⊎ ((last < row) × (limit ≤ row)) → Descended w xs base limit start name (record { slot = at; same = same })
+    descended_end (inl h) = ended (λ x k l. omega (arith, l.is, l.above, d.owner))
+    descended_end (inr h) = ended (λ x k l. omega (arith, l.is, h.1))
 
     -- it leads on
     module _ (up : last < row) (few : row < limit) (small : limit ≤ room) where
@@ -215,11 +215,14 @@ module _ {nodes : List Row} {xs : List ℕ} {base limit start : ℕ} {name : Nam
       record { so_far = λ T. descending_start (table_with nodes T) xs base limit start name (record { left = _; next = 0 }) e refl h z }
 
   module _ {at last left : ℕ} (p : Passing nodes xs base limit start name at last left) (row : ℕ) (is : row ≡ slot_at xs at) where
-    pub passed_none : row ≤ last → DescendedByHash nodes xs base limit start name at
-    passed_none h = record { ends = λ _ T. descended_none (table_with nodes T) xs base limit start name (p.so_far T) row is h }
-
-    pub passed_past : limit ≤ row → DescendedByHash nodes xs base limit start name at
-    passed_past h = record { ends = λ _ T. descended_past (table_with nodes T) xs base limit start name (p.so_far T) row is h }
+    pub passed_end : (row ≤ last) ⊎ ((last < row) × (limit ≤ row)) → DescendedByHash nodes xs base limit start name (Some at)
+    passed_end h =
+        record {
+          ends = λ slot e T.
+              let same : at ≡ slot = cc in
+              subst (λ s. Descended (table_with nodes T) xs base limit start name (record { slot = s; same = false })) same
+              (descended_end (table_with nodes T) xs base limit start name (p.so_far T) row is h);
+        }
 
     pub passing_next : {other : Name} {at' left' : ℕ} → last < row → row < limit → limit ≤ room → other ≡ name_of (get_or nodes (base + row) no_node)
         → (other.hash ≡ name.hash → ⊥) → 1 < left → at' ≡ branch_slot row (left % 2) → left' ≡ left / 2
@@ -233,20 +236,20 @@ module _ {nodes : List Row} {xs : List ℕ} {base limit start : ℕ} {name : Nam
         }
 
 -- the path was not followed to its end
-pub no_slot : {nodes : List Row} {xs : List ℕ} {base limit start : ℕ} {name : Name} → DescendedByHash nodes xs base limit start name slots
-no_slot = record { ends = λ h. absurd (omega arith) }
+pub no_slot : {nodes : List Row} {xs : List ℕ} {base limit start : ℕ} {name : Name} → DescendedByHash nodes xs base limit start name None
+no_slot = record { ends = λ slot e. absurd (let z : ◌≡◌ {A = ℕ} 0 1 = cc in omega arith) }
 
 -- ---- each way out of `enter_by_hash`
 module _ {nodes : List Row} {xs : List ℕ} {base object row : ℕ} {name : Name} where
   pub not_by_hash : EnteredByHash nodes xs base object row name xs false
   not_by_hash = record { entered = λ e. absurd (true≢false (sym e)); not_entered = λ _. refl }
 
-  pub entered_by_hash : {ys : List ℕ} {start h slot : ℕ} → h ≡ name.hash → start ≡ bucket_slot object h
-      → DescendedByHash nodes xs base (row - base) start name slot → slot < slots → ys ≡ slot_set xs slot (row - base)
+  pub entered_by_hash : {ys : List ℕ} {start h slot : ℕ} {found : Option ℕ} → h ≡ name.hash → start ≡ bucket_slot object h
+      → DescendedByHash nodes xs base (row - base) start name found → found ≡ Some slot → ys ≡ slot_set xs slot (row - base)
       → EnteredByHash nodes xs base object row name ys true
-  entered_by_hash {slot = slot} h-is start_is d l put =
+  entered_by_hash {slot = slot} h-is start_is d e put =
       record {
-        entered = λ _ T. entered (table_with nodes T) xs base object row name (record { slot = slot; same = false }) h-is start_is (d.ends l T) put;
+        entered = λ _ T. entered (table_with nodes T) xs base object row name (record { slot = slot; same = false }) h-is start_is (d.ends slot e T) put;
         not_entered = λ e. absurd (true≢false e);
       }
 

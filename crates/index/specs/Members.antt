@@ -1,12 +1,10 @@
 -- Members that are noted with their parents, and found again. The index of a tree is a hint: what it tells is right, and it need not tell anything.
-use Rattle.std.specs.Prelude.{ℕ, suc, ◌+◌, ◌-◌, ◌<◌, ◌≤◌, ◌≡◌, true, List, [], length, get_or, drop}
+use Rattle.std.specs.Prelude.{ℕ, suc, ◌+◌, ◌-◌, ◌<◌, ◌≤◌, ◌≡◌, true, Option, Some, None, List, [], length, get_or, drop}
 use Rattle.tape.specs.Layout.{scratch_row}
 use Rattle.tape.specs.Fields.{Row, no_node, name_of, span_of}
 use Rattle.tape.specs.declared.fields.Name.{Name}
 use Rattle.tape.specs.Lent.{Table}
 use Rattle.table.specs.Find.{same_name}
-use Rattle.table.specs.declared.find.Member.{Member}
-use Rattle.table.specs.declared.find.Member.TheVariants.{At, Missing}
 use Rattle.index.specs.Slots.{room, slots, parent_slot, slot_at}
 
 -- a row is among those of the trees that follow one another from a row up to the row `end`
@@ -40,8 +38,8 @@ pub record NotedIs (w : Table) (xs : List ℕ) (top object : ℕ) (name : Name) 
   pub parent : slot_at xs (parent_slot row) ≡ suc (object - top)
   pub named : same_name w.texts (name_of (get_or w.nodes (top + row) no_node)) name ≡ true
 
--- What is found has the name, and this parent is noted for it. Where nothing is found, there may still be such a member: `Missing` says nothing, and a
+-- What is found has the name, and this parent is noted for it. Where nothing is found, there may still be such a member: `None` says nothing, and a
 -- lookup that always answered so would do.
-pub data LookupIs (w : Table) (xs : List ℕ) (top object : ℕ) (name : Name) : Member → Type 0 where
-  noted : (x row : ℕ) → row ≡ top + x → x < room → top ≤ object → NotedIs w xs top object name x → LookupIs w xs top object name (At row)
-  not_found : LookupIs w xs top object name Missing
+pub data LookupIs (w : Table) (xs : List ℕ) (top object : ℕ) (name : Name) : Option ℕ → Type 0 where
+  noted : (x row : ℕ) → row ≡ top + x → x < room → top ≤ object → NotedIs w xs top object name x → LookupIs w xs top object name (Some row)
+  not_found : LookupIs w xs top object name None

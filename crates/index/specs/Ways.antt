@@ -1,6 +1,6 @@
 -- The search paths of names: which rows they lead to, and what entering a row comes to. They are the paths of a digital search tree: in each row
 -- the next bit of the name chooses one of two branches.
-use Rattle.std.specs.Prelude.{ℕ, ◌+◌, ◌-◌, ◌/◌, ◌<◌, ◌≤◌, ◌≡◌, Bool, true, false, List, ltb, length, get_or, drop, if◌then◌else◌}
+use Rattle.std.specs.Prelude.{ℕ, ◌+◌, ◌-◌, ◌/◌, ◌<◌, ◌≤◌, ◌≡◌, Bool, true, false, Option, Some, List, ltb, length, get_or, drop, if◌then◌else◌}
 use Rattle.tape.specs.Layout.{scratch_row}
 use Rattle.tape.specs.Fields.{Row, no_node, name_of}
 use Rattle.tape.specs.declared.fields.Name.{Name}
@@ -68,8 +68,9 @@ pub record Entered (w : Table) (xs : List ℕ) (base object row : ℕ) (name : N
   pub behind : drop parents ys ≡ drop parents xs
 
 -- the same by the hash of a name alone, whatever the two texts are
-pub record DescendedByHash (nodes : List Row) (xs : List ℕ) (base limit start : ℕ) (name : Name) (r : ℕ) : Type 0 where
-  pub ends : r < slots → (T : Texts) → Descended (record { texts = T; nodes = nodes }) xs base limit start name (record { slot = r; same = false })
+pub record DescendedByHash (nodes : List Row) (xs : List ℕ) (base limit start : ℕ) (name : Name) (r : Option ℕ) : Type 0 where
+  pub ends : (slot : ℕ) → r ≡ Some slot → (T : Texts)
+      → Descended (record { texts = T; nodes = nodes }) xs base limit start name (record { slot = slot; same = false })
 
 -- After the answer true the member is entered, and no row on its path has the name. After the answer false nothing has changed. When the answer
 -- is true is left free: it is a quick way for most members, and one that always answered false would do.

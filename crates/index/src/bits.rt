@@ -6,7 +6,6 @@ ghost use Rattle.index.specs.Bits.{other_mix, other_hash, hash_bits, refill, str
 ghost use Rattle.text.specs.Decode.{text_from};
 
 use crate::slots::ROOM;
-use lexer::Character;
 use table::spellings::part;
 use tape::fields::{Name, long, wide};
 use tape::layout::Texts;
@@ -31,8 +30,8 @@ const DISTANCE: u64 = 0x4000;
 fn other_mix(hash: u32, c: u32) -> u32
     ensures { result ≡ other_mix hash c }
 {
-    let values = OTHER_HASHES as u64;
-    let m = (hash as u64 + c as u64) * FACTOR % values;
+    let values = u64::from(OTHER_HASHES);
+    let m = (u64::from(hash) + u64::from(c)) * FACTOR % values;
     ((m + m / DISTANCE) % values) as u32
 }
 
@@ -42,13 +41,11 @@ fn other_hash(form: u64, s: &[u8], start: usize) -> u32
 {
     let mut h: u32 = 0;
     let mut at = start;
-    loop {
-        let Character::Scalar(c, next) = letter(form, s, at) else {
-            return h;
-        };
-        h = other_mix(h, c);
-        at = next.at;
+    while let Ok(c) = letter(form, s, at) {
+        h = other_mix(h, c.code);
+        at = c.next.at;
     }
+    h
 }
 
 // How many values the upper bits of a name's hash have.
@@ -70,7 +67,7 @@ pub fn refilled<'a>(texts: Texts<'a>, name: Name, bits: Bits) -> Bits
     }
     let s = part(texts, name.text);
     let f = long(name.text.form);
-    let Character::Scalar(_, next) = letter(f, s, bits.next) else {
+    let Ok(c) = letter(f, s, bits.next) else {
         return Bits {
             left: 1,
             next: bits.next,
@@ -78,6 +75,6 @@ pub fn refilled<'a>(texts: Texts<'a>, name: Name, bits: Bits) -> Bits
     };
     Bits {
         left: OTHER_HASHES + other_hash(f, s, bits.next) % OTHER_HASHES,
-        next: next.at,
+        next: c.next.at,
     }
 }

@@ -1,5 +1,5 @@
 // All members of a tree entered, each with its parent, and a member found again.
-ghost use Rattle.std.specs.Prelude.{◌≡◌, true, ◌+◌, ◌≤◌, ◌<◌, min, [], length, get_or};
+ghost use Rattle.std.specs.Prelude.{◌≡◌, true, ◌+◌, ◌≤◌, ◌<◌, [], length, get_or};
 ghost use Rattle.tape.specs.Layout.{values, scratch_row};
 ghost use Rattle.tape.specs.Fields.{span_of};
 ghost use Rattle.tape.specs.Lent.{before};
@@ -9,21 +9,12 @@ ghost use Rattle.index.specs.Members.{Indexed, TreeIndexed, NotedIs, LookupIs};
 use crate::bits::{Bits, hash_bits, refilled};
 use crate::slots;
 use crate::ways::enter;
-use table::find::{Member, same_name};
+use table::find::same_name;
 use tape::fields::{Name, name_of, wide};
 use tape::layout;
 use tape::layout::{Node, Texts};
 use tape::moves::load;
 use tape::nodes::kind;
-
-fn least(a: usize, b: usize) -> usize
-    ensures { result ≡ min a b }
-{
-    if a < b {
-        return a;
-    }
-    b
-}
 
 // The row behind the tree that begins in a row.
 fn behind(nodes: &[Node], row: usize) -> usize
@@ -44,10 +35,9 @@ fn index_object<'a>(texts: Texts<'a>, nodes: &[Node], index: &mut [u16], top: us
     if kind(nodes, object) != layout::OBJECT {
         return;
     }
-    let end = least(
-        behind(nodes, object),
-        least(layout::SCRATCH, top + slots::ROOM),
-    );
+    let end = behind(nodes, object)
+        .min(layout::SCRATCH)
+        .min(top + slots::ROOM);
     let mut row = object + 1;
     while row < end {
         let name = name_of(load(nodes, row));
@@ -68,14 +58,11 @@ pub fn index_tree<'a>(texts: Texts<'a>, nodes: &[Node], index: &mut [u16], top: 
     if layout::SCRATCH <= top {
         return;
     }
-    let end = least(
-        behind(nodes, top),
-        least(layout::SCRATCH, top + slots::ROOM),
-    );
-    let mut row = top;
-    while row < end {
+    let end = behind(nodes, top)
+        .min(layout::SCRATCH)
+        .min(top + slots::ROOM);
+    for row in top..end {
         index_object(texts, nodes, index, top, row);
-        row += 1;
     }
 }
 
@@ -106,14 +93,11 @@ pub fn lookup<'a>(
     top: usize,
     object: usize,
     name: Name,
-) -> Member
+) -> Option<usize>
     ensures { LookupIs (before texts nodes.now) index.now top object name result }
 {
-    if object < top {
-        return Member::Missing;
-    }
-    if layout::SCRATCH < object {
-        return Member::Missing;
+    if object < top || layout::SCRATCH < object {
+        return None;
     }
     let mut at = slots::bucket(object, name.hash);
     let mut last = 0;
@@ -123,14 +107,11 @@ pub fn lookup<'a>(
     };
     loop {
         let row = slots::slot(index, at);
-        if row <= last {
-            return Member::Missing;
-        }
-        if slots::ROOM <= row {
-            return Member::Missing;
+        if row <= last || slots::ROOM <= row {
+            return None;
         }
         if is_noted(texts, nodes, index, top, object, name, row) {
-            return Member::At(top + row);
+            return Some(top + row);
         }
         let filled = refilled(texts, name, bits);
         at = slots::branch(row, filled.left % 2);

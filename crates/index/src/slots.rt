@@ -46,6 +46,7 @@ pub fn parent(row: usize) -> usize
 pub fn slot(index: &[u16], at: usize) -> usize
     ensures { result ≡ slot_at index.now at }
 {
+    // Not by `get`: this test is as plain, and it is what the definition's default says.
     if index.len() <= at {
         return 0;
     }
@@ -68,9 +69,5 @@ pub fn empty(index: &mut [u16])
     if index.len() < SLOTS {
         return;
     }
-    let mut i = 0;
-    while i < SLOTS {
-        index[i] = 0;
-        i += 1;
-    }
+    index[..SLOTS].fill(0);
 }

@@ -1,5 +1,5 @@
 // A member entered at the end of its name's search path.
-ghost use Rattle.std.specs.Prelude.{◌≡◌, ◌||◌, ◌<◌, ◌≤◌};
+ghost use Rattle.std.specs.Prelude.{◌<◌, ◌≤◌};
 ghost use Rattle.tape.specs.Layout.{scratch_row};
 ghost use Rattle.tape.specs.Lent.{before};
 ghost use Rattle.index.specs.Slots.{room};
@@ -12,15 +12,6 @@ use tape::fields::{Name, name_of};
 use tape::layout;
 use tape::layout::{Node, Texts};
 use tape::moves::load;
-
-fn either(a: bool, b: bool) -> bool
-    ensures { result ≡ a || b }
-{
-    if a {
-        return true;
-    }
-    b
-}
 
 // Where a search path ends, and whether a row on it has the name.
 #[derive(Clone, Copy)]
@@ -51,14 +42,11 @@ fn descend<'a>(
     };
     loop {
         let row = slots::slot(index, at);
-        if row <= last {
-            return Ending { slot: at, same };
-        }
-        if limit <= row {
+        if row <= last || limit <= row {
             return Ending { slot: at, same };
         }
         let other = name_of(load(nodes, base + row));
-        same = either(same, same_name(texts, other, name));
+        same |= same_name(texts, other, name);
         let filled = refilled(texts, name, bits);
         at = slots::branch(row, filled.left % 2);
         bits = Bits {
@@ -82,10 +70,7 @@ pub fn enter<'a>(
 ) -> bool
     ensures { Entered (before texts nodes.now) index.old base object row name index.new result }
 {
-    if layout::SCRATCH < base {
-        return true;
-    }
-    if row <= base {
+    if layout::SCRATCH < base || row <= base {
         return true;
     }
     let new = row - base;
@@ -98,8 +83,8 @@ pub fn enter<'a>(
     ending.same
 }
 
-// Where the path of a name ends, by its hash alone; SLOTS where a row on it has this hash too, or the hash has no
-// bits left.
+// Where the path of a name ends, by its hash alone; None where a row on it has this hash too, or the hash has no bits
+// left.
 fn descend_by_hash(
     nodes: &[Node],
     index: &[u16],
@@ -107,7 +92,7 @@ fn descend_by_hash(
     limit: usize,
     start: usize,
     name: Name,
-) -> usize
+) -> Option<usize>
     requires { (base ≤ scratch_row) × (0 < limit) × (limit ≤ room) × (start < room) }
     ensures { DescendedByHash nodes.now index.now base limit start name result }
 {
@@ -116,21 +101,15 @@ fn descend_by_hash(
     let mut left = hash_bits(name.hash);
     loop {
         let row = slots::slot(index, at);
-        if row <= last {
-            return at;
-        }
-        if limit <= row {
-            return at;
+        if row <= last || limit <= row {
+            return Some(at);
         }
         let other = name_of(load(nodes, base + row));
-        if other.hash == name.hash {
-            return slots::SLOTS;
-        }
-        if left <= 1 {
-            return slots::SLOTS;
+        if other.hash == name.hash || left <= 1 {
+            return None;
         }
         at = slots::branch(row, left % 2);
-        left = left / 2;
+        left /= 2;
         last = row;
     }
 }
@@ -145,13 +124,9 @@ pub fn enter_by_hash(
     row: usize,
     name: Name,
 ) -> bool
-    ensures { EnteredByHash nodes.now index.old base object row name
-        index.new result }
+    ensures { EnteredByHash nodes.now index.old base object row name index.new result }
 {
-    if layout::SCRATCH < base {
-        return false;
-    }
-    if row <= base {
+    if layout::SCRATCH < base || row <= base {
         return false;
     }
     let new = row - base;
@@ -159,10 +134,9 @@ pub fn enter_by_hash(
         return false;
     }
     let start = slots::bucket(object, name.hash);
-    let slot = descend_by_hash(nodes, index, base, new, start, name);
-    if slots::SLOTS <= slot {
+    let Some(slot) = descend_by_hash(nodes, index, base, new, start, name) else {
         return false;
-    }
+    };
     slots::set_slot(index, slot, new);
     true
 }

@@ -1,5 +1,6 @@
 -- Laws of the stages of the call.
-use Rattle.std.specs.Prelude.{if◌then◌else◌}
+use Rattle.std.specs.Prelude.{Option, Result, Ok, Err, IsErrAnd, if◌then◌else◌}
+use Rattle.std.proofs.lemmas.Result.{err_from_is_err_and}
 use Prim.Native.Nat.{ℕ, ◌+◌, ◌≤◌, ◌<◌}
 use native.Mathlib.Omega.{arith}
 use mathlib.Core.Path.{◌≡◌, refl, sym, ap, ◌∙◌}
@@ -10,6 +11,8 @@ use lib.ListN.{length, take, drop}
 use lib.Seq.{length-take-le}
 use Rattle.spec.specs.Outcome.{Outcome, ok, refused}
 use Rattle.spec.specs.Refusal.{work_too_short, wrong_shape, too_many_operations}
+use Rattle.spec.specs.Fault.{number_of}
+use Rattle.spec.specs.declared.refusal.Fault.{Fault}
 use Rattle.spec.specs.Limits.{max_bytes, max_operations, work_nodes, work_entries}
 use Rattle.spec.specs.Bytes.{Bytes}
 use Rattle.spec.specs.Forest.{Forest, none, tree, count}
@@ -18,7 +21,6 @@ use Rattle.spec.specs.Value.{is_array}
 use Rattle.spec.specs.Read.{read}
 use Rattle.spec.specs.Operation as Operation
 use Rattle.spec.specs.Patch.{Stop, stop, Run, finished, stopped, no_pointer, at_op, on_finish, operation, operations, shape}
-use Rattle.lexer.specs.declared.cursor.Cursor.{Cursor}
 use Rattle.tape.specs.Columns.{filled}
 use Rattle.tape.specs.Fields.{Row, no_node}
 use Rattle.tape.specs.Layout.{patch_row}
@@ -34,12 +36,12 @@ use Rattle.table.specs.Sound.{NodeHeld, RowsHeld}
 use Rattle.shape.specs.Operation.{KindIs}
 use Rattle.shape.specs.Patch.{ShapeIs, right, wrong, PatchIs}
 use Rattle.shape.specs.declared.kinds.Kind.{Kind}
-use Rattle.shape.specs.declared.patch.Shape.{Shape}
+use Rattle.shape.specs.declared.patch.Misshapen.{Misshapen}
 use Rattle.shape.proofs.RunLaws.{rows_children, rows-first, first-node, rows_next}
 use Rattle.reader.specs.Work.{Work}
 use Rattle.reader.specs.Texts as Texts
 use Rattle.reader.specs.Texts.{reading}
-use Rattle.reader.specs.declared.values.Read.{Read}
+use Rattle.reader.specs.declared.values.Value as Read
 use Rattle.changes.specs.Site.{table}
 use Rattle.operations.proofs.ToldLaws.{told}
 use Rattle.json_patch.specs.Call.{wiped}
@@ -52,8 +54,8 @@ use Rattle.inspection.proofs.TallyLaws.{plus_comm, plus_assoc, plus_none, total-
 use Rattle.inspection.proofs.InspectionLaws.{inspection_unread, inspection-read}
 use Rattle.inspect.specs.Counts.{counts_in, one_for, OneIs}
 use Rattle.inspect.specs.Call as Call
-use Rattle.inspect.specs.Call.{AcceptedIs, RefusalIs, enough, InspectIs}
-use Rattle.inspect.specs.Stages.{UnreadIs, MisshapenIs, CountedIs, ShapedIs}
+use Rattle.inspect.specs.Call.{RefusalIs, enough, InspectIs}
+use Rattle.inspect.specs.Stages.{told_of, UnreadIs, MisshapenIs, CountedIs, ShapedIs}
 use Rattle.inspect.specs.declared.counts.Counts.{Counts}
 use Rattle.inspect.specs.declared.answer.Answer.{Answer}
 
@@ -78,7 +80,7 @@ module _ (T : Texts) (op : ℕ) (c : Cell) (kids rest : Forest Cell) (os : List 
       go (refused n p) first b others e = absurd (let z : ◌≡◌ {A = ℕ} 0 1 = cc in omega arith)
 
 -- and the first is counted as its kind is
-first_counted : {w : Table} {row : ℕ} {c : Cell} {kids : Forest Cell} {kind : Kind} {o : Operation.Operation} {more : Counts} → KindIs w row kind
+first_counted : {w : Table} {row : ℕ} {c : Cell} {kids : Forest Cell} {kind : Option Kind} {o : Operation.Operation} {more : Counts} → KindIs w row kind
     → NodeHeld w row c kids → operation (meant w.texts c kids) ≡ ok o → OneIs kind more → counts_in more ≡ one_of o.kind
 unfolding one_for
 first_counted {w} {c = c} {kids} {o = o} kind_is held first one =
@@ -126,7 +128,7 @@ module _ {w : Table} {start end row : ℕ} {counts : Spec.Counts} (any : LeftAny
     left_inside h r f held os is =
         rows-first (any f held).rows more (λ c kids rest e rows. absurd (omega (arith, inside_here (held_node rows.held))))
 
-    pub left_next : {kind : Kind} {one : Counts} {counts' : Spec.Counts} → KindIs w row kind → OneIs kind one → counts' ≡ plus counts (counts_in one)
+    pub left_next : {kind : Option Kind} {one : Counts} {counts' : Spec.Counts} → KindIs w row kind → OneIs kind one → counts' ≡ plus counts (counts_in one)
         → (next : ℕ) → next ≡ end_of w.nodes row → LeftAny w start end next counts'
     unfolding counts_of
     left_next {one = one} {counts'} kind_is one-is sum_is_lem next at f held =
@@ -162,41 +164,44 @@ shape-operations v os e = go (is_array v.label) (leb (count v.kids) max_operatio
     go true false h = absurd (let z : ◌≡◌ {A = ℕ} 0 1 = cc in omega arith)
     go false b h = absurd (let z : ◌≡◌ {A = ℕ} 0 1 = cc in omega arith)
 
-no_refusal : {t : Stop} {s : Shape} → ShapeIs (stopped t) s → s ≡ Shape.Right → ⊥
-no_refusal (wrong number op) e = let z : ◌≡◌ {A = ℕ} 0 1 = cc in omega arith
+no_refusal : {t : Stop} {s : Result (Unit {0}) Misshapen} {u : Unit {0}} → ShapeIs (stopped t) s → s ≡ Ok u → ⊥
+no_refusal (wrong m) e = let z : ◌≡◌ {A = ℕ} 0 1 = cc in omega arith
 
-module _ {w : Table} {s : Shape} (shaped : PatchIs w patch_row s) {r : Answer} where
-  pub shape_refused : {number op : ℕ} → s ≡ Shape.Refused number op → MisshapenIs s r → ShapedIs w r
-  unfolding of_shape
-  shape_refused e is c kids n = go (shaped.held c kids n) refl
+module _ {w : Table} {s : Result (Unit {0}) Misshapen} (shaped : PatchIs w patch_row s) where
+  pub shape_refused : {m : Misshapen} (r : Result Counts Answer) → s ≡ Err m → IsErrAnd r (MisshapenIs m) → ShapedIs w r
+  unfolding of_shape told_of
+  shape_refused {m} r e is c kids n =
+      let p = err_from_is_err_and r is in rw p.1 (go (shaped.held c kids n) refl)
     where
-      go : {o : Run (List Operation.Operation)} {q : Shape} → ShapeIs o q → s ≡ q → Call.told r ≡ of_shape o
+      go : {o : Run (List Operation.Operation)} {q : Result (Unit {0}) Misshapen} → ShapeIs o q → s ≡ q → Call.told (err_from_is_err_and r is).0 ≡ of_shape o
       go (right os) f = absurd (let z : ◌≡◌ {A = ℕ} 0 1 = cc in omega arith)
-      go (wrong number op) f = is number op f
+      go (wrong k) f = let same : m ≡ k = cc in rw (← same) (err_from_is_err_and r is).2
 
-  pub shape-counted : s ≡ Shape.Right → {end : ℕ} → end ≡ end_of w.nodes patch_row → {counts : Counts} → CountedIs w (patch_row + 1) end counts
-      → AcceptedIs counts r → ShapedIs w r
-  unfolding of_shape
-  shape-counted e {end} at {counts} counted is c kids n =
+  pub shape-counted : {u : Unit {0}} → s ≡ Ok u → {end : ℕ} → end ≡ end_of w.nodes patch_row → {counts : Counts}
+      → CountedIs w (patch_row + 1) end counts → ShapedIs w (Ok counts)
+  unfolding of_shape told_of
+  shape-counted e {end} at {counts} counted c kids n =
       go (shape (meant w.texts c kids)) refl (shaped.held c kids n)
     where
-      go : (o : Run (List Operation.Operation)) → shape (meant w.texts c kids) ≡ o → ShapeIs o s → Call.told r ≡ of_shape o
+      go : (o : Run (List Operation.Operation)) → shape (meant w.texts c kids) ≡ o → ShapeIs o s → accepted (counts_in counts) ≡ of_shape o
       go (finished os) f accepts =
-          is ∙ ap accepted (counted kids (rows_children end at n) os (shape-operations (meant w.texts c kids) os f))
+          ap accepted (counted kids (rows_children end at n) os (shape-operations (meant w.texts c kids) os f))
       go (stopped t) f refusal = absurd (no_refusal refusal e)
 
 -- ---- the patch read
-module _ {T : Texts} {w w' : Work} {told : Read} (long : work_nodes ≤ length w.nodes) (longer : work_entries ≤ length w.index)
+module _ {T : Texts} {w w' : Work} {told : Result Read.Value Fault} (long : work_nodes ≤ length w.nodes) (longer : work_entries ≤ length w.index)
     (short : length T.patch ≤ max_bytes) (reads : Texts.PatchIs T w w' told) where
   as_read : read T.patch ≡ reading w T.patch
   as_read = read_into w T.patch long longer short
 
-  pub text_unread : {r : Answer} {number place : ℕ} → told ≡ Read.Refused number place → UnreadIs told r → Call.told r ≡ inspection T.patch
-  text_unread {number = number} {place} t is =
-      is number place t ∙ sym (inspection_unread T.patch short number place (as_read ∙ text_refusal reads.text t))
+  pub text_unread : {e : Fault} (r : Result Counts Answer) → told ≡ Err e → IsErrAnd r (UnreadIs e) → told_of r ≡ inspection T.patch
+  unfolding told_of
+  text_unread {e} r t is =
+      let p = err_from_is_err_and r is in
+      rw p.1 (p.2 ∙ sym (inspection_unread T.patch short (number_of e.refusal) e.place (as_read ∙ text_refusal reads.text t)))
 
-  pub text_shaped : {r : Answer} {next : Cursor} {end : ℕ} → told ≡ Read.Value next end → ShapedIs (table T w'.nodes) r → Call.told r ≡ inspection T.patch
-  text_shaped t shaped =
+  pub text_shaped : (r : Result Counts Answer) {v : Read.Value} → told ≡ Ok v → ShapedIs (table T w'.nodes) r → told_of r ≡ inspection T.patch
+  text_shaped r t shaped =
       text-value reads.text t λ v reads_as few rooted changed.
       shaped rooted.root rooted.kids (rooted_node rooted)
       ∙ ap (λ u. of_shape (shape u)) rooted.means
@@ -210,19 +215,20 @@ module _ {patch : Bytes} {r : Answer} where
   work_short e is = record { inspected = rw e is; nodes-after = rw e; index_after = rw e }
 
   -- SPECIFICATION 2.4: after any other answer the work area is all zero; where a work buffer is longer than stated, the part beyond is unchanged.
-  pub work_done : {ns ns' : List Row} {xs xs' : List ℕ} → work_nodes ≤ length ns → work_entries ≤ length xs
-      → (work_nodes ≤ length (take work_nodes ns) → work_entries ≤ length (take work_entries xs) → Call.told r ≡ inspection patch)
+  pub work_done : {ns ns' : List Row} {xs xs' : List ℕ} (done : Result Counts Answer) → work_nodes ≤ length ns → work_entries ≤ length xs
+      → (work_nodes ≤ length (take work_nodes ns) → work_entries ≤ length (take work_entries xs) → told_of done ≡ inspection patch)
+      → Call.told r ≡ told_of done
       → (rows : List Row) → length rows ≡ length (take work_nodes ns) → ns' ≡ filled no_node (rows ++ drop work_nodes ns) 0 work_nodes
       → (entries : List ℕ) → length entries ≡ length (take work_entries xs) → xs' ≡ filled 0 (entries ++ drop work_entries xs) 0 work_entries
       → InspectIs patch (record { nodes = ns; index = xs }) (record { nodes = ns'; index = xs' }) r
   unfolding inspection_in
-  work_done {ns = ns} {xs = xs} long longer is rows same nodes_are entries same_entries index_is =
+  work_done {ns = ns} {xs = xs} done long longer is told rows same nodes_are entries same_entries index_is =
       let w : Work = record { nodes = ns; index = xs } in
       let h : work_nodes ≤ length (take work_nodes ns) = omega (arith, length-take-le work_nodes ns long) in
       let i : work_entries ≤ length (take work_entries xs) = omega (arith, length-take-le work_entries xs longer) in
       let all : enough w ≡ true = work_suffices_lem _ long longer in
       record {
-        inspected = rw all (is h i);
+        inspected = rw all (told ∙ is h i);
         nodes-after = nodes_are ∙ part-wiped work_nodes no_node ns rows long same ∙ ap (λ b. wiped b work_nodes no_node ns) (sym all);
         index_after = index_is ∙ part-wiped work_entries 0 xs entries longer same_entries ∙ ap (λ b. wiped b work_entries 0 xs) (sym all);
       }

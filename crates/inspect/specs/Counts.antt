@@ -1,5 +1,5 @@
 -- What the code's counts stand for.
-use Rattle.std.specs.Prelude.{ℕ, ◌≤◌, ◌≡◌}
+use Rattle.std.specs.Prelude.{◌≤◌, ◌≡◌, Option}
 use Rattle.spec.specs.Outcome.{Outcome, ok, refused}
 use Rattle.spec.specs.Operation as Operation
 use Rattle.shape.specs.Kinds.{kind_outcome}
@@ -18,10 +18,7 @@ one_for (ok k) = one_of k
 one_for (refused number place) = no_counts
 
 -- ---- contracts
-abbrev pub CountsAre : ℕ → ℕ → ℕ → ℕ → ℕ → ℕ → Counts → Type 0
-CountsAre a b c d e f r = counts_in r ≡ record { add = a; remove = b; replace = c; move = d; copy = e; test = f }
-
-pub record OneIs (kind : Kind) (r : Counts) : Type 0 where
+pub record OneIs (kind : Option Kind) (r : Counts) : Type 0 where
   pub is : counts_in r ≡ one_for (kind_outcome kind)
   pub small : total (counts_in r) ≤ 1
 

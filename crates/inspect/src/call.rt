@@ -5,10 +5,10 @@ ghost use Rattle.inspect.specs.Call.{InspectIs};
 use crate::answer::{Answer, refused};
 use crate::stages::checked;
 use index;
-use spec::refusal;
+use json_patch::{clear, suffices};
+use spec::refusal::Refusal;
 use tape::layout;
 use tape::layout::Node;
-use tape::moves::wipe;
 
 // The patch is read and shaped, and its operations counted, or the call is refused. `nodes` and `index` are the work
 // area, as `json_patch::apply` takes it: at least ROWS records and SLOTS entries, which may hold anything. That many of
@@ -16,18 +16,14 @@ use tape::moves::wipe;
 pub fn inspect<'a>(patch: &'a [u8], nodes: &mut [Node], index: &mut [u16]) -> Answer
     ensures { InspectIs patch.now (work_before nodes.old index.old) (work_after nodes.new index.new) result }
 {
-    if nodes.len() < layout::ROWS {
-        return refused(refusal::WORK_TOO_SHORT, 0, 0, 0);
+    if !suffices(nodes, index) {
+        return refused(Refusal::WorkTooShort, 0, 0, 0);
     }
-    if index.len() < index::SLOTS {
-        return refused(refusal::WORK_TOO_SHORT, 0, 0, 0);
-    }
-    let answer = checked(
+    let done = checked(
         [patch, patch],
         &mut nodes[..layout::ROWS],
         &mut index[..index::SLOTS],
     );
-    wipe(nodes);
-    index::empty(index);
-    answer
+    clear(nodes, index);
+    Answer::from(done)
 }

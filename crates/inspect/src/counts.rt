@@ -1,11 +1,11 @@
 // How many there are of each of the six operations.
 ghost use Rattle.std.specs.Prelude.{◌+◌, ◌<◌};
 ghost use Rattle.inspection.specs.Inspection.{total};
-ghost use Rattle.inspect.specs.Counts.{counts_in, CountsAre, OneIs, PlusIs};
+ghost use Rattle.inspect.specs.Counts.{counts_in, OneIs, PlusIs};
 
 use shape::Kind;
 
-#[derive(Clone, Copy)]
+#[derive(Clone, Copy, Debug, PartialEq, Eq)]
 pub struct Counts {
     pub adds: usize,
     pub removes: usize,
@@ -15,48 +15,34 @@ pub struct Counts {
     pub tests: usize,
 }
 
-fn of_each(
-    adds: usize,
-    removes: usize,
-    replaces: usize,
-    moves: usize,
-    copies: usize,
-    tests: usize,
-) -> Counts
-    ensures { CountsAre adds removes replaces moves copies tests result }
-{
-    Counts {
-        adds,
-        removes,
-        replaces,
-        moves,
-        copies,
-        tests,
-    }
-}
+pub const NONE: Counts = Counts {
+    adds: 0,
+    removes: 0,
+    replaces: 0,
+    moves: 0,
+    copies: 0,
+    tests: 0,
+};
 
-pub fn none() -> Counts
-    ensures { CountsAre 0 0 0 0 0 0 result }
-{
-    of_each(0, 0, 0, 0, 0, 0)
-}
-
-// One operation of a kind. An unknown one counts for nothing.
-pub fn one(kind: Kind) -> Counts
+// One operation of a kind. One of no known kind counts for nothing.
+pub fn one(kind: Option<Kind>) -> Counts
     ensures { OneIs kind result }
 {
     match kind {
-        Kind::Add => of_each(1, 0, 0, 0, 0, 0),
-        Kind::Remove => of_each(0, 1, 0, 0, 0, 0),
-        Kind::Replace => of_each(0, 0, 1, 0, 0, 0),
-        Kind::Move => of_each(0, 0, 0, 1, 0, 0),
-        Kind::Copy => of_each(0, 0, 0, 0, 1, 0),
-        Kind::Test => of_each(0, 0, 0, 0, 0, 1),
-        Kind::Unknown => none(),
+        Some(Kind::Add) => Counts { adds: 1, ..NONE },
+        Some(Kind::Remove) => Counts { removes: 1, ..NONE },
+        Some(Kind::Replace) => Counts {
+            replaces: 1,
+            ..NONE
+        },
+        Some(Kind::Move) => Counts { moves: 1, ..NONE },
+        Some(Kind::Copy) => Counts { copies: 1, ..NONE },
+        Some(Kind::Test) => Counts { tests: 1, ..NONE },
+        None => NONE,
     }
 }
 
-// The sums, which must not wrap.
+// The sums, which must not wrap. The trait Add takes no `requires`, so this is no `+`.
 pub fn plus(c: Counts, d: Counts) -> Counts
     requires { total (counts_in c) + total (counts_in d) < 0x1_0000_0000_0000_0000 }
     ensures { PlusIs c d result }

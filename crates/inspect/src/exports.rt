@@ -17,18 +17,6 @@ pub fn json_patch_inspect<'a>(
         answer.new result }
 {
     let r = inspect(patch, nodes, index);
-    let c = r.counts;
-    *answer = [
-        r.number as u64,
-        r.text as u64,
-        r.op as u64,
-        r.place as u64,
-        c.adds as u64,
-        c.removes as u64,
-        c.replaces as u64,
-        c.moves as u64,
-        c.copies as u64,
-        c.tests as u64,
-    ];
-    r.number as u32
+    *answer = r.into();
+    u32::from(r.number)
 }

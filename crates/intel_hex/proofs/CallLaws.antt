@@ -1,4 +1,5 @@
 -- Laws of answers.
+use Rattle.std.specs.Prelude.{Ok, Err}
 use Rattle.std.proofs.Common.{◌≡◌, ℕ, ◌<◌, ◌≤◌, length, sym, refl, ◌∙◌, subst, zero-add, arith, le-leb}
 use borrow.Author.Tests.{lt-leb}
 use Rattle.spec.specs.Outcome.{Outcome, ok, refused}
@@ -10,18 +11,16 @@ use Rattle.intel_hex.specs.Record.{max_text, hex_of}
 use Rattle.intel_hex.specs.Reading.{read_text}
 use Rattle.intel_hex.specs.Answer as Spec
 use Rattle.intel_hex.specs.Answer.{fitting, write_answer, outcome_answer, read_answer}
-use Rattle.intel_hex.specs.Steps.{measured, Accepted, text_of}
-use Rattle.intel_hex.specs.Call.{Answered, SuccessIs, RefusalIs}
-use Rattle.intel_hex.specs.declared.answer.Answer.{Answer}
-use Rattle.intel_hex.specs.declared.reading.Measure.{Measure}
+use Rattle.intel_hex.specs.Steps.{sized, Accepted, text_of}
+use Rattle.intel_hex.specs.Call.{Answered, answer_of}
+use Rattle.intel_hex.specs.Refusal.{number_of, outcome}
+use Rattle.intel_hex.specs.declared.refusal.HexFault.{HexFault}
 
 -- ---- a refusal leaves the output as it was; a success has the text in front
 
-pub refuses : (number place : ℕ) {a : Spec.Answer} {out : Bytes} {r : Answer} → a ≡ Spec.refusal number place → RefusalIs number place r → Answered a out out r
-refuses number place {a} {out} {r} e (n, p, l) = subst (λ a. Answered a out out r) (sym e) (record { number = n; place = p; written = l; output = refl })
-
-pub answered_as : {a b : Spec.Answer} {before after : Bytes} {r : Answer} → a ≡ b → Answered b before after r → Answered a before after r
-answered_as {before = before} {after} {r} e h = subst (λ a. Answered a before after r) (sym e) h
+pub refuses : {a : Spec.Answer} {out : Bytes} (e : HexFault) → a ≡ Spec.refusal (number_of e.refusal) e.line → Answered a out out (answer_of (Err e))
+refuses {a} {out} e h =
+    subst (λ a. Answered a out out (answer_of (Err e))) (sym h) (record { number = refl; place = refl; written = refl; output = refl })
 
 module _ (room : ℕ) (t : Bytes) where
   pub fitting_short : room < length t → fitting room t ≡ Spec.refusal output_too_short 0
@@ -32,12 +31,11 @@ module _ (room : ℕ) (t : Bytes) where
   unfolding fitting
   fitting_whole h = rw (le-leb (length t) room h)
 
-pub succeeds : {a : Spec.Answer} {t before after : Bytes} {n : ℕ} {r : Answer} → a ≡ fitting (length before) t → length t ≤ length before →
-    LaidDown t before after n → SuccessIs n r →
-    Answered a before after r
-succeeds {t = t} {before} e h d (n, p, l) =
-    answered_as (e ∙ fitting_whole (length before) t h)
-    (record { number = n; place = p; written = l ∙ d.count_is; output = d.after_is ∙ laid_down t before h })
+pub succeeds : {a : Spec.Answer} {t before after : Bytes} {n : ℕ} → a ≡ fitting (length before) t → length t ≤ length before →
+    LaidDown t before after n → Answered a before after (answer_of (Ok n))
+succeeds {t = t} {before} {after} {n} e h d =
+    subst (λ a. Answered a before after (answer_of (Ok n))) (sym (e ∙ fitting_whole (length before) t h))
+    (record { number = refl; place = refl; written = d.count_is; output = d.after_is ∙ laid_down t before h })
 
 -- ---- writing
 
@@ -52,25 +50,25 @@ module _ (text : Bytes) (room : ℕ) where
 
 -- ---- reading, by what was measured
 
-by_bytes : (o : Outcome Bytes) {n : ℕ} → Measure.Bytes n ≡ measured 0 o → (t : Bytes) × (o ≡ ok t) × (n ≡ length t)
-unfolding measured
-by_bytes (ok t) e = (t, refl, cc (zero-add (length t)))
-by_bytes (refused number line) e = let z : ◌≡◌ {A = ℕ} 0 1 = cc in absurd (omega arith)
+pub record Sized (s : Bytes) (room n : ℕ) : Type 0 where
+  pub accepted : Accepted s
+  pub length_is : n ≡ length (text_of (read_text s))
+  pub answer_is : read_answer s room ≡ fitting room (text_of (read_text s))
 
-by_refusal : (o : Outcome Bytes) {number line : ℕ} → Measure.Refused number line ≡ measured 0 o → o ≡ refused number line
-unfolding measured
-by_refusal (ok t) e = let z : ◌≡◌ {A = ℕ} 0 1 = cc in absurd (omega arith)
-by_refusal (refused number line) e = cc
+pub read_sized : (s : Bytes) (room : ℕ) {n : ℕ} → outcome (Ok n) ≡ sized 0 (read_text s) → Sized s room n
+unfolding outcome sized text_of read_answer outcome_answer
+read_sized s room {n} h = go (read_text s) refl h
+  where
+    go : (o : Outcome Bytes) → read_text s ≡ o → ok n ≡ sized 0 o → Sized s room n
+    go (ok t) e h = record { accepted = record { text = t; is = e }; length_is = rw e (cc (zero-add (length t))); answer_is = rw e }
+    go (refused number line) e h = let z : ◌≡◌ {A = ℕ} 0 1 = cc in absurd (omega arith)
 
-pub read_bytes : (s : Bytes) {n : ℕ} → Measure.Bytes n ≡ measured 0 (read_text s) → Accepted s × (n ≡ length (text_of (read_text s)))
-unfolding text_of
-read_bytes s e = let b = by_bytes (read_text s) e in (record { text = b.0; is = b.1 }, rw b.1 b.2)
-
-pub read-accepted : (s : Bytes) (room : ℕ) {n : ℕ} → Measure.Bytes n ≡ measured 0 (read_text s) → read_answer s room ≡ fitting room (text_of (read_text s))
-unfolding read_answer outcome_answer text_of
-read-accepted s room e = rw (by_bytes (read_text s) e).1
-
-pub read_refused : (s : Bytes) (room : ℕ) {number line : ℕ} → Measure.Refused number line ≡ measured 0 (read_text s) →
-    read_answer s room ≡ Spec.refusal number line
-unfolding read_answer outcome_answer
-read_refused s room e = rw (by_refusal (read_text s) e)
+pub read_refused : (s : Bytes) (room : ℕ) (e : HexFault) → outcome (Err e) ≡ sized 0 (read_text s) →
+    read_answer s room ≡ Spec.refusal (number_of e.refusal) e.line
+unfolding outcome sized read_answer outcome_answer
+read_refused s room e h = go (read_text s) refl h
+  where
+    go : (o : Outcome Bytes) → read_text s ≡ o → refused (number_of e.refusal) e.line ≡ sized 0 o →
+        read_answer s room ≡ Spec.refusal (number_of e.refusal) e.line
+    go (ok t) q h = cc
+    go (refused number line) q h = rw q cc

@@ -20,10 +20,10 @@ use Rattle.intel_hex.specs.Answer.{fitting, write_answer, outcome_answer, read_a
 use Rattle.intel_hex.specs.Claims as Claims
 use Rattle.intel_hex.specs.Claims.{Octets, RoundTrip, SumIsZero, Example, Spells, Ending, Line, HexText, OnlyRecords, AllRecords}
 use Rattle.intel_hex.proofs.RecordLaws.{from_here, total-append, check_zero, check_only, record_total, records_here, records_end}
-use Rattle.intel_hex.proofs.LineLaws.{parts, line_is, line-room, line-within}
+use Rattle.intel_hex.proofs.LineLaws.{all_at, parts, line_is, line-room, line-within}
 use Rattle.intel_hex.proofs.ReadLaws.{First, last, more, first, no_ok, read_line_lem, read_zero, read_none, data_length, data_counted, end_counted}
 use Rattle.intel_hex.proofs.CallLaws.{fitting_whole}
-use Rattle.intel_hex.proofs.SpellLaws.{spells_length, read_bytes, read_hex, bytes_prefix, bytes_last, spells_read, hex_small, all_at, spells_upper}
+use Rattle.intel_hex.proofs.SpellLaws.{spells_length, read_bytes, read_hex, bytes_prefix, bytes_last, spells_read, hex_small, spells_upper}
 use Rattle.intel_hex.proofs.SpellLaws.{octets-append, octets-take, octets-drop, ending-read, ending_is}
 
 -- ---- sums

@@ -1,18 +1,25 @@
 -- Laws of a line: digits, its ending, and where it lies in the text.
-use Rattle.std.specs.Prelude.{if◌then◌else◌}
-use Rattle.std.proofs.Common.{◌≡◌, ℕ, zero, suc, ◌+◌, ◌*◌, ◌%◌, ◌<◌, ◌≤◌, Bool, true, false, ◌&&◌, eqb, ltb, leb, length, sym, refl, ap, ◌∙◌, arith}
-use Rattle.std.proofs.Common.{ltb-true, le-ltb, lt-ltb, eq-eqb, ne_eqb, eqb-true, leb-false}
+use Rattle.std.specs.Prelude.{if◌then◌else◌, Option, Some, None, SomeIff, IsSome}
+use Rattle.std.proofs.Common.{◌≡◌, ℕ, zero, suc, ◌+◌, ◌-◌, ◌*◌, ◌%◌, ◌<◌, ◌≤◌, Bool, true, false, ◌&&◌, eqb, ltb, leb, length, sym, refl, ap, ◌∙◌, arith}
+use Rattle.std.proofs.Common.{ltb-true, le-ltb, lt-ltb, eq-eqb, eqb-true, le-leb, leb-false, ne_eqb, subst, get_or, take, drop, take_all, length-drop, get_or-drop}
+use Rattle.std.proofs.Math.ListN.{get_or-eq_default}
 use Prim.Native.Char.{code}
 use mathlib.Core.Bool.{and-false}
+use borrow.Author.Tests.{lt-leb}
 use native.Mathlib.Nat.{mod-add-mod}
 use Rattle.spec.specs.Bytes.{Bytes, byte, within}
 use Rattle.spec.specs.Strings.{hex_value}
 use Rattle.lexer.proofs.ByteLaws.{inside, here}
 use Rattle.lexer.proofs.Tests.{and_both}
 use Rattle.intel_hex.specs.Record.{total, line_feed, carriage_return}
-use Rattle.intel_hex.specs.Reading.{hex_byte, is_hex_byte, bytes_at, all_hex, count, record_end, ending, line_length, is_line, bytes_of}
-use Rattle.intel_hex.specs.Steps.{ScanIs, LineIs}
-use Rattle.intel_hex.specs.declared.lines.Scanned.{Scanned}
+use Rattle.intel_hex.specs.Reading.{hex_byte, is_hex_byte, bytes_at, all_hex, count, address_of, type_of, bytes_of, record_end, ending, line_length}
+use Rattle.intel_hex.specs.Reading.{is_line}
+use Rattle.intel_hex.specs.Steps.{FieldsAre, RecordIs, EndingIs}
+use Rattle.intel_hex.specs.declared.lines.Record.{Record}
+
+pub not_so : (b : Bool) → (b ≡ true → ⊥) → b ≡ false
+not_so true h = absurd (h refl)
+not_so false h = refl
 
 -- ---- digits stand within the text
 
@@ -93,85 +100,155 @@ line-within t e =
     let p : ending t (2 * count t + 11) < 3 = (parts t e).ended in
     (omega arith, ending-room t (2 * count t + 11) room p)
 
+-- no byte stands behind the end
+pub past_end : (t : Bytes) (k : ℕ) → length t ≤ k → byte t k ≡ 0
+unfolding byte
+past_end t k h = get_or-eq_default t 0 h
+
+-- ---- the same, seen in what is left of the text
+
+module _ (t : Bytes) (k : ℕ) where
+  pub lent_length : length (take (length t - k) (drop k t)) ≡ length t - k
+  lent_length = ap length (take_all (length t - k) (drop k t) (omega (arith, length-drop k t))) ∙ omega (arith, length-drop k t)
+
+  pub lent_at : (i : ℕ) → k + i < length t → get_or (take (length t - k) (drop k t)) i 0 ≡ byte t (k + i)
+  unfolding byte
+  lent_at i h = rw (take_all (length t - k) (drop k t) (omega (arith, length-drop k t))) (get_or-drop k t i 0)
+
+  pub lent_first : k < length t → get_or (take (length t - k) (drop k t)) 0 0 ≡ byte t k
+  lent_first h = let same : k + 0 ≡ k = omega arith in lent_at 0 (omega arith) ∙ ap (byte t) same
+
+  pub no_bytes_left : length t ≤ k → EndingIs t k (Some 0)
+  unfolding ending
+  no_bytes_left h = let e : ending t k ≡ 0 = rw (le-leb (length t) k h) in (omega arith, sym e)
+
+  module _ (h : k < length t) where
+    pub feed_ends : byte t k ≡ line_feed → EndingIs t k (Some 1)
+    unfolding ending
+    feed_ends b =
+        let e : ending t k ≡ 1 = rw (lt-leb (length t) k h, eq-eqb (byte t k) line_feed b) in (omega arith, sym e)
+
+    pub return_ends : byte t k ≡ carriage_return → byte t (k + 1) ≡ line_feed → EndingIs t k (Some 2)
+    unfolding ending
+    return_ends b d =
+        let n : byte t k ≡ line_feed → ⊥ = λ e. omega arith in
+        let e : ending t k ≡ 2 = rw (
+          lt-leb (length t) k h,
+          ne_eqb (byte t k) line_feed n,
+          eq-eqb (byte t k) carriage_return b,
+          eq-eqb (byte t (k + 1)) line_feed d,
+        ) in
+        (omega arith, sym e)
+
+    pub nothing_ends : (byte t k ≡ line_feed → ⊥) → (byte t k ≡ carriage_return → byte t (k + 1) ≡ line_feed → ⊥) → EndingIs t k None
+    unfolding ending
+    nothing_ends n m =
+        let no : (eqb (byte t k) carriage_return && eqb (byte t (k + 1)) line_feed) ≡ false =
+        not_so (eqb (byte t k) carriage_return && eqb (byte t (k + 1)) line_feed) (λ e. let b = and_both (eqb (byte t k) carriage_return) (eqb (byte t
+        (k + 1)) line_feed) e in m (eqb-true (byte t k) carriage_return b.0) (eqb-true (byte t (k + 1)) line_feed b.1)) in
+        let e : ending t k ≡ 3 = rw (lt-leb (length t) k h, ne_eqb (byte t k) line_feed n, no) in λ l. omega arith
+
 -- ---- lines that are no records
 
-not_so : (b : Bool) → (b ≡ true → ⊥) → b ≡ false
-not_so true h = absurd (h refl)
-not_so false h = refl
+no_line : (t : Bytes) → (is_line t ≡ true → ⊥) → RecordIs t None
+unfolding RecordIs
+no_line t h = not_so (is_line t) h
 
-pub too_short : (t : Bytes) → length t < 2 * count t + 11 → LineIs t Scanned.Bad
-unfolding LineIs
-too_short t h = not_so (is_line t) (λ e. omega (arith, line-room t e))
+-- one of the first digits
+pub all_at : (n : ℕ) (t : Bytes) (k i : ℕ) → all_hex n t k ≡ true → i < n → is_hex_byte t (k + 2 * i) ≡ true
+all_at zero t k i e h = absurd (omega arith)
+all_at (suc n) t k zero e h = let z : k + 2 * 0 ≡ k = omega arith in rw z (all_first n t k e).0
+all_at (suc n) t k (suc i) e h =
+    let z : k + 2 * suc i ≡ k + 2 + 2 * i = omega arith in
+    rw z (all_at n t (k + 2) i (all_first n t k e).1 (omega arith))
 
-pub no_colon : (t : Bytes) → (byte t 0 ≡ code ":" → ⊥) → LineIs t Scanned.Bad
-unfolding LineIs is_line
-no_colon t n = rw (ne_eqb _ _ n)
+pub too_short : (t : Bytes) → length t < 2 * count t + 11 → RecordIs t None
+too_short t h = no_line t (λ e. omega (arith, line-room t e))
 
-pub no_ending : (t : Bytes) {e k : ℕ} → e ≡ ending t k → k ≡ record_end t → 2 < e → LineIs t Scanned.Bad
-unfolding LineIs
-no_ending t {e} {k} p q h =
-    let same : ending t k ≡ ending t (record_end t) = ap (ending t) q in
-    not_so (is_line t) (λ l. omega (arith, (parts t l).ended))
+pub no_colon : (t : Bytes) → (byte t 0 ≡ code ":" → ⊥) → RecordIs t None
+no_colon t n = no_line t (λ e. n (parts t e).colon)
 
-pub line_summed : (t : Bytes) (r : Scanned) {n e k : ℕ} → n ≡ count t → byte t 0 ≡ code ":" → e ≡ ending t k → k ≡ record_end t → e ≤ 2 →
-    ScanIs (n + 5) t 1 r → LineIs t r
-unfolding LineIs ScanIs is_line bytes_of
-line_summed t (Scanned.Sum x) {n} {e} {k} c colon p q h s =
-    let same : ending t k ≡ ending t (record_end t) = ap (ending t) q in
-    (line_is t colon (rw c at s.0) (omega arith), s.1 ∙ ap (λ n. total (bytes_at (n + 5) t 1) % 256) c)
-line_summed t Scanned.Bad {n} {e} {k} c colon p q h s =
-    let bad : all_hex (count t + 5) t 1 ≡ false = rw c at s in
-    rw (bad, and-false)
+pub width_is : (t : Bytes) {n end : ℕ} → n ≡ count t → end ≡ ending t (2 * n + 11) → 2 * n + 11 + end ≡ line_length t
+unfolding record_end line_length
+width_is t {n} {end} c e = ap (λ e. 2 * n + 11 + e) e ∙ ap (λ n. 2 * n + 11 + ending t (2 * n + 11)) c
 
--- ---- bytes in digits, one after another
+module _ (t : Bytes) {n : ℕ} (c : n ≡ hex_byte t 1) where
+  pub no_ending : (ending t (2 * n + 11) < 3 → ⊥) → RecordIs t None
+  unfolding count record_end
+  no_ending h = no_line t (λ e. h (subst (λ n. ending t (2 * n + 11) < 3) (sym c) (parts t e).ended))
 
-pub record Scanning (n : ℕ) (t : Bytes) (k sum at i : ℕ) : Type 0 where
+  pub no_scan : (all_hex (n + 5) t 1 ≡ true → ⊥) → RecordIs t None
+  unfolding count
+  no_scan h = no_line t (λ e. h (subst (λ n. all_hex (n + 5) t 1 ≡ true) (sym c) (parts t e).hex))
+
+  pub fields_are : {r : Record} {end : ℕ} → r.count ≡ n → byte t 0 ≡ code ":" → ending t (2 * n + 11) < 3 → end ≡ ending t (2 * n + 11) →
+      all_hex (n + 5) t 1 ≡ true → r.sum ≡ total (bytes_at (n + 5) t 1) % 256 → r.address ≡ address_of t → r.kind ≡ type_of t →
+      r.width ≡ 2 * n + 11 + end → FieldsAre t r
+  unfolding count record_end bytes_of
+  fields_are {r} k colon short e hex sum address kind width = record {
+    line = line_is t colon (rw (← c) hex) (rw (← c) short);
+    count_is = k ∙ c;
+    address_is = address;
+    kind_is = kind;
+    sum_is = sum ∙ ap (λ n. total (bytes_at (n + 5) t 1) % 256) c;
+    width_is = width ∙ width_is t c e;
+  }
+
+pub no_hex : (t : Bytes) (i : ℕ) → i < 5 → (is_hex_byte t (1 + 2 * i) ≡ true → ⊥) → RecordIs t None
+no_hex t i h n = no_line t (λ e. n (all_at (count t + 5) t 1 i (parts t e).hex (omega arith)))
+
+-- ---- bytes in digits, one after another: those so far are digits, and the sum is theirs
+
+pub record Scanning (n : ℕ) (t : Bytes) (k sum i : ℕ) : Type 0 where
   pub left : ℕ
   pub count_is : n ≡ i + left
-  pub at_is : at ≡ k + 2 * i
-  pub hex : all_hex n t k ≡ all_hex left t at
-  pub sums : total (bytes_at n t k) % 256 ≡ (sum + total (bytes_at left t at)) % 256
+  pub small : sum < 256
+  pub hex : all_hex n t k ≡ all_hex left t (k + 2 * i)
+  pub sums : total (bytes_at n t k) % 256 ≡ (sum + total (bytes_at left t (k + 2 * i))) % 256
 
-pub scanning_starts : (n : ℕ) (t : Bytes) (k : ℕ) → Scanning n t k 0 k 0
-scanning_starts n t k = record { left = n; count_is = omega arith; at_is = omega arith; hex = refl; sums = omega arith }
+pub scanning_starts : (n : ℕ) (t : Bytes) (k : ℕ) → Scanning n t k 0 0
+scanning_starts n t k =
+    let here : k + 2 * 0 ≡ k = omega arith in
+    record { left = n; count_is = omega arith; small = omega arith; hex = rw here refl; sums = rw here (omega arith) }
 
-module _ {n : ℕ} {t : Bytes} {k sum at i : ℕ} (s : Scanning n t k sum at i) where
-  pub scanning_bad : i < n → is_hex_byte t at ≡ false → all_hex n t k ≡ false
-  unfolding all_hex
-  scanning_bad h e = go s.left s.count_is s.hex
+module _ {n : ℕ} {t : Bytes} {k sum i : ℕ} (s : Scanning n t k sum i) where
+  pub scanning_bad : i < n → (is_hex_byte t (k + 2 * i) ≡ true → ⊥) → all_hex n t k ≡ true → ⊥
+  scanning_bad h e all = e (all_at n t k i all h)
+
+  pub scanning_on : {b new : ℕ} → i < n → is_hex_byte t (k + 2 * i) ≡ true → b ≡ hex_byte t (k + 2 * i) → new ≡ (sum + b) % 256 →
+      Scanning n t k new (i + 1)
+  unfolding all_hex bytes_at total
+  scanning_on {b} {new} h e x w = go s.left s.count_is s.hex s.sums
     where
-      go : (left : ℕ) → n ≡ i + left → all_hex n t k ≡ all_hex left t at → all_hex n t k ≡ false
-      go zero c p = absurd (omega arith)
-      go (suc m) c p = p ∙ rw e
-
-  pub scanning_on : {high low new : ℕ} → i < n → high ≡ hex_value (byte t at) → low ≡ hex_value (byte t (at + 1)) → high ≤ 15 → low ≤ 15 →
-      new ≡ (sum + (high * 16 + low)) % 256 → Scanning n t k new (at + 2) (i + 1)
-  unfolding all_hex bytes_at total hex_byte
-  scanning_on {high} {low} {new} h a b x y w = go s.left s.count_is s.hex s.sums
-    where
-      go : (left : ℕ) → n ≡ i + left → all_hex n t k ≡ all_hex left t at → total (bytes_at n t k) % 256 ≡ (sum + total (bytes_at left t at)) % 256 →
-          Scanning n t k new (at + 2) (i + 1)
+      go : (left : ℕ) → n ≡ i + left → all_hex n t k ≡ all_hex left t (k + 2 * i) →
+          total (bytes_at n t k) % 256 ≡ (sum + total (bytes_at left t (k + 2 * i))) % 256 → Scanning n t k new (i + 1)
       go zero c p q = absurd (omega arith)
       go (suc m) c p q =
-          let good : is_hex_byte t at ≡ true = both_hex t at (omega arith) (omega arith) in
-          let behind = total (bytes_at m t (at + 2)) in
-          let here : sum + (hex_value (byte t at) * 16 + hex_value (byte t (at + 1)) + behind) ≡ sum + (high * 16 + low) + behind = omega arith in
+          let next : k + 2 * i + 2 ≡ k + 2 * (i + 1) = omega arith in
+          let behind = total (bytes_at m t (k + 2 * i + 2)) in
+          let here : sum + (hex_byte t (k + 2 * i) + behind) ≡ sum + b + behind = omega arith in
+          let sums : total (bytes_at n t k) % 256 ≡ (new + behind) % 256 =
+          q ∙ ap (λ x. x % 256) here ∙ sym (mod-add-mod (sum + b) 256 behind) ∙ ap (λ x. (x + behind) % 256) (sym w) in
           record {
             left = m;
             count_is = omega arith;
-            at_is = omega (arith, s.at_is);
-            hex = p ∙ rw good;
-            sums = q ∙ ap (λ x. x % 256) here ∙ sym (mod-add-mod (sum + (high * 16 + low)) 256 behind) ∙ ap (λ x. (x + behind) % 256) (sym w);
+            small = omega arith;
+            hex = p ∙ rw e (ap (all_hex m t) next);
+            sums = sums ∙ ap (λ j. (new + total (bytes_at m t j)) % 256) next;
           }
 
-  pub scanning_ends : n ≤ i → sum < 256 → ScanIs n t k (Scanned.Sum sum)
-  unfolding ScanIs all_hex bytes_at total
-  scanning_ends h small = go s.left s.count_is s.hex s.sums
+  pub scanning_ends : n ≤ i → (all_hex n t k ≡ true) × (sum ≡ total (bytes_at n t k) % 256)
+  unfolding all_hex bytes_at total
+  scanning_ends h = go s.left s.count_is s.hex s.sums s.small
     where
-      go : (left : ℕ) → n ≡ i + left → all_hex n t k ≡ all_hex left t at → total (bytes_at n t k) % 256 ≡ (sum + total (bytes_at left t at)) % 256 →
+      go : (left : ℕ) → n ≡ i + left → all_hex n t k ≡ all_hex left t (k + 2 * i) →
+          total (bytes_at n t k) % 256 ≡ (sum + total (bytes_at left t (k + 2 * i))) % 256 → sum < 256 →
           (all_hex n t k ≡ true) × (sum ≡ total (bytes_at n t k) % 256)
-      go zero c p q = (p, omega arith)
-      go (suc m) c p q = absurd (omega arith)
+      go zero c p q small = (p, omega arith)
+      go (suc m) c p q small = absurd (omega arith)
 
-  pub scanning_room : k + 2 * n ≤ length t → i < n → at + 2 ≤ length t
-  scanning_room room h = omega (arith, s.at_is)
+-- ---- an answer that is there exactly when a fact holds
+
+pub told_some : {P : Type 0} (v : ℕ) (r : Option ℕ) → SomeIff r P v → P → IsSome r
+told_some v None h p = absurd (h p)
+told_some v (Some x) h p = refl

@@ -1,7 +1,7 @@
 -- The lines of a text, one after another.
-use Rattle.std.specs.Prelude.{if◌then◌else◌}
-use Rattle.std.proofs.Common.{◌≡◌, ℕ, zero, suc, ◌+◌, ◌-◌, ◌*◌, ◌<◌, ◌≤◌, Bool, true, false, ◌&&◌, ◌||◌, eqb, leb, [], ◌++◌, length, take, drop, sym, refl}
-use Rattle.std.proofs.Common.{ap, ◌∙◌, subst, true≢false, arith, length-append, length-drop, take_all, drop-drop, eq-eqb, ne_eqb, eqb-true, leb-true}
+use Rattle.std.specs.Prelude.{if◌then◌else◌, Some, None, Ok, Err}
+use Rattle.std.proofs.Common.{◌≡◌, ℕ, zero, suc, ◌+◌, ◌-◌, ◌*◌, ◌<◌, ◌≤◌, Bool, true, false, ◌&&◌, ◌||◌, eqb, leb, [], ◌∷◌, ◌++◌, length, take, drop, sym, refl}
+use Rattle.std.proofs.Common.{ap, ◌∙◌, subst, true≢false, arith, length-append, length-drop, take_all, eq-eqb, ne_eqb, eqb-true, leb-true}
 use Rattle.spec.specs.Outcome.{Outcome, ok, refused, ◌>>=◌}
 use Rattle.spec.specs.Bytes.{Bytes}
 use Rattle.text.specs.Written.{Stored, LaidDown}
@@ -9,17 +9,27 @@ use Rattle.text.proofs.StoreLaws.{front}
 use Rattle.text.proofs.LaidLaws.{Laid, laid_starts, laid_on, laid_ends}
 use Rattle.lexer.proofs.Tests.{and_both}
 use Rattle.intel_hex.specs.Record.{max_text}
-use Rattle.intel_hex.specs.Reading.{hex_byte, bytes_at, all_hex, count, address_of, type_of, data_of, line_length, is_line, is_data, is_end, is_record}
+use Rattle.intel_hex.specs.Reading.{is_hex_byte, bytes_at, all_hex, record_end, ending, count, address_of, type_of, data_of, line_length, is_line, is_data, is_end, is_record}
 use Rattle.intel_hex.specs.Reading.{has_sum, is_next}
 use Rattle.intel_hex.specs.Reading.{precede, by_type, read_line, read_from, read_text, wrong_sum, not_a_record, wrong_address, wrong_end}
-use Rattle.intel_hex.specs.Steps.{stepped, Onward, StepIs, measured, Accepted, text_of}
-use Rattle.intel_hex.specs.declared.lines.Step.{Step}
-use Rattle.intel_hex.specs.declared.reading.Measure.{Measure}
-use Rattle.intel_hex.proofs.LineLaws.{all_first, line-room, line-within, parts}
+use Rattle.intel_hex.specs.Steps.{stepped, Onward, StepIs, sized, Accepted, text_of}
+use Rattle.intel_hex.specs.Refusal.{outcome}
+use Rattle.intel_hex.specs.declared.lines.Record.{Record}
+use Rattle.intel_hex.specs.declared.refusal.HexFault.{HexFault}
+use Rattle.intel_hex.specs.declared.refusal.HexRefusal.TheVariants as HexRefusal
+use Rattle.intel_hex.proofs.LineLaws.{all_at, all_first, line-room, line-within, parts}
 
 -- what is lent of a text from a place on
 pub rest_is : (s : Bytes) (at : ℕ) → take (length s - at) (drop at s) ≡ drop at s
 rest_is s at = take_all (length s - at) (drop at s) (omega (arith, length-drop at s))
+
+-- what `is_empty` tells
+pub some_here : (s : Bytes) → false ≡ eqb (length s) 0 → 0 < length s
+some_here [] e = absurd (true≢false (sym e))
+some_here (b ∷ s) e = omega arith
+
+pub none_here : (s : Bytes) → true ≡ eqb (length s) 0 → length s ≡ 0
+none_here s e = eqb-true (length s) 0 (sym e)
 
 pub bytes_length : (n : ℕ) (t : Bytes) (k : ℕ) → length (bytes_at n t k) ≡ n
 unfolding bytes_at
@@ -47,100 +57,74 @@ read_none (suc fuel) t line next e = rw (eq-eqb (length t) 0 e)
 
 -- ---- a text measured
 
-pub measured_on : (n : ℕ) (d : Bytes) (o : Outcome Bytes) → measured n (precede d o) ≡ measured (n + length d) o
-unfolding measured precede ◌>>=◌
-measured_on n d (ok t) = let e : n + length (d ++ t) ≡ n + length d + length t = omega (arith, length-append d t) in ap Measure.Bytes e
-measured_on n d (refused number line) = refl
+sized_on : (n : ℕ) (d : Bytes) (o : Outcome Bytes) → sized n (precede d o) ≡ sized (n + length d) o
+unfolding sized precede ◌>>=◌
+sized_on n d (ok t) = let e : n + length (d ++ t) ≡ n + length d + length t = omega (arith, length-append d t) in ap ok e
+sized_on n d (refused number line) = refl
 
-pub record Measuring (s : Bytes) (at line n : ℕ) : Type 0 where
-  pub within : at ≤ length s
+pub record Measuring (s rest : Bytes) (line n : ℕ) : Type 0 where
   pub few : n ≤ max_text
-  pub lines : line ≤ at + 1
+  pub lines : line + length rest ≤ length s + 1
   pub fuel : ℕ
-  pub enough : length s ≤ fuel + at
-  pub same : measured 0 (read_text s) ≡ measured n (read_from fuel (drop at s) line n)
+  pub enough : length rest ≤ fuel
+  pub same : sized 0 (read_text s) ≡ sized n (read_from fuel rest line n)
 
-pub measuring_starts : (s : Bytes) → Measuring s 0 1 0
+pub measuring_starts : (s : Bytes) → Measuring s s 1 0
 unfolding read_text
-measuring_starts s = record { within = omega arith; few = omega arith; lines = omega arith; fuel = length s; enough = omega arith; same = refl }
+measuring_starts s = record { few = omega arith; lines = omega arith; fuel = length s; enough = omega arith; same = refl }
 
-module _ {s : Bytes} {at line n : ℕ} (m : Measuring s at line n) (h : at < length s) {r : Step} (d : StepIs (take (length s - at) (drop at s)) n r) where
-  here : StepIs (drop at s) n r
-  here = rw (rest_is s at) at d
-
-  -- the line at the place, with fuel for it
+module _ {s rest : Bytes} {line n : ℕ} (m : Measuring s rest line n) (some : 0 < length rest) where
+  -- the line at the front, with fuel for it
   record Line : Type 0 where
     behind_fuel : ℕ
-    enough_behind : length s ≤ behind_fuel + at + 1
-    reads : measured 0 (read_text s) ≡
-        measured n (stepped (drop at s) line (read_from behind_fuel (drop (line_length (drop at s)) (drop at s)) (line + 1) (n + count (drop at s))) r)
+    enough_behind : length rest ≤ behind_fuel + 1
+    reads : sized 0 (read_text s) ≡
+        sized n (read_line rest line n (read_from behind_fuel (drop (line_length rest) rest) (line + 1) (n + count rest)))
 
   line_here : Line
   line_here = go m.fuel m.enough m.same
     where
-      go : (fuel : ℕ) → length s ≤ fuel + at → measured 0 (read_text s) ≡ measured n (read_from fuel (drop at s) line n) → Line
+      go : (fuel : ℕ) → length rest ≤ fuel → sized 0 (read_text s) ≡ sized n (read_from fuel rest line n) → Line
       go zero l e = absurd (omega arith)
-      go (suc fuel) l e =
-          record {
-            behind_fuel = fuel;
-            enough_behind = omega arith;
-            reads = e ∙ ap (measured n) (read_line_lem fuel (drop at s) line n (omega (arith, length-drop at s)) ∙ here.gives line _);
-          }
+      go (suc fuel) l e = record {
+        behind_fuel = fuel;
+        enough_behind = omega arith;
+        reads = e ∙ ap (sized n) (read_line_lem fuel rest line n some);
+      }
 
-  pub onward_more : {k width : ℕ} → r ≡ Step.More k width → (11 ≤ width) × (at + width ≤ length s) × (n + k ≤ max_text)
+  pub onward_more : {r : Record} → StepIs rest line n (Ok (Some r)) → (11 ≤ r.width) × (r.width ≤ length rest) × (n + r.count ≤ max_text)
   unfolding Onward
-  onward_more {k} {width} e = go (rw e at here)
-    where
-      go : StepIs (drop at s) n (Step.More k width) → (11 ≤ width) × (at + width ≤ length s) × (n + k ≤ max_text)
-      go g = (g.onward.2, omega (arith, g.onward.3, length-drop at s), g.onward.4)
+  onward_more d = (d.onward.2, d.onward.3, d.onward.4)
 
-  pub measuring_on : {k width : ℕ} → r ≡ Step.More k width → Measuring s (at + width) (line + 1) (n + k)
+  pub measuring_on : {r : Record} → StepIs rest line n (Ok (Some r)) →
+      Measuring s (take (length rest - r.width) (drop r.width rest)) (line + 1) (n + r.count)
   unfolding Onward stepped
-  measuring_on {k} {width} e = go (rw e at here) (onward_more e) (line_here.reads ∙ ap (λ r. measured n (stepped (drop at s) line (read_from
-      line_here.behind_fuel (drop (line_length (drop at s)) (drop at s)) (line + 1) (n + count (drop at s))) r)) e)
-    where
-      go : StepIs (drop at s) n (Step.More k width) → (11 ≤ width) × (at + width ≤ length s) × (n + k ≤ max_text) →
-          measured 0 (read_text s) ≡
-          measured n (precede (data_of (drop at s)) (read_from line_here.behind_fuel (drop (line_length (drop at s)) (drop at s)) (line + 1) (n + count
-          (drop at s)))) →
-          Measuring s (at + width) (line + 1) (n + k)
-      go g b q =
-          let w : line_length (drop at s) ≡ width = sym g.onward.1 in
-          let c : count (drop at s) ≡ k = sym g.onward.0 in
-          let c' : length (data_of (drop at s)) ≡ k = data_length (drop at s) ∙ c in
-          record {
-            within = b.1;
-            few = b.2;
-            lines = omega (arith, m.lines, b.0);
-            fuel = line_here.behind_fuel;
-            enough = omega (arith, line_here.enough_behind, b.0);
-            same = q ∙ measured_on n (data_of (drop at s)) _ ∙ rw (w, c, c', drop-drop width at s);
-          }
+  measuring_on {r} d =
+      let l = line_here in
+      let w : line_length rest ≡ r.width = sym d.onward.1 in
+      let c : count rest ≡ r.count = sym d.onward.0 in
+      let c' : length (data_of rest) ≡ r.count = data_length rest ∙ c in
+      rw (rest_is rest r.width)
+      (record {
+        few = d.onward.4;
+        lines = omega (arith, m.lines, d.onward.2, d.onward.3, length-drop r.width rest);
+        fuel = l.behind_fuel;
+        enough = omega (arith, l.enough_behind, d.onward.2, length-drop r.width rest);
+        same = l.reads ∙ ap (sized n) (d.gives _) ∙ sized_on n (data_of rest) _ ∙ rw (w, c, c');
+      })
 
-  as_step : {r' : Step} → r ≡ r' → measured 0 (read_text s) ≡
-      measured n (stepped (drop at s) line (read_from line_here.behind_fuel (drop (line_length (drop at s)) (drop at s)) (line + 1) (n + count
-      (drop at s))) r')
-  as_step e =
-      line_here.reads ∙
-      ap (λ r. measured n (stepped (drop at s) line (read_from line_here.behind_fuel (drop (line_length (drop at s)) (drop at s)) (line + 1) (n + count
-      (drop at s))) r)) e
+  pub measured-done : StepIs rest line n (Ok None) → outcome (Ok n) ≡ sized 0 (read_text s)
+  unfolding outcome stepped sized
+  measured-done d = let z : n + 0 ≡ n = omega arith in sym (line_here.reads ∙ ap (sized n) (d.gives _) ∙ ap ok z)
 
-  pub measured-done : r ≡ Step.Done → Measure.Bytes n ≡ measured 0 (read_text s)
-  unfolding stepped measured
-  measured-done e = let z : n + 0 ≡ n = omega arith in sym (as_step e ∙ ap Measure.Bytes z)
+  pub measured_refused : {e : HexFault} → StepIs rest line n (Err e) → outcome (Err e) ≡ sized 0 (read_text s)
+  unfolding outcome stepped sized
+  measured_refused d = sym (line_here.reads ∙ ap (sized n) (d.gives _))
 
-  pub measured_refused : {number : ℕ} → r ≡ Step.Refused number → Measure.Refused number line ≡ measured 0 (read_text s)
-  unfolding stepped measured
-  measured_refused e = sym (as_step e)
-
-  pub measured_behind : r ≡ Step.Behind → Measure.Refused wrong_end (line + 1) ≡ measured 0 (read_text s)
-  unfolding stepped measured
-  measured_behind e = sym (as_step e)
-
-pub measured_missing : {s : Bytes} {at line n : ℕ} → Measuring s at line n → length s ≤ at → Measure.Refused wrong_end line ≡ measured 0 (read_text s)
-unfolding measured
-measured_missing {s} {at} {line} {n} m h =
-    sym (m.same ∙ ap (measured n) (read_none m.fuel (drop at s) line n (omega (arith, length-drop at s))))
+pub measured_missing : {s rest : Bytes} {line n : ℕ} → Measuring s rest line n → length rest ≡ 0 →
+    outcome (Err record { refusal = HexRefusal.WrongEnd; line = line }) ≡ sized 0 (read_text s)
+unfolding outcome sized
+measured_missing {rest = rest} {line} {n} m e = sym (m.same ∙ ap (sized n) (read_none m.fuel rest line n e))
 
 -- ---- a text that is read: its first line
 
@@ -228,96 +212,86 @@ data_hex t e =
 
 -- ---- the data of a text laid down, line by line
 
-pub record Pouring (s before out : Bytes) (at end : ℕ) : Type 0 where
-  pub within : at ≤ length s
+pub record Pouring (s before out rest : Bytes) (end : ℕ) : Type 0 where
   pub fuel : ℕ
   pub line : ℕ
-  pub enough : length s ≤ fuel + at
-  pub rest : Bytes
-  pub reads : read_from fuel (drop at s) line end ≡ ok rest
-  pub laid : Laid 0 (text_of (read_text s)) rest before out end
+  pub enough : length rest ≤ fuel
+  pub left : Bytes
+  pub reads : read_from fuel rest line end ≡ ok left
+  pub laid : Laid 0 (text_of (read_text s)) left before out end
 
-pub pouring_starts : {s : Bytes} (out : Bytes) → Accepted s → Pouring s out out 0 0
+pub pouring_starts : {s : Bytes} (out : Bytes) → Accepted s → Pouring s out out s 0
 unfolding text_of read_text
 pouring_starts {s} out a =
     record {
-      within = omega arith;
       fuel = length s;
       line = 1;
       enough = omega arith;
-      rest = a.text;
+      left = a.text;
       reads = a.is;
       laid = subst (λ o. Laid 0 (text_of o) a.text out out 0) (sym a.is) (laid_starts 0 a.text out);
     }
 
-module _ {s before out : Bytes} {at end : ℕ} (p : Pouring s before out at end) (h : at < length s) where
-  here_first : First p.fuel (drop at s) p.line end p.rest
-  here_first = first p.fuel (drop at s) p.line end p.rest (omega (arith, length-drop at s)) p.reads
+pub pouring_missing : {s before out rest : Bytes} {end : ℕ} → Pouring s before out rest end → length rest ≡ 0 → ⊥
+pouring_missing {rest = rest} {end} p e = no_ok (sym (read_none p.fuel rest p.line end e) ∙ p.reads)
 
-  pub line_first : is_line (drop at s) ≡ true
+module _ {s before out rest : Bytes} {end : ℕ} (p : Pouring s before out rest end) (some : 0 < length rest) where
+  here_first : First p.fuel rest p.line end p.left
+  here_first = first p.fuel rest p.line end p.left some p.reads
+
+  pub line_first : is_line rest ≡ true
   line_first = go here_first
     where
-      go : First p.fuel (drop at s) p.line end p.rest → is_line (drop at s) ≡ true
+      go : First p.fuel rest p.line end p.left → is_line rest ≡ true
       go (last l q e b z) = l
-      go (more behind rest f l q d a b r z) = l
+      go (more behind t f l q d a b r z) = l
 
-  pub lent-room : 11 ≤ length (take (length s - at) (drop at s))
-  lent-room = rw (rest_is s at) (omega (arith, line-room (drop at s) line_first))
+  pub line-lies : 11 ≤ length rest
+  line-lies = omega (arith, line-room rest line_first)
 
-  pub pouring_last : {n : ℕ} → n ≡ hex_byte (take (length s - at) (drop at s)) 1 → n ≡ 0 → LaidDown (text_of (read_text s)) before out end
-  unfolding count
-  pouring_last {n} e z = go here_first
+  pub count_told : is_hex_byte rest 1 ≡ true
+  count_told = all_at (count rest + 5) rest 1 0 (parts rest line_first).hex (omega arith)
+
+  pub end_told : ending rest (2 * count rest + 11) < 3
+  unfolding record_end
+  end_told = (parts rest line_first).ended
+
+  pub pouring_last : count rest ≡ 0 → LaidDown (text_of (read_text s)) before out end
+  pouring_last z = go here_first
     where
-      go : First p.fuel (drop at s) p.line end p.rest → LaidDown (text_of (read_text s)) before out end
+      go : First p.fuel rest p.line end p.left → LaidDown (text_of (read_text s)) before out end
       go (last l q x b y) = front (laid_ends p.laid y)
-      go (more behind rest f l q d a b r y) = absurd (omega (arith, (data_counted (drop at s) d).1, ap (λ t. hex_byte t 1) (rest_is s at)))
+      go (more behind t f l q d a b r y) = absurd (omega (arith, (data_counted rest d).1))
 
-  pub record Poured (n : ℕ) : Type 0 where
-    pub room : 9 + 2 * n ≤ length (take (length s - at) (drop at s))
-    pub hex : all_hex n (take (length s - at) (drop at s)) 9 ≡ true
-    pub few : end + n ≤ max_text
-    pub far : (11 ≤ line_length (take (length s - at) (drop at s))) × (at + line_length (take (length s - at) (drop at s)) ≤ length s)
-    pub next : {out' : Bytes} {end' : ℕ} → Stored (bytes_at n (take (length s - at) (drop at s)) 9) end out out' end' →
-        Pouring s before out' (at + line_length (take (length s - at) (drop at s))) end'
+  pub record Poured : Type 0 where
+    pub room : 2 * count rest + 11 ≤ length rest
+    pub hex : all_hex (count rest) rest 9 ≡ true
+    pub few : end + count rest ≤ max_text
+    pub far : (11 ≤ line_length rest) × (line_length rest ≤ length rest)
+    pub next : {out' : Bytes} {end' : ℕ} → Stored (data_of rest) end out out' end' →
+        Pouring s before out' (take (length rest - line_length rest) (drop (line_length rest) rest)) end'
 
-  poured : (behind : ℕ) (rest : Bytes) → p.fuel ≡ suc behind → is_line (drop at s) ≡ true →
-      read_from behind (drop (line_length (drop at s)) (drop at s)) (p.line + 1) (end + count (drop at s)) ≡ ok rest → p.rest ≡ data_of (drop at s) ++ rest →
-      {out' : Bytes} {end' : ℕ} → Stored (data_of (drop at s)) end out out' end' → Pouring s before out' (at + line_length (drop at s)) end'
-  poured behind rest f l r y {out'} {end'} st =
-      let t : Bytes = drop at s in
-      let lies = line-within t l in
-      let on : end + count t ≡ end' = sym (st.next_is ∙ ap (λ n. end + n) (data_length t)) in
-      record {
-        within = omega (arith, lies.1, length-drop at s);
-        fuel = behind;
-        line = p.line + 1;
-        enough = omega (arith, p.enough, f, lies.0);
-        rest = rest;
-        reads = ap (λ u. read_from behind u (p.line + 1) end') (sym (drop-drop (line_length t) at s)) ∙ ap (λ e. read_from behind (drop (line_length t) t)
-            (p.line + 1) e) (sym on) ∙ r;
-        laid = laid_on p.laid (data_of t) y st;
-      }
-
-  pub pouring_on : {n : ℕ} → n ≡ hex_byte (take (length s - at) (drop at s)) 1 → (n ≡ 0 → ⊥) → Poured n
-  unfolding count data_of
-  pouring_on {n} e z = go here_first
+  pub pouring_on : (count rest ≡ 0 → ⊥) → Poured
+  pouring_on z = go here_first
     where
-      go : First p.fuel (drop at s) p.line end p.rest → Poured n
-      go (last l q x b y) = absurd (z (e ∙ ap (λ t. hex_byte t 1) (rest_is s at) ∙ (end_counted (drop at s) x).1))
-      go (more behind rest f l q d a b r y) =
-          let t : Bytes = drop at s in
-          let same = rest_is s at in
-          let c : n ≡ count t = e ∙ ap (λ t. hex_byte t 1) same in
-          let lies = line-within t l in
-          let room = line-room t l in
+      go : First p.fuel rest p.line end p.left → Poured
+      go (last l q x b y) = absurd (z (end_counted rest x).1)
+      go (more behind t f l q d a b r y) =
+          let lies = line-within rest l in
           record {
-            room = rw same (omega arith);
-            hex = rw (same, c) (data_hex t l);
-            few = omega arith;
-            far = rw same (lies.0, omega (arith, lies.1, length-drop at s));
-            next = λ st. rw same (poured behind rest f l r y (rw (same, c) at st));
+            room = line-room rest l;
+            hex = data_hex rest l;
+            few = b;
+            far = lies;
+            next = λ {out'} {end'} st.
+                let on : end + count rest ≡ end' = sym (st.next_is ∙ ap (λ n. end + n) (data_length rest)) in
+                rw (rest_is rest (line_length rest))
+                (record {
+                  fuel = behind;
+                  line = p.line + 1;
+                  enough = omega (arith, p.enough, f, lies.0, length-drop (line_length rest) rest);
+                  left = t;
+                  reads = subst (λ e. read_from behind (drop (line_length rest) rest) (p.line + 1) e ≡ ok t) on r;
+                  laid = laid_on p.laid (data_of rest) y st;
+                });
           }
-
-pub pouring_missing : {s before out : Bytes} {at end : ℕ} → Pouring s before out at end → length s ≤ at → ⊥
-pouring_missing {s} {at = at} {end} p h =
-    no_ok (sym (read_none p.fuel (drop at s) p.line end (omega (arith, length-drop at s))) ∙ p.reads)

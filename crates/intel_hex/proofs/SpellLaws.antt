@@ -104,13 +104,6 @@ pub hex_small : (t : Bytes) (k : ℕ) → is_hex_byte t k ≡ true → hex_byte 
 unfolding hex_byte
 hex_small t k e = omega (arith, hex_both t k e)
 
-pub all_at : (n : ℕ) (t : Bytes) (k i : ℕ) → all_hex n t k ≡ true → i < n → is_hex_byte t (k + 2 * i) ≡ true
-all_at zero t k i e h = absurd (omega arith)
-all_at (suc n) t k zero e h = let z : k + 2 * 0 ≡ k = omega arith in rw z (all_first n t k e).0
-all_at (suc n) t k (suc i) e h =
-    let z : k + 2 * suc i ≡ k + 2 + 2 * i = omega arith in
-    rw z (all_at n t (k + 2) i (all_first n t k e).1 (omega arith))
-
 -- ---- upper-case digits
 
 upper-value : (n : ℕ) → n < 16 → hex_value (upper_hex n) ≡ n

@@ -1,120 +1,128 @@
 -- What reading a line comes to, by the tests on the line.
-use Rattle.std.proofs.Common.{◌≡◌, ℕ, ◌+◌, ◌*◌, ◌%◌, ◌<◌, ◌≤◌, true, false, length, sym, ap, ◌∙◌, arith, eq-eqb, ne_eqb, le-leb}
+use Rattle.std.specs.Prelude.{Option, Some, None, Ok, Err}
+use Rattle.std.specs.Option.{ok_or}
+use Rattle.std.proofs.Common.{◌≡◌, ℕ, ◌+◌, ◌%◌, ◌<◌, ◌≤◌, true, false, ◌&&◌, eqb, leb, length, sym, refl, ◌∙◌, arith, eq-eqb, ne_eqb, le-leb, eqb-true, leb-true}
 use mathlib.Core.Bool.{and-false, or-true}
 use borrow.Author.Tests.{lt-leb}
 use Rattle.spec.specs.Bytes.{Bytes}
+use Rattle.lexer.proofs.Tests.{and_both}
 use Rattle.intel_hex.specs.Record.{total, max_text}
-use Rattle.intel_hex.specs.Reading.{hex_byte, count, address_of, type_of, record_end, ending, line_length, is_data, is_end, is_record, has_sum}
-use Rattle.intel_hex.specs.Reading.{is_next, bytes_of, by_type, read_line, not_a_record}
-use Rattle.intel_hex.specs.Steps.{LineIs, FormIs, Summed, stepped, Onward, StepIs}
-use Rattle.intel_hex.specs.declared.lines.Scanned.{Scanned}
+use Rattle.intel_hex.specs.Reading.{count, address_of, type_of, line_length, is_data, is_end, is_record, has_sum}
+use Rattle.intel_hex.specs.Reading.{is_next, bytes_of, by_type, read_line}
+use Rattle.intel_hex.specs.Steps.{FieldsAre, RecordIs, FormIs, stepped, Onward, StepIs}
+use Rattle.intel_hex.specs.declared.lines.Record.{Record}
 use Rattle.intel_hex.specs.declared.lines.Form.{Form}
-use Rattle.intel_hex.specs.declared.lines.Step.{Step}
-use Rattle.intel_hex.proofs.LineLaws.{line-room, line-within}
+use Rattle.intel_hex.specs.declared.refusal.HexRefusal.TheVariants as HexRefusal
+use Rattle.intel_hex.proofs.LineLaws.{line-within, not_so}
 
-pub length_is : (t : Bytes) {n e : ℕ} → n ≡ hex_byte t 1 → e ≡ ending t (2 * n + 11) → 2 * n + 11 + e ≡ line_length t
-unfolding line_length record_end count
-length_is t {n} {e} p q = ap (λ e. 2 * n + 11 + e) q ∙ ap (λ n. 2 * n + 11 + ending t (2 * n + 11)) p
+-- an error that stands for what is missing
+pub missing : {T E : Type 0} (o : Option T) {e e' : E} → Err e ≡ ok_or o e' → (e ≡ e') × (o ≡ None)
+missing None h = (cc, refl)
+missing (Some x) h = cc
 
 -- ---- by type, count and address
 
-module _ (t : Bytes) where
-  pub data_form : type_of t ≡ 0 → (count t ≡ 0 → ⊥) → FormIs t Form.Data
-  unfolding FormIs is_data is_end
-  data_form k n = (rw (eq-eqb _ _ k, le-leb 1 (count t) (omega arith)), rw (ne_eqb (type_of t) 1 (λ e. omega arith)))
+module _ {t : Bytes} {r : Record} (f : FieldsAre t r) where
+  pub data_is : FormIs r (Some Form.Data) → (is_data t ≡ true) × (is_end t ≡ false)
+  unfolding is_data is_end
+  data_is d = (
+    rw (eq-eqb (type_of t) 0 (sym f.kind_is ∙ d.0), le-leb 1 (count t) (omega (arith, f.count_is, d.1))),
+    rw (ne_eqb (type_of t) 1 (λ e. omega (arith, f.kind_is, d.0))),
+  )
 
-  pub no_data : type_of t ≡ 0 → count t ≡ 0 → FormIs t Form.Neither
-  unfolding FormIs is_data is_end
-  no_data k n = (rw (lt-leb 1 (count t) (omega arith), and-false), rw (ne_eqb (type_of t) 1 (λ e. omega arith)))
+  pub end_is : FormIs r (Some Form.End) → is_end t ≡ true
+  unfolding is_end
+  end_is d = rw (
+    eq-eqb (type_of t) 1 (sym f.kind_is ∙ d.0),
+    eq-eqb (count t) 0 (sym f.count_is ∙ d.1),
+    eq-eqb (address_of t) 0 (sym f.address_is ∙ d.2),
+  )
 
-  pub other_type : (type_of t ≡ 0 → ⊥) → (type_of t ≡ 1 → ⊥) → FormIs t Form.Neither
-  unfolding FormIs is_data is_end
-  other_type a b = (rw (ne_eqb _ _ a), rw (ne_eqb _ _ b))
-
-  pub end_count : (type_of t ≡ 0 → ⊥) → (count t ≡ 0 → ⊥) → FormIs t Form.Neither
-  unfolding FormIs is_data is_end
-  end_count a n = (rw (ne_eqb _ _ a), rw (ne_eqb _ _ n, and-false))
-
-  pub end_address : (type_of t ≡ 0 → ⊥) → (address_of t ≡ 0 → ⊥) → FormIs t Form.Neither
-  unfolding FormIs is_data is_end
-  end_address a n = (rw (ne_eqb _ _ a), rw (ne_eqb _ _ n, and-false, and-false))
-
-  pub end_form : type_of t ≡ 1 → count t ≡ 0 → address_of t ≡ 0 → FormIs t Form.End
-  unfolding FormIs is_end
-  end_form k n a = rw (eq-eqb _ _ k, eq-eqb _ _ n, eq-eqb _ _ a)
+  pub neither : FormIs r None → (is_data t ≡ false) × (is_end t ≡ false)
+  unfolding is_data is_end
+  neither d = (
+    not_so (eqb (type_of t) 0 && leb 1 (count t)) (λ e. let b = and_both (eqb (type_of t) 0) (leb 1 (count t)) e in
+        omega (arith, d.0 (f.kind_is ∙ eqb-true (type_of t) 0 b.0), leb-true 1 (count t) b.1, f.count_is)),
+    not_so (eqb (type_of t) 1 && (eqb (count t) 0 && eqb (address_of t) 0)) (λ e. let b = and_both (eqb (type_of t) 1)
+        (eqb (count t) 0 && eqb (address_of t) 0) e in let g = and_both (eqb (count t) 0) (eqb (address_of t) 0) b.1 in
+        d.1 (f.kind_is ∙ eqb-true (type_of t) 1 b.0) (f.count_is ∙ eqb-true (count t) 0 g.0) (f.address_is ∙ eqb-true (address_of t) 0 g.1)),
+  )
 
 -- ---- a line
 
-module _ (t : Bytes) (next : ℕ) where
-  no_record : is_record t ≡ false → StepIs t next (Step.Refused not_a_record)
+module _ (t : Bytes) (line next : ℕ) where
+  no_record : is_record t ≡ false → StepIs t line next (Err record { refusal = HexRefusal.NotARecord; line = line })
   unfolding read_line stepped Onward
-  no_record e = record { gives = λ line behind. rw e; onward = tt }
+  no_record e = record { gives = λ behind. rw e; onward = tt }
 
-  pub bad_line : LineIs t Scanned.Bad → StepIs t next (Step.Refused 18)
-  unfolding LineIs is_record
+  pub bad_line : RecordIs t None → StepIs t line next (Err record { refusal = HexRefusal.NotARecord; line = line })
+  unfolding RecordIs is_record
   bad_line e = no_record (rw e)
 
-  pub bad_form : FormIs t Form.Neither → StepIs t next (Step.Refused 18)
-  unfolding FormIs is_record
-  bad_form e = no_record (rw (e.0, e.1, and-false))
+  module _ {r : Record} (f : FieldsAre t r) where
+    pub bad_form : FormIs r None → StepIs t line next (Err record { refusal = HexRefusal.NotARecord; line = line })
+    unfolding is_record
+    bad_form d = let n = neither f d in no_record (rw (n.0, n.1, and-false))
 
-  module _ {sum : ℕ} (s : Summed t sum) where
-    pub bad_sum : (sum ≡ 0 → ⊥) → StepIs t next (Step.Refused 19)
+    is_one : (form : Form) → FormIs r (Some form) → is_record t ≡ true
+    unfolding is_record
+    is_one Form.Data d = rw (f.line, (data_is f d).0)
+    is_one Form.End d = rw (f.line, end_is f d, or-true)
+
+    pub bad_sum : (form : Form) → FormIs r (Some form) → (r.sum ≡ 0 → ⊥) → StepIs t line next (Err record { refusal = HexRefusal.WrongSum; line = line })
     unfolding read_line has_sum stepped Onward
-    bad_sum n =
+    bad_sum form d n =
         record {
-          gives = λ line behind. rw (s.is, ne_eqb (total (bytes_of t) % 256) 0 (λ e. n (s.sum_is ∙ e)));
+          gives = λ behind. rw (is_one form d, ne_eqb (total (bytes_of t) % 256) 0 (λ e. n (f.sum_is ∙ e)));
           onward = tt;
         }
 
-    module _ (z : sum ≡ 0) where
+    module _ (z : r.sum ≡ 0) where
       summed : has_sum t ≡ true
       unfolding has_sum
-      summed = eq-eqb (total (bytes_of t) % 256) 0 (sym s.sum_is ∙ z)
+      summed = eq-eqb (total (bytes_of t) % 256) 0 (sym f.sum_is ∙ z)
 
-      pub end_behind : is_end t ≡ true → line_length t < length t → StepIs t next Step.Behind
+      pub end_behind : FormIs r (Some Form.End) → r.width < length t →
+          StepIs t line next (Err record { refusal = HexRefusal.WrongEnd; line = line + 1 })
       unfolding read_line by_type stepped Onward
-      end_behind e h =
-          record { gives = λ line behind. rw (s.is, summed, e, lt-leb (length t) (line_length t) h); onward = tt }
+      end_behind d h =
+          record {
+            gives = λ behind. rw (is_one Form.End d, summed, end_is f d, lt-leb (length t) (line_length t) (omega (arith, f.width_is)));
+            onward = tt;
+          }
 
-      pub end_last : is_end t ≡ true → length t ≤ line_length t → StepIs t next Step.Done
+      pub end_last : FormIs r (Some Form.End) → length t ≤ r.width → StepIs t line next (Ok None)
       unfolding read_line by_type stepped Onward
-      end_last e h = record { gives = λ line behind. rw (s.is, summed, e, le-leb (length t) (line_length t) h); onward = tt }
+      end_last d h =
+          record {
+            gives = λ behind. rw (is_one Form.End d, summed, end_is f d, le-leb (length t) (line_length t) (omega (arith, f.width_is)));
+            onward = tt;
+          }
 
-      module _ (e : is_end t ≡ false) where
-        bad_next : is_next t next ≡ false → StepIs t next (Step.Refused 20)
+      module _ (d : FormIs r (Some Form.Data)) where
+        bad_next : is_next t next ≡ false → StepIs t line next (Err record { refusal = HexRefusal.WrongAddress; line = line })
         unfolding read_line by_type stepped Onward
-        bad_next f = record { gives = λ line behind. rw (s.is, summed, e, f); onward = tt }
+        bad_next e = record { gives = λ behind. rw (is_one Form.Data d, summed, (data_is f d).1, e); onward = tt }
 
-        pub other_address : (address_of t ≡ next → ⊥) → StepIs t next (Step.Refused 20)
+        pub other_address : (r.address ≡ next → ⊥) → StepIs t line next (Err record { refusal = HexRefusal.WrongAddress; line = line })
         unfolding is_next
-        other_address n = bad_next (rw (ne_eqb _ _ n))
+        other_address n = bad_next (rw (ne_eqb (address_of t) next (λ e. n (f.address_is ∙ e))))
 
-        pub past_end : max_text < next + count t → StepIs t next (Step.Refused 20)
+        pub past_end : max_text < next + r.count → StepIs t line next (Err record { refusal = HexRefusal.WrongAddress; line = line })
         unfolding is_next
-        past_end h = bad_next (rw (lt-leb (next + count t) max_text h, and-false))
+        past_end h = bad_next (rw (lt-leb (next + count t) max_text (omega (arith, f.count_is)), and-false))
 
-        pub more : {n width : ℕ} → address_of t ≡ next → n ≡ count t → next + n ≤ max_text → width ≡ line_length t → StepIs t next (Step.More n width)
+        pub more : r.address ≡ next → next + r.count ≤ max_text → StepIs t line next (Ok (Some r))
         unfolding read_line by_type is_next stepped Onward
-        more {n} {width} a c h w =
-            let lies = line-within t s.line in
+        more a h =
+            let lies = line-within t f.line in
             record {
-              gives = λ line behind. rw (s.is, summed, e, eq-eqb _ _ a, le-leb (next + count t) max_text (omega arith));
-              onward = (c, w, omega arith, omega arith, h);
+              gives = λ behind. rw (
+                is_one Form.Data d,
+                summed,
+                (data_is f d).1,
+                eq-eqb (address_of t) next (sym f.address_is ∙ a),
+                le-leb (next + count t) max_text (omega (arith, f.count_is)),
+              );
+              onward = (f.count_is, f.width_is, omega (arith, f.width_is), omega (arith, f.width_is), h);
             }
-
--- the record's form with its sum
-pub data_summed : (t : Bytes) (x : ℕ) → LineIs t (Scanned.Sum x) → FormIs t Form.Data → Summed t x × (is_end t ≡ false)
-unfolding LineIs FormIs is_record
-data_summed t x l f = (record { line = l.0; is = rw (l.0, f.0); sum_is = l.1 }, f.1)
-
-pub end_summed : (t : Bytes) (x : ℕ) → LineIs t (Scanned.Sum x) → FormIs t Form.End → Summed t x × (is_end t ≡ true)
-unfolding LineIs FormIs is_record
-end_summed t x l f = (record { line = l.0; is = rw (l.0, f, or-true); sum_is = l.1 }, f)
-
-pub eleven : (t : Bytes) (x : ℕ) → LineIs t (Scanned.Sum x) → 11 ≤ length t
-unfolding LineIs
-eleven t x l = omega (arith, line-room t l.0)
-
-pub summed_room : {t : Bytes} {x : ℕ} → Summed t x → 11 ≤ length t
-summed_room {t} s = omega (arith, line-room t s.line)

@@ -86,3 +86,13 @@ module _ {text before out : Bytes} {end at : ℕ} (p : Printing text before out 
         LaidDown (hex_of text) before out' next
     unfolding end_line
     printing_last e r = front (laid_ends (laid_on last_laid (line_of (record_bytes end_type 0 [])) {left = []} (sym (append-nil _)) (rw e at r)) refl)
+
+-- all records of data are laid down, wherever the loop ended
+pub record Printed (text before out : Bytes) (end : ℕ) : Type 0 where
+  pub at : ℕ
+  pub printing : Printing text before out end at
+  pub behind : length text ≤ at
+
+pub printed : {text before out out' : Bytes} {end end' at : ℕ} → out' ≡ out → end' ≡ end → Printing text before out end at → length text ≤ at →
+    Printed text before out' end'
+printed {at = at} e f p h = record { at = at; printing = rw (e, f) p; behind = h }

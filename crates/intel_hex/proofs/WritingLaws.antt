@@ -1,15 +1,13 @@
 -- Texts laid down piece by piece.
-use Rattle.std.proofs.Common.{◌≡◌, ℕ, zero, suc, ◌+◌, ◌*◌, ◌/◌, ◌%◌, ◌<◌, ◌≤◌, true, [], ◌∷◌, length, set, sym, refl, ap, ◌∙◌, arith}
+use Rattle.std.proofs.Common.{◌≡◌, ℕ, zero, suc, ◌+◌, ◌*◌, ◌/◌, ◌%◌, ◌<◌, ◌≤◌, [], ◌∷◌, length, set, sym, refl, ap, ◌∙◌, arith}
 use Prim.Native.Char.{code}
-use Rattle.spec.specs.Bytes.{Bytes, byte}
+use Rattle.spec.specs.Bytes.{Bytes}
 use Rattle.text.specs.Written.{Stored}
-use Rattle.spec.specs.Strings.{hex_value}
 use Rattle.text.proofs.LaidLaws.{Laid, laid_starts, laid_on, laid_ends}
 use Rattle.text.specs.UpperHex.{upper_hex}
 use Rattle.intel_hex.specs.Record.{total, body, check, digits, digits_of, line_of, record_bytes, line_feed}
-use Rattle.intel_hex.specs.Reading.{hex_byte, bytes_at, all_hex}
+use Rattle.intel_hex.specs.Reading.{hex_byte, bytes_at}
 use Rattle.intel_hex.proofs.RecordLaws.{check_only, line_pieces}
-use Rattle.intel_hex.proofs.LineLaws.{all_first, hex_both}
 
 -- one byte
 pub byte_stored : (b at : ℕ) {o p : Bytes} → p ≡ set o at b → Stored (b ∷ []) at o p (at + 1)
@@ -52,53 +50,41 @@ line_stored kind address d at {z = z} {e = e} {o = o} {r = r} {s} i j k l first 
 
 -- ---- the data of a line
 
-pub record Filling (n : ℕ) (t : Bytes) (at : ℕ) (before out : Bytes) (k end i : ℕ) : Type 0 where
+pub record Filling (n : ℕ) (t : Bytes) (at : ℕ) (before out : Bytes) (i : ℕ) : Type 0 where
   pub left : ℕ
   pub count_is : n ≡ i + left
-  pub k_is : k ≡ 9 + 2 * i
-  pub end_is : end ≡ at + i
-  pub hex : all_hex left t k ≡ true
-  pub laid : Laid at (bytes_at n t 9) (bytes_at left t k) before out end
+  pub laid : Laid at (bytes_at n t 9) (bytes_at left t (9 + 2 * i)) before out (at + i)
 
-pub filling_starts : (n : ℕ) (t : Bytes) (at : ℕ) (out : Bytes) → all_hex n t 9 ≡ true → Filling n t at out out 9 at 0
-filling_starts n t at out h =
-    record { left = n; count_is = omega arith; k_is = omega arith; end_is = omega arith; hex = h; laid = laid_starts at (bytes_at n t 9) out }
+pub filling_starts : (n : ℕ) (t : Bytes) (at : ℕ) (out : Bytes) → Filling n t at out out 0
+filling_starts n t at out =
+    let here : 9 + 2 * 0 ≡ 9 = omega arith in
+    let place : at + 0 ≡ at = omega arith in
+    record { left = n; count_is = omega arith; laid = rw (here, place) (laid_starts at (bytes_at n t 9) out) }
 
-module _ {n : ℕ} {t : Bytes} {at : ℕ} {before out : Bytes} {k end i : ℕ} (f : Filling n t at before out k end i) where
-  pub filling_digits : i < n → (hex_value (byte t k) < 16) × (hex_value (byte t (k + 1)) < 16)
-  filling_digits h = go f.left f.count_is f.hex
+module _ {n : ℕ} {t : Bytes} {at : ℕ} {before out : Bytes} {i : ℕ} (f : Filling n t at before out i) where
+  pub filling_on : {b : ℕ} {out' : Bytes} → i < n → b ≡ hex_byte t (9 + 2 * i) → out' ≡ set out (at + i) b →
+      Filling n t at before out' (i + 1)
+  unfolding bytes_at
+  filling_on {b} {out'} h x w = go f.left f.count_is f.laid
     where
-      go : (left : ℕ) → n ≡ i + left → all_hex left t k ≡ true → (hex_value (byte t k) < 16) × (hex_value (byte t (k + 1)) < 16)
-      go zero c e = absurd (omega arith)
-      go (suc m) c e = hex_both t k (all_first m t k e).0
-
-  pub filling_on : {high low b : ℕ} {out' : Bytes} → i < n → high ≡ hex_value (byte t k) → low ≡ hex_value (byte t (k + 1)) → b ≡ high * 16 + low →
-      out' ≡ set out end b →
-      Filling n t at before out' (k + 2) (end + 1) (i + 1)
-  unfolding bytes_at hex_byte
-  filling_on {high} {low} {b} {out'} h x y z w = go f.left f.count_is f.hex f.laid
-    where
-      go : (left : ℕ) → n ≡ i + left → all_hex left t k ≡ true → Laid at (bytes_at n t 9) (bytes_at left t k) before out end →
-          Filling n t at before out' (k + 2) (end + 1) (i + 1)
-      go zero c e l = absurd (omega arith)
-      go (suc m) c e l =
-          let same : b ≡ hex_value (byte t k) * 16 + hex_value (byte t (k + 1)) = omega arith in
+      go : (left : ℕ) → n ≡ i + left → Laid at (bytes_at n t 9) (bytes_at left t (9 + 2 * i)) before out (at + i) →
+          Filling n t at before out' (i + 1)
+      go zero c l = absurd (omega arith)
+      go (suc m) c l =
+          let next : 9 + 2 * i + 2 ≡ 9 + 2 * (i + 1) = omega arith in
+          let place : at + i + 1 ≡ at + (i + 1) = omega arith in
           record {
             left = m;
             count_is = omega arith;
-            k_is = omega (arith, f.k_is);
-            end_is = omega (arith, f.end_is);
-            hex = (all_first m t k e).1;
-            laid = laid_on l (b ∷ []) (ap (λ x. x ∷ bytes_at m t (k + 2)) (sym same)) (byte_stored b end w);
+            laid = rw (← place) (laid_on l (b ∷ []) (ap (λ x. x ∷ bytes_at m t (9 + 2 * i + 2)) (sym x) ∙ ap (λ k. b ∷ bytes_at m t k) next)
+                (byte_stored b (at + i) w));
           }
 
-  pub filling_ends : n ≤ i → Stored (bytes_at n t 9) at before out end
+  pub filling_ends : n ≤ i → Stored (bytes_at n t 9) at before out (at + n)
   unfolding bytes_at
   filling_ends h = go f.left f.count_is f.laid
     where
-      go : (left : ℕ) → n ≡ i + left → Laid at (bytes_at n t 9) (bytes_at left t k) before out end → Stored (bytes_at n t 9) at before out end
-      go zero c l = laid_ends l refl
+      go : (left : ℕ) → n ≡ i + left → Laid at (bytes_at n t 9) (bytes_at left t (9 + 2 * i)) before out (at + i) →
+          Stored (bytes_at n t 9) at before out (at + n)
+      go zero c l = let same : at + n ≡ at + i = omega arith in rw same (laid_ends l refl)
       go (suc m) c l = absurd (omega arith)
-
-  pub filling_room : 9 + 2 * n ≤ length t → i < n → k + 2 ≤ length t
-  filling_room room h = omega (arith, f.k_is)

@@ -1,11 +1,12 @@
 -- What the calls promise, on every input: the whole answer, and the output afterwards.
-use Rattle.std.specs.Prelude.{◌≡◌, ℕ, [], ◌∷◌, ◌++◌, length, drop}
+use Rattle.std.specs.Prelude.{◌≡◌, ℕ, [], ◌∷◌, ◌++◌, length, drop, Result, Ok, Err}
+use Rattle.spec.specs.Refusal.{done}
 use Rattle.spec.specs.Bytes.{Bytes}
 use Rattle.intel_hex.specs.Answer as Spec
-use Rattle.intel_hex.specs.Answer.{fitting, write_answer, read_answer}
-use Rattle.intel_hex.specs.Reading.{read_text}
-use Rattle.intel_hex.specs.Steps.{text_of}
+use Rattle.intel_hex.specs.Answer.{write_answer, read_answer}
+use Rattle.intel_hex.specs.Refusal.{number_of}
 use Rattle.intel_hex.specs.declared.answer.Answer.{Answer}
+use Rattle.intel_hex.specs.declared.refusal.HexFault.{HexFault}
 
 -- the call's answer is this one, and the output afterwards is the written text, then the rest of the output as it was
 pub record Answered (a : Spec.Answer) (before after : Bytes) (r : Answer) : Type 0 where
@@ -33,15 +34,8 @@ WritesC text before after fields number = ExportIs (write_answer text (length be
 abbrev pub ReadsC : Bytes → Bytes → Bytes → Bytes → ℕ → Type 0
 ReadsC s before after fields number = ExportIs (read_answer s (length before)) before after fields number
 
--- ---- the data of a text that is read, where the output has room
+-- ---- what a result is laid down as
 
-abbrev pub FittingIs : Bytes → Bytes → Bytes → Answer → Type 0
-FittingIs s before after r = Answered (fitting (length before) (text_of (read_text s))) before after r
-
--- ---- the two kinds of answers
-
-abbrev pub SuccessIs : ℕ → Answer → Type 0
-SuccessIs written r = (r.number ≡ 0) × (r.place ≡ 0) × (r.length ≡ written)
-
-abbrev pub RefusalIs : ℕ → ℕ → Answer → Type 0
-RefusalIs number place r = (r.number ≡ number) × (r.place ≡ place) × (r.length ≡ 0)
+abbrev pub answer_of : Result ℕ HexFault → Answer
+answer_of (Ok n) = record { number = done; place = 0; length = n }
+answer_of (Err e) = record { number = number_of e.refusal; place = e.line; length = 0 }

@@ -1,38 +1,43 @@
 // The two calls.
-ghost use Rattle.std.specs.Prelude.{◌≡◌, length};
-ghost use Rattle.intel_hex.specs.Reading.{read_text};
-ghost use Rattle.intel_hex.specs.Steps.{Accepted, text_of};
-ghost use Rattle.intel_hex.specs.Call.{WriteIs, ReadIs, FittingIs};
+ghost use Rattle.intel_hex.specs.Call.{WriteIs, ReadIs, answer_of};
 
-use crate::answer::{Answer, refusal, success};
-use crate::reading::{Measure, measure_text, put_text};
+use crate::answer::Answer;
+use crate::reading::{measure_text, put_text};
+use crate::refusal::{HexFault, HexRefusal};
 use crate::writing::{hex_length, put_hex};
 
 // The most bytes of a text that is written.
 const MAX_TEXT: usize = 65_536;
 
+// The length of the records that were written to the output.
+fn write(text: &[u8], output: &mut [u8]) -> Result<usize, HexFault>
+    ensures { WriteIs text.now output.old output.new (answer_of result) }
+{
+    if MAX_TEXT < text.len() {
+        return Err(HexRefusal::InputTooLong.at(0));
+    }
+    if output.len() < hex_length(text) {
+        return Err(HexRefusal::OutputTooShort.at(0));
+    }
+    Ok(put_hex(text, output))
+}
+
+// The length of the text that was written to the output.
+fn read(hex: &[u8], output: &mut [u8]) -> Result<usize, HexFault>
+    ensures { ReadIs hex.now output.old output.new (answer_of result) }
+{
+    let n = measure_text(hex)?;
+    if output.len() < n {
+        return Err(HexRefusal::OutputTooShort.at(0));
+    }
+    Ok(put_text(hex, output))
+}
+
 // A text is written as Intel HEX to the output, or the call is refused: 2 for a text over 65,536 bytes, then 16.
 pub fn write_hex(text: &[u8], output: &mut [u8]) -> Answer
     ensures { WriteIs text.now output.old output.new result }
 {
-    if MAX_TEXT < text.len() {
-        return refusal(2, 0);
-    }
-    if output.len() < hex_length(text) {
-        return refusal(16, 0);
-    }
-    success(put_hex(text, output))
-}
-
-// The data of a text that is read, of which there are `n` bytes, or 16.
-fn fitting_text(s: &[u8], n: usize, output: &mut [u8]) -> Answer
-    requires { Accepted s.now × (n ≡ length (text_of (read_text s.now))) }
-    ensures { FittingIs s.now output.old output.new result }
-{
-    if output.len() < n {
-        return refusal(16, 0);
-    }
-    success(put_text(s, output))
+    Answer::from(write(text, output))
 }
 
 // The text of Intel HEX is written to the output, or the call is refused, with the line as the place: 21 anything
@@ -40,8 +45,5 @@ fn fitting_text(s: &[u8], n: usize, output: &mut [u8]) -> Answer
 pub fn read_hex(hex: &[u8], output: &mut [u8]) -> Answer
     ensures { ReadIs hex.now output.old output.new result }
 {
-    match measure_text(hex) {
-        Measure::Bytes(n) => return fitting_text(hex, n, output),
-        Measure::Refused(number, line) => return refusal(number, line),
-    }
+    Answer::from(read(hex, output))
 }

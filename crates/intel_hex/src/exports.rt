@@ -9,8 +9,15 @@ pub fn json_patch_write_hex(text: &[u8], output: &mut [u8], answer: &mut [u64; 6
     ensures { WritesC text.now output.old output.new answer.new result }
 {
     let r = write_hex(text, output);
-    *answer = [r.number as u64, 0, 0, r.place as u64, 0, r.length as u64];
-    r.number as u32
+    *answer = [
+        u64::from(r.number),
+        0,
+        0,
+        r.place as u64,
+        0,
+        r.length as u64,
+    ];
+    u32::from(r.number)
 }
 
 // As `read_hex`.
@@ -18,6 +25,13 @@ pub fn json_patch_read_hex(hex: &[u8], output: &mut [u8], answer: &mut [u64; 6])
     ensures { ReadsC hex.now output.old output.new answer.new result }
 {
     let r = read_hex(hex, output);
-    *answer = [r.number as u64, 0, 0, r.place as u64, 0, r.length as u64];
-    r.number as u32
+    *answer = [
+        u64::from(r.number),
+        0,
+        0,
+        r.place as u64,
+        0,
+        r.length as u64,
+    ];
+    u32::from(r.number)
 }

@@ -6,6 +6,7 @@
 // and the reader accepts exactly the texts of records that follow on from address 0.
 #![tactic(auto)]
 
+mod refusal; // why a call is refused
 mod answer; // what a call answers
 mod digits; // hexadecimal digits
 mod writing; // a text measured and written as records

@@ -5,7 +5,6 @@ ghost use Rattle.intel_hex.specs.Record.{total, digits, digits_of, hex_of, max_t
 ghost use Rattle.intel_hex.specs.Steps.{Fits, LineStored};
 
 use crate::digits::hex_digit;
-use std::num::{wrapping_add_u8, wrapping_sub_u8};
 
 // The most bytes of data in a record that is written.
 const RECORD_BYTES: usize = 16;
@@ -15,10 +14,8 @@ fn sum(bytes: &[u8], start: u8) -> u8
     ensures { result ≡ (start + total bytes.now) % 256 }
 {
     let mut sum = start;
-    let mut i = 0;
-    while i < bytes.len() {
-        sum = wrapping_add_u8(sum, bytes[i]);
-        i += 1;
+    for b in bytes {
+        sum = sum.wrapping_add(*b);
     }
     sum
 }
@@ -48,10 +45,8 @@ fn put_spelled(bytes: &[u8], out: &mut [u8], at: usize) -> usize
     ensures { Stored (digits_of bytes.now) at out.old out.new result }
 {
     let mut end = at;
-    let mut i = 0;
-    while i < bytes.len() {
-        end = put_digits(out, end, bytes[i]);
-        i += 1;
+    for b in bytes {
+        end = put_digits(out, end, *b);
     }
     end
 }
@@ -67,7 +62,7 @@ fn put_line(kind: u8, address: usize, bytes: &[u8], out: &mut [u8], at: usize) -
         (address % 256) as u8,
         kind,
     ];
-    let last = wrapping_sub_u8(0, sum(bytes, sum(&head, 0)));
+    let last = sum(bytes, sum(&head, 0)).wrapping_neg();
     put(out, at, b':');
     let behind_head = put_spelled(&head, out, at + 1);
     let behind_data = put_spelled(bytes, out, behind_head);
@@ -82,18 +77,7 @@ pub fn hex_length(text: &[u8]) -> usize
     ensures { result ≡ length (hex_of text.now) }
 {
     let n = text.len();
-    (n + 15) / RECORD_BYTES * 12 + 2 * n + 12
-}
-
-// The end of the record that begins at a place of a text, given the length of the text.
-fn record_end(at: usize, n: usize) -> usize
-    requires { (at < n) × (n ≤ max_text) }
-    ensures { (at ≤ result) × (result ≤ n) × (result ≤ at + 16) × (result < at + 16 → result ≡ n) }
-{
-    if n - at < RECORD_BYTES {
-        return n;
-    }
-    at + RECORD_BYTES
+    n.div_ceil(RECORD_BYTES) * 12 + 2 * n + 12
 }
 
 // A text as records at the front of the output, which has room for them; the answer is their length.
@@ -103,11 +87,9 @@ pub fn put_hex(text: &[u8], out: &mut [u8]) -> usize
 {
     let n = text.len();
     let mut end = 0;
-    let mut at = 0;
-    while at < n {
-        let stop = record_end(at, n);
+    for at in (0..n).step_by(RECORD_BYTES) {
+        let stop = (at + RECORD_BYTES).min(n);
         end = put_line(0, at, &text[at..stop], out, end);
-        at += RECORD_BYTES;
     }
     put_line(1, 0, &text[n..], out, end)
 }

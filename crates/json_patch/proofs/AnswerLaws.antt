@@ -1,6 +1,9 @@
 -- Laws of answers: the two kinds of them, and what the definitions of the stages come to.
 use Prim.Native.Nat.{ℕ, ◌≤◌, ◌<◌}
-use mathlib.Core.Path.{◌≡◌, refl, subst, sym}
+use Rattle.std.specs.Prelude.{Result, Ok, Err, IsErrAnd, MatchResult}
+use Rattle.std.proofs.lemmas.Result.{err_from_is_err_and}
+use mathlib.Core.Path.{◌≡◌, refl, subst, sym, ap, ap₂, ◌∙◌}
+use native.Mathlib.Omega.{arith}
 use mathlib.Core.Bool.{true, false}
 use mathlib.Core.List.{◌++◌}
 use lib.ListN.{length, drop}
@@ -13,6 +16,7 @@ use Rattle.spec.specs.Answer as Spec
 use Rattle.spec.specs.Answer.{Lent, work_suffices, fitting, on_document, answer_in, answer}
 use Rattle.spec.specs.Read.{read}
 use Rattle.json_patch.specs.Call.{Answered, SuccessIs, RefusalIs, FailureIs}
+use Rattle.json_patch.specs.Stages.{as_answer}
 use Rattle.json_patch.specs.declared.answer.Answer.{Answer}
 
 -- ---- a refusal leaves the output as it was; a success has the text in front
@@ -27,6 +31,35 @@ answered-failure (n, t, o, p, q, l) = record { number = n; text = t; op = o; pla
 pub answered-success : {t before after : Bytes} {r : Answer} → SuccessIs (length t) r → after ≡ t ++ drop (length t) before → Answered (Spec.success t)
     before after r
 answered-success (n, t, o, p, q, l) whole = record { number = n; text = t; op = o; place = p; pointer = q; written = l; output = whole }
+
+-- a success is the answer of its length
+pub success_is : {n : ℕ} {r : Answer} → SuccessIs n r → r ≡ as_answer (Ok n)
+unfolding as_answer
+success_is {n} {r} (a, b, c, d, e, f) =
+    ap₂ (λ x y. record { number = x; text = y; op = r.op; place = r.place; pointer = r.pointer; length = r.length }) a b
+    ∙ ap₂ (λ x y. record { number = 0; text = 0; op = x; place = y; pointer = r.pointer; length = r.length }) c d
+    ∙ ap₂ (λ x y. record { number = 0; text = 0; op = 0; place = 0; pointer = x; length = y }) e f
+
+-- what the exit of a `?` answers is the refusal that it was given, as the call's
+pub answered-handed : {a : Spec.Answer} {before after : Bytes} {P : Answer → Type 0} (done : Result ℕ Answer) → IsErrAnd done P
+    → ((r : Answer) → P r → Answered a before after r) → Answered a before after (as_answer done)
+unfolding as_answer
+answered-handed {a} {before} {after} done is h =
+    let p = err_from_is_err_and done is in subst (λ o. Answered a before after (as_answer o)) (sym p.1) (h p.0 p.2)
+
+-- what `map_err` was given, by what it answered
+pub mapped_ok : {A E F : Type 0} (P : E → F → Type 0) (r : Result A E) {q : Result A F} {a : A} → MatchResult r (λ x. q ≡ Ok x) (λ e. IsErrAnd q (P e))
+    → q ≡ Ok a → r ≡ Ok a
+mapped_ok P (Ok x) {a = a} is t = let same : x ≡ a = cc in ap Ok same
+mapped_ok P (Err e) {q} is t = let p = err_from_is_err_and q is in absurd (let z : ◌≡◌ {A = ℕ} 0 1 = cc in omega arith)
+
+pub mapped_err : {A E F : Type 0} (P : E → F → Type 0) (r : Result A E) {q : Result A F} {f : F} → MatchResult r (λ x. q ≡ Ok x) (λ e. IsErrAnd q (P e))
+    → q ≡ Err f → (e : E) × (r ≡ Err e) × P e f
+mapped_err P (Ok x) is t = absurd (let z : ◌≡◌ {A = ℕ} 0 1 = cc in omega arith)
+mapped_err P (Err e) {q} {f} is t =
+    let p = err_from_is_err_and q is in
+    let same : p.0 ≡ f = cc in
+    (e, refl, subst (P e) same p.2)
 
 -- an answer by another name
 pub answered_as : {a b : Spec.Answer} {before after : Bytes} {r : Answer} → a ≡ b → Answered b before after r → Answered a before after r

@@ -1,6 +1,6 @@
 pub mod AnswerLaws
-pub mod RefusalLaws
 pub mod TextLaws
+pub mod ReadLaws
 pub mod StageLaws
 pub mod CallLaws
 pub mod RegionTheorem

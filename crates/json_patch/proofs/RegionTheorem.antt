@@ -1,5 +1,4 @@
 -- Demand 3 of the call, from the theorem on the definitions and the call's contract.
-use Prim.Native.Nat.{ℕ}
 use mathlib.Core.Path.{◌≡◌, subst}
 use Rattle.spec.specs.Bytes.{Bytes}
 use Rattle.spec.specs.Patch.{Stop}

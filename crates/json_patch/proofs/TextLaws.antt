@@ -1,52 +1,57 @@
 -- Laws of the two texts in the table: what a text that is read gives, and that the document stays while the patch is read.
-use Prim.Native.Nat.{ℕ, suc, ◌+◌, ◌≤◌}
+use Rattle.std.specs.Prelude.{Result, Ok, Err}
+use Prim.Native.Nat.{ℕ, ◌+◌, ◌≤◌}
 use native.Mathlib.Omega.{arith}
-use mathlib.Core.Path.{◌≡◌, refl, sym, ap, ap₂, ◌∙◌}
+use mathlib.Core.Path.{◌≡◌, sym, ap, ap₂, ◌∙◌}
 use mathlib.Core.List.{List}
 use lib.ListN.{length}
 use borrow.Author.Tests.{le-ltb}
-use Rattle.spec.specs.Outcome.{Outcome, ok, refused}
+use Rattle.spec.specs.Outcome.{Outcome, ok, refused, ◌>>=◌}
+use Rattle.spec.specs.Fault.{number_of}
+use Rattle.spec.specs.declared.refusal.Fault.{Fault}
 use Rattle.spec.specs.Limits.{max_bytes, max_depth, max_nodes}
 use Rattle.spec.specs.Bytes.{Bytes}
-use Rattle.spec.specs.Forest.{Forest, none, tree, size}
+use Rattle.spec.specs.Forest.{none, tree, size}
 use Rattle.spec.specs.Value as Value
 use Rattle.spec.specs.Value.{depth}
 use Rattle.spec.specs.Read.{read}
 use Rattle.spec.specs.Proper.{Proper}
-use Rattle.lexer.specs.declared.cursor.Cursor.{Cursor}
 use Rattle.tape.specs.Layout.{document_row, patch_row, rows}
 use Rattle.tape.specs.Fields.{Row}
-use Rattle.tape.specs.declared.fields.Cell.{Cell}
 use Rattle.tape.specs.Lent.{Texts, Table}
 use Rattle.table.specs.Sound.{NodeHeld}
 use Rattle.table.proofs.AllLaws.{all_first, all_kids}
 use Rattle.index.specs.Slots.{slots}
 use Rattle.reader.specs.Work.{Work}
 use Rattle.reader.specs.Filled.{Between}
-use Rattle.reader.specs.Texts.{reading, Rooted, TextRead, text_read, text_refused}
-use Rattle.reader.specs.declared.values.Read.{Read}
-use Rattle.reader.specs.declared.values.Read.TheVariants as Read
+use Rattle.reader.specs.Texts.{refusal_before, reading, Rooted, TextRead, text_read, text_refused}
+use Rattle.reader.specs.declared.values.Value as Read
 use Rattle.changes.specs.Site.{table}
 use Rattle.changes.specs.Document.{Document}
 use Rattle.changes.proofs.KeptLaws.{same_first, held_alone, held_same}
 use Rattle.json_patch.specs.Stages.{PatchHeld}
 
 -- ---- where the text is not too long and the work area is long enough, nothing is refused before the definition's reading
+nothing_before : (w : Work) (s : Bytes) → rows ≤ length w.nodes → slots ≤ length w.index → length s ≤ max_bytes → refusal_before w s ≡ ok tt
+unfolding refusal_before
+nothing_before w s h i j = rw (le-ltb (length w.nodes) rows h, le-ltb (length w.index) slots i, le-ltb max_bytes (length s) j)
+
 pub read_into : (w : Work) (s : Bytes) → rows ≤ length w.nodes → slots ≤ length w.index → length s ≤ max_bytes → read s ≡ reading w s
-unfolding reading
-read_into w s h i j = rw (le-ltb (length w.nodes) rows h, le-ltb (length w.index) slots i, le-ltb max_bytes (length s) j)
+unfolding reading ◌>>=◌
+read_into w s h i j = sym (ap (λ o. o >>= λ _. read s) (nothing_before w s h i j))
 
 -- ---- what is answered of a text: its value, with its tree in the table, or its refusal
 module _ {T : Texts} {s : Bytes} {base : ℕ} {nodes nodes' : List Row} {o : Outcome Value.Value} where
-  pub text-value : {C : Type 0} {told : Read} {next : Cursor} {end : ℕ} → TextRead T s base nodes nodes' o told → told ≡ Read.Value next end
-      → ((v : Value.Value) → o ≡ ok v → end ≤ base + max_nodes → Rooted (table T nodes') base end v → Between base end nodes nodes' → C) → C
-  text-value {end = end} (text_read v n e is last short rooted changed) t then-it =
-      let same : e ≡ end = cc in then-it v is (rw same at short) (rw same at rooted) (rw same at changed)
-  text-value (text_refused number place is changed) t then-it = absurd (let z : ◌≡◌ {A = ℕ} 0 1 = cc in omega arith)
+  pub text-value : {C : Type 0} {told : Result Read.Value Fault} {r : Read.Value} → TextRead T s base nodes nodes' o told → told ≡ Ok r
+      → ((v : Value.Value) → o ≡ ok v → r.end ≤ base + max_nodes → Rooted (table T nodes') base r.end v → Between base r.end nodes nodes' → C) → C
+  text-value {r = r} (text_read v n is last short rooted changed) t then-it =
+      let same : n.end ≡ r.end = cc in then-it v is (rw same at short) (rw same at rooted) (rw same at changed)
+  text-value (text_refused e is changed) t then-it = absurd (let z : ◌≡◌ {A = ℕ} 0 1 = cc in omega arith)
 
-  pub text_refusal : {told : Read} {number place : ℕ} → TextRead T s base nodes nodes' o told → told ≡ Read.Refused number place → o ≡ refused number place
-  text_refusal (text_read v n e is last short rooted changed) t = absurd (let z : ◌≡◌ {A = ℕ} 0 1 = cc in omega arith)
-  text_refusal (text_refused number place is changed) t = is ∙ ap₂ refused (cc) (cc)
+  pub text_refusal : {told : Result Read.Value Fault} {e : Fault} → TextRead T s base nodes nodes' o told → told ≡ Err e
+      → o ≡ refused (number_of e.refusal) e.place
+  text_refusal (text_read v n is last short rooted changed) t = absurd (let z : ◌≡◌ {A = ℕ} 0 1 = cc in omega arith)
+  text_refusal (text_refused f is changed) t = is ∙ ap₂ refused (cc) (cc)
 
 -- ---- the tree of a text that is read, as a node
 module _ {w : Table} {base end : ℕ} {v : Value.Value} (r : Rooted w base end v) where

@@ -1,6 +1,6 @@
 -- T-08: "For every input and lent output for which neither form gives 1, the answer and written text equal the old ones". The old form is
 -- kept here as a definition: its work area was two lent columns of 6,144 words of 64 bits, `values` and `names`.
-use Rattle.std.specs.Prelude.{ℕ, ◌≡◌, Bool, true, false, ◌&&◌, List, ◌++◌, leb, length, drop, replicate}
+use Rattle.std.specs.Prelude.{ℕ, ◌≡◌, Bool, ◌&&◌, List, leb, length}
 use Rattle.spec.specs.Refusal.{work_too_short}
 use Rattle.spec.specs.Bytes.{Bytes}
 use Rattle.spec.specs.Answer as Spec

@@ -1,4 +1,5 @@
 pub mod Call
 pub mod Stages
+pub mod Reads
 pub mod Region
 pub mod Columns

@@ -1,13 +1,13 @@
 // The call.
 ghost use Rattle.json_patch.specs.Call.{given, memory_before, memory_after, ApplyIs};
 
-use crate::answer::{Answer, refused};
+use crate::answer::{Answer, refusal_answer};
 use crate::stages::checked;
+use crate::work::{clear, suffices};
 use index;
-use spec::refusal;
+use spec::refusal::Refusal;
 use tape::layout;
 use tape::layout::Node;
-use tape::moves::wipe;
 
 // The patch is applied to the document and the result written to `output`, or the call is refused. `nodes` and `index`
 // are the work area: at least ROWS records and SLOTS entries, which may hold anything. That many of each are all zero
@@ -22,19 +22,15 @@ pub fn apply<'a>(
     ensures { ApplyIs (given document.now patch.now) (memory_before output.old nodes.old index.old)
         (memory_after output.new nodes.new index.new) result }
 {
-    if nodes.len() < layout::ROWS {
-        return refused(refusal::WORK_TOO_SHORT, 0, 0, 0);
+    if !suffices(nodes, index) {
+        return refusal_answer(Refusal::WorkTooShort, 0, 0, 0);
     }
-    if index.len() < index::SLOTS {
-        return refused(refusal::WORK_TOO_SHORT, 0, 0, 0);
-    }
-    let answer = checked(
+    let done = checked(
         [document, patch],
         output,
         &mut nodes[..layout::ROWS],
         &mut index[..index::SLOTS],
     );
-    wipe(nodes);
-    index::empty(index);
-    answer
+    clear(nodes, index);
+    Answer::from(done)
 }

@@ -9,8 +9,13 @@
 mod answer; // what the call answers
 mod call; // the call
 mod exports; // the call for C
+mod texts; // its two texts read
+mod work; // the work area
 mod stages; // its stages: two texts read, the patch run, the result written
 
-pub use answer::{Answer, misshapen, refused, stopped, success, unread};
+pub use answer::{Answer, refusal_answer, refused, success, unread};
 pub use call::apply;
 pub use exports::json_patch_apply;
+pub use stages::write_out;
+pub use texts::{Unread, check_lengths, read_texts};
+pub use work::{clear, suffices};

@@ -1,20 +1,22 @@
 // The stages of the call, in the order of SPECIFICATION 2.3: both lengths, the whole document read, the whole patch
-// read, the shape of every operation, the operations one after another, then the result written.
+// read, the shape of every operation, the operations one after another, then the result written. Each stage answers
+// with the length of the text that was written, or with the answer of a call that is refused.
 ghost use Rattle.tape.specs.Lent.{lent, before};
 ghost use Rattle.json_patch.specs.Call.{memory_before};
 ghost use Rattle.json_patch.specs.Stages.{WriteOutIs, RunPatchIs, CheckedIs};
 
-use crate::answer::{Answer, misshapen, refused, stopped, success, unread};
-use operations::{Ran, run};
-use reader::{Read, read_document, read_patch};
-use shape::{Shape, shape_of};
-use spec::{limits, refusal};
+use crate::answer::{Answer, refusal_answer};
+use crate::texts::{check_lengths, read_texts};
+use operations::run;
+use shape::shape_of;
+use spec::limits;
+use spec::refusal::Refusal;
 use tape::layout;
 use tape::layout::{Node, Texts};
 use writer::{fits, write};
 
 // The document is written, where the output has room for all of it.
-fn write_out<'a>(texts: Texts<'a>, output: &mut [u8], nodes: &[Node]) -> Answer
+pub fn write_out<'a>(texts: Texts<'a>, output: &mut [u8], nodes: &[Node]) -> Result<usize, Answer>
     ensures { WriteOutIs (before texts nodes.now) output.old output.new result }
 {
     if !fits(
@@ -24,10 +26,10 @@ fn write_out<'a>(texts: Texts<'a>, output: &mut [u8], nodes: &[Node]) -> Answer
         limits::MAX_DEPTH,
         output.len(),
     ) {
-        return refused(refusal::OUTPUT_TOO_SHORT, 0, 0, 0);
+        return Err(refusal_answer(Refusal::OutputTooShort, 0, 0, 0));
     }
     let length = write(texts, nodes, layout::DOCUMENT, limits::MAX_DEPTH, output);
-    success(length)
+    Ok(length)
 }
 
 // The patch, already read, is applied to the document, which has `used` rows.
@@ -37,17 +39,11 @@ fn run_patch<'a>(
     nodes: &mut [Node],
     index: &mut [u16],
     used: usize,
-) -> Answer
+) -> Result<usize, Answer>
     ensures { RunPatchIs (before texts nodes.old) output.old output.new used result }
 {
-    let shape = shape_of(texts, nodes, layout::PATCH);
-    let Shape::Right = shape else {
-        return misshapen(shape);
-    };
-    let ran = run(texts, nodes, index, used);
-    let Ran::Done(_) = ran else {
-        return stopped(ran);
-    };
+    shape_of(texts, nodes, layout::PATCH)?;
+    run(texts, nodes, index, used)?;
     write_out(texts, output, nodes)
 }
 
@@ -57,22 +53,10 @@ pub fn checked<'a>(
     output: &mut [u8],
     nodes: &mut [Node],
     index: &mut [u16],
-) -> Answer
+) -> Result<usize, Answer>
     ensures { CheckedIs (lent texts) (memory_before output.old nodes.old index.old) output.new result }
 {
-    if limits::MAX_BYTES < texts[0].len() {
-        return refused(refusal::INPUT_TOO_LONG, 1, 0, 0);
-    }
-    if limits::MAX_BYTES < texts[1].len() {
-        return refused(refusal::INPUT_TOO_LONG, 2, 0, 0);
-    }
-    let document = read_document(texts, nodes, index);
-    let Read::Value(_, used) = document else {
-        return unread(1, document);
-    };
-    let patch = read_patch(texts, nodes, index);
-    let Read::Value(_, _) = patch else {
-        return unread(2, patch);
-    };
+    check_lengths(texts)?;
+    let used = read_texts(texts, nodes, index)?;
     run_patch(texts, output, nodes, index, used)
 }

@@ -1,5 +1,5 @@
 -- What an answer of the code says of the definition that it is held to, and of the text.
-use Rattle.std.specs.Prelude.{if◌then◌else◌}
+use Rattle.std.specs.Prelude.{if◌then◌else◌, Result, Ok, Err}
 use Prim.Native.Nat.{ℕ, ◌≤◌, ◌<◌}
 use mathlib.Core.Path.{◌≡◌, refl, sym, ◌∙◌, ap}
 use mathlib.Core.Bool.{Bool, true, false}
@@ -7,72 +7,34 @@ use native.Mathlib.Omega.{arith}
 use lib.ListN.{length}
 use Rattle.spec.specs.Outcome.{Outcome, ok, refused, ◌>>=◌}
 use Rattle.spec.specs.Refusal.{not_json}
+use Rattle.spec.specs.Fault.{number_of, outcome}
+use Rattle.spec.specs.declared.refusal.Fault.{Fault}
+use Rattle.spec.proofs.FaultLaws.{answer_ok, answer_refused, step_ok, step_err}
 use Rattle.spec.specs.Bytes.{Bytes, byte, within, byte_in}
 use Rattle.spec.specs.Strings.{hex_value, hex_in}
 use Rattle.lexer.specs.declared.cursor.Cursor.{Cursor}
-use Rattle.lexer.specs.declared.cursor.Bounded.{Bounded}
-use Rattle.lexer.specs.declared.cursor.Scan.{Scan}
 use Rattle.lexer.specs.declared.characters.Character.{Character}
-use Rattle.lexer.specs.Answers.{bounded_outcome, character_outcome, refused_at, scan_outcome}
+use Rattle.lexer.specs.Answers.{character_outcome, scan_outcome}
 use Rattle.lexer.proofs.Tests.{within_bounds, below_within, above_within}
 use Rattle.lexer.proofs.ByteLaws.{inside}
 
 -- each answer, said of the definition
-pub within_ok : (at : ℕ) {n : ℕ} {r : Bounded} {d : Outcome ℕ} → bounded_outcome at r ≡ d → r ≡ Bounded.Within n → d ≡ ok n
-unfolding bounded_outcome
-within_ok at e t = sym e ∙ ap (bounded_outcome at) t
+pub scalar_ok : (c : Character) {r : Result Character Fault} {d : Outcome (ℕ × ℕ)} → character_outcome r ≡ d → r ≡ Ok c →
+    d ≡ ok (c.code, c.next.at)
+scalar_ok c e t = answer_ok _ c e t
 
-pub outside_refused : (at : ℕ) {r : Bounded} {d : Outcome ℕ} → bounded_outcome at r ≡ d → r ≡ Bounded.Outside → d ≡ refused not_json at
-unfolding bounded_outcome
-outside_refused at e t = sym e ∙ ap (bounded_outcome at) t
+pub character_refused : (x : Fault) {r : Result Character Fault} {d : Outcome (ℕ × ℕ)} → character_outcome r ≡ d → r ≡ Err x →
+    d ≡ refused (number_of x.refusal) x.place
+character_refused x e t = answer_refused _ x e t
 
-pub scalar_ok : (c : ℕ) (next : Cursor) {r : Character} {d : Outcome (ℕ × ℕ)} → character_outcome r ≡ d → r ≡ Character.Scalar c next →
-    d ≡ ok (c, next.at)
-unfolding character_outcome
-scalar_ok c next e t = sym e ∙ ap character_outcome t
+pub to_ok : (next : Cursor) {r : Result Cursor Fault} {d : Outcome ℕ} → scan_outcome r ≡ d → r ≡ Ok next → d ≡ ok next.at
+to_ok next e t = answer_ok _ next e t
 
-pub character_refused : (place : ℕ) {r : Character} {d : Outcome (ℕ × ℕ)} → character_outcome r ≡ d → r ≡ Character.Refused place →
-    d ≡ refused not_json place
-unfolding character_outcome
-character_refused place e t = sym e ∙ ap character_outcome t
+pub scan_refused : (x : Fault) {r : Result Cursor Fault} {d : Outcome ℕ} → scan_outcome r ≡ d → r ≡ Err x →
+    d ≡ refused (number_of x.refusal) x.place
+scan_refused x e t = answer_refused _ x e t
 
--- the same, by the place that is handed on
-pub character-refused_at : (p : ℕ) {place : ℕ} {r : Character} {d : Outcome (ℕ × ℕ)} → character_outcome r ≡ d → r ≡ Character.Refused place →
-    p ≡ refused_at r → d ≡ refused not_json p
-unfolding character_outcome refused_at
-character-refused_at p e t q = sym e ∙ ap character_outcome t ∙ ap (refused not_json) (sym (q ∙ ap refused_at t))
-
-pub to_ok : (next : Cursor) {r : Scan} {d : Outcome ℕ} → scan_outcome r ≡ d → r ≡ Scan.To next → d ≡ ok next.at
-unfolding scan_outcome
-to_ok next e t = sym e ∙ ap scan_outcome t
-
-pub scan_refused : (number place : ℕ) {r : Scan} {d : Outcome ℕ} → scan_outcome r ≡ d → r ≡ Scan.Refused number place → d ≡ refused number place
-unfolding scan_outcome
-scan_refused number place e t = sym e ∙ ap scan_outcome t
-
--- a step of a definition, at a number within its bounds, and at one outside
-pub step_within : {A : Type 0} (v : Outcome A) (d : Outcome ℕ) (next : ℕ → Outcome A) (at n : ℕ) (r : Bounded) →
-    bounded_outcome at r ≡ d → r ≡ Bounded.Within n → v ≡ next n → v ≡ (d >>= next)
-unfolding ◌>>=◌
-step_within v d next at n r e t f = rw (within_ok at e t) f
-
-pub step_outside : {A : Type 0} (d : Outcome ℕ) (next : ℕ → Outcome A) (at : ℕ) (r : Bounded) →
-    bounded_outcome at r ≡ d → r ≡ Bounded.Outside → refused not_json at ≡ (d >>= next)
-unfolding ◌>>=◌
-step_outside d next at r e t = rw (outside_refused at e t)
-
--- a step of a definition, at what the code reached, and at a refusal that it hands on
-pub step_to : {A : Type 0} (v : Outcome A) (d : Outcome ℕ) (f : ℕ → Outcome A) (next : Cursor) (r : Scan) →
-    scan_outcome r ≡ d → r ≡ Scan.To next → v ≡ f next.at → v ≡ (d >>= f)
-unfolding ◌>>=◌
-step_to v d f next r e t h = rw (to_ok next e t) h
-
-pub step_refused : (d : Outcome ℕ) (f : ℕ → Outcome ℕ) (number place : ℕ) (r : Scan) →
-    scan_outcome r ≡ d → r ≡ Scan.Refused number place → scan_outcome r ≡ (d >>= f)
-unfolding ◌>>=◌
-step_refused d f number place r e t = e ∙ rw (scan_refused number place e t)
-
-pub ruleset steps = (step_within, step_outside, step_to, step_refused)
+pub ruleset steps = (step_ok, step_err)
 
 -- the answer is a result, so the test was passed
 pub passed : (t : Bool) (x n k p : ℕ) → (if t then ok x else refused k p) ≡ ok n → (t ≡ true) × (x ≡ n)
@@ -120,10 +82,10 @@ hex_taken s at low high n h e =
     }
 
 -- the same of what the code answered
-pub byte_known : (s : Bytes) (at low high n : ℕ) {r : Bounded} → 1 ≤ low → bounded_outcome at r ≡ byte_in s at low high → r ≡ Bounded.Within n →
+pub byte_known : (s : Bytes) (at low high n : ℕ) {r : Result ℕ Fault} → 1 ≤ low → outcome r ≡ byte_in s at low high → r ≡ Ok n →
     Taken s at low high n
-byte_known s at low high n h e t = byte_taken s at low high n h (within_ok at e t)
+byte_known s at low high n h e t = byte_taken s at low high n h (answer_ok _ n e t)
 
-pub hex_known : (s : Bytes) (at low high n : ℕ) {r : Bounded} → high ≤ 15 → bounded_outcome at r ≡ hex_in s at low high → r ≡ Bounded.Within n →
+pub hex_known : (s : Bytes) (at low high n : ℕ) {r : Result ℕ Fault} → high ≤ 15 → outcome r ≡ hex_in s at low high → r ≡ Ok n →
     Taken s at low high n
-hex_known s at low high n h e t = hex_taken s at low high n h (within_ok at e t)
+hex_known s at low high n h e t = hex_taken s at low high n h (answer_ok _ n e t)

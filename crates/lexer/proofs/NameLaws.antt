@@ -18,6 +18,10 @@ use Rattle.spec.specs.Strings.{tail, multibyte, character, characters, string}
 use Rattle.lexer.specs.declared.cursor.Cursor.{Cursor}
 use Rattle.lexer.specs.declared.strings.Name.{Name}
 use Rattle.lexer.specs.declared.strings.Quoted.{Quoted}
+use Rattle.std.specs.Prelude.{Result, Ok, Err}
+use Rattle.spec.specs.Fault.{number_of}
+use Rattle.spec.specs.declared.refusal.Fault.{Fault}
+use Rattle.spec.proofs.FaultLaws.{answer_ok, answer_refused}
 use Rattle.lexer.specs.Answers.{quoted_outcome, name_outcome}
 use Rattle.lexer.specs.Hash.{mix, hash_from, hash}
 use Rattle.lexer.specs.Names.{stands_for_itself, no_backslash, part, plain_of, kept, kept_of}
@@ -243,24 +247,24 @@ pub record QuotedRead (s : Bytes) (at next : ℕ) (plain : Bool) : Type 0 where
   pub reads : string s at ≡ ok (text, next)
   pub written : plain ≡ no_backslash (part s (at + 1) (next - 1))
 
-pub quoted_read : (s : Bytes) (at : ℕ) {next : Cursor} {plain : Bool} {r : Quoted} → quoted_outcome r ≡ plain_of s (at + 1) (string s at) →
-    r ≡ Quoted.Read next plain → QuotedRead s at next.at plain
-unfolding quoted_outcome plain_of ◌>>=◌
-quoted_read s at {next} {plain} e t = go (string s at) refl (sym (ap quoted_outcome t) ∙ e)
+pub quoted_read : (s : Bytes) (at : ℕ) (q : Quoted) {r : Result Quoted Fault} → quoted_outcome r ≡ plain_of s (at + 1) (string s at) →
+    r ≡ Ok q → QuotedRead s at q.next.at q.plain
+unfolding plain_of ◌>>=◌
+quoted_read s at q e t = go (string s at) refl (sym (answer_ok _ q e t))
   where
-    go : (o : Outcome (Text × ℕ)) → string s at ≡ o → ok (next.at, plain) ≡ plain_of s (at + 1) o → QuotedRead s at next.at plain
-    go (ok (cs, n)) q k =
-        let p : ◌≡◌ {A = ℕ × Bool} (next.at, plain) (n, no_backslash (part s (at + 1) (n - 1))) = cc in
-        let same : next.at ≡ n = ap (λ x. x.0) p in
-        record { text = cs; reads = rw same q; written = rw same (ap (λ x. x.1) p) }
-    go (refused number place) q k = let z : ◌≡◌ {A = ℕ} 0 1 = cc in absurd (omega arith)
+    go : (o : Outcome (Text × ℕ)) → string s at ≡ o → ok (q.next.at, q.plain) ≡ plain_of s (at + 1) o → QuotedRead s at q.next.at q.plain
+    go (ok (cs, n)) i k =
+        let p : ◌≡◌ {A = ℕ × Bool} (q.next.at, q.plain) (n, no_backslash (part s (at + 1) (n - 1))) = cc in
+        let same : q.next.at ≡ n = ap (λ x. x.0) p in
+        record { text = cs; reads = rw same i; written = rw same (ap (λ x. x.1) p) }
+    go (refused number place) i k = let z : ◌≡◌ {A = ℕ} 0 1 = cc in absurd (omega arith)
 
-pub quoted_refused : (s : Bytes) (at : ℕ) {place : ℕ} {r : Quoted} → quoted_outcome r ≡ plain_of s (at + 1) (string s at) →
-    r ≡ Quoted.Refused place → string s at ≡ refused not_json place
-unfolding quoted_outcome plain_of ◌>>=◌
-quoted_refused s at {place} e t = go (string s at) (sym (ap quoted_outcome t) ∙ e)
+pub quoted_refused : (s : Bytes) (at : ℕ) (x : Fault) {r : Result Quoted Fault} → quoted_outcome r ≡ plain_of s (at + 1) (string s at) →
+    r ≡ Err x → string s at ≡ refused (number_of x.refusal) x.place
+unfolding plain_of ◌>>=◌
+quoted_refused s at x e t = go (string s at) (sym (answer_refused _ x e t))
   where
-    go : (o : Outcome (Text × ℕ)) → refused not_json place ≡ plain_of s (at + 1) o → o ≡ refused not_json place
+    go : (o : Outcome (Text × ℕ)) → refused (number_of x.refusal) x.place ≡ plain_of s (at + 1) o → o ≡ refused (number_of x.refusal) x.place
     go (ok t) k = let z : ◌≡◌ {A = ℕ} 0 1 = cc in absurd (omega arith)
     go (refused number p) k = cc
 
@@ -271,23 +275,24 @@ pub record NameRead (s : Bytes) (at next h : ℕ) (plain : Bool) : Type 0 where
   pub hashed : h ≡ hash text
   pub written : plain ≡ no_backslash (part s (at + 1) (next - 1))
 
-pub name_read : (s : Bytes) (at : ℕ) {next : Cursor} {h : ℕ} {plain : Bool} {r : Name} → name_outcome r ≡ kept_of s (at + 1) (string s at) →
-    r ≡ Name.Read next h plain → NameRead s at next.at h plain
-unfolding name_outcome kept_of kept ◌>>=◌
-name_read s at {next} {h} {plain} e t = go (string s at) refl (sym (ap name_outcome t) ∙ e)
+pub name_read : (s : Bytes) (at : ℕ) (m : Name) {r : Result Name Fault} → name_outcome r ≡ kept_of s (at + 1) (string s at) →
+    r ≡ Ok m → NameRead s at m.next.at m.hash m.plain
+unfolding kept_of kept ◌>>=◌
+name_read s at m e t = go (string s at) refl (sym (answer_ok _ m e t))
   where
-    go : (o : Outcome (Text × ℕ)) → string s at ≡ o → ok (next.at, h, plain) ≡ kept_of s (at + 1) o → NameRead s at next.at h plain
-    go (ok (cs, n)) q k =
-        let p : ◌≡◌ {A = ℕ × ℕ × Bool} (next.at, h, plain) (n, hash cs, no_backslash (part s (at + 1) (n - 1))) = cc in
-        let same : next.at ≡ n = ap (λ x. x.0) p in
-        record { text = cs; reads = rw same q; hashed = ap (λ x. x.1) p; written = rw same (ap (λ x. x.2) p) }
-    go (refused number place) q k = let z : ◌≡◌ {A = ℕ} 0 1 = cc in absurd (omega arith)
+    go : (o : Outcome (Text × ℕ)) → string s at ≡ o → ok (m.next.at, m.hash, m.plain) ≡ kept_of s (at + 1) o →
+        NameRead s at m.next.at m.hash m.plain
+    go (ok (cs, n)) i k =
+        let p : ◌≡◌ {A = ℕ × ℕ × Bool} (m.next.at, m.hash, m.plain) (n, hash cs, no_backslash (part s (at + 1) (n - 1))) = cc in
+        let same : m.next.at ≡ n = ap (λ x. x.0) p in
+        record { text = cs; reads = rw same i; hashed = ap (λ x. x.1) p; written = rw same (ap (λ x. x.2) p) }
+    go (refused number place) i k = let z : ◌≡◌ {A = ℕ} 0 1 = cc in absurd (omega arith)
 
-pub name_refused : (s : Bytes) (at : ℕ) {place : ℕ} {r : Name} → name_outcome r ≡ kept_of s (at + 1) (string s at) →
-    r ≡ Name.Refused place → string s at ≡ refused not_json place
-unfolding name_outcome kept_of ◌>>=◌
-name_refused s at {place} e t = go (string s at) (sym (ap name_outcome t) ∙ e)
+pub name_refused : (s : Bytes) (at : ℕ) (x : Fault) {r : Result Name Fault} → name_outcome r ≡ kept_of s (at + 1) (string s at) →
+    r ≡ Err x → string s at ≡ refused (number_of x.refusal) x.place
+unfolding kept_of ◌>>=◌
+name_refused s at x e t = go (string s at) (sym (answer_refused _ x e t))
   where
-    go : (o : Outcome (Text × ℕ)) → refused not_json place ≡ kept_of s (at + 1) o → o ≡ refused not_json place
+    go : (o : Outcome (Text × ℕ)) → refused (number_of x.refusal) x.place ≡ kept_of s (at + 1) o → o ≡ refused (number_of x.refusal) x.place
     go (ok u) k = let z : ◌≡◌ {A = ℕ} 0 1 = cc in absurd (omega arith)
     go (refused number there) k = cc

@@ -1,11 +1,12 @@
 -- What each answer of the code stands for: the outcome of the definition that it is held to.
-use Rattle.std.specs.Prelude.{ℕ, ◌+◌, ◌≡◌, Bool, ltb, length, if◌then◌else◌}
+use Rattle.std.specs.Prelude.{ℕ, ◌+◌, ◌≡◌, Bool, Result, ltb, length, if◌then◌else◌}
 use Rattle.spec.specs.Outcome.{Outcome, ok, refused}
 use Rattle.spec.specs.Refusal.{not_json}
+use Rattle.spec.specs.Fault.{outcome_by}
+use Rattle.spec.specs.declared.refusal.Fault.{Fault}
 use Rattle.spec.specs.Bytes.{Bytes, byte}
-use Rattle.lexer.specs.declared.cursor.Bounded.{Bounded}
 use Rattle.lexer.specs.declared.cursor.ByteRead.{ByteRead}
-use Rattle.lexer.specs.declared.cursor.Scan.{Scan}
+use Rattle.lexer.specs.declared.cursor.Cursor.{Cursor}
 use Rattle.lexer.specs.declared.characters.Character.{Character}
 use Rattle.lexer.specs.declared.strings.Name.{Name}
 use Rattle.lexer.specs.declared.strings.Quoted.{Quoted}
@@ -19,28 +20,14 @@ pub record ReadIs (s : Bytes) (at : ℕ) (r : ByteRead) : Type 0 where
   pub byte_is : r.byte ≡ byte s at
   pub next_is : r.next.at ≡ after_byte s at
 
--- of a number that was asked for at a place
-unfoldable pub bounded_outcome : ℕ → Bounded → Outcome ℕ
-bounded_outcome at (Bounded.Within n) = ok n
-bounded_outcome at Bounded.Outside = refused not_json at
+abbrev pub character_outcome : Result Character Fault → Outcome (ℕ × ℕ)
+character_outcome r = outcome_by (λ c. (c.code, c.next.at)) r
 
-unfoldable pub character_outcome : Character → Outcome (ℕ × ℕ)
-character_outcome (Character.Scalar c next) = ok (c, next.at)
-character_outcome (Character.Refused place) = refused not_json place
+abbrev pub scan_outcome : Result Cursor Fault → Outcome ℕ
+scan_outcome r = outcome_by (λ next. next.at) r
 
--- the place of a refused character, and 0 for one that was read
-unfoldable pub refused_at : Character → ℕ
-refused_at (Character.Scalar c next) = 0
-refused_at (Character.Refused place) = place
+abbrev pub quoted_outcome : Result Quoted Fault → Outcome (ℕ × Bool)
+quoted_outcome r = outcome_by (λ q. (q.next.at, q.plain)) r
 
-unfoldable pub scan_outcome : Scan → Outcome ℕ
-scan_outcome (Scan.To next) = ok next.at
-scan_outcome (Scan.Refused number place) = refused number place
-
-unfoldable pub quoted_outcome : Quoted → Outcome (ℕ × Bool)
-quoted_outcome (Quoted.Read next plain) = ok (next.at, plain)
-quoted_outcome (Quoted.Refused place) = refused not_json place
-
-unfoldable pub name_outcome : Name → Outcome (ℕ × ℕ × Bool)
-name_outcome (Name.Read next hash plain) = ok (next.at, hash, plain)
-name_outcome (Name.Refused place) = refused not_json place
+abbrev pub name_outcome : Result Name Fault → Outcome (ℕ × ℕ × Bool)
+name_outcome r = outcome_by (λ n. (n.next.at, n.hash, n.plain)) r

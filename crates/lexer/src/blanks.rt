@@ -4,19 +4,11 @@ ghost use Rattle.spec.specs.Read.{is_blank, blanks};
 
 use crate::cursor::{Cursor, peek};
 
+#[tactic(auto, using(crate::proofs::Auto::auto), unfolding(spec::specs::Read::is_blank))]
 fn is_blank(b: u8) -> bool
     ensures { result ≡ is_blank b }
 {
-    if b == 0x20 {
-        return true;
-    }
-    if b == 0x09 {
-        return true;
-    }
-    if b == 0x0A {
-        return true;
-    }
-    b == 0x0D
+    matches!(b, b' ' | b'\t' | b'\n' | b'\r')
 }
 
 impl Cursor {
@@ -25,6 +17,7 @@ impl Cursor {
         ensures { result.at ≡ blanks s.now self.at }
     {
         let mut at = self.at;
+        // no `take_while` over the rest: a cursor may stand behind the text's end, and stays there
         while is_blank(peek(s, at)) {
             at += 1;
         }

@@ -1,26 +1,15 @@
-// A place in a text, and the answers that readers share.
+// A place in a text, and what reading there answers.
 ghost use Rattle.std.specs.Prelude.{◌≡◌};
 ghost use Rattle.spec.specs.Bytes.{byte, byte_in};
-ghost use Rattle.lexer.specs.Answers.{bounded_outcome, ReadIs};
+ghost use Rattle.spec.specs.Fault.{outcome};
+ghost use Rattle.lexer.specs.Answers.{ReadIs};
+
+use spec::refusal::{Fault, Refusal};
 
 // A place in a text, which may lie past its end.
-#[derive(Clone, Copy)]
+#[derive(Clone, Copy, Debug, PartialEq, Eq)]
 pub struct Cursor {
     pub at: usize,
-}
-
-// The cursor after what was read, or a refusal's number and place.
-#[derive(Clone, Copy)]
-pub enum Scan {
-    To(Cursor),
-    Refused(u8, usize),
-}
-
-// A byte or the value of a digit, if it lies between the bounds that were given.
-#[derive(Clone, Copy)]
-pub enum Bounded {
-    Within(u8),
-    Outside,
 }
 
 // The byte at a place, and 0 past the end.
@@ -57,15 +46,15 @@ impl Cursor {
 }
 
 // The byte at a place, which must lie between two bounds.
-pub fn byte_in(s: &[u8], at: usize, low: u8, high: u8) -> Bounded
-    ensures { bounded_outcome at result ≡ byte_in s.now at low high }
+pub fn byte_in(s: &[u8], at: usize, low: u8, high: u8) -> Result<u8, Fault>
+    ensures { outcome result ≡ byte_in s.now at low high }
 {
     let b = peek(s, at);
     if b < low {
-        return Bounded::Outside;
+        return Err(Refusal::NotJson.at(at));
     }
     if high < b {
-        return Bounded::Outside;
+        return Err(Refusal::NotJson.at(at));
     }
-    Bounded::Within(b)
+    Ok(b)
 }

@@ -3,10 +3,12 @@ ghost use Rattle.std.specs.Prelude.{◌≡◌, ◌≤◌, ◌+◌, ◌-◌, ◌*
 ghost use Rattle.spec.specs.Strings.{hex_value, hex_in, second_limit};
 ghost use Rattle.spec.specs.Strings.{low_surrogate, after_high, unicode_escape, short_escape};
 ghost use Rattle.spec.specs.Strings.{escape};
-ghost use Rattle.lexer.specs.Answers.{bounded_outcome, character_outcome};
+ghost use Rattle.spec.specs.Fault.{outcome};
+ghost use Rattle.lexer.specs.Answers.{character_outcome};
 
 use crate::characters::Character;
-use crate::cursor::{Bounded, Cursor, byte_in, peek};
+use crate::cursor::{Cursor, byte_in, peek};
+use spec::refusal::{Fault, Refusal};
 
 // The value of a hexadecimal digit, and 16 for any other byte.
 fn hex_value(b: u8) -> u8
@@ -21,17 +23,17 @@ fn hex_value(b: u8) -> u8
 }
 
 // The value of the hexadecimal digit at a place, which must lie between two bounds.
-fn hex_in(s: &[u8], at: usize, low: u8, high: u8) -> Bounded
-    ensures { bounded_outcome at result ≡ hex_in s.now at low high }
+fn hex_in(s: &[u8], at: usize, low: u8, high: u8) -> Result<u8, Fault>
+    ensures { outcome result ≡ hex_in s.now at low high }
 {
     let h = hex_value(peek(s, at));
     if h < low {
-        return Bounded::Outside;
+        return Err(Refusal::NotJson.at(at));
     }
     if high < h {
-        return Bounded::Outside;
+        return Err(Refusal::NotJson.at(at));
     }
-    Bounded::Within(h)
+    Ok(h)
 }
 
 // The number that four hexadecimal digits write.
@@ -50,36 +52,27 @@ fn pair(high: u32, b: u8, c: u8, d: u8) -> u32
 }
 
 // The four digits of a low surrogate, given the high one.
-fn low_surrogate(s: &[u8], high: u32, at: usize) -> Character
+fn low_surrogate(s: &[u8], high: u32, at: usize) -> Result<Character, Fault>
     requires { (at ≤ length s.now) × (0xD800 ≤ high) × (high ≤ 0xDBFF) }
     ensures { character_outcome result ≡ low_surrogate s.now high at }
 {
-    let Bounded::Within(_) = hex_in(s, at, 0xD, 0xD) else {
-        return Character::Refused(at);
-    };
-    let Bounded::Within(b) = hex_in(s, at + 1, 0xC, 0xF) else {
-        return Character::Refused(at + 1);
-    };
-    let Bounded::Within(c) = hex_in(s, at + 2, 0x0, 0xF) else {
-        return Character::Refused(at + 2);
-    };
-    let Bounded::Within(d) = hex_in(s, at + 3, 0x0, 0xF) else {
-        return Character::Refused(at + 3);
-    };
-    Character::Scalar(pair(high, b, c, d), Cursor { at: at + 4 })
+    hex_in(s, at, 0xD, 0xD)?;
+    let b = hex_in(s, at + 1, 0xC, 0xF)?;
+    let c = hex_in(s, at + 2, 0x0, 0xF)?;
+    let d = hex_in(s, at + 3, 0x0, 0xF)?;
+    Ok(Character {
+        code: pair(high, b, c, d),
+        next: Cursor { at: at + 4 },
+    })
 }
 
 // The escape of a low surrogate, which must follow that of the high one.
-fn after_high(s: &[u8], high: u32, at: usize) -> Character
+fn after_high(s: &[u8], high: u32, at: usize) -> Result<Character, Fault>
     requires { (at ≤ length s.now) × (0xD800 ≤ high) × (high ≤ 0xDBFF) }
     ensures { character_outcome result ≡ after_high s.now high at }
 {
-    let Bounded::Within(_) = byte_in(s, at, b'\\', b'\\') else {
-        return Character::Refused(at);
-    };
-    let Bounded::Within(_) = byte_in(s, at + 1, b'u', b'u') else {
-        return Character::Refused(at + 1);
-    };
+    byte_in(s, at, b'\\', b'\\')?;
+    byte_in(s, at + 1, b'u', b'u')?;
     low_surrogate(s, high, at + 2)
 }
 
@@ -94,27 +87,22 @@ fn second_limit(a: u8) -> u8
 }
 
 // The four digits after \u, with the low surrogate that must follow a high one.
-fn unicode_escape(s: &[u8], at: usize) -> Character
+fn unicode_escape(s: &[u8], at: usize) -> Result<Character, Fault>
     requires { at ≤ length s.now }
     ensures { character_outcome result ≡ unicode_escape s.now at }
 {
-    let Bounded::Within(a) = hex_in(s, at, 0x0, 0xF) else {
-        return Character::Refused(at);
-    };
-    let Bounded::Within(b) = hex_in(s, at + 1, 0x0, second_limit(a)) else {
-        return Character::Refused(at + 1);
-    };
-    let Bounded::Within(c) = hex_in(s, at + 2, 0x0, 0xF) else {
-        return Character::Refused(at + 2);
-    };
-    let Bounded::Within(d) = hex_in(s, at + 3, 0x0, 0xF) else {
-        return Character::Refused(at + 3);
-    };
+    let a = hex_in(s, at, 0x0, 0xF)?;
+    let b = hex_in(s, at + 1, 0x0, second_limit(a))?;
+    let c = hex_in(s, at + 2, 0x0, 0xF)?;
+    let d = hex_in(s, at + 3, 0x0, 0xF)?;
     let u = hex_number(a, b, c, d);
     let next = at + 4;
     match u {
         0xD800..=0xDBFF => after_high(s, u, next),
-        _ => Character::Scalar(u, Cursor { at: next }),
+        _ => Ok(Character {
+            code: u,
+            next: Cursor { at: next },
+        }),
     }
 }
 
@@ -136,7 +124,7 @@ fn short_escape(b: u8) -> u8
 }
 
 // An escape after its backslash.
-pub fn escape(s: &[u8], at: usize) -> Character
+pub fn escape(s: &[u8], at: usize) -> Result<Character, Fault>
     ensures { character_outcome result ≡ escape s.now at }
 {
     let b = peek(s, at);
@@ -145,7 +133,10 @@ pub fn escape(s: &[u8], at: usize) -> Character
     }
     let e = short_escape(b);
     if e == 0 {
-        return Character::Refused(at);
+        return Err(Refusal::NotJson.at(at));
     }
-    Character::Scalar(e as u32, Cursor { at: at + 1 })
+    Ok(Character {
+        code: e as u32,
+        next: Cursor { at: at + 1 },
+    })
 }

@@ -17,7 +17,7 @@ mod utf8; // a character of two to four bytes
 mod verbatim; // characters that stand in a text as they are written
 
 pub use characters::Character;
-pub use cursor::{Bounded, ByteRead, Cursor, Scan, byte_in, peek};
+pub use cursor::{ByteRead, Cursor, byte_in, peek};
 pub use hash::mix;
 pub use strings::{Name, Quoted, stands_for_itself};
 pub use verbatim::verbatim_end;

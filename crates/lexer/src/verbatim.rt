@@ -77,10 +77,8 @@ fn after_block(first: u64, s: &[u8], at: usize, columns: &[u8; 256], steps: &[u6
         × (result ≡ look_over columns.now steps.now block first s.now at) }
 {
     let mut state = first;
-    let mut k = 0;
-    while k < BLOCK {
-        state = next_state(state, s[at + k], columns, steps);
-        k += 1;
+    for place in at..at + BLOCK {
+        state = next_state(state, s[place], columns, steps);
     }
     state
 }
@@ -93,6 +91,7 @@ fn blocks_end(s: &[u8], start: usize, columns: &[u8; 256], steps: &[u64; 16]) ->
     let mut at = start;
     let mut end = start;
     let mut state = BETWEEN;
+    // no `chunks_exact`: a start behind the text's end has no rest to take them from
     while at < s.len() {
         if s.len() - at < BLOCK {
             return end;
@@ -117,6 +116,7 @@ fn passed_end(s: &[u8], start: usize, columns: &[u8; 256], steps: &[u64; 16]) ->
     let mut end = blocks_end(s, start, columns, steps);
     let mut at = end;
     let mut state = BETWEEN;
+    // no `for` over the rest: a start behind the text's end has none, and is the answer
     while at < s.len() {
         end = whole_end(state, at, end);
         state = next_state(state, s[at], columns, steps);

@@ -1,5 +1,7 @@
 -- Laws of the origins of rows in a list: the loop's, and that they are those of the value that the rows bear.
-use Prim.Native.Nat.{ℕ, zero, suc, ◌+◌, ◌≤◌, ◌<◌}
+use Prim.Native.Nat.{ℕ, zero, suc, ◌+◌, ◌≤◌, ◌<◌, min}
+use mathlib.Core.Logic.{◌⊎◌, inl, inr}
+use Rattle.std.proofs.lemmas.Bool.{cases_lt}
 use native.Mathlib.Omega.{arith}
 use mathlib.Core.Path.{◌≡◌, refl, ap, ap₂, sym, ◌∙◌}
 use mathlib.Core.List.{List, [], ◌∷◌, ◌++◌, map}
@@ -51,7 +53,7 @@ list_next nodes used xs i h k l =
     ∙ list_suc (take used nodes) xs i inside l
 
 -- no entry is left, and no row
-pub list_out : (rs : List Row) (xs : List ℕ) (i : ℕ) → length xs ≤ i → entries_from i rs xs ≡ xs
+list_out : (rs : List Row) (xs : List ℕ) (i : ℕ) → length xs ≤ i → entries_from i rs xs ≡ xs
 unfolding entries_from entries
 list_out [] [] zero h = refl
 list_out (r ∷ rs) [] zero h = refl
@@ -68,11 +70,21 @@ list_none [] xs (suc i) h = refl
 list_none (r ∷ rs) [] (suc i) h = refl
 list_none (r ∷ rs) (x ∷ xs) (suc i) h = ap (λ (ys : List ℕ). x ∷ ys) (list_none rs xs i (omega arith))
 
-pub list_done : (nodes : List Row) (used : ℕ) (xs : List ℕ) (i : ℕ) → used ≤ i → entries_from i (take used nodes) xs ≡ xs
+list_done : (nodes : List Row) (used : ℕ) (xs : List ℕ) (i : ℕ) → used ≤ i → entries_from i (take used nodes) xs ≡ xs
 list_done nodes used xs i h = list_none (take used nodes) xs i (omega (arith, length-take used nodes))
 
-pub list_over : (nodes : List Row) (used : ℕ) (xs : List ℕ) (i : ℕ) → length nodes ≤ i → entries_from i (take used nodes) xs ≡ xs
+list_over : (nodes : List Row) (used : ℕ) (xs : List ℕ) (i : ℕ) → length nodes ≤ i → entries_from i (take used nodes) xs ≡ xs
 list_over nodes used xs i h = list_none (take used nodes) xs i (omega (arith, length-take used nodes))
+
+-- all rows that there are and that have room are listed
+pub list_whole : (nodes : List Row) (used : ℕ) (xs : List ℕ) (i : ℕ) → min (min used (length nodes)) (length xs) ≤ i
+    → entries_from i (take used nodes) xs ≡ xs
+list_whole nodes used xs i h = go (cases_lt i used) (cases_lt i (length nodes))
+  where
+    go : (i < used) ⊎ (used ≤ i) → (i < length nodes) ⊎ (length nodes ≤ i) → entries_from i (take used nodes) xs ≡ xs
+    go (inr u) n = list_done nodes used xs i u
+    go (inl u) (inr n) = list_over nodes used xs i n
+    go (inl u) (inl n) = list_out (take used nodes) xs i (omega arith)
 
 -- ---- where all have room
 pub entries_front : (rs : List Row) (xs : List ℕ) → length rs ≤ length xs → entries rs xs ≡ map origin_of rs ++ drop (length rs) xs

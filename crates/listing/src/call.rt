@@ -4,11 +4,10 @@ ghost use Rattle.listing.specs.Call.{list_before, list_after, ApplyListingIs};
 
 use crate::stages::checked;
 use index;
-use json_patch::{Answer, refused};
-use spec::refusal;
+use json_patch::{Answer, clear, refusal_answer, suffices};
+use spec::refusal::Refusal;
 use tape::layout;
 use tape::layout::Node;
-use tape::moves::wipe;
 
 // The patch is applied to the document, the result written to `output` and the origins of its values to `origins`, or
 // the call is refused. `nodes` and `index` are the work area, as in the plain call.
@@ -23,20 +22,16 @@ pub fn apply_listing<'a>(
     ensures { ApplyListingIs (given document.now patch.now) (list_before output.old origins.old nodes.old index.old)
         (list_after output.new origins.new nodes.new index.new) result }
 {
-    if nodes.len() < layout::ROWS {
-        return refused(refusal::WORK_TOO_SHORT, 0, 0, 0);
+    if !suffices(nodes, index) {
+        return refusal_answer(Refusal::WorkTooShort, 0, 0, 0);
     }
-    if index.len() < index::SLOTS {
-        return refused(refusal::WORK_TOO_SHORT, 0, 0, 0);
-    }
-    let answer = checked(
+    let done = checked(
         [document, patch],
         output,
         origins,
         &mut nodes[..layout::ROWS],
         &mut index[..index::SLOTS],
     );
-    wipe(nodes);
-    index::empty(index);
-    answer
+    clear(nodes, index);
+    Answer::from(done)
 }

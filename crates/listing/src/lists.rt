@@ -9,15 +9,8 @@ use tape::layout::Node;
 pub fn list_origins(nodes: &[Node], used: usize, list: &mut [u16])
     ensures { list.new ≡ entries (take used nodes.now) list.old }
 {
-    let mut row = 0;
-    while row < used {
-        if nodes.len() <= row {
-            return;
-        }
-        if list.len() <= row {
-            return;
-        }
+    let count = used.min(nodes.len()).min(list.len());
+    for row in 0..count {
         list[row] = nodes[row][layout::ORIGIN];
-        row += 1;
     }
 }

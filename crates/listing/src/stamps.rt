@@ -7,7 +7,8 @@ use tape::layout;
 use tape::layout::Node;
 use tape::nodes::end_of;
 
-// The trees in the rows from `start` up to `end` bear 1, 2 and so on from now on.
+// The trees in the rows from `start` up to `end` bear 1, 2 and so on from now on. A turn passes a whole tree, so no
+// range gives the rows.
 fn stamp_elements(nodes: &mut [Node], start: usize, end: usize)
     ensures { StampElementsIs nodes.old nodes.new start end }
 {

@@ -1,6 +1,6 @@
 -- Laws of notes: which change, and which members have none.
 use Rattle.std.specs.Prelude.{if◌then◌else◌}
-use Prim.Native.Nat.{ℕ, zero, suc, ◌+◌, ◌-◌, ◌%◌, ◌≤◌, ◌<◌}
+use Prim.Native.Nat.{ℕ, zero, suc, ◌+◌, ◌-◌, ◌%◌, ◌≤◌, ◌<◌, min}
 use native.Mathlib.Omega.{arith}
 use native.Mathlib.Decide.{ℕ_discrete}
 use mathlib.Core.Path.{◌≡◌, refl, sym, ap, ◌∙◌, subst}
@@ -298,20 +298,13 @@ module _ {nodes : List Row} {patch end : ℕ} (ends : end ≡ end_of nodes patch
             };
       }
 
-  -- the loop ends
-  pub noting_done : end ≤ row → NotedIs nodes patch xs ys
+  -- the loop ends: no member stands in the scratch rows
+  pub noting_done : min end scratch_row ≤ row → NotedIs nodes patch xs ys
   noting_done over =
       record {
         changed = subst (λ e. Changed nodes patch e xs ys) ends n.changed;
         held = λ T c kids node few.
             let l = n.held T c kids node few in
-            l.whole ys (λ r h k. refl) (subst (Marks T ys (λ n. false) row) (sym (remaining_none l.remaining over)) marks_none);
-      }
-
-  -- no member stands in the scratch rows
-  pub noting_over : row < end → scratch_row ≤ row → NotedIs nodes patch xs ys
-  noting_over more far =
-      record {
-        changed = subst (λ e. Changed nodes patch e xs ys) ends n.changed;
-        held = λ T c kids node few. absurd (omega (arith, end_here node));
+            let passed : end ≤ row = omega (arith, over, ends, end_here node, few) in
+            l.whole ys (λ r h k. refl) (subst (Marks T ys (λ n. false) row) (sym (remaining_none l.remaining passed)) marks_none);
       }

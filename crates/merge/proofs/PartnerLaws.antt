@@ -1,5 +1,5 @@
 -- What `partner` answers, and what becomes of the index.
-use Rattle.std.specs.Prelude.{if◌then◌else◌}
+use Rattle.std.specs.Prelude.{if◌then◌else◌, Option, Some, None}
 use Prim.Native.Nat.{ℕ, zero, suc, ◌+◌}
 use native.Mathlib.Omega.{arith}
 use mathlib.Core.Path.{◌≡◌, refl, sym, ap, ◌∙◌, subst}
@@ -26,8 +26,6 @@ use Rattle.tape.proofs.Map.{count_map}
 use Rattle.table.specs.Meaning.{name_text, entry_of, members, Hashed}
 use Rattle.table.specs.Find as Find
 use Rattle.table.specs.Find.{same_name, Found, FindIs}
-use Rattle.table.specs.declared.find.Member.{Member}
-use Rattle.table.specs.declared.find.Member.TheVariants.{At, Missing}
 use Rattle.table.proofs.Search.{named_hashed}
 use Rattle.index.specs.Ways.{Entered}
 use Rattle.index.specs.Members.{LookupIs}
@@ -59,7 +57,7 @@ found-named T text (tree d ds rest) (suc k) cut is = go (same_text (name_text T 
     go false e then-it = then-it (omega arith)
 
 -- what a search tells
-searched_named : {T : Texts} {patch : ℕ} {kids : Forest Cell} {text : Text} {r : Member} → Found T (patch + 1) kids text r → Named T patch kids text r
+searched_named : {T : Texts} {patch : ℕ} {kids : Forest Cell} {text : Text} {r : Option ℕ} → Found T (patch + 1) kids text r → Named T patch kids text r
 unfolding ◌⧺◌
 searched_named {T} {patch} {kids} {text} (Find.found k row is few place) =
     let cut : from k kids ≡ tree (nth blank k kids).root (nth blank k kids).kids (from (suc k) kids) = from-nth blank k kids few in
@@ -73,7 +71,7 @@ module _ {w : Table} {patch : ℕ} {name : Name} {xs ys : List ℕ} {b : Bool} (
   queried_paths slot q t low few m = entered.kept slot q t (omega arith) m
 
   -- no row on the path has the name
-  pub partner_absent : b ≡ false → length ys ≡ length xs → PartnerIs w patch name xs ys Missing
+  pub partner_absent : b ≡ false → length ys ≡ length xs → PartnerIs w patch name xs ys None
   partner_absent e long =
       record {
         paths = queried_paths;
@@ -87,18 +85,18 @@ module _ {w : Table} {patch : ℕ} {name : Name} {xs ys : List ℕ} {b : Bool} (
 
   -- the index finds the member, or the members are searched
   module _ (long : length ys ≡ length xs) where
-    pub partner_by : {r : Member}
+    pub partner_by : {r : Option ℕ}
         → ((c : Cell) (kids : Forest Cell) → PatchObject w patch c kids xs → Hashed w.texts name → Named w.texts patch kids (name_text w.texts name) r)
         → PartnerIs w patch name xs ys r
     partner_by held = record { paths = queried_paths; behind = entered.behind; same_length = long; held = held }
 
-    pub partner_searched : {end : ℕ} {r : Member} → end ≡ end_of w.nodes patch → FindIs w (patch + 1) end name r → PartnerIs w patch name xs ys r
+    pub partner_searched : {end : ℕ} {r : Option ℕ} → end ≡ end_of w.nodes patch → FindIs w (patch + 1) end name r → PartnerIs w patch name xs ys r
     partner_searched {end} ends f = partner_by λ c kids o hashed.
         searched_named (f.held kids (siblings_asked (siblings_all end ends o.held)) hashed)
 
 -- ---- the index finds the member
-pub partner_hinted : {w : Table} {patch : ℕ} {name : Name} {xs : List ℕ} {r : Member} (row : ℕ) → LookupIs w xs patch_row patch name r → r ≡ At row
-    → PartnerIs w patch name xs xs (At row)
+pub partner_hinted : {w : Table} {patch : ℕ} {name : Name} {xs : List ℕ} {r : Option ℕ} (row : ℕ) → LookupIs w xs patch_row patch name r → r ≡ Some row
+    → PartnerIs w patch name xs xs (Some row)
 partner_hinted {w} {patch} {name} {xs} row looked e =
     record {
       paths = λ slot q t low few m. m;
@@ -108,8 +106,8 @@ partner_hinted {w} {patch} {name} {xs} row looked e =
           go o hashed (sought_hinted {end = end_of w.nodes patch} (record { right = λ _. o.hints }) (omega arith) row looked e) refl;
     }
   where
-    go : {c : Cell} {kids : Forest Cell} {r : Member} → PatchObject w patch c kids xs → Hashed w.texts name
-        → SoughtIs w patch (end_of w.nodes patch) name r → r ≡ At row → Named w.texts patch kids (name_text w.texts name) (At row)
+    go : {c : Cell} {kids : Forest Cell} {r : Option ℕ} → PatchObject w patch c kids xs → Hashed w.texts name
+        → SoughtIs w patch (end_of w.nodes patch) name r → r ≡ Some row → Named w.texts patch kids (name_text w.texts name) (Some row)
     go {kids = kids} o hashed (Compare.searched f) q =
         subst (Named w.texts patch kids (name_text w.texts name)) q
         (searched_named (f.held kids (siblings_asked (siblings_all (end_of w.nodes patch) refl o.held)) hashed))

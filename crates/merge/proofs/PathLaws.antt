@@ -1,6 +1,6 @@
 -- Laws of search paths: those that lead to the members of the patch's objects.
 use Rattle.std.specs.Prelude.{if◌then◌else◌}
-use Prim.Native.Nat.{ℕ, zero, suc, ◌+◌, ◌-◌, ◌≤◌, ◌<◌, max}
+use Prim.Native.Nat.{ℕ, zero, suc, ◌+◌, ◌-◌, ◌≤◌, ◌<◌, max, min}
 use native.Mathlib.Omega.{arith}
 use native.Mathlib.Nat.{add-zero}
 use mathlib.Core.Path.{◌≡◌, refl, sym, ap, ◌∙◌, subst}
@@ -209,28 +209,20 @@ unfolding levels is_container
 object-depth l below others most h c = omega (arith, rw c at h)
 
 module _ {w : Table} {object end levels-left : ℕ} {xs ys : List ℕ} {row : ℕ} (n : Entering w object end levels-left xs ys row) where
-  pub entering_done : end ≤ row → length ys ≡ length xs → EnteredIs w object levels-left xs ys
+  -- no member stands in the scratch rows
+  pub entering_done : min end scratch_row ≤ row → end ≡ end_of w.nodes object → length ys ≡ length xs → EnteredIs w object levels-left xs ys
   unfolding map_forest
-  entering_done over long =
+  entering_done over ends long =
       record {
         kept = n.kept;
         behind = n.behind;
         same_length = long;
         held = λ c kids h o i d.
             let l = n.held c kids h o i d in
-            let no_more : members w.texts l.left ≡ none = ap (members w.texts) (siblings_none l.siblings over) in
+            let passed : end ≤ row = omega (arith, over, ends, end_here (held_node h.held), i) in
+            let no_more : members w.texts l.left ≡ none = ap (members w.texts) (siblings_none l.siblings passed) in
             let is_all : l.all ≡ members w.texts kids = sym (⧺_none l.all) ∙ ap (λ f. l.all ⧺ f) (sym no_more) ∙ l.whole in
             subst (Ways ys object (object + 1)) is_all l.done;
-      }
-
-  -- no member stands in the scratch rows
-  pub entering_over : row < end → scratch_row ≤ row → end ≡ end_of w.nodes object → length ys ≡ length xs → EnteredIs w object levels-left xs ys
-  entering_over more far ends long =
-      record {
-        kept = n.kept;
-        behind = n.behind;
-        same_length = long;
-        held = λ c kids h o i d. absurd (omega (arith, end_here (held_node h.held)));
       }
 
   module _ (low : patch_row ≤ object) (more : row < end) (near : row < scratch_row) (long : slots ≤ length ys) {name : Name} {zs ws : List ℕ} {b : Bool}

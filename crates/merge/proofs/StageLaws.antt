@@ -1,14 +1,16 @@
 -- Laws of the stages of the call, each for one way out of a stage.
+use Rattle.std.specs.Prelude.{Result, Ok, Err}
 use Prim.Native.Nat.{ℕ, ◌≤◌, ◌<◌}
 use native.Mathlib.Omega.{arith}
-use mathlib.Core.Path.{◌≡◌, sym, subst, ap, ◌∙◌}
+use mathlib.Core.Path.{◌≡◌, refl, sym, subst, ap, ◌∙◌}
 use mathlib.Core.Bool.{Bool, true, false}
 use mathlib.Core.List.{List, [], ◌++◌}
 use lib.Dec.{leb}
 use lib.ListN.{length, drop, get_or}
 use borrow.Author.Tests.{le-ltb, lt-ltb, le-leb, lt-leb, leb-true, leb-false, ne_eqb}
 use Rattle.spec.specs.Refusal.{work_too_short, input_too_long, too_many_nodes, output_too_short}
-use Rattle.spec.specs.Limits.{max_bytes, max_depth, max_nodes, work_nodes, work_entries}
+use Rattle.spec.specs.Limits.{max_bytes, max_depth, max_nodes}
+use Rattle.spec.specs.Fault.{number_of}
 use Rattle.spec.specs.Bytes.{Bytes}
 use Rattle.spec.specs.Value as Value
 use Rattle.spec.specs.Value.{Label, is_object, depth, depths, nodes}
@@ -21,7 +23,6 @@ use Rattle.claims.proofs.ReadProper.{read_proper}
 use Rattle.merging.specs.MergePatch.{merge_patch, merged_in, on_merge_patch, on_merge_document, merge_answer}
 use Rattle.merging.proofs.ObjectLaws.{merge_other}
 use Rattle.merging.proofs.MergeTheorem.{merging}
-use Rattle.lexer.specs.declared.cursor.Cursor.{Cursor}
 use Rattle.tape.specs.Layout.{patch_row, scratch_row, object_kind, rows}
 use Rattle.tape.specs.Fields.{Row, kind_of}
 use Rattle.tape.specs.Lent.{Texts, Table}
@@ -30,17 +31,15 @@ use Rattle.tape.proofs.Held.{held_node}
 use Rattle.tape.proofs.Rows.{kind_here}
 use Rattle.table.specs.Meaning.{meant}
 use Rattle.table.proofs.MeaningLaws.{is_object_label, nodes-meant}
-use Rattle.reader.specs.Work.{Work}
-use Rattle.reader.specs.Texts as Texts
-use Rattle.reader.specs.Texts.{reading, DocumentIs}
-use Rattle.reader.specs.declared.values.Read.{Read}
 use Rattle.writer.specs.Writing.{FitsIs, WriteIs}
 use Rattle.writer.proofs.CallerLaws.{fits_is, written_whole}
 use Rattle.changes.specs.Site.{table}
-use Rattle.json_patch.specs.Stages.{UnreadIs}
-use Rattle.json_patch.specs.Call.{Answered, SuccessIs, RefusalIs}
+use Rattle.json_patch.specs.Stages.{as_answer}
+use Rattle.json_patch.specs.Reads.{LengthsAre, TextsRead}
+use Rattle.json_patch.specs.Call.{Answered, RefusalIs}
+use Rattle.json_patch.specs.declared.texts.Unread.{Unread}
 use Rattle.json_patch.specs.declared.answer.Answer.{Answer}
-use Rattle.json_patch.proofs.TextLaws.{read_into, text-value, text_refusal, patch_held, document_held, document-kept}
+use Rattle.json_patch.proofs.ReadLaws.{long_by, unread_by, read_by}
 use Rattle.json_patch.proofs.AnswerLaws.{answered-refusal, answered-success, answered_as, fitting_short, fitting_whole}
 use Rattle.merge.specs.Trees.{Both, ValueAt, MergeTreesIs}
 use Rattle.merge.specs.Stages.{WriteAtIs, RunMergeIs}
@@ -65,12 +64,13 @@ module _ {w : Table} {at : ℕ} {v : Value.Value} (d : ValueAt w at v) (shallow 
     text_refused told-no is = answered_as (fitting_short _ _ (leb-false _ _ (sym text_fits ∙ told-no))) (answered-refusal is)
 
     -- it fits
-    pub text_written : {out' : Bytes} {put : ℕ} {r : Answer} → told ≡ true → WriteIs w at max_depth out out' put → SuccessIs put r
-        → Answered (fitting (length out) (write v)) out out' r
-    text_written told-yes writes is =
+    pub text_written : {out' : Bytes} {put : ℕ} → told ≡ true → WriteIs w at max_depth out out' put
+        → Answered (fitting (length out) (write v)) out out' (as_answer (Ok put))
+    unfolding as_answer
+    text_written told-yes writes =
         let room : length (write v) ≤ length out = leb-true _ _ (sym text_fits ∙ told-yes) in
         let laid = text_laid writes room in
-        answered_as (fitting_whole _ _ room) (answered-success (rw laid.0 at is) laid.1)
+        answered_as (fitting_whole _ _ room) (answered-success (refl, refl, refl, refl, refl, laid.0) laid.1)
 
 -- ---- the two merged
 -- the depth is at most that of the deeper of the two
@@ -91,8 +91,8 @@ module _ {w : Table} {kind : ℕ} (is : kind ≡ kind_of (get_or w.nodes patch_r
   kind_of_lem both = is ∙ kind_here (held_node both.patch.held.held)
 
   -- what is no object replaces the whole
-  pub run_whole : {out out' : Bytes} {r : Answer} → (kind ≡ object_kind → ⊥) → WriteAtIs w patch_row out out' r → RunMergeIs w out out' r
-  run_whole {out} other writes v p both =
+  pub run_whole : {out out' : Bytes} (r : Result ℕ Answer) → (kind ≡ object_kind → ⊥) → WriteAtIs w patch_row out out' r → RunMergeIs w out out' r
+  run_whole {out} r other writes v p both =
       let held = both.patch in
       let fit = formed_fit held.held.held.formed in
       let no-object : is_object p.label ≡ false =
@@ -103,13 +103,14 @@ module _ {w : Table} {kind : ℕ} (is : kind ≡ kind_of (get_or w.nodes patch_r
       (writes p (record { c = held.c; kids = held.kids; held = held.held; means = held.means }) both.shallow)
 
   module _ (object : kind ≡ object_kind) {nodes' : List Row} {next : ℕ} (merges : MergeTreesIs w nodes' next) where
-    pub run_many : {out : Bytes} {r : Answer} → rows < next → RefusalIs too_many_nodes 0 0 0 r → RunMergeIs w out out r
+    pub run_many : {out : Bytes} {r : Answer} → rows < next → RefusalIs too_many_nodes 0 0 0 r → RunMergeIs w out out (Err r)
+    unfolding as_answer
     run_many {out} many refusal v p both =
         let told = merges.held v p both (sym (kind_of_lem both) ∙ object) in
         answered_as (merged_many (length out) (merge_patch v p) (omega (arith, told.0))) (answered-refusal refusal)
 
-    pub run-done : {out out' : Bytes} {r : Answer} → next ≤ rows → WriteAtIs (table w.texts nodes') scratch_row out out' r → RunMergeIs w out out' r
-    run-done {out} few writes v p both =
+    pub run-done : {out out' : Bytes} (r : Result ℕ Answer) → next ≤ rows → WriteAtIs (table w.texts nodes') scratch_row out out' r → RunMergeIs w out out' r
+    run-done {out} r few writes v p both =
         let told = merges.held v p both (sym (kind_of_lem both) ∙ object) in
         answered_as (merged_few (length out) (merge_patch v p) (omega (arith, told.0))) (writes (merge_patch v p) (told.1 few) (merged_shallow both))
 
@@ -139,45 +140,35 @@ unfolding merge_answer
 merge_same D P lent lent' e o = rw (e, o)
 
 -- ---- the two texts read
-module _ {T : Texts} {w w' : Work} {told : Read} (long : work_nodes ≤ length w.nodes) (longer : work_entries ≤ length w.index)
-    (short : length T.document ≤ max_bytes) (small : length T.patch ≤ max_bytes) (reads : DocumentIs T w w' told) where
-  document_as_read : read T.document ≡ reading w T.document
-  document_as_read = read_into w T.document long longer short
+module _ {T : Texts} (lent : Lent) (enough : work_suffices lent ≡ true) where
+  pub lengths_refused : {s : Result (Unit {0}) Unread} {u : Unread} → LengthsAre T s → s ≡ Err u
+      → merge_answer T.document T.patch lent ≡ Spec.refusal (number_of u.fault.refusal) u.text 0 u.fault.place
+  lengths_refused is t =
+      long_by (λ n x place. merge_answer T.document T.patch lent ≡ Spec.refusal n x 0 place) is t (merge_document_long _ _ _ enough)
+      (merge_patch_long _ _ _ enough)
 
-  pub document_unread : {out : Bytes} {number place : ℕ} {r : Answer} → told ≡ Read.Refused number place → UnreadIs 1 told r
-      → Answered (on_merge_document (length out) (read T.document) T.patch) out out r
-  unfolding on_merge_document
-  document_unread {number = number} {place} t is = rw (document_as_read ∙ text_refusal reads.text t) (answered-refusal (is number place t))
-
-  -- the document is read: then the patch
-  module _ {next : Cursor} {used : ℕ} (t : told ≡ Read.Value next used) (same : length w'.nodes ≡ length w.nodes)
-      (same_index : length w'.index ≡ length w.index)
-      {w'' : Work} {told-patch : Read} (reads-patch : Texts.PatchIs T w' w'' told-patch) where
-    patch_as_read : read T.patch ≡ reading w' T.patch
-    patch_as_read = read_into w' T.patch (omega arith) (omega arith) small
-
-    pub patch_unread : {out : Bytes} {number place : ℕ} {r : Answer} → told-patch ≡ Read.Refused number place → UnreadIs 2 told-patch r
-        → Answered (on_merge_document (length out) (read T.document) T.patch) out out r
+  module _ (short : (length T.document ≤ max_bytes) × (length T.patch ≤ max_bytes)) {nodes : List Row} {s : Result ℕ Unread}
+      (reads : TextsRead T nodes s) where
+    pub texts_refused : {u : Unread} → s ≡ Err u
+        → merge_answer T.document T.patch lent ≡ Spec.refusal (number_of u.fault.refusal) u.text 0 u.fault.place
     unfolding on_merge_document on_merge_patch
-    patch_unread {number = number} {place} e is =
-        text-value reads.text t λ v reads_as few rooted changed.
-        rw (document_as_read ∙ reads_as, patch_as_read ∙ text_refusal reads-patch.text e) (answered-refusal (is number place e))
+    texts_refused t =
+        unread_by (λ n x place. merge_answer T.document T.patch lent ≡ Spec.refusal n x 0 place) reads t
+        (λ n place h. merge_read _ _ _ enough short.0 short.1 ∙ rw h)
+        (λ n place v h i. merge_read _ _ _ enough short.0 short.1 ∙ rw (h, i))
 
-    pub patch-read : {out out' : Bytes} {after : Cursor} {end : ℕ} {r : Answer} → told-patch ≡ Read.Value after end → length w''.nodes ≡ length w'.nodes
-        → RunMergeIs (table T w''.nodes) out out' r → Answered (on_merge_document (length out) (read T.document) T.patch) out out' r
+    pub texts_merged : {used : ℕ} {out out' : Bytes} (r : Result ℕ Answer) → s ≡ Ok used → lent.output ≡ length out
+        → RunMergeIs (table T nodes) out out' r → Answered (merge_answer T.document T.patch lent) out out' (as_answer r)
     unfolding on_merge_document on_merge_patch
-    patch-read e kept runs =
-        text-value reads.text t λ v reads_as few rooted changed.
-        text-value reads-patch.text e λ p patch-as few_nodes rooted-patch changed-patch.
-        let document-reads = document_as_read ∙ reads_as in
-        let patch-reads = patch_as_read ∙ patch-as in
-        let d = document_held rooted few (read-depth T.document v document-reads) (omega arith) in
-        rw (document-reads, patch-reads)
+    texts_merged {used} r t room runs =
+        read_by reads t λ v p h i d held short-texts.
+        answered_as (merge_read _ _ _ enough short.0 short.1)
+        (rw (room, h, i)
         (runs v p
         (record {
           used = used;
-          document = document-kept changed-patch (omega arith) d;
-          document_proper = (read_proper T.document v document-reads).0;
-          patch = patch_held rooted-patch few_nodes (read_proper T.patch p patch-reads).0;
-          shallow = read-depth T.patch p patch-reads;
-        }))
+          document = d;
+          document_proper = (read_proper T.document v h).0;
+          patch = held;
+          shallow = read-depth T.patch p i;
+        })))

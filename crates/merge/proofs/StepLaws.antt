@@ -1,5 +1,5 @@
 -- What `keep` answers, and what becomes of the notes.
-use Rattle.std.specs.Prelude.{if◌then◌else◌}
+use Rattle.std.specs.Prelude.{if◌then◌else◌, Option, Some, None}
 use Prim.Native.Nat.{ℕ, ◌+◌, ◌-◌, ◌≤◌, ◌<◌}
 use native.Mathlib.Omega.{arith}
 use mathlib.Core.Path.{◌≡◌, refl, sym, ap, ◌∙◌, subst}
@@ -20,8 +20,6 @@ use Rattle.tape.proofs.Held.{held_node}
 use Rattle.tape.proofs.Rows.{cell_here, kind_here, end_here}
 use Rattle.table.specs.Meaning.{name_text, Hashed}
 use Rattle.table.specs.Sound.{NodeHeld, NameFits}
-use Rattle.table.specs.declared.find.Member.{Member}
-use Rattle.table.specs.declared.find.Member.TheVariants.{At, Missing}
 use Rattle.index.specs.Slots.{parents, slots, parent_slot, slot_set}
 use Rattle.index.proofs.SlotLaws.{slot_dropped}
 use Rattle.equality.proofs.SiblingLaws.{Siblings, siblings_all, siblings_from}
@@ -56,7 +54,7 @@ reaches_for row kind found low near = go (eqb kind 0) (eqb kind 6)
     go false false = omega arith
 
 -- ---- a search for the name changes no note
-module _ {w : Table} {patch : ℕ} {name : Name} {xs ys : List ℕ} {m : Member} (partner : PartnerIs w patch name xs ys m) where
+module _ {w : Table} {patch : ℕ} {name : Name} {xs ys : List ℕ} {m : Option ℕ} (partner : PartnerIs w patch name xs ys m) where
   note_same : (r : ℕ) → note_of ys r ≡ note_of xs r
   note_same r = slot_dropped xs ys parents (r - patch_row) partner.behind
 
@@ -81,7 +79,7 @@ module _ {w : Table} {patch : ℕ} {name : Name} {xs ys : List ℕ} {m : Member}
         subst (λ n. Named w.texts patch kids (name_text w.texts n) m) e
         (partner.held c kids o (subst (Hashed w.texts) (sym e) fits.hashed))
 
-    pub keep_missing : m ≡ Missing → KeepIs w patch row xs ys (Copy row)
+    pub keep_missing : m ≡ None → KeepIs w patch row xs ys (Copy row)
     keep_missing e =
         record {
           reaches = omega arith;
@@ -90,13 +88,13 @@ module _ {w : Table} {patch : ℕ} {name : Name} {xs ys : List ℕ} {m : Member}
               (searched_changed patch (end_of w.nodes patch), go (named o h fits) e (marks_kept (λ r _. note_same r) marks));
         }
       where
-        go : {kids : Forest Cell} {text : Text} {q : Member} {met : Text → Bool} → Named w.texts patch kids text q → q ≡ Missing
+        go : {kids : Forest Cell} {text : Text} {q : Option ℕ} {met : Text → Bool} → Named w.texts patch kids text q → q ≡ None
             → Marks w.texts ys met (patch + 1) kids → Keeps w patch row kids text met ys (Copy row)
         go (named_at k c below after found is place name) e marks = absurd (let z : ◌≡◌ {A = ℕ} 0 1 = cc in omega arith)
         go (named_none nothing) e marks = keeps_own nothing marks
 
     -- no member stands outside the patch's rows
-    pub keep_outside : (found : ℕ) → m ≡ At found → (patch_row ≤ found → found < scratch_row → ⊥) → patch_row ≤ patch → KeepIs w patch row xs ys Nothing
+    pub keep_outside : (found : ℕ) → m ≡ Some found → (patch_row ≤ found → found < scratch_row → ⊥) → patch_row ≤ patch → KeepIs w patch row xs ys Nothing
     keep_outside found e out low =
         record {
           reaches = tt;
@@ -104,14 +102,14 @@ module _ {w : Table} {patch : ℕ} {name : Name} {xs ys : List ℕ} {m : Member}
           held = λ c kids o d below h fits met marks. absurd (go o (named o h fits) e);
         }
       where
-        go : {c : Cell} {kids : Forest Cell} {text : Text} {q : Member} → PatchObject w patch c kids xs → Named w.texts patch kids text q → q ≡ At found → ⊥
+        go : {c : Cell} {kids : Forest Cell} {text : Text} {q : Option ℕ} → PatchObject w patch c kids xs → Named w.texts patch kids text q → q ≡ Some found → ⊥
         go o (named_at k c below after there is place name) e =
             let same : there ≡ found = cc in
             let inside = member-inside o k there is place in
             out (omega (arith, inside)) (omega (arith, inside, o.inside))
         go o (named_none nothing) e = let z : ◌≡◌ {A = ℕ} 0 1 = cc in omega arith
 
-    module _ (found : ℕ) (e : m ≡ At found) (low : patch_row ≤ found) (near : found < scratch_row) {zs : List ℕ}
+    module _ (found : ℕ) (e : m ≡ Some found) (low : patch_row ≤ found) (near : found < scratch_row) {zs : List ℕ}
         (put : zs ≡ slot_set ys (parent_slot (found - patch_row)) 0) (long : slots ≤ length ys) (same : length zs ≡ length ys) where
       pub keep_found : {r : Step} → r ≡ step_for (kind_of (get_or w.nodes found [])) found → KeepIs w patch row xs zs r
       keep_found {r} step =
@@ -121,9 +119,9 @@ module _ {w : Table} {patch : ℕ} {name : Name} {xs ys : List ℕ} {m : Member}
             held = λ c kids o d below h fits met marks. go o (named o h fits) e (marks_kept (λ r _. note_same r) marks);
           }
         where
-          go : {c : Cell} {kids : Forest Cell} {text : Text} {q : Member} {met : Text → Bool}
+          go : {c : Cell} {kids : Forest Cell} {text : Text} {q : Option ℕ} {met : Text → Bool}
               → PatchObject w patch c kids xs → Named w.texts patch kids text q
-              → q ≡ At found → Marks w.texts ys met (patch + 1) kids
+              → q ≡ Some found → Marks w.texts ys met (patch + 1) kids
               → Changed w.nodes patch (end_of w.nodes patch) xs zs × Keeps w patch row kids text met zs r
           go o (named_none nothing) e marks = absurd (let z : ◌≡◌ {A = ℕ} 0 1 = cc in omega arith)
           go {kids = kids} {text} {met = met} o (named_at k c below after there is place name) e marks =

@@ -1,6 +1,6 @@
 -- The member of an object of the patch that has a name.
-use Rattle.std.specs.Prelude.{ℕ, ◌+◌, ◌≤◌, ◌<◌, ◌≡◌, true, List, length, drop}
-use Rattle.std.proofs.Math.Option as Option
+use Rattle.std.specs.Prelude.{ℕ, ◌+◌, ◌≤◌, ◌<◌, ◌≡◌, true, Option, Some, None, List, length, drop}
+use Rattle.std.proofs.Math.Option.{none}
 use Rattle.spec.specs.Bytes.{Text}
 use Rattle.spec.specs.Forest.{Forest, tree, size, before, from}
 use Rattle.spec.specs.Distinct.{NoRepeats}
@@ -11,8 +11,6 @@ use Rattle.tape.specs.declared.fields.Cell.{Cell}
 use Rattle.tape.specs.Lent.{Texts, Table}
 use Rattle.table.specs.Meaning.{name_text, members, Hashed}
 use Rattle.table.specs.Sound.{NodeHeld}
-use Rattle.table.specs.declared.find.Member.{Member}
-use Rattle.table.specs.declared.find.Member.TheVariants.{At, Missing}
 use Rattle.index.specs.Slots.{parents}
 use Rattle.index.specs.Members.{Parents}
 use Rattle.merge.specs.Marks.{PathsKept}
@@ -29,13 +27,13 @@ pub record PatchObject (w : Table) (patch : ℕ) (c : Cell) (kids : Forest Cell)
   pub hints : Parents patch_row w.nodes xs
 
 -- the member in a row is the one so named, or there is none
-pub data Named (T : Texts) (patch : ℕ) (kids : Forest Cell) (text : Text) : Member → Type 0 where
+pub data Named (T : Texts) (patch : ℕ) (kids : Forest Cell) (text : Text) : Option ℕ → Type 0 where
   named_at : (k : ℕ) (c : Cell) (below after : Forest Cell) (row : ℕ) → from k kids ≡ tree c below after → row ≡ patch + 1 + size (before k kids)
-      → name_text T c.name ≡ text → Named T patch kids text (At row)
-  named_none : get text (members T kids) ≡ Option.none → Named T patch kids text Missing
+      → name_text T c.name ≡ text → Named T patch kids text (Some row)
+  named_none : get text (members T kids) ≡ none → Named T patch kids text None
 
 -- What is found, and what becomes of the index: search paths and notes stay.
-pub record PartnerIs (w : Table) (patch : ℕ) (name : Name) (xs ys : List ℕ) (r : Member) : Type 0 where
+pub record PartnerIs (w : Table) (patch : ℕ) (name : Name) (xs ys : List ℕ) (r : Option ℕ) : Type 0 where
   pub paths : PathsKept xs ys
   pub behind : drop parents ys ≡ drop parents xs
   pub same_length : length ys ≡ length xs

@@ -13,13 +13,9 @@ pub const FULL: usize = layout::ROWS + 1;
 
 // The row `count` rows behind `to`, at most FULL.
 pub fn advance(to: usize, count: usize) -> usize
-    requires { to ≤ full }
     ensures { result ≡ min (to + count) full }
 {
-    if FULL - to < count {
-        return FULL;
-    }
-    to + count
+    to.saturating_add(count).min(FULL)
 }
 
 // The tree in the row `from` is copied to the rows from `to` on. The answer is the row behind it.
@@ -34,6 +30,7 @@ pub fn copy(nodes: &mut [Node], from: usize, to: usize) -> usize
 
 // The origin of the object that is made of the value in the row `target`: an object keeps its own, and any other value
 // becomes an object of the patch.
+#[tactic(auto, unfolding(crate::specs::Building::object_origin))]
 pub fn object_origin(nodes: &[Node], target: usize, patch: usize) -> u16
     ensures { result ≡ object_origin nodes.now target patch }
 {
@@ -47,6 +44,7 @@ pub fn object_origin(nodes: &[Node], target: usize, patch: usize) -> u16
 
 // The object in the row `patch` is stored in the row `to`, with the origin of the one that is made of the value in the
 // row `target`, and with the members that stand behind the row `to`, up to `next`.
+#[tactic(auto, unfolding(crate::specs::Building::closed))]
 pub fn close(nodes: &mut [Node], target: usize, patch: usize, to: usize, next: usize)
     requires { to ≤ next }
     ensures { nodes.new ≡ closed nodes.old target patch to next }

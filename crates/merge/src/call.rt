@@ -4,11 +4,10 @@ ghost use Rattle.merge.specs.Call.{MergeIs};
 
 use crate::stages::checked_merge;
 use index;
-use json_patch::{Answer, refused};
-use spec::refusal;
+use json_patch::{Answer, clear, refusal_answer, suffices};
+use spec::refusal::Refusal;
 use tape::layout;
 use tape::layout::Node;
-use tape::moves::wipe;
 
 // The merge patch is applied to the document, and the result written to `output`, or the call is refused. `nodes` and
 // `index` are the work area, as in the plain call.
@@ -22,19 +21,15 @@ pub fn merge<'a>(
     ensures { MergeIs (given document.now patch.now) (memory_before output.old nodes.old index.old)
         (memory_after output.new nodes.new index.new) result }
 {
-    if nodes.len() < layout::ROWS {
-        return refused(refusal::WORK_TOO_SHORT, 0, 0, 0);
+    if !suffices(nodes, index) {
+        return refusal_answer(Refusal::WorkTooShort, 0, 0, 0);
     }
-    if index.len() < index::SLOTS {
-        return refused(refusal::WORK_TOO_SHORT, 0, 0, 0);
-    }
-    let answer = checked_merge(
+    let done = checked_merge(
         [document, patch],
         output,
         &mut nodes[..layout::ROWS],
         &mut index[..index::SLOTS],
     );
-    wipe(nodes);
-    index::empty(index);
-    answer
+    clear(nodes, index);
+    Answer::from(done)
 }

@@ -20,13 +20,6 @@ pub fn json_patch_merge<'a>(
         answer.new result }
 {
     let r = merge(document, patch, output, nodes, index);
-    *answer = [
-        r.number as u64,
-        r.text as u64,
-        r.op as u64,
-        r.place as u64,
-        r.pointer as u64,
-        r.length as u64,
-    ];
-    r.number as u32
+    *answer = r.into();
+    u32::from(r.number)
 }

@@ -1,5 +1,8 @@
 // Which members of the patch the target has. The index has a slot for each row's parent. There the members of an
 // object are noted before it is merged, and a member that the target has loses its note.
+//
+// Each function asks for a row of the patch and for an index that is long enough. The index is a lent slice, and a type
+// for such a row would put a proof of its bounds into the steps that specs/Steps defines.
 ghost use Rattle.std.specs.Prelude.{◌≡◌, ◌-◌, ◌≤◌, ◌<◌, eqb, length};
 ghost use Rattle.tape.specs.Layout.{patch_row, scratch_row};
 ghost use Rattle.index.specs.Slots.{slots, parent_slot, slot_at, slot_set};
@@ -15,6 +18,7 @@ use tape::nodes::end_of;
 const ROOM: usize = 2048;
 
 // A number is put into the slot of a row of the patch.
+#[tactic(auto, unfolding(index::specs::Slots::slot_set))]
 pub fn put_note(index: &mut [u16], row: usize, number: usize)
     requires { (patch_row ≤ row) × (row < scratch_row) × (slots ≤ length index.old) }
     ensures { index.new ≡ slot_set index.old (parent_slot (row - patch_row)) number }
@@ -23,6 +27,7 @@ pub fn put_note(index: &mut [u16], row: usize, number: usize)
 }
 
 // Whether a row has no note.
+#[tactic(auto, unfolding(index::specs::Slots::slot_at))]
 pub fn is_met(index: &[u16], row: usize) -> bool
     requires { (patch_row ≤ row) × (row < scratch_row) × (slots ≤ length index.now) }
     ensures { result ≡ eqb (slot_at index.now (parent_slot (row - patch_row))) 0 }
@@ -35,12 +40,10 @@ pub fn note_members(nodes: &[Node], index: &mut [u16], patch: usize)
     requires { (patch_row ≤ patch) × (patch < scratch_row) × (slots ≤ length index.old) }
     ensures { NotedIs nodes.now patch index.old index.new }
 {
-    let end = end_of(nodes, patch);
+    let end = end_of(nodes, patch).min(layout::SCRATCH);
+    // the next member stands behind the tree of this one: no range steps so
     let mut row = patch + 1;
     while row < end {
-        if layout::SCRATCH <= row {
-            return;
-        }
         put_note(index, row, patch - layout::PATCH + 1);
         row = end_of(nodes, row);
     }

@@ -1,4 +1,5 @@
-// Two objects merged.
+// Two objects merged. A member stands behind the tree of the one before it, so that the loops step by `end_of`, and not
+// by a range.
 ghost use Rattle.std.specs.Prelude.{◌≡◌, ◌≤◌, ◌<◌, length};
 ghost use Rattle.tape.specs.Layout.{patch_row, scratch_row, rows};
 ghost use Rattle.tape.specs.Lent.{before};
@@ -14,6 +15,7 @@ use tape::layout::{Node, Texts};
 use tape::nodes::{end_of, kind};
 
 // The row behind the members of the value in a row: only an object has any.
+#[tactic(auto, unfolding(crate::specs::Merged::members_end))]
 pub fn members_end(nodes: &[Node], target: usize) -> usize
     requires { target ≤ rows }
     ensures { result ≡ members_end nodes.now target }
@@ -52,32 +54,24 @@ pub fn merge_object<'a>(
     while row < end {
         let at = row;
         row = end_of(nodes, at);
-        match keep(texts, nodes, index, patch, at) {
-            Step::Nothing => continue,
-            Step::Copy(from) => {
-                next = copy(nodes, from, next);
-                continue;
-            }
-            Step::Merge(from) => {
-                next = merge_object(texts, nodes, index, at, from, next, levels - 1);
-            }
-        }
+        next = match keep(texts, nodes, index, patch, at) {
+            Step::Nothing => next,
+            Step::Copy(from) => copy(nodes, from, next),
+            Step::Merge(from) => merge_object(texts, nodes, index, at, from, next, levels - 1),
+        };
     }
     let last = end_of(nodes, patch);
     row = patch + 1;
     while row < last {
         let at = row;
         row = end_of(nodes, at);
-        match append(nodes, index, at) {
-            Step::Nothing => continue,
-            Step::Copy(from) => {
-                next = copy(nodes, from, next);
-                continue;
-            }
+        next = match append(nodes, index, at) {
+            Step::Nothing => next,
+            Step::Copy(from) => copy(nodes, from, next),
             Step::Merge(from) => {
-                next = merge_object(texts, nodes, index, layout::ROWS, from, next, levels - 1);
+                merge_object(texts, nodes, index, layout::ROWS, from, next, levels - 1)
             }
-        }
+        };
     }
     close(nodes, target, patch, to, next);
     next

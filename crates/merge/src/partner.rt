@@ -6,7 +6,7 @@ ghost use Rattle.index.specs.Slots.{slots};
 ghost use Rattle.merge.specs.Partner.{PartnerIs};
 
 use index::{enter, enter_by_hash, lookup};
-use table::find::{Member, find};
+use table::find::find;
 use tape::fields::Name;
 use tape::layout;
 use tape::layout::{Node, Texts};
@@ -20,15 +20,15 @@ pub fn partner<'a>(
     index: &mut [u16],
     patch: usize,
     name: Name,
-) -> Member
+) -> Option<usize>
     requires { (patch_row ≤ patch) × (patch < scratch_row) × (slots ≤ length index.old) }
     ensures { PartnerIs (before texts nodes.now) patch name index.old index.new result }
 {
-    let Member::At(row) = lookup(texts, nodes, index, layout::PATCH, patch, name) else {
-        if enter_by_hash(nodes, index, layout::PATCH, patch, layout::SCRATCH, name) {
-            return Member::Missing;
-        }
-        if !enter(
+    if let Some(row) = lookup(texts, nodes, index, layout::PATCH, patch, name) {
+        return Some(row);
+    }
+    if enter_by_hash(nodes, index, layout::PATCH, patch, layout::SCRATCH, name)
+        || !enter(
             texts,
             nodes,
             index,
@@ -36,10 +36,9 @@ pub fn partner<'a>(
             patch,
             layout::SCRATCH,
             name,
-        ) {
-            return Member::Missing;
-        }
-        return find(texts, nodes, patch + 1, end_of(nodes, patch), name);
-    };
-    Member::At(row)
+        )
+    {
+        return None;
+    }
+    find(texts, nodes, patch + 1, end_of(nodes, patch), name)
 }

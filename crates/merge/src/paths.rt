@@ -24,18 +24,13 @@ pub fn enter_members<'a>(
     requires { (patch_row ≤ object) × (object < scratch_row) × (slots ≤ length index.old) }
     ensures { EnteredIs (before texts nodes.now) object levels index.old index.new }
 {
-    if kind(nodes, object) != layout::OBJECT {
+    if kind(nodes, object) != layout::OBJECT || levels == 0 {
         return;
     }
-    if levels == 0 {
-        return;
-    }
-    let end = end_of(nodes, object);
+    let end = end_of(nodes, object).min(layout::SCRATCH);
+    // the next member stands behind the tree of this one: no range steps so
     let mut row = object + 1;
     while row < end {
-        if layout::SCRATCH <= row {
-            return;
-        }
         let name = name_of(load(nodes, row));
         enter(texts, nodes, index, layout::PATCH, object, row, name);
         enter_members(texts, nodes, index, row, levels - 1);

@@ -8,14 +8,13 @@ ghost use Rattle.merge.specs.Steps.{step_for, append_step, KeepIs};
 
 use crate::marks::{is_met, put_note};
 use crate::partner::partner;
-use table::find::Member;
 use tape::fields::name_of;
 use tape::layout;
 use tape::layout::{Node, Texts};
 use tape::moves::load;
 use tape::nodes::kind;
 
-#[derive(Clone, Copy)]
+#[derive(Clone, Copy, Debug, PartialEq, Eq)]
 pub enum Step {
     // it is gone
     Nothing,
@@ -26,17 +25,15 @@ pub enum Step {
 }
 
 // By the value of the patch in a row: null removes, an object is merged, and anything else replaces.
+#[tactic(auto, unfolding(crate::specs::Steps::step_for))]
 fn step_of(nodes: &[Node], row: usize) -> Step
     ensures { result ≡ step_for (kind_of (get_or nodes.now row [])) row }
 {
-    let kind = kind(nodes, row);
-    if kind == layout::NULL {
-        return Step::Nothing;
+    match kind(nodes, row) {
+        layout::NULL => Step::Nothing,
+        layout::OBJECT => Step::Merge(row),
+        _ => Step::Copy(row),
     }
-    if kind == layout::OBJECT {
-        return Step::Merge(row);
-    }
-    Step::Copy(row)
 }
 
 // What becomes of the target's member in a row, by the object of the patch in the row `patch`. The patch's member of
@@ -52,13 +49,10 @@ pub fn keep<'a>(
     ensures { KeepIs (before texts nodes.now) patch row index.old index.new result }
 {
     let name = name_of(load(nodes, row));
-    let Member::At(found) = partner(texts, nodes, index, patch, name) else {
+    let Some(found) = partner(texts, nodes, index, patch, name) else {
         return Step::Copy(row);
     };
-    if found < layout::PATCH {
-        return Step::Nothing;
-    }
-    if layout::SCRATCH <= found {
+    if !(layout::PATCH..layout::SCRATCH).contains(&found) {
         return Step::Nothing;
     }
     put_note(index, found, 0);
@@ -66,14 +60,12 @@ pub fn keep<'a>(
 }
 
 // What becomes of the patch's member in a row, where the target has no member of the same name.
+#[tactic(auto, unfolding(crate::specs::Steps::append_step))]
 pub fn append(nodes: &[Node], index: &[u16], row: usize) -> Step
     requires { (patch_row ≤ row) × (slots ≤ length index.now) }
     ensures { result ≡ append_step nodes.now row index.now }
 {
-    if layout::SCRATCH <= row {
-        return Step::Nothing;
-    }
-    if is_met(index, row) {
+    if layout::SCRATCH <= row || is_met(index, row) {
         return Step::Nothing;
     }
     step_of(nodes, row)

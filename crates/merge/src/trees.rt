@@ -36,10 +36,7 @@ pub fn merge_read<'a>(texts: Texts<'a>, nodes: &mut [Node], index: &mut [u16]) -
     ensures { MergeReadIs (before texts nodes.old) index.old nodes.new
         index.new result }
 {
-    if nodes.len() != layout::ROWS {
-        return 0;
-    }
-    if index.len() < SLOTS {
+    if nodes.len() != layout::ROWS || index.len() < SLOTS {
         return 0;
     }
     merge_trees(texts, nodes, index)

@@ -1,7 +1,8 @@
 -- Laws of the stages of the call, each for one way out of a stage.
+use Rattle.std.specs.Prelude.{Result, Ok, Err}
 use Prim.Native.Nat.{ℕ, ◌+◌, ◌-◌, ◌≤◌, ◌<◌, min}
 use native.Mathlib.Omega.{arith}
-use mathlib.Core.Path.{◌≡◌, sym, subst, ap, ◌∙◌}
+use mathlib.Core.Path.{◌≡◌, refl, sym, subst, ap, ◌∙◌}
 use mathlib.Core.Bool.{Bool, true, false}
 use mathlib.Core.List.{List, [], ◌++◌}
 use lib.Dec.{leb}
@@ -10,6 +11,7 @@ use borrow.Author.Tests.{leb-true, le-leb, lt-leb, le-ltb, lt-ltb, ne_eqb}
 use Rattle.spec.specs.Refusal.{work_too_short, output_too_short, input_too_long, too_many_nodes}
 use Rattle.spec.specs.Limits.{max_depth, max_bytes, max_nodes}
 use Rattle.spec.specs.Outcome.{ok, refused}
+use Rattle.spec.specs.Fault.{number_of}
 use Rattle.spec.specs.Bytes.{Bytes}
 use Rattle.spec.specs.Value as Plain
 use Rattle.spec.specs.Value.{is_object}
@@ -20,7 +22,7 @@ use Rattle.spec.specs.Answer.{Lent, work_suffices}
 use Rattle.merging.proofs.MergeTheorem.{merging}
 use Rattle.tape.specs.Layout.{patch_row, scratch_row, object_kind, rows}
 use Rattle.tape.specs.Fields.{Row, kind_of}
-use Rattle.tape.specs.Lent.{Table}
+use Rattle.tape.specs.Lent.{Texts, Table}
 use Rattle.tape.specs.Rows.{end_of}
 use Rattle.tape.proofs.Cells.{formed_fit}
 use Rattle.tape.proofs.Held.{held_node}
@@ -39,9 +41,13 @@ use Rattle.walk.specs.Bearing.{borne}
 use Rattle.walk.proofs.Children.{forget-borne}
 use Rattle.changes.specs.Site.{table}
 use Rattle.changes.proofs.BorneLaws.{nodes-borne}
-use Rattle.json_patch.specs.Call.{SuccessIs, RefusalIs}
+use Rattle.json_patch.specs.Call.{RefusalIs}
+use Rattle.json_patch.specs.Stages.{as_answer}
+use Rattle.json_patch.specs.Reads.{LengthsAre, TextsRead}
+use Rattle.json_patch.specs.declared.texts.Unread.{Unread}
 use Rattle.json_patch.specs.declared.answer.Answer.{Answer}
 use Rattle.json_patch.proofs.AnswerLaws.{answered-success}
+use Rattle.json_patch.proofs.ReadLaws.{long_by, unread_by}
 use Rattle.listing.specs.Lists.{entries}
 use Rattle.listing.specs.Call.{Outputs, ListedIs}
 use Rattle.listing.proofs.StageLaws.{listed-refusal, listed_as}
@@ -88,15 +94,15 @@ module _ {w : Table} {at : ℕ} {v : Value.Value} (b : BearingAt w at v) (shallo
         (λ room. written_whole b.held low writes room) (leb-true _ _ (sym text_fits ∙ fit))
 
     -- both do
-    pub both-written : {o' : Outputs} {put : ℕ} {r : Answer} → count ≤ length o.list → WriteIs w at max_depth o.output o'.output put
-        → o'.list ≡ entries (take count (take (length w.nodes - at) (drop at w.nodes))) o.list → SuccessIs put r
-        → ListedIs (fitting (length o.output) (length o.list) v) o o' r
-    unfolding fitting
-    both-written room writes lists is =
+    pub both-written : {o' : Outputs} {put : ℕ} → count ≤ length o.list → WriteIs w at max_depth o.output o'.output put
+        → o'.list ≡ entries (take count (take (length w.nodes - at) (drop at w.nodes))) o.list
+        → ListedIs (fitting (length o.output) (length o.list) v) o o' (as_answer (Ok put))
+    unfolding fitting as_answer
+    both-written room writes lists =
         let laid = text_laid writes in
         let enough : length (origins v) ≤ length o.list = omega (arith, rows-counted b counts) in
         rw (sym text_fits ∙ fit, le-leb (length (origins v)) (length o.list) enough)
-        (record { answered = answered-success (rw laid.0 at is) laid.1; list = lists ∙ listed_tree b counts o.list room })
+        (record { answered = answered-success (refl, refl, refl, refl, refl, laid.0) laid.1; list = lists ∙ listed_tree b counts o.list room })
 
 -- ---- the two merged
 module _ (room list : ℕ) (merged : Value.Value) where
@@ -121,9 +127,9 @@ module _ {w : Table} {ns : List Row} {used : ℕ} (stamps : StampBothIs w.nodes 
   kind_of_lem both u = is ∙ kind_here (held_node (bearing both u).both.patch.held.held)
 
   -- what is no object replaces the whole
-  pub run_whole : {o o' : Outputs} {end : ℕ} {r : Answer} → (kind ≡ object_kind → ⊥) → end ≡ end_of ns patch_row
+  pub run_whole : {o o' : Outputs} {end : ℕ} (r : Result ℕ Answer) → (kind ≡ object_kind → ⊥) → end ≡ end_of ns patch_row
       → WriteListedIs (table w.texts ns) o o' patch_row (end - patch_row) r → RunListedIs w o o' used r
-  run_whole {o} {o'} {end} other e writes v p both u =
+  run_whole {o} {o'} {end} r other e writes v p both u =
       let b = bearing both u in
       let h = b.both.patch in
       let fit = formed_fit h.held.held.formed in
@@ -146,13 +152,14 @@ module _ {w : Table} {ns : List Row} {used : ℕ} (stamps : StampBothIs w.nodes 
         let told = merges.held (forget (painted 0 v)) p (bearing both u).both (sym (kind_of_lem both u) ∙ object) in
         told.0 ∙ ap (λ q. min (scratch_row + Plain.nodes q) full) (sym (forget-merge_patch (painted 0 v) p))
 
-    pub run_many : {o : Outputs} {r : Answer} → rows < next → RefusalIs too_many_nodes 0 0 0 r → RunListedIs w o o used r
+    pub run_many : {o : Outputs} {r : Answer} → rows < next → RefusalIs too_many_nodes 0 0 0 r → RunListedIs w o o used (Err r)
+    unfolding as_answer
     run_many {o} many refusal v p both u =
         listed_as (merged_many (length o.output) (length o.list) (merge_patch (painted 0 v) p) (omega (arith, counted both u))) (listed-refusal refusal)
 
-    pub run-done : {o o' : Outputs} {r : Answer} → next ≤ rows
+    pub run-done : {o o' : Outputs} (r : Result ℕ Answer) → next ≤ rows
         → WriteListedIs (table w.texts nodes') o o' scratch_row (next - scratch_row) r → RunListedIs w o o' used r
-    run-done {o} few writes v p both u =
+    run-done {o} r few writes v p both u =
         let b = bearing both u in
         listed_as (merged_few (length o.output) (length o.list) (merge_patch (painted 0 v) p) (omega (arith, counted both u)))
         (writes (merge_patch (painted 0 v) p) (merges.bearing (painted 0 v) p b (sym (kind_of_lem both u) ∙ object) few)
@@ -165,11 +172,11 @@ module _ (D P : Bytes) (lent : Lending Lent) where
   merge_work_short e = rw e
 
   module _ (enough : work_suffices lent.call ≡ true) where
-    pub merge_document_long : max_bytes < length D → merge_answer D P lent ≡ unlisted (Spec.refusal input_too_long 1 0 0)
+    merge_document_long : max_bytes < length D → merge_answer D P lent ≡ unlisted (Spec.refusal input_too_long 1 0 0)
     unfolding merge_answer
     merge_document_long h = rw (enough, lt-ltb max_bytes (length D) h)
 
-    pub merge_patch_long : length D ≤ max_bytes → max_bytes < length P → merge_answer D P lent ≡ unlisted (Spec.refusal input_too_long 2 0 0)
+    merge_patch_long : length D ≤ max_bytes → max_bytes < length P → merge_answer D P lent ≡ unlisted (Spec.refusal input_too_long 2 0 0)
     unfolding merge_answer
     merge_patch_long h i = rw (enough, le-ltb max_bytes (length D) h, lt-ltb max_bytes (length P) i)
 
@@ -179,11 +186,11 @@ module _ (D P : Bytes) (lent : Lending Lent) where
       unfolding merge_answer
       merge_read = rw (enough, le-ltb max_bytes (length D) h, le-ltb max_bytes (length P) i)
 
-      pub merge_document_unread : {number place : ℕ} → read D ≡ refused number place → merge_answer D P lent ≡ unlisted (Spec.refusal number 1 0 place)
+      merge_document_unread : {number place : ℕ} → read D ≡ refused number place → merge_answer D P lent ≡ unlisted (Spec.refusal number 1 0 place)
       unfolding on_merge_document
       merge_document_unread e = merge_read ∙ ap (λ q. on_merge_document lent.call.output lent.list q P) e
 
-      pub merge_patch_unread : {v : Plain.Value} {number place : ℕ} → read D ≡ ok v → read P ≡ refused number place
+      merge_patch_unread : {v : Plain.Value} {number place : ℕ} → read D ≡ ok v → read P ≡ refused number place
           → merge_answer D P lent ≡ unlisted (Spec.refusal number 2 0 place)
       unfolding on_merge_document on_merge_patch
       merge_patch_unread {v} e f =
@@ -194,6 +201,22 @@ module _ (D P : Bytes) (lent : Lending Lent) where
       unfolding on_merge_document on_merge_patch
       merge_applied {v} e f =
           merge_read ∙ ap (λ q. on_merge_document lent.call.output lent.list q P) e ∙ ap (on_merge_patch lent.call.output lent.list v) f
+
+-- what the two texts come to
+module _ {T : Texts} (lent : Lending Lent) (enough : work_suffices lent.call ≡ true) where
+  pub lengths_refused : {s : Result (Unit {0}) Unread} {u : Unread} → LengthsAre T s → s ≡ Err u
+      → merge_answer T.document T.patch lent ≡ unlisted (Spec.refusal (number_of u.fault.refusal) u.text 0 u.fault.place)
+  lengths_refused is t =
+      long_by (λ n x place. merge_answer T.document T.patch lent ≡ unlisted (Spec.refusal n x 0 place)) is t (merge_document_long _ _ _ enough)
+      (merge_patch_long _ _ _ enough)
+
+  pub texts_refused : (length T.document ≤ max_bytes) × (length T.patch ≤ max_bytes) → {nodes : List Row} {s : Result ℕ Unread} {u : Unread}
+      → TextsRead T nodes s → s ≡ Err u
+      → merge_answer T.document T.patch lent ≡ unlisted (Spec.refusal (number_of u.fault.refusal) u.text 0 u.fault.place)
+  texts_refused short reads t =
+      unread_by (λ n x place. merge_answer T.document T.patch lent ≡ unlisted (Spec.refusal n x 0 place)) reads t
+      (λ n place h. merge_document_unread _ _ _ enough short.0 short.1 h)
+      (λ n place v h i. merge_patch_unread _ _ _ enough short.0 short.1 h i)
 
 -- only whether the work area suffices, and the rooms, make a difference
 pub merge_same : (D P : Bytes) (lent lent' : Lending Lent) → work_suffices lent.call ≡ work_suffices lent'.call

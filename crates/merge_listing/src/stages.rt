@@ -1,5 +1,6 @@
 // The stages of the call: those of the merge, with the nodes stamped before the trees are merged, and listed
-// afterwards.
+// afterwards. Each stage answers with the length of the text that was written, or with the answer of a call that is
+// refused.
 ghost use Rattle.std.specs.Prelude.{◌≡◌, ◌≤◌, length};
 ghost use Rattle.tape.specs.Layout.{rows};
 ghost use Rattle.tape.specs.Lent.{lent, before};
@@ -8,11 +9,11 @@ ghost use Rattle.listing.specs.Call.{outputs_before, outputs_after, list_before}
 ghost use Rattle.merge_listing.specs.Stages.{WriteListedIs, RunListedIs, CheckedListedIs};
 
 use crate::stamps::stamp_both;
-use json_patch::{Answer, refused, success, unread};
+use json_patch::{Answer, check_lengths, read_texts, refusal_answer};
 use listing::list_origins;
 use merge::merge_read;
-use reader::{Read, read_document, read_patch};
-use spec::{limits, refusal};
+use spec::limits;
+use spec::refusal::Refusal;
 use tape::layout;
 use tape::layout::{Node, Texts};
 use tape::nodes::{end_of, kind};
@@ -27,20 +28,20 @@ fn write_listed<'a>(
     nodes: &[Node],
     at: usize,
     count: usize,
-) -> Answer
+) -> Result<usize, Answer>
     requires { at ≤ length nodes.now }
     ensures { WriteListedIs (before texts nodes.now) (outputs_before output.old origins.old)
         (outputs_after output.new origins.new) at count result }
 {
     if !fits(texts, nodes, at, limits::MAX_DEPTH, output.len()) {
-        return refused(refusal::OUTPUT_TOO_SHORT, 0, 0, 0);
+        return Err(refusal_answer(Refusal::OutputTooShort, 0, 0, 0));
     }
     if origins.len() < count {
-        return refused(refusal::OUTPUT_TOO_SHORT, 0, 0, 0);
+        return Err(refusal_answer(Refusal::OutputTooShort, 0, 0, 0));
     }
     let length = write(texts, nodes, at, limits::MAX_DEPTH, output);
     list_origins(&nodes[at..], count, origins);
-    success(length)
+    Ok(length)
 }
 
 // The patch, read before, is merged with the document, which has `used` rows. A patch that is no object replaces the
@@ -52,7 +53,7 @@ fn run_listed<'a>(
     nodes: &mut [Node],
     index: &mut [u16],
     used: usize,
-) -> Answer
+) -> Result<usize, Answer>
     requires { (slots ≤ length index.old) × (length nodes.old ≡ rows) }
     ensures { RunListedIs (before texts nodes.old) (outputs_before output.old origins.old)
         (outputs_after output.new origins.new) used result }
@@ -64,7 +65,7 @@ fn run_listed<'a>(
     }
     let next = merge_read(texts, nodes, index);
     if layout::ROWS < next {
-        return refused(refusal::TOO_MANY_NODES, 0, 0, 0);
+        return Err(refusal_answer(Refusal::TooManyNodes, 0, 0, 0));
     }
     let count = next - layout::SCRATCH;
     write_listed(texts, output, origins, nodes, layout::SCRATCH, count)
@@ -77,24 +78,12 @@ pub fn checked_listed<'a>(
     origins: &mut [u16],
     nodes: &mut [Node],
     index: &mut [u16],
-) -> Answer
+) -> Result<usize, Answer>
     requires { (slots ≤ length index.old) × (length nodes.old ≡ rows) }
     ensures { CheckedListedIs (lent texts) (list_before output.old origins.old nodes.old index.old)
         (outputs_after output.new origins.new) result }
 {
-    if limits::MAX_BYTES < texts[0].len() {
-        return refused(refusal::INPUT_TOO_LONG, 1, 0, 0);
-    }
-    if limits::MAX_BYTES < texts[1].len() {
-        return refused(refusal::INPUT_TOO_LONG, 2, 0, 0);
-    }
-    let document = read_document(texts, nodes, index);
-    let Read::Value(_, used) = document else {
-        return unread(1, document);
-    };
-    let patch = read_patch(texts, nodes, index);
-    let Read::Value(_, _) = patch else {
-        return unread(2, patch);
-    };
+    check_lengths(texts)?;
+    let used = read_texts(texts, nodes, index)?;
     run_listed(texts, output, origins, nodes, index, used)
 }

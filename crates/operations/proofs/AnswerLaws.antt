@@ -1,11 +1,14 @@
 -- Laws of what an operation answers: which pointer a refusal is of.
-use Rattle.std.specs.Prelude.{if◌then◌else◌}
+use Rattle.std.specs.Prelude.{Option, Some, None, Result, Ok, Err}
+use Rattle.std.specs.Result.{result_ok}
 use Prim.Native.Nat.{ℕ}
+use native.Mathlib.Omega.{arith}
 use mathlib.Core.Path.{◌≡◌, refl, ap, sym, ◌∙◌, subst}
-use mathlib.Core.Bool.{Bool, true, false, ◌&&◌, ◌||◌}
-use borrow.Author.Tests.{eq-eqb, ne_eqb}
+use mathlib.Core.Bool.{true, false}
 use Rattle.spec.specs.Outcome.{Outcome, ok, refused, is_refused}
-use Rattle.spec.specs.Refusal.{location_missing, no_index}
+use Rattle.spec.specs.Fault.{number_of}
+use Rattle.spec.specs.declared.refusal.Refusal.{Refusal}
+use Rattle.spec.specs.declared.refusal.Fault.{Fault}
 use Rattle.spec.specs.Value as Value
 use Rattle.spec.specs.Pointer.{Tokens, walk}
 use Rattle.spec.specs.Operation as Operation
@@ -16,53 +19,67 @@ use Rattle.origin.specs.Pointer as Origins
 use Rattle.origin.specs.Forgetting.{forgotten}
 use Rattle.origin.proofs.ForgetLaws.{forget-walk}
 use Rattle.changes.specs.Document.{ResultsBy, results, refusal}
-use Rattle.changes.specs.declared.answers.Altered.{Altered}
-use Rattle.changes.specs.declared.answers.Altered.TheVariants as Altered
-use Rattle.operations.specs.Answers.{pointer_of, from_or_path, at_path, at_from, PerformsBy, performs, fails}
-use Rattle.operations.specs.declared.answers.Performed.{Performed}
-use Rattle.operations.specs.declared.answers.Performed.TheVariants as Performed
+use Rattle.operations.specs.Answers.{pointer_of, from_or_path, numbered, pointed, pointer_for, failure_at, told_at, PerformsBy, performs, fails}
+use Rattle.operations.specs.declared.answers.Pointer.{Pointer}
+use Rattle.operations.specs.declared.answers.Failure.{Failure}
 
 -- ---- 11 and 12 are of a pointer, other numbers of none
-module _ (which number : ℕ) where
-  pub pointer_missing : number ≡ location_missing → which ≡ pointer_of which number
-  unfolding pointer_of ◌||◌
-  pointer_missing e = rw (eq-eqb number location_missing e)
+pub pointer_is : (which : Pointer) (e : Refusal) → pointed (pointer_for which e) ≡ pointer_of (numbered which) (number_of e)
+unfolding pointed pointer_for pointer_of number_of
+pointer_is which Refusal.WorkTooShort = refl
+pointer_is which Refusal.InputTooLong = refl
+pointer_is which Refusal.NotJson = refl
+pointer_is which Refusal.RepeatedName = refl
+pointer_is which Refusal.TooDeep = refl
+pointer_is which Refusal.TooManyNodes = refl
+pointer_is which Refusal.NumberOverLimit = refl
+pointer_is which Refusal.WrongShape = refl
+pointer_is which Refusal.TooManyOperations = refl
+pointer_is which Refusal.MalformedPointer = refl
+pointer_is which Refusal.LocationMissing = refl
+pointer_is which Refusal.NoIndex = refl
+pointer_is which Refusal.RemoveOfRoot = refl
+pointer_is which Refusal.MoveIntoChild = refl
+pointer_is which Refusal.TestDiffers = refl
+pointer_is which Refusal.OutputTooShort = refl
+pointer_is which Refusal.NotPermitted = refl
 
-  module _ (not-missing : number ≡ location_missing → ⊥) where
-    pub pointer_no_index : number ≡ no_index → which ≡ pointer_of which number
-    unfolding pointer_of ◌||◌
-    pointer_no_index e = rw (ne_eqb number location_missing not-missing, eq-eqb number no_index e)
+-- ---- what is there, or else refused
+module _ {A E : Type 0} {m : Option A} {r : Result A E} (there : m ≡ result_ok r) where
+  pub or_there : {a : A} → r ≡ Ok a → m ≡ Some a
+  or_there e = there ∙ ap result_ok e
 
-    pub pointer_none : (number ≡ no_index → ⊥) → 0 ≡ pointer_of which number
-    unfolding pointer_of ◌||◌
-    pointer_none e = rw (ne_eqb number location_missing not-missing, ne_eqb number no_index e)
+  pub or_missing : {x : E} → r ≡ Err x → m ≡ None
+  or_missing e = there ∙ ap result_ok e
 
--- a change at `path`, by what it answers
-module _ (q : Altered) where
-  pub path_done : {used : ℕ} → q ≡ Altered.Done used → Performed.Done used ≡ at_path q
-  unfolding at_path
-  path_done e = rw e
+-- ---- what was told of a step is what the step answered
+module _ {A : Type 0} (which : Pointer) (q : Result A Fault) {r : Result A Failure} (tells : r ≡ told_at which q) where
+  pub told_ok : {a : A} → r ≡ Ok a → q ≡ Ok a
+  unfolding told_at
+  told_ok {a} e = go q (sym tells ∙ e)
+    where
+      go : (s : Result A Fault) → told_at which s ≡ Ok a → s ≡ Ok a
+      go (Ok b) f = cc
+      go (Err g) f = absurd (let z : ◌≡◌ {A = ℕ} 0 1 = cc in omega arith)
 
-  pub path_refused : {number place pointer : ℕ} → q ≡ Altered.Refused number place → pointer ≡ pointer_of 1 number
-      → Performed.Refused number place pointer ≡ at_path q
-  unfolding at_path
-  path_refused {number} {place} e f = rw e (ap (Performed.Refused number place) f)
-
--- a walk along `from` that is lost
-pub from_refused : (number place : ℕ) {pointer : ℕ} → pointer ≡ pointer_of 2 number → Performed.Refused number place pointer ≡ at_from number place
-unfolding at_from
-from_refused number place f = ap (Performed.Refused number place) f
+  pub told_err : {x : Failure} → r ≡ Err x → (f : Fault) × (q ≡ Err f) × (x ≡ failure_at which f)
+  unfolding told_at
+  told_err {x} e = go q (sym tells ∙ e)
+    where
+      go : (s : Result A Fault) → told_at which s ≡ Err x → (f : Fault) × (s ≡ Err f) × (x ≡ failure_at which f)
+      go (Ok b) f = absurd (let z : ◌≡◌ {A = ℕ} 0 1 = cc in omega arith)
+      go (Err g) f = (g, refl, cc)
 
 -- ---- which pointer it is, of each number
 -- an operation without `from`
 pub which_path : (o : Operation.Operation) (v : Value.Value) → uses_from o.kind ≡ false → (number : ℕ) → which_pointer o v number ≡ pointer_of 1 number
-unfolding which_pointer pointer_of ◌&&◌
+unfolding which_pointer pointer_of
 which_path o v none number = rw none
 
 -- an operation with it
 pub which_from : (o : Operation.Operation) (v : Value.Value) → uses_from o.kind ≡ true → (number : ℕ)
     → which_pointer o v number ≡ from_or_path o.from v number
-unfolding which_pointer from_or_path pointer_of ◌&&◌
+unfolding which_pointer from_or_path pointer_of
 which_from o v uses number = rw uses
 
 -- `from` leads somewhere, and nowhere
@@ -87,23 +104,24 @@ module _ (from : Tokens) (v : Origin.Value) (number : ℕ) where
 
 module _ {A : Type 0} {Is : ℕ → A → Type 0} {o : Outcome A} {pointer : ℕ → ℕ} where
   -- ---- an outcome, and a pointer for each number, that are the same
-  pub same_performs : {p : Outcome A} {which : ℕ → ℕ} {r : Performed} → o ≡ p → ((number : ℕ) → pointer number ≡ which number)
+  pub same_performs : {p : Outcome A} {which : ℕ → ℕ} {r : Result ℕ Failure} → o ≡ p → ((number : ℕ) → pointer number ≡ which number)
       → PerformsBy Is p which r → PerformsBy Is o pointer r
   same_performs e f (performs g d) = performs (e ∙ g) d
-  same_performs e f (fails {number = number} g h) = fails (e ∙ g) (h ∙ sym (f number))
+  same_performs e f (fails {f = x} g h) = fails (e ∙ g) (h ∙ sym (f (number_of x.refusal)))
 
   -- ---- what a change at `path` gives
-  pub path_performs : ((number : ℕ) → pointer number ≡ pointer_of 1 number) → {q : Altered} {r : Performed} → r ≡ at_path q → ResultsBy Is o q
-      → PerformsBy Is o pointer r
-  unfolding at_path
+  pub path_performs : ((number : ℕ) → pointer number ≡ pointer_of 1 number) → {q : Result ℕ Fault} {r : Result ℕ Failure} → r ≡ told_at Pointer.Path q
+      → ResultsBy Is o q → PerformsBy Is o pointer r
+  unfolding told_at numbered
   path_performs f {q} e d = subst (PerformsBy Is o pointer) (sym e) (go d)
     where
-      go : {q : Altered} → ResultsBy Is o q → PerformsBy Is o pointer (at_path q)
+      go : {q : Result ℕ Fault} → ResultsBy Is o q → PerformsBy Is o pointer (told_at Pointer.Path q)
       go (results g d) = performs g d
-      go (refusal {number = number} g) = fails g (sym (f number))
+      go (refusal {e} g) = fails g (pointer_is Pointer.Path e.refusal ∙ sym (f (number_of e.refusal)))
 
   -- ---- and a walk along `from` that is lost
-  pub from_performs : {number place : ℕ} {r : Performed} → ((n : ℕ) → pointer n ≡ pointer_of 2 n) → r ≡ at_from number place → o ≡ refused number place
-      → PerformsBy Is o pointer r
-  unfolding at_from
-  from_performs {number} f e g = subst (PerformsBy Is o pointer) (sym e) (fails g (sym (f number)))
+  pub from_performs : (f : Fault) {x : Failure} → x ≡ failure_at Pointer.From f → ((n : ℕ) → pointer n ≡ pointer_of 2 n)
+      → o ≡ refused (number_of f.refusal) f.place → PerformsBy Is o pointer (Err x)
+  unfolding numbered
+  from_performs f is g e =
+      rw is (fails {f = failure_at Pointer.From f} e (pointer_is Pointer.From f.refusal ∙ sym (g (number_of f.refusal))))

@@ -4,11 +4,10 @@ use native.Mathlib.Omega.{arith}
 use mathlib.Core.Path.{◌≡◌, refl, ap, sym, ◌∙◌}
 use mathlib.Core.List.{List, [], ◌++◌}
 use lib.ListN.{length, take, drop, get_or}
-use Rattle.spec.specs.Limits.{max_nodes}
 use Rattle.spec.specs.Forest.{Forest, none, tree, size}
 use Rattle.spec.specs.Value as Value
 use Rattle.origin.specs.Value as Origin
-use Rattle.tape.specs.Layout.{document_row, scratch_row, rows}
+use Rattle.tape.specs.Layout.{scratch_row}
 use Rattle.tape.specs.Fields.{Row, span_of}
 use Rattle.tape.specs.Columns.{moved}
 use Rattle.tape.specs.declared.fields.Cell.{Cell}

@@ -1,5 +1,5 @@
 -- Laws of the operations of a patch, one after another.
-use Rattle.std.specs.Prelude.{if◌then◌else◌}
+use Rattle.std.specs.Prelude.{Result, Ok, Err, if◌then◌else◌}
 use Prim.Native.Nat.{ℕ, ◌+◌, ◌%◌, ◌≤◌, ◌<◌}
 use native.Mathlib.Omega.{arith}
 use mathlib.Core.Path.{◌≡◌, refl, sym, ap, ◌∙◌, subst}
@@ -9,13 +9,14 @@ use lib.Dec.{leb}
 use lib.ListN.{length}
 use Rattle.spec.specs.Outcome.{Outcome, ok, refused}
 use Rattle.spec.specs.Refusal.{wrong_shape, too_many_operations}
+use Rattle.spec.specs.Fault.{number_of}
 use Rattle.spec.specs.Limits.{max_operations}
 use Rattle.spec.specs.Forest.{Forest, none, tree, count, size}
 use Rattle.spec.specs.Value as Value
 use Rattle.spec.specs.Value.{is_array}
 use Rattle.spec.specs.Operation as Operation
 use Rattle.spec.specs.Operation.{limited}
-use Rattle.spec.specs.Patch.{Stop, stop, Run, finished, stopped, at_op, no_pointer, on_finish, operation, operations, shape, which_pointer, run}
+use Rattle.spec.specs.Patch.{stop, Run, finished, stopped, at_op, no_pointer, on_finish, operation, operations, shape, which_pointer, run}
 use Rattle.spec.specs.Proper.{ProperItems}
 use Rattle.claims.proofs.ProperPatch.{proper_first}
 use Rattle.origin.specs.Value as Origin
@@ -35,14 +36,12 @@ use Rattle.walk.specs.Names.{Short}
 use Rattle.shape.proofs.RunLaws.{rows_children, rows-first, first-node, rows_next}
 use Rattle.changes.specs.Site.{table}
 use Rattle.changes.specs.Document.{Document, Bearing}
-use Rattle.operations.specs.Answers.{Performs, PerformsBearing, performs, fails}
+use Rattle.operations.specs.Answers.{Performs, PerformsBearing, performs, fails, stop_at, stopped_at}
 use Rattle.operations.specs.Bearing.{limited_with, value_in, Valued, valued, run_with}
-use Rattle.operations.specs.declared.answers.Performed.{Performed}
-use Rattle.operations.specs.declared.answers.Performed.TheVariants as Performed
+use Rattle.operations.specs.declared.answers.Failure.{Failure}
+use Rattle.operations.specs.declared.answers.Stop.{Stop}
 use Rattle.operations.specs.Perform.{SamePatch, Listed, PerformIs}
 use Rattle.operations.specs.Run.{RanTo, RanBearing, ran, halted, ForRun, ForRunBearing, ElementsRunIs, RunIs}
-use Rattle.operations.specs.declared.runs.Ran.{Ran}
-use Rattle.operations.specs.declared.runs.Ran.TheVariants as Ran
 use Rattle.operations.proofs.PatchLaws.{patch_same, patch_then, rows-kept}
 use Rattle.table.specs.Sound.{RowsHeld}
 
@@ -118,7 +117,7 @@ pub record First (w : Table) (row end op : ℕ) (object : Bool) (os : List Opera
 
 module _ {w : Table} {used row end op : ℕ} {whole : Run Value.Value} (g : Going w used row end op whole) where
   -- where none is left
-  pub going_none : end ≤ row → RanTo w.texts w.nodes whole (Ran.Done used)
+  pub going_none : end ≤ row → RanTo w.texts w.nodes whole (Ok used)
   going_none h =
       let none_left : g.left ≡ none = size_none g.left (omega (arith, g.rows.ends)) in
       let e : operations (op + 1) (members w.texts none) ≡ finished g.os = subst (λ f. operations (op + 1) (members w.texts f) ≡ finished g.os)
@@ -167,24 +166,23 @@ module _ {w : Table} {used row end op : ℕ} {whole : Run Value.Value} (g : Goin
     going_first = first_left.0
 
   -- it is performed
-  abbrev pub First-performs : First w row end op g.object g.os → List Row → Performed → Type 0
+  abbrev pub First-performs : First w row end op g.object g.os → List Row → Result ℕ Failure → Type 0
   First-performs first nodes' r = Performs w.texts nodes' (limited first.o g.now) (which_pointer first.o g.now) r
 
   module _ (first : First w row end op g.object g.os) {nodes' : List Row} where
-    going_performs : {k : ℕ} {r s : Performed} → PerformIs w nodes' used row k r → r ≡ s → First-performs first nodes' s
+    going_performs : {k : ℕ} {r s : Result ℕ Failure} → PerformIs w nodes' used row k r → r ≡ s → First-performs first nodes' s
     going_performs is e = subst (First-performs first nodes') e
         (is.held g.now g.document g.short first.o first.listed)
 
     -- where it is refused, and where it is done
-    pub going_refused : {number place pointer : ℕ} → First-performs first nodes' (Performed.Refused number place pointer)
-        → RanTo w.texts nodes' whole (Ran.Refused number (op + 1) place pointer)
-    going_refused {number} {place} (fails e f) =
+    pub going_refused : {x : Failure} → First-performs first nodes' (Err x) → RanTo w.texts nodes' whole (Err (stop_at (op + 1) x))
+    going_refused {x} (fails e f) =
         halted
         (sym g.gives ∙ ap (λ os. run limited (op + 1) os g.now) first.whole ∙ run_refused (op + 1) first.o first.later g.now e
-        ∙ ap (λ p. stopped (stop number (op + 1) place p)) (sym f))
+        ∙ ap (λ p. stopped (stop (number_of x.refusal) (op + 1) x.place p)) (sym f))
 
     unfoldable pub going_done : {used' : ℕ} → SamePatch w.nodes nodes' → (next : ℕ) → next ≡ end_of nodes' row
-        → First-performs first nodes' (Performed.Done used')
+        → First-performs first nodes' (Ok used')
         → Going (table w.texts nodes') used' next end (op + 1) whole
     going_done same next at (performs {v = u} e document) =
         let kept = rows-kept same g.behind g.before first.rows in
@@ -238,7 +236,7 @@ module _ {w : Table} {used row end op : ℕ} {whole : Run Origin.Value} (b : Goi
   abbrev g : Going w used row end op b.plain
   g = b.going
 
-  bearing_none : end ≤ row → RanBearing w.texts w.nodes whole (Ran.Done used)
+  bearing_none : end ≤ row → RanBearing w.texts w.nodes whole (Ok used)
   bearing_none h =
       let none_left : g.left ≡ none = size_none g.left (omega (arith, g.rows.ends)) in
       ran
@@ -264,17 +262,17 @@ module _ {w : Table} {used row end op : ℕ} {whole : Run Origin.Value} (b : Goi
         ∙ ap (λ os. run_with (op + 1) os b.value) (valued-first w.texts first.listed.c first.listed.kids first.rest first.o first.later))
         ∙ b.gives
 
-    abbrev Bearing-performs : List Row → Performed → Type 0
+    abbrev Bearing-performs : List Row → Result ℕ Failure → Type 0
     Bearing-performs nodes' r = PerformsBearing w.texts nodes' (limited_with (op + 1) first.o x b.value) (which_pointer first.o (forget b.value)) r
 
-    bearing_refused : {nodes' : List Row} {number place pointer : ℕ} → Bearing-performs nodes' (Performed.Refused number place pointer)
-        → RanBearing w.texts nodes' whole (Ran.Refused number (op + 1) place pointer)
-    bearing_refused {number = number} {place} (fails e f) =
+    bearing_refused : {nodes' : List Row} {y : Failure} → Bearing-performs nodes' (Err y) → RanBearing w.texts nodes' whole (Err (stop_at (op + 1) y))
+    bearing_refused {y = y} (fails e f) =
         halted
-        (sym begins_with ∙ with_refused (op + 1) first.o x others b.value e ∙ ap (λ p. stopped (stop number (op + 1) place p)) (sym f))
+        (sym begins_with ∙ with_refused (op + 1) first.o x others b.value e
+        ∙ ap (λ p. stopped (stop (number_of y.refusal) (op + 1) y.place p)) (sym f))
 
     bearing-done : {nodes' : List Row} {used' : ℕ} → SamePatch w.nodes nodes' → (next : ℕ) → next ≡ end_of nodes' row
-        → First-performs g first nodes' (Performed.Done used') → Bearing-performs nodes' (Performed.Done used')
+        → First-performs g first nodes' (Ok used') → Bearing-performs nodes' (Ok used')
         → GoingBearing (table w.texts nodes') used' next end (op + 1) whole
     unfolding going_done
     bearing-done same next at (performs e d) (performs f document) =
@@ -336,8 +334,26 @@ going_all w used start end =
           };
     }
 
+-- what is answered of an operation of the run is what it answered
+module _ {A : Type 0} (op : ℕ) (q : Result A Failure) {r : Result A Stop} (tells : r ≡ stopped_at op q) where
+  stopped_ok : {a : A} → r ≡ Ok a → q ≡ Ok a
+  unfolding stopped_at
+  stopped_ok {a} e = go q (sym tells ∙ e)
+    where
+      go : (s : Result A Failure) → stopped_at op s ≡ Ok a → s ≡ Ok a
+      go (Ok b) f = cc
+      go (Err g) f = absurd (let z : ◌≡◌ {A = ℕ} 0 1 = cc in omega arith)
+
+  stopped_err : {x : Stop} → r ≡ Err x → (f : Failure) × (q ≡ Err f) × (x ≡ stop_at op f)
+  unfolding stopped_at
+  stopped_err {x} e = go q (sym tells ∙ e)
+    where
+      go : (s : Result A Failure) → stopped_at op s ≡ Err x → (f : Failure) × (s ≡ Err f) × (x ≡ stop_at op f)
+      go (Ok b) f = absurd (let z : ◌≡◌ {A = ℕ} 0 1 = cc in omega arith)
+      go (Err g) f = (g, refl, cc)
+
 module _ {w₀ : Table} {nodes : List Row} {used₀ start end used row op : ℕ} (any : GoingAny w₀ used₀ start end nodes used row op) where
-  pub run_ends : end ≤ row → ElementsRunIs w₀ nodes used₀ start end (Ran.Done used)
+  pub run_ends : end ≤ row → ElementsRunIs w₀ nodes used₀ start end (Ok used)
   run_ends h =
       record {
         patch = any.patch;
@@ -348,7 +364,7 @@ module _ {w₀ : Table} {nodes : List Row} {used₀ start end used row op : ℕ}
       }
 
   module _ (more : row < end) where
-    pub run_inside : length nodes ≤ row → {r : Ran} → ElementsRunIs w₀ nodes used₀ start end r
+    pub run_inside : length nodes ≤ row → {r : Result ℕ Stop} → ElementsRunIs w₀ nodes used₀ start end r
     run_inside h =
         record {
           patch = any.patch;
@@ -359,12 +375,12 @@ module _ {w₀ : Table} {nodes : List Row} {used₀ start end used row op : ℕ}
         }
 
     -- the operation's number fits its field: there are no more operations than rows
-    module _ {nodes' : List Row} {r : Performed} {k : ℕ} (is : PerformIs (table w₀.texts nodes) nodes' used row k r) (number : k ≡ (op + 1) % values)
+    module _ {nodes' : List Row} {r : Result ℕ Failure} {k : ℕ} (is : PerformIs (table w₀.texts nodes) nodes' used row k r) (number : k ≡ (op + 1) % values)
         (low : op ≤ row) where
       numbered : end ≤ scratch_row → k ≡ op + 1
       numbered before = omega arith
 
-      performed : {s : Performed} {whole : Run Origin.Value} (b : GoingBearing (table w₀.texts nodes) used row end op whole)
+      performed : {s : Result ℕ Failure} {whole : Run Origin.Value} (b : GoingBearing (table w₀.texts nodes) used row end op whole)
           (first : First (table w₀.texts nodes) row end op b.going.object b.going.os) (e : r ≡ s)
           (left_is : b.going.left ≡ tree first.listed.c first.listed.kids first.rest) → Bearing-performs b more first left_is nodes' s
       performed b first e left_is =
@@ -374,9 +390,10 @@ module _ {w₀ : Table} {nodes : List Row} {used₀ start end used row op : ℕ}
           (which_pointer first.o (forget b.value)) r) n
           (is.bearing b.value b.document b.going.short first.o first.listed tt))
 
-      pub run_halts : {number place pointer : ℕ} → r ≡ Performed.Refused number place pointer
-          → ElementsRunIs w₀ nodes' used₀ start end (Ran.Refused number (op + 1) place pointer)
-      run_halts e =
+      pub run_halts : {q : Result ℕ Stop} → q ≡ stopped_at (op + 1) r → {x : Stop} → q ≡ Err x → ElementsRunIs w₀ nodes' used₀ start end (Err x)
+      run_halts tells ends =
+          let (y, e, x-is) = stopped_err _ r tells ends in
+          rw x-is
           record {
             patch = patch_then any.patch is.patch;
             held = λ v document short f rows behind before object proper os are.
@@ -389,9 +406,10 @@ module _ {w₀ : Table} {nodes : List Row} {used₀ start end used row op : ℕ}
                 bearing_refused b more first left_is (performed b first e left_is);
           }
 
-      pub run_next : {used' : ℕ} → r ≡ Performed.Done used' → (next : ℕ) → next ≡ end_of nodes' row
+      pub run_next : {q : Result ℕ Stop} → q ≡ stopped_at (op + 1) r → {used' : ℕ} → q ≡ Ok used' → (next : ℕ) → next ≡ end_of nodes' row
           → GoingAny w₀ used₀ start end nodes' used' next (op + 1)
-      run_next e next at =
+      run_next tells goes next at =
+          let e = stopped_ok _ r tells goes in
           record {
             patch = patch_then any.patch is.patch;
             held = λ v document short f rows behind before object proper os are.
@@ -416,7 +434,7 @@ pub shape-operations : (v : Value.Value) (os : List Operation.Operation) → sha
 unfolding shape
 shape-operations v os e = right_shape (is_array v.label) (leb (count v.kids) max_operations) os e
 
-pub run-patch : {w : Table} {nodes' : List Row} {used : ℕ} {r : Ran} (end : ℕ) → end ≡ end_of w.nodes patch_row
+pub run-patch : {w : Table} {nodes' : List Row} {used : ℕ} {r : Result ℕ Stop} (end : ℕ) → end ≡ end_of w.nodes patch_row
     → ElementsRunIs w nodes' used (patch_row + 1) end r → RunIs w nodes' used r
 run-patch {w} end e is =
     record {

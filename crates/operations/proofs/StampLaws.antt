@@ -1,6 +1,7 @@
 -- Laws of rows that get another origin: the loop's, and of the trees that they hold.
 use Prim.Native.Nat.{ℕ, zero, suc, ◌+◌, ◌-◌, ◌≤◌, ◌<◌}
 use native.Mathlib.Omega.{arith}
+use native.Mathlib.Decide.{dec_lt}
 use mathlib.Core.Path.{◌≡◌, refl, ap, ap₂, sym, ◌∙◌}
 use mathlib.Core.List.{List, [], ◌∷◌, ◌++◌}
 use lib.ListN.{length, take, drop, get_or, set, length-append, length-take, length-drop, take-append-drop}
@@ -43,17 +44,24 @@ stamp_next xs row (suc n) k h l =
     rw (next, less) (stamped_suc xs row n k h)
 
 -- no row is left, in the table and of those that were asked for
-pub stamp_out : (xs : List Row) (row n k : ℕ) → length xs ≤ row → stamped xs row n k ≡ xs
+stamp_out : (xs : List Row) (row n k : ℕ) → length xs ≤ row → stamped xs row n k ≡ xs
 unfolding stamped stamped_rows
 stamp_out [] zero n k h = none_stamped n k
 stamp_out [] (suc row) n k h = none_stamped n k
 stamp_out (x ∷ xs) zero n k h = absurd (omega arith)
 stamp_out (x ∷ xs) (suc row) n k h = ap (λ (l : List Row). x ∷ l) (stamp_out xs row n k (omega arith))
 
-pub stamp_none : (xs : List Row) (row n k : ℕ) → n ≤ 0 → stamped xs row n k ≡ xs
+stamp_none : (xs : List Row) (row n k : ℕ) → n ≤ 0 → stamped xs row n k ≡ xs
 unfolding stamped stamped_rows
 stamp_none xs row zero k h = take-append-drop row xs
 stamp_none xs row (suc n) k h = absurd (omega arith)
+
+pub stamp_over : (xs : List Row) (row left k : ℕ) → (row < length xs → left ≤ 0) → stamped xs row left k ≡ xs
+stamp_over xs row left k h = go (dec_lt row (length xs))
+  where
+    go : Dec (row < length xs) → stamped xs row left k ≡ xs
+    go (yes l) = stamp_none xs row left k (h l)
+    go (no l) = stamp_out xs row left k (omega arith)
 
 -- ---- the other rows
 pub stamped-before : (xs : List Row) (row n k : ℕ) → take row (stamped xs row n k) ≡ take row xs

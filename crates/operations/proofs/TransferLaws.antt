@@ -1,10 +1,12 @@
 -- Laws of a value that is moved within its array, or set aside and added at another location.
+use Rattle.std.specs.Prelude.{Result, Ok, Err}
 use Prim.Native.Nat.{ℕ}
 use native.Mathlib.Omega.{arith}
 use mathlib.Core.Path.{◌≡◌, sym, ap, ◌∙◌, subst}
 use mathlib.Core.Bool.{Bool, true, false, true≢false}
 use mathlib.Core.List.{List, [], ◌∷◌}
 use Rattle.spec.specs.Outcome.{Outcome, ◌>>=◌}
+use Rattle.spec.specs.declared.refusal.Fault.{Fault}
 use Rattle.spec.specs.Bytes.{Bytes}
 use Rattle.spec.specs.Value as Plain
 use Rattle.spec.specs.Operation as PlainOperation
@@ -17,50 +19,46 @@ use Rattle.tape.specs.Lent.{Table}
 use Rattle.table.specs.Meaning.{part_of, meant}
 use Rattle.pointer.specs.Tokens.{FirstOf}
 use Rattle.pointer.specs.declared.answers.First.{First}
-use Rattle.pointer.specs.declared.answers.First.TheVariants as First
 use Rattle.pointer.proofs.WalkLaws.{first_root, first_at, first_malformed}
 use Rattle.walk.specs.Bearing.{borne}
 use Rattle.walk.specs.Path.{WalkIs}
-use Rattle.walk.specs.declared.path.Reached.{Reached}
-use Rattle.walk.specs.declared.path.Reached.TheVariants as Reached
 use Rattle.walk.proofs.PathLaws.{first_of}
 use Rattle.changes.specs.Site.{table}
 use Rattle.changes.specs.Document.{Document, judged, ResultsBy, Results, results, refusal, adds_at, removes_at, ChangeAtIs}
 use Rattle.changes.specs.Document.{Bearing, judged_bearing, ResultsBearing, adds_bearing, removes_bearing}
 use Rattle.changes.specs.declared.answers.Change.TheVariants.{Add, Remove}
-use Rattle.changes.specs.declared.answers.Altered.{Altered}
-use Rattle.changes.specs.declared.answers.Altered.TheVariants.{Done, Refused}
 use Rattle.changes.proofs.KeptLaws.{offered_behind, frame_behind}
 use Rattle.changes.proofs.TokenLaws.{some_token}
 use Rattle.changes.proofs.DocumentLaws.{bearing_fits, the_bearing, no_bearing}
 use Rattle.shift.specs.Shift.{ShiftIs, shifted, kept}
-use Rattle.operations.specs.Answers.{PerformsBy, at_path, at_from, performs}
+use Rattle.operations.specs.Answers.{PerformsBy, told_at, performs}
 use Rattle.operations.specs.Stamp.{StampAsideIs}
 use Rattle.operations.specs.Perform.{SetAsideIs, CopyIs, MoveAsideIs, MoveBelowIs, MoveIs}
-use Rattle.operations.specs.declared.answers.Performed.{Performed}
-use Rattle.operations.specs.declared.answers.Performed.TheVariants as Performed
-use Rattle.operations.proofs.AnswerLaws.{bearing_there, bearing_lost, path_performs, from_performs}
+use Rattle.operations.specs.declared.answers.Pointer.TheVariants as Pointer
+use Rattle.operations.specs.declared.answers.Failure.{Failure}
+use Rattle.operations.proofs.AnswerLaws.{told_ok, told_err, bearing_there, bearing_lost, path_performs, from_performs}
 use Rattle.operations.proofs.PatchLaws.{patch_same, patch_then, patch_framed, patch_aside, patch-stamped}
 use Rattle.operations.proofs.RemovalLaws.{document_removed, bearing_removed}
 use Rattle.operations.proofs.AsideLaws.{aside_offered, aside_bearing, stamped_offered, stamped-bearing}
 use Rattle.operations.proofs.StampLaws.{stamp_cell, borne-stamped}
 
 -- an outcome that is the same gives the same results
-pub same_results : {A : Type 0} {Is : ℕ → A → Type 0} {o p : Outcome A} {r : Altered} → o ≡ p → ResultsBy Is p r → ResultsBy Is o r
+pub same_results : {A : Type 0} {Is : ℕ → A → Type 0} {o p : Outcome A} {r : Result ℕ Fault} → o ≡ p → ResultsBy Is p r → ResultsBy Is o r
 same_results e (results f d) = results (e ∙ f) d
 same_results e (refusal f) = refusal (e ∙ f)
 
 -- ---- a value copied
-module _ {w : Table} {used : ℕ} {from path : Spelling} (s : Reached) (is : WalkIs w document_row from s) (origin : ℕ) where
-  pub copy_done : {aside stamps nodes' : List Row} {q : Altered} {r : Performed} (row : ℕ) → s ≡ Reached.At row → SetAsideIs w.nodes aside row
-      → StampAsideIs aside stamps origin → ChangeAtIs (table w.texts stamps) nodes' used path (Add scratch_row) q → r ≡ at_path q
+module _ {w : Table} {used : ℕ} {from path : Spelling} (s : Result ℕ Fault) (is : WalkIs w document_row from s)
+    {place : Result ℕ Failure} (tells : place ≡ told_at Pointer.From s) (origin : ℕ) where
+  pub copy_done : {aside stamps nodes' : List Row} {q : Result ℕ Fault} {r : Result ℕ Failure} (row : ℕ) → place ≡ Ok row → SetAsideIs w.nodes aside row
+      → StampAsideIs aside stamps origin → ChangeAtIs (table w.texts stamps) nodes' used path (Add scratch_row) q → r ≡ told_at Pointer.Path q
       → CopyIs w nodes' used from path origin r
   unfolding copy_to ◌>>=◌
   copy_done row e aside stamps changed told =
       record {
         patch = patch_then (patch_then (patch_aside row aside) (patch-stamped _ origin stamps)) (patch_framed changed.frame);
         bearing = λ v b short gs from_is ts path_is.
-            the_bearing s is b short from_is e λ c kids found node inside.
+            the_bearing s is b short from_is (told_ok _ s tells e) λ c kids found node inside.
             let d = aside_bearing b node inside aside in
             let offered = aside_offered b.document node inside aside in
             let there = adds_bearing scratch_row (stamp_cell origin c) _ (stamped_offered origin offered stamps) in
@@ -69,21 +67,21 @@ module _ {w : Table} {used : ℕ} {from path : Spelling} (s : Reached) (is : Wal
             (changed.bearing v (stamped-bearing origin offered stamps d) short ts path_is _ there));
       }
 
-  pub copy_refused : {number place : ℕ} {r : Performed} → s ≡ Reached.Lost number place → r ≡ at_from number place
-      → CopyIs w w.nodes used from path origin r
+  pub copy_refused : (x : Failure) → place ≡ Err x → CopyIs w w.nodes used from path origin (Err x)
   unfolding copy_to ◌>>=◌
-  copy_refused {number} {place} e told =
+  copy_refused x e =
+      let (f, lost, is-failure) = told_err _ s tells e in
       record {
         patch = patch_same;
         bearing = λ v b short gs from_is ts path_is.
-            let none = no_bearing s is b short from_is e in
-            from_performs {number = number} {place = place} (λ n. bearing_lost gs v n none) told (rw none);
+            let none = no_bearing s is b short from_is lost in
+            from_performs f is-failure (λ n. bearing_lost gs v n none) (rw none);
       }
 
 -- ---- a value moved
 -- where the value is set aside: removed, and added in what is left
-module _ {w : Table} {left-nodes : List Row} {used : ℕ} {from path : Spelling} (q : Altered) (is : ChangeAtIs w left-nodes used from Remove q) where
-  pub aside_refused : {number place : ℕ} → q ≡ Refused number place → MoveAsideIs w left-nodes used from path q
+module _ {w : Table} {left-nodes : List Row} {used : ℕ} {from path : Spelling} (q : Result ℕ Fault) (is : ChangeAtIs w left-nodes used from Remove q) where
+  pub aside_refused : {f : Fault} → q ≡ Err f → MoveAsideIs w left-nodes used from path q
   unfolding ◌>>=◌
   aside_refused e =
       record {
@@ -95,18 +93,18 @@ module _ {w : Table} {left-nodes : List Row} {used : ℕ} {from path : Spelling}
             bears (bearing_removed b (g ∷ gs)) (add_at ts (borne w.texts x kids)) (is.bearing v b short (g ∷ gs) from_is remove_at_path removes_bearing) e;
       }
     where
-      plain : {r : Altered} {number place : ℕ} {o : Outcome Plain.Value} → judged o ≡ o → (then-it : Plain.Value → Outcome Plain.Value)
-          → Results w.texts left-nodes (judged o) r → r ≡ Refused number place → Results w.texts left-nodes (judged (o >>= then-it)) r
+      plain : {r : Result ℕ Fault} {x : Fault} {o : Outcome Plain.Value} → judged o ≡ o → (then-it : Plain.Value → Outcome Plain.Value)
+          → Results w.texts left-nodes (judged o) r → r ≡ Err x → Results w.texts left-nodes (judged (o >>= then-it)) r
       plain same then-it (results f d') h = absurd (let z : ◌≡◌ {A = ℕ} 0 1 = cc in omega arith)
-      plain same then-it (refusal {number = n} {place = k} f) h = refusal {number = n} {place = k} (rw (sym same ∙ f))
+      plain same then-it (refusal {e} f) h = refusal {e = e} (rw (sym same ∙ f))
 
-      bears : {r : Altered} {number place : ℕ} {o : Outcome Value.Value} → judged_bearing o ≡ o → (then-it : Value.Value → Outcome Value.Value)
-          → ResultsBearing w.texts left-nodes (judged_bearing o) r → r ≡ Refused number place
+      bears : {r : Result ℕ Fault} {x : Fault} {o : Outcome Value.Value} → judged_bearing o ≡ o → (then-it : Value.Value → Outcome Value.Value)
+          → ResultsBearing w.texts left-nodes (judged_bearing o) r → r ≡ Err x
           → ResultsBearing w.texts left-nodes (judged_bearing (o >>= then-it)) r
       bears same then-it (results f d') h = absurd (let z : ◌≡◌ {A = ℕ} 0 1 = cc in omega arith)
-      bears same then-it (refusal {number = n} {place = k} f) h = refusal {number = n} {place = k} (rw (sym same ∙ f))
+      bears same then-it (refusal {e} f) h = refusal {e = e} (rw (sym same ∙ f))
 
-  pub aside_done : {nodes' : List Row} {r : Altered} (left : ℕ) → q ≡ Done left → ChangeAtIs (table w.texts left-nodes) nodes' left path (Add scratch_row) r
+  pub aside_done : {nodes' : List Row} {r : Result ℕ Fault} (left : ℕ) → q ≡ Ok left → ChangeAtIs (table w.texts left-nodes) nodes' left path (Add scratch_row) r
       → MoveAsideIs w nodes' used from path r
   unfolding ◌>>=◌
   aside_done {nodes'} {r} left e changed =
@@ -122,55 +120,56 @@ module _ {w : Table} {left-nodes : List Row} {used : ℕ} {from path : Spelling}
             (is.bearing v b short (g ∷ gs) from_is remove_at_path removes_bearing) e;
       }
     where
-      plain : {p : Altered} {o : Outcome Plain.Value} → judged o ≡ o → (add : Plain.Value → Outcome Plain.Value)
+      plain : {p : Result ℕ Fault} {o : Outcome Plain.Value} → judged o ≡ o → (add : Plain.Value → Outcome Plain.Value)
           → ((u : Plain.Value) → Document (table w.texts left-nodes) left u → Results w.texts nodes' (judged (add u)) r)
-          → Results w.texts left-nodes (judged o) p → p ≡ Done left → Results w.texts nodes' (judged (o >>= add)) r
+          → Results w.texts left-nodes (judged o) p → p ≡ Ok left → Results w.texts nodes' (judged (o >>= add)) r
       plain same add added (results {used = now} {v = u} f d') h =
           let left-same : now ≡ left = cc in
           same_results (rw (sym same ∙ f)) (added u (subst (λ n. Document (table w.texts left-nodes) n u) left-same d'))
       plain same add added (refusal f) h = absurd (let z : ◌≡◌ {A = ℕ} 0 1 = cc in omega arith)
 
-      bears : {p : Altered} {o : Outcome Value.Value} → judged_bearing o ≡ o → (add : Value.Value → Outcome Value.Value)
+      bears : {p : Result ℕ Fault} {o : Outcome Value.Value} → judged_bearing o ≡ o → (add : Value.Value → Outcome Value.Value)
           → ((u : Value.Value) → Bearing (table w.texts left-nodes) left u → ResultsBearing w.texts nodes' (judged_bearing (add u)) r)
-          → ResultsBearing w.texts left-nodes (judged_bearing o) p → p ≡ Done left → ResultsBearing w.texts nodes' (judged_bearing (o >>= add)) r
+          → ResultsBearing w.texts left-nodes (judged_bearing o) p → p ≡ Ok left → ResultsBearing w.texts nodes' (judged_bearing (o >>= add)) r
       bears same add added (results {used = now} {v = u} f d') h =
           let left-same : now ≡ left = cc in
           same_results (rw (sym same ∙ f)) (added u (subst (λ n. Bearing (table w.texts left-nodes) n u) left-same d'))
       bears same add added (refusal f) h = absurd (let z : ◌≡◌ {A = ℕ} 0 1 = cc in omega arith)
 
 -- from another location than the root
-module _ {w : Table} {used : ℕ} {from path : Spelling} (s : Reached) (is : WalkIs w document_row from s) where
-  pub value-moved : {aside nodes' : List Row} {q : Altered} {r : Performed} (row : ℕ) → s ≡ Reached.At row → SetAsideIs w.nodes aside row
-      → MoveAsideIs (table w.texts aside) nodes' used from path q → r ≡ at_path q → MoveBelowIs w nodes' used from path r
+module _ {w : Table} {used : ℕ} {from path : Spelling} (s : Result ℕ Fault) (is : WalkIs w document_row from s)
+    {place : Result ℕ Failure} (tells : place ≡ told_at Pointer.From s) where
+  pub value-moved : {aside nodes' : List Row} {q : Result ℕ Fault} {r : Result ℕ Failure} (row : ℕ) → place ≡ Ok row → SetAsideIs w.nodes aside row
+      → MoveAsideIs (table w.texts aside) nodes' used from path q → r ≡ told_at Pointer.Path q → MoveBelowIs w nodes' used from path r
   unfolding move_to ◌>>=◌
   value-moved row e aside moves told =
       record {
         patch = patch_then (patch_aside row aside) moves.patch;
         bearing = λ v b short g gs from_is ts path_is.
-            the_bearing s is b short from_is e λ c kids found node inside.
+            the_bearing s is b short from_is (told_ok _ s tells e) λ c kids found node inside.
             path_performs (λ n. bearing_there (g ∷ gs) v n found) told
             (same_results (rw found)
             (moves.bearing v (aside_bearing b node inside aside) short g gs from_is ts path_is c kids (aside_offered b.document node inside aside)));
       }
 
-  pub value-lost : {number place : ℕ} {r : Performed} → s ≡ Reached.Lost number place → r ≡ at_from number place
-      → MoveBelowIs w w.nodes used from path r
+  pub value-lost : (x : Failure) → place ≡ Err x → MoveBelowIs w w.nodes used from path (Err x)
   unfolding move_to ◌>>=◌
-  value-lost {number} {place} e told =
+  value-lost x e =
+      let (f, lost, is-failure) = told_err _ s tells e in
       record {
         patch = patch_same;
         bearing = λ v b short g gs from_is ts path_is.
-            let none = no_bearing s is b short from_is e in
-            from_performs {number = number} {place = place} (λ n. bearing_lost (g ∷ gs) v n none) told (rw none);
+            let none = no_bearing s is b short from_is lost in
+            from_performs f is-failure (λ n. bearing_lost (g ∷ gs) v n none) (rw none);
       }
 
 -- within one array, where that is done and where not
-done_performs : {A : Type 0} {Is : ℕ → A → Type 0} {o : Outcome A} {pointer : ℕ → ℕ} {used : ℕ} → ResultsBy Is o (Done used)
-    → PerformsBy Is o pointer (Performed.Done used)
+done_performs : {A : Type 0} {Is : ℕ → A → Type 0} {o : Outcome A} {pointer : ℕ → ℕ} {used : ℕ} → ResultsBy Is o (Ok used)
+    → PerformsBy Is o pointer (Ok used)
 done_performs (results e d) = performs e d
 
 pub shift_done : {w : Table} {nodes' : List Row} {used : ℕ} {from path : Spelling} {r : Bool} → r ≡ true → ShiftIs w nodes' used from path r
-    → MoveBelowIs w nodes' used from path (Performed.Done used)
+    → MoveBelowIs w nodes' used from path (Ok used)
 shift_done e (shifted moves) =
     record { patch = moves.patch; bearing = λ v b short g gs from_is ts path_is. done_performs (moves.bearing v b short g gs from_is ts path_is) }
 shift_done e (kept is) = absurd (true≢false (sym e))
@@ -181,7 +180,7 @@ shift_kept e (shifted moves) = absurd (true≢false e)
 shift_kept e (kept is) = is
 
 -- what holds of the table as it then is holds of it as it was
-pub below_kept : {w : Table} {kept-nodes nodes' : List Row} {used : ℕ} {from path : Spelling} {r : Performed} → kept-nodes ≡ w.nodes
+pub below_kept : {w : Table} {kept-nodes nodes' : List Row} {used : ℕ} {from path : Spelling} {r : Result ℕ Failure} → kept-nodes ≡ w.nodes
     → MoveBelowIs (table w.texts kept-nodes) nodes' used from path r → MoveBelowIs w nodes' used from path r
 below_kept {w} {nodes' = nodes'} {used} {from} {path} {r} e is =
     subst (λ n. MoveBelowIs (table w.texts n) nodes' used from path r) e is
@@ -189,7 +188,7 @@ below_kept {w} {nodes' = nodes'} {used} {from} {path} {r} e is =
 -- from any location
 module _ {w : Table} {used : ℕ} {from path : Spelling} (pointer : Bytes) (pointer_is : pointer ≡ part_of w.texts from) (f : First) (is : FirstOf pointer f)
   where
-    pub move_root : f ≡ First.Root → MoveIs w w.nodes used from path (Performed.Done used)
+    pub move_root : f ≡ First.Root → MoveIs w w.nodes used from path (Ok used)
     unfolding move_to
     move_root e =
         record {
@@ -199,14 +198,14 @@ module _ {w : Table} {used : ℕ} {from path : Spelling} (pointer : Bytes) (poin
               performs {v = v} (rw none_is (bearing_fits d)) d;
         }
 
-    pub move_malformed : {r : Performed} → f ≡ First.Malformed → MoveIs w w.nodes used from path r
+    pub move_malformed : {r : Result ℕ Failure} → f ≡ First.Malformed → MoveIs w w.nodes used from path r
     move_malformed e =
         record {
           patch = patch_same;
           bearing = λ v d short gs from_is ts path_is. absurd (first_malformed (part_of w.texts from) f (first_of pointer pointer_is is) gs e from_is.is);
         }
 
-    pub move_at : {nodes' : List Row} {r : Performed} (at : ℕ) → f ≡ First.At at → MoveBelowIs w nodes' used from path r → MoveIs w nodes' used from path r
+    pub move_at : {nodes' : List Row} {r : Result ℕ Failure} (at : ℕ) → f ≡ First.At at → MoveBelowIs w nodes' used from path r → MoveIs w nodes' used from path r
     move_at at e moves =
         record {
           patch = moves.patch;

@@ -1,48 +1,92 @@
-// What an operation answers.
+// What an operation answers: how many rows the document has from now on, or why it fails.
 ghost use Rattle.std.specs.Prelude.{◌≡◌};
-ghost use Rattle.operations.specs.Answers.{pointer_of, at_path, at_from};
+ghost use Rattle.operations.specs.Answers.{numbered};
 
-use changes::Altered;
-use spec::refusal;
+use spec::refusal::{Fault, Refusal};
 
-#[derive(Clone, Copy)]
-pub enum Performed {
-    // the document's rows from now on
-    Done(usize),
-    // the number of the refusal, its place, and the pointer that leads nowhere: 1 for `path`, 2 for `from`, else 0
-    Refused(u8, usize, u8),
+// A pointer of an operation, by the number that an answer has for it.
+#[derive(Clone, Copy, Debug, PartialEq, Eq)]
+pub enum Pointer {
+    Path = 1,
+    From = 2,
 }
 
-// The pointer that belongs to a refusal's number: only 11 and 12 have one.
-fn pointer_of(number: u8, which: u8) -> u8
-    ensures { result ≡ pointer_of which number }
-{
-    if number == refusal::LOCATION_MISSING {
-        return which;
-    }
-    if number == refusal::NO_INDEX {
-        return which;
-    }
-    0
+// A refusal, its place, and the pointer that leads nowhere, if one does.
+#[derive(Clone, Copy, Debug, PartialEq, Eq)]
+pub struct Failure {
+    pub refusal: Refusal,
+    pub place: usize,
+    pub pointer: Option<Pointer>,
 }
 
-// What became of the document at `path`.
-pub fn at_path(r: Altered) -> Performed
-    ensures { result ≡ at_path r }
-{
-    match r {
-        Altered::Done(used) => return Performed::Done(used),
-        Altered::Refused(number, place) => return Performed::Refused(
-            number,
-            place,
-            pointer_of(number, 1),
-        ),
+// The same of a run, with the number of the operation that fails.
+#[derive(Clone, Copy, Debug, PartialEq, Eq)]
+pub struct Stop {
+    pub refusal: Refusal,
+    pub op: usize,
+    pub place: usize,
+    pub pointer: Option<Pointer>,
+}
+
+// No operation of a patch of the right shape fails so.
+pub const MISSHAPEN: Failure = Failure {
+    refusal: Refusal::WrongShape,
+    place: 0,
+    pointer: None,
+};
+
+impl Pointer {
+    ghost use Rattle.operations.specs.Answers.{pointer_for, failure_at, told_at};
+
+    // This pointer, where a refusal has one: a location is missing, or a token is no index.
+    fn of(self, refusal: Refusal) -> Option<Pointer>
+        ensures { result ≡ pointer_for self refusal }
+    {
+        match refusal {
+            Refusal::LocationMissing | Refusal::NoIndex => Some(self),
+            _ => None,
+        }
+    }
+
+    // A fault at the location that this pointer names.
+    fn failure(self, fault: Fault) -> Failure
+        ensures { result ≡ failure_at self fault }
+    {
+        Failure {
+            refusal: fault.refusal,
+            place: fault.place,
+            pointer: self.of(fault.refusal),
+        }
+    }
+
+    // What became of a step at the location that this pointer names.
+    pub fn told<T>(self, step: Result<T, Fault>) -> Result<T, Failure>
+        ensures { result ≡ told_at self step }
+    {
+        step.map_err(|fault| self.failure(fault))
     }
 }
 
-// A walk along `from` is lost.
-pub fn at_from(number: u8, place: usize) -> Performed
-    ensures { result ≡ at_from number place }
-{
-    Performed::Refused(number, place, pointer_of(number, 2))
+impl From<Pointer> for u8 {
+    ghost from_gives = { λ pointer number. number ≡ numbered pointer };
+
+    fn from(pointer: Pointer) -> u8 {
+        pointer as u8
+    }
+}
+
+impl Failure {
+    ghost use Rattle.operations.specs.Answers.{stop_at};
+
+    // This failure of an operation, by its number in the run.
+    pub fn stop(self, op: usize) -> Stop
+        ensures { result ≡ stop_at op self }
+    {
+        Stop {
+            refusal: self.refusal,
+            op,
+            place: self.place,
+            pointer: self.pointer,
+        }
+    }
 }

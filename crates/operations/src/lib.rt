@@ -15,7 +15,7 @@ mod transfers; // a value moved and copied; crate shift moves it within one arra
 pub mod perform; // one operation of the patch
 mod runs; // the operations one after another
 
-pub use answers::{Performed, at_path};
-pub use runs::{Ran, run};
+pub use answers::{Failure, Pointer, Stop};
+pub use runs::run;
 pub use stamps::stamp;
 pub use transfers::set_aside;

@@ -2,30 +2,29 @@
 ghost use Rattle.tape.specs.Lent.{before};
 ghost use Rattle.operations.specs.Perform.{MoveGiven, CopyGiven, EqualToIs, PerformIs};
 
-use crate::answers::{Performed, at_path};
+use crate::answers::{Failure, MISSHAPEN, Pointer};
 use crate::transfers::{copy_value, move_value};
-use changes::{Altered, Change, change_at};
+use changes::{Change, change_at};
 use equality::compare;
-use shape::{Kind, Spelled, kind_named, members_of, string_in};
-use spec::{limits, refusal};
+use shape::{Kind, kind_named, members_of, string_in};
+use spec::limits;
+use spec::refusal::{Fault, Refusal};
 use tape::fields::Spelling;
 use tape::layout;
 use tape::layout::{Node, Texts};
-use walk::{Reached, walk};
+use walk::walk;
 
 // RFC 6902, section 4.4: the value at `from` is removed, then added at `path`. The row of `from` is given.
 fn move_to<'a>(
     texts: Texts<'a>,
     nodes: &mut [Node],
     used: usize,
-    at: usize,
+    at: Option<usize>,
     path: Spelling,
-) -> Performed
+) -> Result<usize, Failure>
     ensures { MoveGiven (before texts nodes.old) nodes.new used at path result }
 {
-    let Spelled::As(from) = string_in(nodes, at) else {
-        return Performed::Refused(refusal::WRONG_SHAPE, 0, 0);
-    };
+    let from = string_in(nodes, at).ok_or(MISSHAPEN)?;
     move_value(texts, nodes, used, from, path)
 }
 
@@ -34,15 +33,13 @@ fn copy<'a>(
     texts: Texts<'a>,
     nodes: &mut [Node],
     used: usize,
-    at: usize,
+    at: Option<usize>,
     path: Spelling,
     op: u16,
-) -> Performed
+) -> Result<usize, Failure>
     ensures { CopyGiven (before texts nodes.old) nodes.new used at path op result }
 {
-    let Spelled::As(from) = string_in(nodes, at) else {
-        return Performed::Refused(refusal::WRONG_SHAPE, 0, 0);
-    };
+    let from = string_in(nodes, at).ok_or(MISSHAPEN)?;
     copy_value(texts, nodes, used, from, path, op)
 }
 
@@ -54,18 +51,14 @@ fn equal_to<'a>(
     used: usize,
     path: Spelling,
     value: usize,
-) -> Altered
+) -> Result<usize, Fault>
     ensures { EqualToIs (before texts nodes.now) used path value result }
 {
-    match walk(texts, nodes, layout::DOCUMENT, path) {
-        Reached::At(row) => {
-            if compare(texts, nodes, index, row, value, limits::MAX_DEPTH) {
-                return Altered::Done(used);
-            }
-            return Altered::Refused(refusal::TEST_DIFFERS, 0);
-        }
-        Reached::Lost(number, walked) => return Altered::Refused(number, walked),
+    let row = walk(texts, nodes, layout::DOCUMENT, path)?;
+    if !compare(texts, nodes, index, row, value, limits::MAX_DEPTH) {
+        return Err(Refusal::TestDiffers.at(0));
     }
+    Ok(used)
 }
 
 // The operation in a row of the patch, and its number in the run: a copy bears it. RFC 6902, section 4. In a patch of
@@ -77,31 +70,28 @@ pub fn perform<'a>(
     used: usize,
     row: usize,
     op: u16,
-) -> Performed
+) -> Result<usize, Failure>
     ensures { PerformIs (before texts nodes.old) nodes.new used row op result }
 {
     let members = members_of(texts, nodes, row);
-    let Spelled::As(path) = string_in(nodes, members.path) else {
-        return Performed::Refused(refusal::WRONG_SHAPE, 0, 0);
-    };
-    let Spelled::As(word) = string_in(nodes, members.op) else {
-        return Performed::Refused(refusal::WRONG_SHAPE, 0, 0);
-    };
-    let kind = kind_named(texts, word);
-    let value = members.value;
+    let path = string_in(nodes, members.path).ok_or(MISSHAPEN)?;
+    let word = string_in(nodes, members.op).ok_or(MISSHAPEN)?;
+    let kind = kind_named(texts, word).ok_or(MISSHAPEN)?;
     match kind {
-        Kind::Add => return at_path(change_at(texts, nodes, used, path, Change::Add(value))),
-        Kind::Remove => return at_path(change_at(texts, nodes, used, path, Change::Remove)),
-        Kind::Replace => return at_path(change_at(
-            texts,
-            nodes,
-            used,
-            path,
-            Change::Replace(value),
-        )),
-        Kind::Move => return move_to(texts, nodes, used, members.from, path),
-        Kind::Copy => return copy(texts, nodes, used, members.from, path, op),
-        Kind::Test => return at_path(equal_to(texts, nodes, index, used, path, value)),
-        Kind::Unknown => return Performed::Refused(refusal::WRONG_SHAPE, 0, 0),
+        Kind::Add => {
+            let value = members.value.ok_or(MISSHAPEN)?;
+            Pointer::Path.told(change_at(texts, nodes, used, path, Change::Add(value)))
+        }
+        Kind::Remove => Pointer::Path.told(change_at(texts, nodes, used, path, Change::Remove)),
+        Kind::Replace => {
+            let value = members.value.ok_or(MISSHAPEN)?;
+            Pointer::Path.told(change_at(texts, nodes, used, path, Change::Replace(value)))
+        }
+        Kind::Move => move_to(texts, nodes, used, members.from, path),
+        Kind::Copy => copy(texts, nodes, used, members.from, path, op),
+        Kind::Test => {
+            let value = members.value.ok_or(MISSHAPEN)?;
+            Pointer::Path.told(equal_to(texts, nodes, index, used, path, value))
+        }
     }
 }

@@ -2,20 +2,12 @@
 ghost use Rattle.tape.specs.Lent.{before};
 ghost use Rattle.operations.specs.Run.{ElementsRunIs, RunIs};
 
-use crate::answers::Performed;
+use crate::answers::Stop;
 use crate::perform::perform;
 use tape::fields::narrow;
 use tape::layout;
 use tape::layout::{Node, Texts};
 use tape::nodes::end_of;
-
-#[derive(Clone, Copy)]
-pub enum Ran {
-    // the document's number of rows then
-    Done(usize),
-    // the number of the refusal, the operation, the place and the pointer
-    Refused(u8, usize, usize, u8),
-}
 
 // The operations in the rows from `start` up to `end`, the first of which is operation 1; the first that fails ends
 // the run.
@@ -26,7 +18,7 @@ fn elements<'a>(
     used: usize,
     start: usize,
     end: usize,
-) -> Ran
+) -> Result<usize, Stop>
     ensures { ElementsRunIs (before texts nodes.old) nodes.new used start end result }
 {
     let mut rows = used;
@@ -34,24 +26,23 @@ fn elements<'a>(
     let mut op = 0;
     while row < end {
         if nodes.len() <= row {
-            return Ran::Done(rows);
+            return Ok(rows);
         }
         op += 1;
-        match perform(texts, nodes, index, rows, row, narrow(op)) {
-            Performed::Done(n) => {
-                rows = n;
-                row = end_of(nodes, row);
-            }
-            Performed::Refused(number, place, pointer) => {
-                return Ran::Refused(number, op, place, pointer);
-            }
-        }
+        let performed = perform(texts, nodes, index, rows, row, narrow(op));
+        rows = performed.map_err(|failure| failure.stop(op))?;
+        row = end_of(nodes, row);
     }
-    Ran::Done(rows)
+    Ok(rows)
 }
 
 // The operations of a patch of the right shape, on a document of `used` rows.
-pub fn run<'a>(texts: Texts<'a>, nodes: &mut [Node], index: &mut [u16], used: usize) -> Ran
+pub fn run<'a>(
+    texts: Texts<'a>,
+    nodes: &mut [Node],
+    index: &mut [u16],
+    used: usize,
+) -> Result<usize, Stop>
     ensures { RunIs (before texts nodes.old) nodes.new used result }
 {
     let end = end_of(nodes, layout::PATCH);

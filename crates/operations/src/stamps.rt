@@ -10,15 +10,9 @@ use tape::layout::Node;
 pub fn stamp(nodes: &mut [Node], start: usize, count: usize, origin: u16)
     ensures { nodes.new ≡ stamped nodes.old start count origin }
 {
-    let mut row = start;
-    let mut left = count;
-    while 0 < left {
-        if nodes.len() <= row {
-            return;
-        }
+    let end = start.saturating_add(count).min(nodes.len());
+    for row in start..end {
         nodes[row][layout::ORIGIN] = origin;
-        row += 1;
-        left -= 1;
     }
 }
 

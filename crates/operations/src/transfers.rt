@@ -2,18 +2,18 @@
 ghost use Rattle.tape.specs.Lent.{before};
 ghost use Rattle.operations.specs.Perform.{SetAsideIs, CopyIs, MoveAsideIs, MoveBelowIs, MoveIs};
 
-use crate::answers::{Performed, at_from, at_path};
+use crate::answers::{Failure, Pointer};
 use crate::stamps::stamp_aside;
-use changes::{Altered, Change, change_at, size};
+use changes::{Change, change_at, size};
 use pointer::{First, first};
 use shift::shift_within;
-use spec::refusal;
+use spec::refusal::{Fault, Refusal};
 use table::spellings::part;
 use tape::fields::Spelling;
 use tape::layout;
 use tape::layout::{Node, Texts};
 use tape::moves::slide;
-use walk::{Reached, walk};
+use walk::walk;
 
 // The tree in a row is copied to the scratch rows.
 pub fn set_aside(nodes: &mut [Node], row: usize)
@@ -31,17 +31,13 @@ pub fn copy_value<'a>(
     from: Spelling,
     path: Spelling,
     origin: u16,
-) -> Performed
+) -> Result<usize, Failure>
     ensures { CopyIs (before texts nodes.old) nodes.new used from path origin result }
 {
-    match walk(texts, nodes, layout::DOCUMENT, from) {
-        Reached::At(row) => {
-            set_aside(nodes, row);
-            stamp_aside(nodes, origin);
-            return at_path(change_at(texts, nodes, used, path, Change::Add(layout::SCRATCH)));
-        }
-        Reached::Lost(number, walked) => return at_from(number, walked),
-    }
+    let row = Pointer::From.told(walk(texts, nodes, layout::DOCUMENT, from))?;
+    set_aside(nodes, row);
+    stamp_aside(nodes, origin);
+    Pointer::Path.told(change_at(texts, nodes, used, path, Change::Add(layout::SCRATCH)))
 }
 
 // The value at `from`, which is set aside, is removed, and added at `path` in what is left.
@@ -51,13 +47,10 @@ fn move_aside<'a>(
     used: usize,
     from: Spelling,
     path: Spelling,
-) -> Altered
+) -> Result<usize, Fault>
     ensures { MoveAsideIs (before texts nodes.old) nodes.new used from path result }
 {
-    let r = change_at(texts, nodes, used, from, Change::Remove);
-    let Altered::Done(left) = r else {
-        return r;
-    };
+    let left = change_at(texts, nodes, used, from, Change::Remove)?;
     change_at(texts, nodes, left, path, Change::Add(layout::SCRATCH))
 }
 
@@ -68,19 +61,15 @@ fn move_below<'a>(
     used: usize,
     from: Spelling,
     path: Spelling,
-) -> Performed
+) -> Result<usize, Failure>
     ensures { MoveBelowIs (before texts nodes.old) nodes.new used from path result }
 {
     if shift_within(texts, nodes, used, from, path) {
-        return Performed::Done(used);
+        return Ok(used);
     }
-    match walk(texts, nodes, layout::DOCUMENT, from) {
-        Reached::At(row) => {
-            set_aside(nodes, row);
-            return at_path(move_aside(texts, nodes, used, from, path));
-        }
-        Reached::Lost(number, walked) => return at_from(number, walked),
-    }
+    let row = Pointer::From.told(walk(texts, nodes, layout::DOCUMENT, from))?;
+    set_aside(nodes, row);
+    Pointer::Path.told(move_aside(texts, nodes, used, from, path))
 }
 
 // RFC 6902, section 4.4: the value at `from` is removed, then added at `path`. The root is moved only to itself.
@@ -90,12 +79,16 @@ pub fn move_value<'a>(
     used: usize,
     from: Spelling,
     path: Spelling,
-) -> Performed
+) -> Result<usize, Failure>
     ensures { MoveIs (before texts nodes.old) nodes.new used from path result }
 {
     match first(part(texts, from)) {
-        First::Root => return Performed::Done(used),
-        First::At(_) => return move_below(texts, nodes, used, from, path),
-        First::Malformed => return Performed::Refused(refusal::MALFORMED_POINTER, 0, 0),
+        First::Root => Ok(used),
+        First::At(_) => move_below(texts, nodes, used, from, path),
+        First::Malformed => Err(Failure {
+            refusal: Refusal::MalformedPointer,
+            place: 0,
+            pointer: None,
+        }),
     }
 }

@@ -8,25 +8,21 @@
 #![tactic(auto)]
 
 mod lines; // what is printed
-mod merged; // the call for merge patches
-mod plain; // the plain call
+mod plain; // the calls without an undo
 mod rooms; // how much is lent
 mod undone; // the call with an undo
-mod within; // the call with a region
 
 ghost use Rattle.std.specs.Prelude.{◌≤◌};
 
-use cases::{
-    Case, Contents, Found, Taken, buffer, bytes_of, case_of, front, print_no_case, read_cases, say,
-    word_at,
-};
-use merged::{run_merged, short_merged};
+use cases::{Case, buffer, bytes_of, case_of, print_name, print_no_case, read_cases, word_at};
+use listing::apply_listing;
+use merge_listing::merge_listing;
 use plain::{run_plain, short_plain};
+use region_listing::apply_within_listing;
 use rooms::{LIST, OUTPUT, UNDO};
 use std::io;
 use tape::fields::narrow;
 use undone::{run_undone, short_buffer, short_undone};
-use within::{run_within, short_within};
 
 // The case's lines behind its name.
 fn run_call(rt: &impl Print, call: &[u8], file: &[u8], c: Case, rubbish: u16) -> io::Result<()>
@@ -34,41 +30,43 @@ fn run_call(rt: &impl Print, call: &[u8], file: &[u8], c: Case, rubbish: u16) ->
     requires second_bound { c.rooms.second ≤ 32_768 }
     requires third_bound { c.rooms.third ≤ 2_048 }
 {
+    let document = bytes_of(file, c.texts.first);
+    let patch = bytes_of(file, c.texts.second);
+    let region = bytes_of(file, c.texts.third);
     match call {
-        b"apply" => run_plain(rt, file, c, rubbish),
-        b"within" => run_within(rt, file, c, rubbish),
-        b"merge" => run_merged(rt, file, c, rubbish),
+        b"apply" => run_plain(rt, file, c, rubbish, |output, origins, nodes, index| {
+            apply_listing(document, patch, output, origins, nodes, index)
+        }),
+        b"within" => run_plain(rt, file, c, rubbish, |output, origins, nodes, index| {
+            apply_within_listing(document, patch, region, output, origins, nodes, index)
+        }),
+        b"merge" => run_plain(rt, file, c, rubbish, |output, origins, nodes, index| {
+            merge_listing(document, patch, output, origins, nodes, index)
+        }),
         b"undo" => run_undone(rt, file, c, rubbish),
-        _ => say(rt, b"no such call\n"),
+        _ => println!(rt; "no such call"),
     }
 }
 
 // The case's lines, with another text in them where there is less room than the case asks for.
 fn run_case(rt: &impl Print, call: &[u8], file: &[u8], c: Case, rubbish: u16) -> io::Result<()> {
-    let lent = c.rooms;
-    say(rt, bytes_of(file, c.name))?;
-    say(rt, b": ")?;
-    if OUTPUT < lent.first {
-        return say(rt, b"there is less room\n");
-    }
-    if UNDO < lent.second {
-        return say(rt, b"there is less room\n");
-    }
-    if LIST < lent.third {
-        return say(rt, b"there is less room\n");
+    print_name(rt, file, c)?;
+    if OUTPUT < c.rooms.first || UNDO < c.rooms.second || LIST < c.rooms.third {
+        return println!(rt; "there is less room");
     }
     run_call(rt, call, file, c, rubbish)
 }
 
-// One case after another, to the end of the file. What the work area holds before a call differs from case to case.
+// One case after another, to the end of the file, as `each_case` goes, but a case begins with any word. What the work
+// area holds before a call differs from case to case.
 fn run_all(rt: &impl Print, file: &[u8]) -> io::Result<()> {
     let mut at = 0;
     while at < file.len() {
-        let Taken::Is(word, _) = word_at(file, at, b' ') else {
+        let Some(word) = word_at(file, at, b' ') else {
             return print_no_case(rt, at);
         };
-        let call = bytes_of(file, word);
-        let Found::Here(c) = case_of(file, at, call, 3, 3) else {
+        let call = bytes_of(file, word.value);
+        let Some(c) = case_of(file, at, call, 3, 3) else {
             return print_no_case(rt, at);
         };
         run_case(rt, call, file, c, narrow(at))?;
@@ -77,15 +75,26 @@ fn run_all(rt: &impl Print, file: &[u8]) -> io::Result<()> {
     Ok(())
 }
 
+// Each call with a work area that is too short.
+fn run_short(rt: &impl Print) -> io::Result<()> {
+    short_plain(rt, "apply", |output, origins, nodes, index| {
+        apply_listing(b"[]", b"[]", output, origins, nodes, index)
+    })?;
+    short_plain(rt, "within", |output, origins, nodes, index| {
+        apply_within_listing(b"[]", b"[]", b"", output, origins, nodes, index)
+    })?;
+    short_plain(rt, "merge", |output, origins, nodes, index| {
+        merge_listing(b"[]", b"[]", output, origins, nodes, index)
+    })?;
+    short_undone(rt)?;
+    short_buffer(rt)
+}
+
 fn main(rt: HostRuntime) -> io::Result<()> {
     let mut room = buffer();
-    let Contents::Bytes(n) = read_cases(&rt, &mut room) else {
-        return say(&rt, b"unreadable\n");
+    let Some(file) = read_cases(&rt, &mut room) else {
+        return println!(rt; "unreadable");
     };
-    run_all(&rt, front(&room, n))?;
-    short_plain(&rt)?;
-    short_within(&rt)?;
-    short_merged(&rt)?;
-    short_undone(&rt)?;
-    short_buffer(&rt)
+    run_all(&rt, file)?;
+    run_short(&rt)
 }

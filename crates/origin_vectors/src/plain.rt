@@ -1,90 +1,57 @@
-// The plain call.
-ghost use Rattle.std.specs.Prelude.{◌≤◌, length};
+// The calls without an undo.
+ghost use Rattle.std.specs.Prelude.{◌≤◌};
 
-use crate::lines::{left_well, print_listed, print_short};
-use crate::rooms::{ENTRIES, LINE, SHORT_ROWS, UNLISTED, UNWRITTEN};
-use cases::{Case, Three, bytes_of};
+use crate::lines::{list_left_well, print_origins, print_short};
+use crate::rooms::{ENTRIES, LINE, SHORT_ROWS, UNLISTED};
+use cases::{Case, UNWRITTEN, bytes_of};
 use index;
 use json_patch::Answer;
-use listing::apply_listing;
+use report::print_report;
 use std::io;
 use tape::layout;
 use tape::layout::Node;
 
-// The call, with the first bytes of the output and the first entries of the list lent.
-fn lend_plain<'a>(
-    document: &'a [u8],
-    patch: &'a [u8],
-    rooms: Three,
-    output: &mut [u8],
-    origins: &mut [u16],
-    nodes: &mut [Node],
-    index: &mut [u16],
-) -> Answer
-    requires first_in_bounds { rooms.first ≤ length output.old }
-    requires third_in_bounds { rooms.third ≤ length origins.old }
-{
-    let room = rooms.first;
-    let list = rooms.third;
-    apply_listing(
-        document,
-        patch,
-        &mut output[..room],
-        &mut origins[..list],
-        nodes,
-        index,
-    )
-}
-
-// The case's lines. Before the call the work area holds rubbish.
-pub fn run_plain(rt: &impl Print, file: &[u8], c: Case, rubbish: u16) -> io::Result<()>
+// The case's lines. The call is lent the first bytes of the output, the first entries of the list, and a work area that
+// holds rubbish.
+pub fn run_plain<P, F>(rt: &P, file: &[u8], c: Case, rubbish: u16, call: F) -> io::Result<()>
+where
+    P: Print,
+    F: FnOnce(&mut [u8], &mut [u16], &mut [Node], &mut [u16]) -> Answer,
     requires first_bound { c.rooms.first ≤ 65_536 }
     requires third_bound { c.rooms.third ≤ 2_048 }
+    requires callable { F.IsAlwaysCallable call }
 {
-    let texts = c.texts;
-    let document = bytes_of(file, texts.first);
-    let patch = bytes_of(file, texts.second);
     let mut output = [UNWRITTEN; LINE];
     let mut origins = [UNLISTED; ENTRIES];
-    let node = [rubbish; 8];
-    let mut nodes = [node; layout::ROWS];
+    let mut nodes = [[rubbish; 8]; layout::ROWS];
     let mut index = [rubbish; index::SLOTS];
-    let answer = lend_plain(
-        document,
-        patch,
-        c.rooms,
-        &mut output,
-        &mut origins,
+    let answer = call(
+        &mut output[..c.rooms.first],
+        &mut origins[..c.rooms.third],
         &mut nodes,
         &mut index,
     );
-    if left_well(rt, answer, &output, &origins, &nodes, &index)? {
-        print_listed(rt, bytes_of(file, c.name), answer, &mut output, &origins)?;
+    if !list_left_well(rt, answer, &output, &origins, &nodes, &index)? {
+        return Ok(());
     }
-    Ok(())
+    print_report(rt, answer, &mut output)?;
+    if answer.number != 0 {
+        return Ok(());
+    }
+    print_origins(rt, bytes_of(file, c.name), &origins)
 }
 
 // The call with a node table that is a record too short.
-pub fn short_plain(rt: &impl Print) -> io::Result<()> {
+pub fn short_plain<P, F>(rt: &P, name: &str, call: F) -> io::Result<()>
+where
+    P: Print,
+    F: FnOnce(&mut [u8], &mut [u16], &mut [Node], &mut [u16]) -> Answer,
+    requires { F.IsAlwaysCallable call }
+{
     let mut output = [UNWRITTEN; 80];
     let mut origins = [UNLISTED; 4];
-    let node = [1u16; 8];
-    let mut nodes = [node; SHORT_ROWS];
-    let mut index = [1u16; index::SLOTS];
-    let answer = apply_listing(
-        b"[]",
-        b"[]",
-        &mut output,
-        &mut origins,
-        &mut nodes,
-        &mut index,
-    );
-    print_short(
-        rt,
-        b"apply",
-        b"-work-a-record",
-        answer,
-        &mut output,
-        &origins,
-    )
+    let mut nodes = [[1; 8]; SHORT_ROWS];
+    let mut index = [1; index::SLOTS];
+    let answer = call(&mut output, &mut origins, &mut nodes, &mut index);
+    print_short(rt, name, "work-a-record", answer, &mut output, &origins)
 }

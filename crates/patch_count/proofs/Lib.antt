@@ -1,3 +1,2 @@
 pub mod SumLaws
 pub mod LineLaws
-pub mod NameLaws

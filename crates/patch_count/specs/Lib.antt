@@ -1,5 +1,3 @@
 pub mod Line
 pub mod Pieces
 pub mod Sums
-pub mod Names
-pub mod Contents

@@ -1,5 +1,5 @@
 -- What the program's tally stands for: the sums over the files that were visited.
-use Rattle.std.specs.Prelude.{ℕ, ◌*◌, ◌≤◌, ◌<◌, ◌≡◌, List, length, take}
+use Rattle.std.specs.Prelude.{ℕ, ◌*◌, ◌≤◌, ◌<◌, ◌≡◌, List, length, take, Result, IfOk}
 use Rattle.spec.specs.Limits.{max_operations}
 use Rattle.spec.specs.Bytes.{Bytes}
 use Rattle.streams.specs.Counts as Io
@@ -9,8 +9,8 @@ use Rattle.inspection.specs.Tally as Spec
 use Rattle.inspection.specs.Tally.{File, result_of, results, both, one, tally, max_names}
 use Rattle.patch_count.specs.Line.{printed}
 use Rattle.patch_count.specs.declared.tally.Tally.{Tally}
-use Rattle.patch_count.specs.declared.names.Fed.{Fed}
-use Rattle.patch_count.specs.declared.names.Fed.TheVariants.{Going, TooMany}
+use Rattle.patch_count.specs.declared.names.State.{State}
+use Rattle.patch_count.specs.declared.names.TooMany.{TooMany}
 
 abbrev pub tally_in : Tally → Spec.Tally
 tally_in t = record { patches = t.patches; refused = t.refused; counts = counts_in t.counts }
@@ -37,9 +37,8 @@ pub record Visits (t r : Tally) : Type 0 where
   pub adds : Adds (one (result_of file)) t r
 
 -- all names so far; where there are more than may be given nothing is said
-abbrev pub FedIs : Fed → Type 0
-FedIs (Going s) = Sums s.tally
-FedIs TooMany = Unit {0}
+abbrev pub FedIs : Result State TooMany → Type 0
+FedIs r = IfOk r (λ s. Sums s.tally)
 
 -- the line of the files that were visited is laid down, whole
 pub record LineIs (t : Tally) (line : Bytes) (r : ℕ) : Type 0 where

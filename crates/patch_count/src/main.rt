@@ -10,30 +10,28 @@ mod line; // the line that is printed
 mod names; // names from standard input
 mod tally; // the sums
 
+ghost use Rattle.std.specs.Prelude.{IfOk};
 ghost use Rattle.patch_count.specs.Sums.{Sums, FedIs};
 
-use files::INPUT;
+use files::{INPUT, Work};
 use index;
 use line::{LINE, line};
-use names::{Fed, State, feed, finish};
+use names::{State, TooMany, feed, finish};
 use std::io;
 use std::io::{IsTerminal, Read};
 use std::rt::Files;
 use streams::NAME;
 use tally::{Tally, nothing};
 use tape::layout;
-use tape::layout::Node;
 
 // Room for a part of the input.
 const CHUNK: usize = 65_536;
 
 // The progress so far, on standard error where that is a terminal. What cannot be shown is left out.
 fn progress(rt: &impl Eprint, terminal: bool, t: Tally) {
-    if !terminal {
-        return;
+    if terminal {
+        eprint!(rt; "\r{}", t.patches).ok();
     }
-    rt.eprint("\r").ok();
-    rt.eprint(t.patches).ok();
 }
 
 // All names except an unfinished one at the end of the input, which a read that fails is as well. `chunk` has room for
@@ -42,54 +40,41 @@ fn read_names<R: Input + Files + Eprint>(
     rt: &R,
     chunk: &mut [u8],
     name: &mut [u8],
-    text: &mut [u8],
-    nodes: &mut [Node; layout::ROWS],
-    index: &mut [u16; index::SLOTS],
+    work: &mut Work,
     terminal: bool,
-) -> Fed
+) -> Result<State, TooMany>
     ensures { FedIs result }
 {
     let mut state = State {
-        pending: 0,
+        pending: Some(0),
         tally: nothing(),
     };
     let mut input = rt.reader();
     // a loop must end: no input is long enough to use up its turns
-    let mut turns = u64::MAX;
-    while turns > 0 {
+    for _ in 0..u64::MAX {
         let n = input.read(chunk).unwrap_or(0);
         if n == 0 {
-            return Fed::Going(state);
+            break;
         }
-        let Fed::Going(next) = feed(rt, &chunk[..n], name, text, nodes, index, state) else {
-            return Fed::TooMany;
-        };
-        state = next;
-        let so_far = state.tally;
-        progress(rt, terminal, so_far);
-        turns -= 1;
+        state = feed(rt, &chunk[..n], name, work, state)?;
+        progress(rt, terminal, state.tally);
     }
-    Fed::Going(state)
+    Ok(state)
 }
 
 // All names.
-fn count_names<R: Input + Files + Eprint>(rt: &R, terminal: bool) -> Fed
-    ensures { FedIs result }
+fn count_names<R: Input + Files + Eprint>(rt: &R, terminal: bool) -> Result<Tally, TooMany>
+    ensures { IfOk result Sums }
 {
     let mut chunk = [0u8; CHUNK];
     let mut name = [0u8; NAME];
-    let mut text = [0u8; INPUT];
-    let mut nodes = [layout::NO_NODE; layout::ROWS];
-    let mut index = [0u16; index::SLOTS];
-    let Fed::Going(s) = read_names(
-        rt, &mut chunk, &mut name, &mut text, &mut nodes, &mut index, terminal,
-    ) else {
-        return Fed::TooMany;
+    let mut work = Work {
+        text: [0; INPUT],
+        nodes: [layout::NO_NODE; layout::ROWS],
+        index: [0; index::SLOTS],
     };
-    let tally = s.tally;
-    finish(
-        rt, &name, s.pending, &mut text, &mut nodes, &mut index, tally,
-    )
+    let s = read_names(rt, &mut chunk, &mut name, &mut work, terminal)?;
+    finish(rt, &name, s.pending, &mut work, s.tally)
 }
 
 // The line is printed.
@@ -105,11 +90,10 @@ fn main(rt: HostRuntime) -> io::Result<()> {
     let terminal = rt.stderr().is_terminal();
     let counted = count_names(&rt, terminal);
     if terminal {
-        rt.eprint("\r            \r").ok();
+        eprint!(rt; "\r            \r").ok();
     }
-    let Fed::Going(s) = counted else {
-        return rt.write_all(b"too long\n");
+    let Ok(tally) = counted else {
+        return println!(rt; "too long");
     };
-    let tally = s.tally;
     print_line(&rt, tally)
 }

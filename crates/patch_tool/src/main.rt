@@ -2,16 +2,14 @@
 // or `unreadable`.
 #![tactic(auto)]
 
-ghost use Rattle.std.specs.Prelude.{length};
-ghost use Rattle.patch_tool.specs.Contents.{Within};
+ghost use Rattle.std.specs.Prelude.{◌≤◌, IfSome, length};
 ghost use Rattle.patch_tool.specs.Line.{LineIs};
 
 use index;
 use std::env::FillError;
 use std::io;
-use std::io::Read;
 use std::rt::{Env, Files};
-use streams::{NAME, argument, open_named, read_full};
+use streams::{open_argument, read_front};
 use tape::layout;
 
 // One byte more than a text may have, so that a longer one is seen to be too long.
@@ -35,42 +33,17 @@ fn run<'a>(rt: &impl Print, document: &'a [u8], patch: &'a [u8]) -> io::Result<(
     rt.write_all(&line[..n])
 }
 
-#[derive(Clone, Copy)]
-pub enum Contents {
-    Bytes(usize),
-    Unreadable,
-}
-
-// The file's first bytes, as many as there is room for.
-fn read_all<R: Read>(file: &mut R, buf: &mut [u8]) -> Contents
-    ensures { Within (length buf.new) result }
+// The first bytes of the file that argument i names, as many as there is room for.
+fn read_file<'a, R: Env + Files>(rt: &R, i: usize, buf: &'a mut [u8]) -> Option<&'a [u8]>
+    ensures { IfSome result (λ bytes. length bytes.now ≤ length buf.old) }
 {
-    let n = read_full(file, buf);
-    if n == buf.len() {
-        return Contents::Bytes(n);
-    }
-    // another read answers 0 where the file has ended, and fails where it cannot be read
-    let mut more = [0u8; 1];
-    let Ok(_) = file.read(&mut more) else {
-        return Contents::Unreadable;
-    };
-    Contents::Bytes(n)
-}
-
-// The contents of the file that argument i names.
-fn read_file<R: Env + Files>(rt: &R, i: usize, buf: &mut [u8]) -> Contents
-    ensures { Within (length buf.new) result }
-{
-    let mut path = [0u8; NAME];
-    let n = argument(rt, i, &mut path);
-    let Some(mut file) = open_named(rt, &path[..n]) else {
-        return Contents::Unreadable;
-    };
-    read_all(&mut file, buf)
+    let mut file = open_argument(rt, i)?;
+    let n = read_front(&mut file, buf)?;
+    Some(&buf[..n])
 }
 
 fn unreadable(rt: &impl Print) -> io::Result<()> {
-    rt.write_all(b"unreadable\n")
+    println!(rt; "unreadable")
 }
 
 // Whether there is an argument of that number.
@@ -81,19 +54,16 @@ fn is_given<R: Env>(rt: &R, i: usize) -> bool {
 
 fn main(rt: HostRuntime) -> io::Result<()> {
     // two file names, and nothing behind them
-    if !is_given(&rt, 2) {
+    if !is_given(&rt, 2) || is_given(&rt, 3) {
         return unreadable(&rt);
     }
-    if is_given(&rt, 3) {
-        return unreadable(&rt);
-    }
-    let mut document = [0u8; INPUT];
-    let mut patch = [0u8; INPUT];
-    let Contents::Bytes(d) = read_file(&rt, 1, &mut document) else {
+    let mut document_room = [0u8; INPUT];
+    let mut patch_room = [0u8; INPUT];
+    let Some(document) = read_file(&rt, 1, &mut document_room) else {
         return unreadable(&rt);
     };
-    let Contents::Bytes(p) = read_file(&rt, 2, &mut patch) else {
+    let Some(patch) = read_file(&rt, 2, &mut patch_room) else {
         return unreadable(&rt);
     };
-    run(&rt, &document[..d], &patch[..p])
+    run(&rt, document, patch)
 }

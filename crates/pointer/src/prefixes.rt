@@ -20,24 +20,19 @@ fn same_token(a: &[u8], i: usize, s: Token, b: &[u8], j: usize, t: Token) -> boo
 }
 
 // Whether another token follows.
+#[tactic(auto, unfolding(crate::specs::Prefix::is_next))]
 fn is_next(t: Token) -> bool
     ensures { result ≡ is_next t }
 {
-    match t {
-        Token::Last { end: _ } => false,
-        Token::Next { end: _, next: _ } => true,
-    }
+    matches!(t, Token::Next { .. })
 }
 
 // Whether there are tokens.
+#[tactic(auto, unfolding(crate::specs::Prefix::is_at))]
 fn is_at(f: First) -> bool
     ensures { result ≡ is_at f }
 {
-    match f {
-        First::Root => false,
-        First::At(_) => true,
-        First::Malformed => false,
-    }
+    matches!(f, First::At(_))
 }
 
 // Whether the tokens from a place on are a proper prefix of another pointer's from a place on.

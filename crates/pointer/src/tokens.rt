@@ -8,10 +8,11 @@ ghost use Rattle.pointer.specs.Tokens.{accepted, tokens_from, continues, FirstOf
 
 use crate::answers::{First, Token};
 use lexer::{Character, peek};
+use spec::refusal::Fault;
 use text::letter;
 
 // The character of a part at a place: the pointer's own, with `~0` and `~1` not yet unescaped.
-fn character_in(part: &[u8], at: usize) -> Character
+fn character_in(part: &[u8], at: usize) -> Result<Character, Fault>
     ensures { character_outcome result ≡ character_in part.now at }
 {
     letter(2, part, at)
@@ -21,27 +22,22 @@ fn character_in(part: &[u8], at: usize) -> Character
 pub fn first(part: &[u8]) -> First
     ensures { FirstOf part.now result }
 {
-    let Character::Scalar(c, next) = character_in(part, 0) else {
+    let Ok(c) = character_in(part, 0) else {
         return First::Root;
     };
-    if c == 0x2F {
-        return First::At(next.at);
+    if c.code == 0x2F {
+        return First::At(c.next.at);
     }
     First::Malformed
 }
 
 // Whether a byte is a whole character, and no slash, as most bytes of most tokens are. Asked first, it keeps the loop
 // below quick.
+#[tactic(auto, using(lexer::proofs::Auto::auto), unfolding(crate::specs::Tokens::continues, spec::specs::Bytes::within))]
 fn continues(b: u8) -> bool
     ensures { result ≡ continues b }
 {
-    if b < 0x30 {
-        return false;
-    }
-    if 0x7F < b {
-        return false;
-    }
-    b != b'\\'
+    matches!(b, 0x30..=0x7F) && b != b'\\'
 }
 
 // The token that begins at a place. It ends at the next slash, however that is written: `\u002f` is one too.
@@ -55,16 +51,16 @@ pub fn token(part: &[u8], start: usize) -> Token
             at += 1;
             continue;
         }
-        let Character::Scalar(c, next) = character_in(part, at) else {
+        let Ok(c) = character_in(part, at) else {
             return Token::Last { end: at };
         };
-        if c == 0x2F {
+        if c.code == 0x2F {
             return Token::Next {
                 end: at,
-                next: next.at,
+                next: c.next.at,
             };
         }
-        at = next.at;
+        at = c.next.at;
     }
 }
 
@@ -90,7 +86,7 @@ pub fn token_part(part: &[u8], at: usize, t: Token) -> &[u8]
 {
     match t {
         Token::Last { end } => between(part, at, end),
-        Token::Next { end, next: _ } => between(part, at, end),
+        Token::Next { end, .. } => between(part, at, end),
     }
 }
 
@@ -100,24 +96,24 @@ fn well_formed(part: &[u8], start: usize) -> bool
 {
     let mut at = start;
     loop {
-        let Character::Scalar(c, next) = character_in(part, at) else {
+        let Ok(c) = character_in(part, at) else {
             return true;
         };
-        if c != 0x7E {
-            at = next.at;
+        if c.code != 0x7E {
+            at = c.next.at;
             continue;
         }
-        let Character::Scalar(d, after) = character_in(part, next.at) else {
+        let Ok(d) = character_in(part, c.next.at) else {
             return false;
         };
-        if d == 0x30 {
-            at = after.at;
+        if d.code == 0x30 {
+            at = d.next.at;
             continue;
         }
-        if d != 0x31 {
+        if d.code != 0x31 {
             return false;
         }
-        at = after.at;
+        at = d.next.at;
     }
 }
 

@@ -18,41 +18,22 @@ use Rattle.spec.specs.Read.{blanks, name_for, closing_bracket, items, contents}
 use Rattle.spec.proofs.OutcomeLaws.{>>=_assoc}
 use Rattle.lexer.proofs.Tests.{within_bounds, between-within}
 use Rattle.tape.proofs.Forests.{count_⧺}
-use Rattle.reader.specs.Names.{after_colon}
+use Rattle.reader.specs.Words.{past_separator}
 use Rattle.reader.specs.Items.{Next, closed, begins, after_comma, next_name, begun, next_item}
 
 -- ---- the byte that separates
-byte_one : (s : Bytes) (at b : ℕ) → byte s at ≡ b → byte_in s at b b ≡ ok b
-unfolding byte_in
-byte_one s at b e = rw (e, between-within b b b (omega arith) (omega arith))
+pub separator_here : (s : Bytes) (at mark : ℕ) → byte s at ≡ mark → ok (blanks s (at + 1)) ≡ past_separator s mark at
+unfolding past_separator byte_in ◌>>=◌
+separator_here s at mark e = rw (e, between-within mark mark mark (omega arith) (omega arith))
 
-byte-other : (s : Bytes) (at b : ℕ) → (byte s at ≡ b → ⊥) → byte_in s at b b ≡ refused not_json at
-unfolding byte_in
-byte-other s at b n = go (within b b (byte s at)) refl
+pub separator_missing : (s : Bytes) (at mark : ℕ) → (byte s at ≡ mark → ⊥) → refused not_json at ≡ past_separator s mark at
+unfolding past_separator byte_in ◌>>=◌
+separator_missing s at mark n = go (within mark mark (byte s at)) refl
   where
-    go : (t : Bool) → within b b (byte s at) ≡ t → (if t then ok (byte s at) else refused not_json at) ≡ refused not_json at
-    go true e = let h = within_bounds b b (byte s at) e in absurd (n (omega arith))
+    go : (t : Bool) → within mark mark (byte s at) ≡ t
+        → refused not_json at ≡ ((if t then ok (byte s at) else refused not_json at) >>= λ _. ok (blanks s (at + 1)))
+    go true e = let h = within_bounds mark mark (byte s at) e in absurd (n (omega arith))
     go false e = refl
-
-pub comma-first : (s : Bytes) (first : Bool) (at : ℕ) → first ≡ true → ok at ≡ after_comma s first at
-unfolding after_comma
-comma-first s first at e = rw e
-
-pub comma_here : (s : Bytes) (first : Bool) (at : ℕ) → first ≡ false → byte s at ≡ code "," → ok (blanks s (at + 1)) ≡ after_comma s first at
-unfolding after_comma ◌>>=◌
-comma_here s first at e h = rw (e, byte_one s at (code ",") h)
-
-pub comma_missing : (s : Bytes) (first : Bool) (at : ℕ) → first ≡ false → (byte s at ≡ code "," → ⊥) → refused not_json at ≡ after_comma s first at
-unfolding after_comma ◌>>=◌
-comma_missing s first at e n = rw (e, byte-other s at (code ",") n)
-
-pub colon_here : (s : Bytes) (at : ℕ) → byte s (blanks s at) ≡ code ":" → ok (blanks s (blanks s at + 1)) ≡ after_colon s at
-unfolding after_colon ◌>>=◌
-colon_here s at h = rw (byte_one s (blanks s at) (code ":") h)
-
-pub colon_missing : (s : Bytes) (at : ℕ) → (byte s (blanks s at) ≡ code ":" → ⊥) → refused not_json (blanks s at) ≡ after_colon s at
-unfolding after_colon ◌>>=◌
-colon_missing s at n = rw (byte-other s (blanks s at) (code ":") n)
 
 -- ---- the definition's loop
 not_first : (f : Members) (t : Tree Entry) → eqb (count (f ⧺ single t)) 0 ≡ false
@@ -68,7 +49,7 @@ module _ (value : ℕ → ℕ → Outcome (Value.Value × ℕ)) (object : Bool) 
       (after_comma s (eqb (count so_far) 0) place >>= items fuel value object s nodes so_far)
 
   pub contents_rest : (at : ℕ) → contents value object s nodes at ≡ rest (length s) none at
-  unfolding contents rest after_comma count ◌>>=◌
+  unfolding contents rest after_comma past_separator count ◌>>=◌
   contents_rest at = refl
 
   -- after an item's name: its value, and the items behind it
@@ -86,7 +67,7 @@ module _ (value : ℕ → ℕ → Outcome (Value.Value × ℕ)) (object : Bool) 
 
   behind_rest : (fuel : ℕ) (so_far : Members) (name : Text) (v : Value.Value) (next : ℕ)
       → behind fuel so_far name (v, next) ≡ rest fuel (so_far ⧺ single (named name v)) next
-  unfolding rest after_comma ◌>>=◌
+  unfolding rest after_comma past_separator ◌>>=◌
   behind_rest fuel so_far name v next =
       let all = so_far ⧺ single (named name v) in
       let end = blanks s next in

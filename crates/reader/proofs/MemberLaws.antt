@@ -1,5 +1,5 @@
 -- Laws of an object's members: whether a name is among them, by the index and by a search.
-use Rattle.std.specs.Prelude.{if◌then◌else◌}
+use Rattle.std.specs.Prelude.{if◌then◌else◌, Option, Some, None, is_some, Result, Ok, Err}
 use Prim.Native.Nat.{ℕ, suc, ◌+◌, ◌-◌, ◌≤◌, ◌<◌}
 use Prim.Native.Char.{code}
 use native.Mathlib.Omega.{arith}
@@ -9,8 +9,11 @@ use mathlib.Core.List.{List, []}
 use lib.Dec.{eqb}
 use lib.ListN.{length, get_or}
 use borrow.Author.Tests.{eq-eqb, ne_eqb, lt-ltb, le-ltb}
-use Rattle.spec.specs.Outcome.{Outcome, ok, refused, ◌>>=◌}
+use Rattle.spec.specs.Outcome.{ok, refused, ◌>>=◌}
 use Rattle.spec.specs.Refusal.{repeated_name}
+use Rattle.spec.specs.Fault.{number_of}
+use Rattle.spec.specs.declared.refusal.Refusal.TheVariants as Refusal
+use Rattle.spec.specs.declared.refusal.Fault.{Fault}
 use Rattle.spec.specs.Bytes.{Bytes, Text, byte, byte_in}
 use Rattle.spec.specs.Strings.{string}
 use Rattle.spec.specs.Forest.{Forest, none, tree, Tree, single, size, count, ◌⧺◌}
@@ -20,6 +23,7 @@ use Rattle.spec.proofs.OutcomeLaws.{>>=_assoc}
 use Rattle.spec.proofs.TextLaws.{same_text_true}
 use Rattle.lexer.specs.Hash.{hash}
 use Rattle.lexer.specs.declared.cursor.Cursor.{Cursor}
+use Rattle.lexer.proofs.NameLaws.{NameRead}
 use Rattle.tape.specs.Fields.{Row, no_node, name_of}
 use Rattle.tape.specs.declared.fields.Name.{Name}
 use Rattle.tape.specs.declared.fields.Cell.{Cell}
@@ -34,22 +38,18 @@ use Rattle.table.specs.All.{all_tree}
 use Rattle.table.specs.Find as Find
 use Rattle.table.specs.Find.{same_name, Found, FindIs}
 use Rattle.table.specs.Sound.{RowsHeld, Sound, CellFits}
-use Rattle.table.specs.declared.find.Member.{Member}
-use Rattle.table.specs.declared.find.Member.TheVariants.{At, Missing}
 use Rattle.table.proofs.Search.{named_hashed}
 use Rattle.index.specs.Slots.{bucket_slot}
 use Rattle.index.specs.Ways.{MeetsName, NoneNamed, Entered}
 use Rattle.reader.specs.Work.{Work}
-use Rattle.reader.specs.Words.{nameless, Titles}
+use Rattle.reader.specs.Words.{nameless, Titles, past_separator}
 use Rattle.reader.specs.Filled.{Noted, Filled, Reached, Marked, marked_none, marked_tree}
-use Rattle.reader.specs.Names.{Lent, Inside, after_colon, Holding, Leading, LeadsNext, RepeatedIs, NameIs, name_read, name_refused, NamedIs}
-use Rattle.reader.specs.Items.{closed, after_comma, next_name, begun, item_of, next_item, ItemIs, item_begins, item_closed, item_refused, NextItemIs}
-use Rattle.reader.specs.declared.names.Container.{Container}
+use Rattle.reader.specs.Names.{Lent, after_colon, Holding, Leading, LeadsNext, RepeatedIs, NameIs, name_read, name_refused, NamedIs}
+use Rattle.reader.specs.Items.{closed, after_comma, next_name, begun, next_item, ItemIs, item_begins, item_closed, item_refused, NextItemIs}
+use Rattle.reader.specs.declared.containers.Container.{Container}
 use Rattle.reader.specs.declared.words.Named.{Named}
-use Rattle.reader.specs.declared.words.Named.TheVariants.{Read, Refused}
-use Rattle.reader.specs.declared.items.Item.{Item}
-use Rattle.reader.specs.declared.items.Item.TheVariants.{Closed}
-use Rattle.reader.proofs.WordLaws.{NameRead, HandedNamed, no_titles}
+use Rattle.reader.specs.declared.items.Item.TheVariants.{Begins, Closed}
+use Rattle.reader.proofs.WordLaws.{no_titles}
 use Rattle.reader.proofs.FilledLaws.{noted_none, noted_entered, twice, one_text, filled_held, filled-size}
 
 -- ---- by the index
@@ -127,55 +127,55 @@ module _ {source : ℕ} {s : Bytes} {start end : ℕ} {all : Members} {nodes : L
   place = ap₂ find (titles.says (twice s) one) (f.meant (twice s) one)
 
   -- what the search found, said of the members
-  pub search_found : (row : ℕ) → FindIs (table_with s nodes) start end name (At row) → has text all ≡ true
-  search_found row r = go (At row) (r.held f.cells asked hashed) refl
+  pub search_found : (row : ℕ) → FindIs (table_with s nodes) start end name (Some row) → has text all ≡ true
+  search_found row r = go (Some row) (r.held f.cells asked hashed) refl
     where
-      go : (m : Member) → Found (twice s) start f.cells (name_text (twice s) name) m → m ≡ At row → has text all ≡ true
+      go : (m : Option ℕ) → Found (twice s) start f.cells (name_text (twice s) name) m → m ≡ Some row → has text all ≡ true
       go m (Find.found k row' e l h) q = lt-ltb (find text all) (count all) (omega (arith, e, l, place, many))
       go m (Find.missing e) q = absurd (let z : ◌≡◌ {A = ℕ} 0 1 = cc in omega arith)
 
-  pub search_missing : FindIs (table_with s nodes) start end name Missing → has text all ≡ false
-  search_missing r = go Missing (r.held f.cells asked hashed) refl
+  pub search_missing : FindIs (table_with s nodes) start end name None → has text all ≡ false
+  search_missing r = go None (r.held f.cells asked hashed) refl
     where
-      go : (m : Member) → Found (twice s) start f.cells (name_text (twice s) name) m → m ≡ Missing → has text all ≡ false
+      go : (m : Option ℕ) → Found (twice s) start f.cells (name_text (twice s) name) m → m ≡ None → has text all ≡ false
       go m (Find.found k row e l h) q = absurd (let z : ◌≡◌ {A = ℕ} 0 1 = cc in omega arith)
       go m (Find.missing e) q = le-ltb (find text all) (count all) (omega (arith, e, place, many))
 
 -- ---- each way out of `repeated`
-module _ {s : Bytes} {k : Container} {w : Work} {ys : List ℕ} {name : Name} {r : Bool} (lent : Lent k.source s w) (inside : Inside k)
-    (entered : Entered (table_with s w.nodes) w.index k.base k.row k.end name ys r) where
-  reached : (text : Text) → Titles k.source s text name → LeadsNext k ys text
+module _ {s : Bytes} (k : Container) {w : Work} {ys : List ℕ} {name : Name} {r : Bool} (lent : Lent s w)
+    (entered : Entered (table_with s w.nodes) w.index k.source.base k.row k.end name ys r) where
+  reached : (text : Text) → Titles k.source.number s text name → LeadsNext k ys text
   reached text titles l =
-      let one = one_text s k.source in
+      let one = one_text s k.source.number in
       let is : name_text (twice s) name ≡ text = titles.says (twice s) one in
       let hash-here : name.hash ≡ short_hash (hash text) = (titles.fits (twice s) one).hashed.is ∙ ap (λ t. short_hash (hash t)) is in
-      let met : MeetsName ys (twice s) (bucket_slot k.row name.hash) name (k.end - k.base) =
-      entered.found (omega (arith, inside.low)) (omega (arith, inside.from_base, inside.grows)) (omega arith) lent.index_long in
+      let met : MeetsName ys (twice s) (bucket_slot k.row name.hash) name (k.end - k.source.base) =
+      entered.found (omega (arith, k.source.low)) (omega (arith, k.from_base, k.grows)) (omega arith) lent.index_long in
       rw (hash-here, is) at met
 
   made : {b : Bool}
-      → ((all : Members) (text : Text) → Holding s k w.nodes all → Leading k w.index all → Titles k.source s text name → b ≡ has text all)
+      → ((all : Members) (text : Text) → Holding s k w.nodes all → Leading k w.index all → Titles k.source.number s text name → b ≡ has text all)
       → RepeatedIs s k w ys name b
   made is = record { is = is; reached = reached; noted = noted_entered entered }
 
   pub repeated_new : r ≡ false → RepeatedIs s k w ys name false
   repeated_new e =
       made λ all text f m t.
-      let one = one_text s k.source in
-      let held = filled_held (omega (arith, lent.nodes_long, inside.room, inside.low)) f in
+      let one = one_text s k.source.number in
+      let held = filled_held (omega (arith, lent.nodes_long, k.fits, k.source.low)) f in
       let few =
-      absent w.nodes k.base (k.end - k.base) k.row (t.says (twice s) one) (t.fits (twice s) one).hashed (entered.others e) m
-      f.cells held (f.sound (twice s) one) (f.meant (twice s) one) (omega (arith, inside.from_base)) (omega (arith, f.ends, inside.from_base)) in
+      absent w.nodes k.source.base (k.end - k.source.base) k.row (t.says (twice s) one) (t.fits (twice s) one).hashed (entered.others e) m
+      f.cells held (f.sound (twice s) one) (f.meant (twice s) one) (omega (arith, k.from_base)) (omega (arith, f.ends, k.from_base)) in
       sym (le-ltb (find text all) (count all) few)
 
   long_rows : k.end ≤ length w.nodes
-  long_rows = omega (arith, lent.nodes_long, inside.room, inside.low)
+  long_rows = omega (arith, lent.nodes_long, k.fits, k.source.low)
 
-  pub repeated_found : (at : ℕ) → FindIs (table_with s w.nodes) (k.row + 1) k.end name (At at) → RepeatedIs s k w ys name true
-  repeated_found at found = made λ all text f m t. sym (search_found long_rows f t at found)
-
-  pub repeated_missing : FindIs (table_with s w.nodes) (k.row + 1) k.end name Missing → RepeatedIs s k w ys name false
-  repeated_missing missing = made λ all text f m t. sym (search_missing long_rows f t missing)
+  -- by the search
+  pub repeated_sought : (found : Option ℕ) {b : Bool} → FindIs (table_with s w.nodes) (k.row + 1) k.end name found → is_some found ≡ b
+      → RepeatedIs s k w ys name b
+  repeated_sought (Some at) found e = made λ all text f m t. sym e ∙ sym (search_found long_rows f t at found)
+  repeated_sought None missing e = made λ all text f m t. sym e ∙ sym (search_missing long_rows f t missing)
 
 -- ---- a member's name by its steps
 module _ (s : Bytes) (all : Members) (at : ℕ) where
@@ -189,30 +189,24 @@ module _ (s : Bytes) (all : Members) (at : ℕ) where
     name_repeated h = rw (reads, h)
 
     name_new : has text all ≡ false → name_for true s all at ≡ (after_colon s next >>= λ p. ok (text, p))
-    unfolding name_for fresh after_colon ◌>>=◌
+    unfolding name_for fresh after_colon past_separator ◌>>=◌
     name_new h =
         rw (reads, h)
         (sym (>>=_assoc (byte_in s (blanks s next) (code ":") (code ":")) (λ _. ok (blanks s (blanks s next + 1))) (λ p. ok (text, p))))
 
--- ---- a refusal that is handed on
-name_handed_on : {s : Bytes} {k : Container} {ys : List ℕ} {A : Type 0} {d : Outcome A} {o : Outcome (Text × ℕ)} {w : Named} (h : HandedNamed d w)
-    → o ≡ refused h.number h.place → NameIs s k ys o w
-name_handed_on h e = rw h.word (name_refused h.number h.place e)
-
 -- ---- each way out of `member_name`
 module _ (s : Bytes) (k : Container) (w : Work) (object : k.object ≡ true) (at : ℕ) where
-  pub member-no-string : {r : Named} → HandedNamed (string s at) r → NamedIs s k w w.index (λ all. name_for true s all at) r
-  member-no-string h =
-      record { answer = λ all f m. name_handed_on h (name_no-string s all at h.number h.place h.gives); noted = noted_none }
+  pub member-no-string : (x : Fault) → string s at ≡ refused (number_of x.refusal) x.place → NamedIs s k w w.index (λ all. name_for true s all at) (Err x)
+  member-no-string x e = record { answer = λ all f m. name_refused x (name_no-string s all at _ _ e); noted = noted_none }
 
-  module _ {next h : ℕ} {plain : Bool} (read : NameRead s at next h plain) (name : Name) (titles : Titles k.source s read.text name) {ys : List ℕ} where
+  module _ {next h : ℕ} {plain : Bool} (read : NameRead s at next h plain) (name : Name) (titles : Titles k.source.number s read.text name) {ys : List ℕ} where
     pub member-repeated : {b : Bool} → RepeatedIs s k w ys name b → b ≡ true
-        → NamedIs s k w ys (λ all. name_for true s all at) (Refused repeated_name (next - 1))
+        → NamedIs s k w ys (λ all. name_for true s all at) (Err (record { refusal = Refusal.RepeatedName; place = next - 1 }))
+    unfolding number_of
     member-repeated r e =
         record {
           answer = λ all f m.
-              name_refused repeated_name (next - 1)
-              (name_repeated s all at read.text next read.reads (sym (r.is all read.text f (m object) titles) ∙ e));
+              name_refused _ (name_repeated s all at read.text next read.reads (sym (r.is all read.text f (m object) titles) ∙ e));
           noted = r.noted;
         }
 
@@ -221,29 +215,31 @@ module _ (s : Bytes) (k : Container) (w : Work) (object : k.object ≡ true) (at
           → name_for true s all at ≡ (after_colon s next >>= λ p. ok (read.text, p))
       new all f m = name_new s all at read.text next read.reads (sym (r.is all read.text f (m object) titles) ∙ e)
 
-      pub member-no_colon : {n : Named} → HandedNamed (after_colon s next) n → NamedIs s k w ys (λ all. name_for true s all at) n
+      pub member-no_colon : (x : Fault) → after_colon s next ≡ refused (number_of x.refusal) x.place
+          → NamedIs s k w ys (λ all. name_for true s all at) (Err x)
       unfolding ◌>>=◌
-      member-no_colon h = record { answer = λ all f m. name_handed_on h (new all f m ∙ rw h.gives); noted = r.noted }
+      member-no_colon x h = record { answer = λ all f m. name_refused x (new all f m ∙ rw h); noted = r.noted }
 
-      pub member-read : (first : Cursor) → after_colon s next ≡ ok first.at → NamedIs s k w ys (λ all. name_for true s all at) (Read first name)
+      pub member-read : (first : Cursor) → after_colon s next ≡ ok first.at
+          → NamedIs s k w ys (λ all. name_for true s all at) (Ok (record { next = first; name = name }))
       unfolding ◌>>=◌
       member-read first colon =
           record {
-            answer = λ all f m. name_read read.text first name (new all f m ∙ rw colon) titles (λ _. r.reached read.text titles);
+            answer = λ all f m. name_read read.text _ (new all f m ∙ rw colon) titles (λ _. r.reached read.text titles);
             noted = r.noted;
           }
 
 -- ---- each way out of `item_name`
-pub item_named : {s : Bytes} {k : Container} {w : Work} {ys : List ℕ} (at : ℕ) {r : Named} → k.object ≡ true
+pub item_named : {s : Bytes} {k : Container} {w : Work} {ys : List ℕ} (at : ℕ) {r : Result Named Fault} → k.object ≡ true
     → NamedIs s k w ys (λ all. name_for true s all at) r → NamedIs s k w ys (λ all. name_for k.object s all at) r
 item_named {s} {k} {w} {ys} at {r} e h = subst (λ b. NamedIs s k w ys (λ all. name_for b s all at) r) (sym e) h
 
 pub item_nameless : {s : Bytes} {k : Container} {w : Work} (at : Cursor) {name : Name} → k.object ≡ false → name ≡ nameless
-    → NamedIs s k w w.index (λ all. name_for k.object s all at.at) (Read at name)
+    → NamedIs s k w w.index (λ all. name_for k.object s all at.at) (Ok (record { next = at; name = name }))
 unfolding name_for
 item_nameless {s} {k} {w} at e is =
     record {
-      answer = λ all f m. rw is (name_read [] at nameless (rw e) (no_titles k.source s) (λ t. absurd (true≢false (sym t ∙ e))));
+      answer = λ all f m. rw is (name_read [] (record { next = at; name = nameless }) (rw e) (no_titles k.source.number s) (λ t. absurd (true≢false (sym t ∙ e))));
       noted = noted_none;
     }
 
@@ -260,18 +256,19 @@ module _ (s : Bytes) (k : Container) (w : Work) (at : ℕ) (first : Bool) (first
   unfolding next_name
   by_comma all f = rw (counted all f)
 
-  pub next_no_comma : {r : Named} → HandedNamed (after_comma s first at) r → NamedIs s k w w.index (λ all. next_name k.object s all at) r
+  pub next_no_comma : (x : Fault) → after_comma s first at ≡ refused (number_of x.refusal) x.place
+      → NamedIs s k w w.index (λ all. next_name k.object s all at) (Err x)
   unfolding ◌>>=◌
-  next_no_comma h = record { answer = λ all f m. name_handed_on h (by_comma all f ∙ rw h.gives); noted = noted_none }
+  next_no_comma x h = record { answer = λ all f m. name_refused x (by_comma all f ∙ rw h); noted = noted_none }
 
-  pub next_named : {ys : List ℕ} {p : ℕ} {r : Named} → after_comma s first at ≡ ok p → NamedIs s k w ys (λ all. name_for k.object s all p) r
+  pub next_named : {ys : List ℕ} {p : ℕ} {r : Result Named Fault} → after_comma s first at ≡ ok p → NamedIs s k w ys (λ all. name_for k.object s all p) r
       → NamedIs s k w ys (λ all. next_name k.object s all at) r
   unfolding ◌>>=◌
   next_named comma h = record { answer = λ all f m. rw (by_comma all f, comma) (h.answer all f m); noted = h.noted }
 
 -- ---- each way out of `next_item`
 module _ (s : Bytes) (k : Container) (w : Work) (at place : ℕ) (place_is : place ≡ blanks s at) where
-  pub item_close : (next : Cursor) → next.at ≡ place + 1 → byte s place ≡ closing_bracket k.object → NextItemIs s k w w.index at (Closed next)
+  pub item_close : (next : Cursor) → next.at ≡ place + 1 → byte s place ≡ closing_bracket k.object → NextItemIs s k w w.index at (Ok (Closed next))
   unfolding next_item
   item_close next next_is e =
       record {
@@ -280,14 +277,29 @@ module _ (s : Bytes) (k : Container) (w : Work) (at place : ℕ) (place_is : pla
         noted = noted_none;
       }
 
-  pub item_next : {ys : List ℕ} {n : Named} {i : Item} → (byte s place ≡ closing_bracket k.object → ⊥)
-      → NamedIs s k w ys (λ all. next_name k.object s all place) n → i ≡ item_of n → NextItemIs s k w ys at i
-  unfolding next_item item_of begun ◌>>=◌
-  item_next {ys} {n} another h is = record { answer = λ all f m. rw is (go all n (h.answer all f m)); noted = h.noted }
-    where
-      by_name : (all : Members) → next_item k.object s all at ≡ (next_name k.object s all place >>= begun)
-      by_name all = rw (← place_is, ne_eqb (byte s place) (closing_bracket k.object) another)
+  module _ (another : byte s place ≡ closing_bracket k.object → ⊥) where
+    by_name : (all : Members) → next_item k.object s all at ≡ (next_name k.object s all place >>= begun)
+    unfolding next_item
+    by_name all = rw (← place_is, ne_eqb (byte s place) (closing_bracket k.object) another)
 
-      go : (all : Members) (n : Named) → NameIs s k ys (next_name k.object s all place) n → ItemIs s k ys (next_item k.object s all at) (item_of n)
-      go all n (name_read text next name r t l) = item_begins text next name (by_name all ∙ rw r) t l
-      go all n (name_refused number q r) = item_refused number q (by_name all ∙ rw r)
+    -- behind its name
+    pub item_next : {ys : List ℕ} (n : Named) → NamedIs s k w ys (λ all. next_name k.object s all place) (Ok n) → NextItemIs s k w ys at (Ok (Begins n))
+    unfolding begun ◌>>=◌
+    item_next {ys} n h = record { answer = λ all f m. go all (Ok n) (h.answer all f m) refl; noted = h.noted }
+      where
+        go : (all : Members) (r : Result Named Fault) → NameIs s k ys (next_name k.object s all place) r → r ≡ Ok n
+            → ItemIs s k ys (next_item k.object s all at) (Ok (Begins n))
+        go all r (name_read text n' q t l) e =
+            let same : n' ≡ n = cc in rw (← same) (item_begins text n' (by_name all ∙ rw q) t l)
+        go all r (name_refused x q) e = absurd (let z : ◌≡◌ {A = ℕ} 0 1 = cc in omega arith)
+
+    -- or without one
+    pub item_unnamed : {ys : List ℕ} (x : Fault) → NamedIs s k w ys (λ all. next_name k.object s all place) (Err x) → NextItemIs s k w ys at (Err x)
+    unfolding begun ◌>>=◌
+    item_unnamed {ys} x h = record { answer = λ all f m. go all (Err x) (h.answer all f m) refl; noted = h.noted }
+      where
+        go : (all : Members) (r : Result Named Fault) → NameIs s k ys (next_name k.object s all place) r → r ≡ Err x
+            → ItemIs s k ys (next_item k.object s all at) (Err x)
+        go all r (name_read text n q t l) e = absurd (let z : ◌≡◌ {A = ℕ} 0 1 = cc in omega arith)
+        go all r (name_refused x' q) e =
+            let same : x' ≡ x = cc in rw (← same) (item_refused x' (by_name all ∙ rw q))

@@ -24,6 +24,7 @@ use Rattle.lexer.proofs.StringLaws.{string-ok_closed}
 use Rattle.lexer.proofs.NumberLaws.{number-ok_past}
 use Rattle.tape.specs.Layout.{string_kind, number_kind, null_kind, true_kind}
 use Rattle.reader.specs.Begins.{scalar_of}
+use Rattle.reader.specs.Words.{past_separator}
 use Rattle.reader.specs.Items.{Next, closed, begins, after_comma, next_name, begun, next_item}
 
 -- ---- scalars
@@ -92,7 +93,7 @@ name_past true s so_far at h =
     weaken (λ v l. omega (arith, k.past)) (colon_past s t.1 t.0)
 
 comma_past : (s : Bytes) (first : Bool) (at : ℕ) → at ≤ length s → Always (λ n. (at ≤ n) × (n ≤ length s)) (after_comma s first at)
-unfolding after_comma
+unfolding after_comma past_separator
 comma_past s first at h =
     either first (λ _. gives at (omega arith)) (λ _.
     next _ λ b e. let k = byte_taken s at (code ",") (code ",") b (omega arith) e in let m = blanks_behind s at k.here in gives _ (omega arith))

@@ -1,16 +1,13 @@
 -- What is read of a text: of a scalar its label, of a name its text.
-use Rattle.std.specs.Prelude.{ℕ, ◌-◌, ◌≡◌, Bool, if◌then◌else◌}
-use Rattle.spec.specs.Outcome.{Outcome, ok, refused}
-use Rattle.spec.specs.Refusal.{not_json}
-use Rattle.spec.specs.Bytes.{Bytes, Text}
+use Rattle.std.specs.Prelude.{ℕ, ◌+◌, ◌-◌, ◌≡◌, Bool, Result, Ok, Err, eqb, if◌then◌else◌}
+use Rattle.spec.specs.Outcome.{Outcome, ok, refused, ◌>>=◌}
+use Rattle.spec.specs.Fault.{number_of}
+use Rattle.spec.specs.declared.refusal.Fault.{Fault}
+use Rattle.spec.specs.Bytes.{Bytes, Text, ascii, byte_in}
 use Rattle.spec.specs.Value as Value
 use Rattle.spec.specs.Value.{Label, leaf}
-use Rattle.lexer.specs.declared.cursor.Cursor.{Cursor}
-use Rattle.lexer.specs.declared.cursor.Scan.{Scan}
-use Rattle.lexer.specs.declared.strings.Name as Lexed
-use Rattle.lexer.specs.declared.strings.Name.TheVariants as Name
-use Rattle.lexer.specs.declared.strings.Quoted.{Quoted}
-use Rattle.tape.specs.Layout.{no_text, plain_string, escaped_string, numeral}
+use Rattle.spec.specs.Read.{blanks, word_at}
+use Rattle.tape.specs.Layout.{no_text, plain_string, escaped_string, numeral, null_kind, true_kind}
 use Rattle.tape.specs.declared.fields.Spelling.{Spelling}
 use Rattle.tape.specs.declared.fields.Name.{Name}
 use Rattle.tape.specs.Cell.{Told}
@@ -18,7 +15,6 @@ use Rattle.tape.specs.Lent.{Texts}
 use Rattle.table.specs.Meaning.{source_text, label_of, name_text}
 use Rattle.table.specs.Sound.{NameFits, LabelFits}
 use Rattle.reader.specs.declared.words.Spelled.{Spelled}
-use Rattle.reader.specs.declared.words.Named.{Named}
 
 -- what holds whatever the two texts are, provided that the source names this one
 abbrev pub InText : ℕ → Bytes → (Texts → Type 0) → Type 0
@@ -56,25 +52,19 @@ pub record Titles (source : ℕ) (s : Bytes) (text : Text) (name : Name) : Type 
   pub says : InText source s (λ T. name_text T name ≡ text)
   pub fits : InText source s (λ T. NameFits T name)
 
--- ---- answers handed on: a literal spells nothing, and a refusal stays what it is
-unfoldable pub unspelled : Scan → Spelled
-unspelled (Scan.To next) = Spelled.Read next no_spelling
-unspelled (Scan.Refused number place) = Spelled.Refused number place
+-- ---- what is passed
+-- the place after a byte and the blanks behind it
+unfoldable pub past_separator : Bytes → ℕ → ℕ → Outcome ℕ
+past_separator s mark at = byte_in s at mark mark >>= λ _. ok (blanks s (at + 1))
 
-unfoldable pub unquoted : Quoted → Spelled
-unquoted (Quoted.Read next plain) = Spelled.Read next no_spelling
-unquoted (Quoted.Refused place) = Spelled.Refused not_json place
-
-unfoldable pub unnamed : Scan → Named
-unnamed (Scan.To next) = Named.Read next nameless
-unnamed (Scan.Refused number place) = Named.Refused number place
-
-unfoldable pub untitled : Lexed.Name → Named
-untitled (Name.Read next hash plain) = Named.Read next nameless
-untitled (Name.Refused place) = Named.Refused not_json place
+-- the place after a literal of a kind, from the one after its first byte
+unfoldable pub literal_end : ℕ → Bytes → ℕ → Outcome ℕ
+literal_end kind s at =
+    if eqb kind null_kind then word_at (ascii "ull") s at else
+    if eqb kind true_kind then word_at (ascii "rue") s at else word_at (ascii "alse") s at
 
 -- what a scalar's reader answers
-pub data ScalarIs (source : ℕ) (s : Bytes) (kind : ℕ) (o : Outcome (Value.Value × ℕ)) : Spelled → Type 0 where
-  scalar_read : (label : Label) (next : Cursor) (value : Spelling) → o ≡ ok (leaf label, next.at) → Labels source s kind label value
-      → ScalarIs source s kind o (Spelled.Read next value)
-  scalar_refused : (number place : ℕ) → o ≡ refused number place → ScalarIs source s kind o (Spelled.Refused number place)
+pub data ScalarIs (source : ℕ) (s : Bytes) (kind : ℕ) (o : Outcome (Value.Value × ℕ)) : Result Spelled Fault → Type 0 where
+  scalar_read : (label : Label) (r : Spelled) → o ≡ ok (leaf label, r.next.at) → Labels source s kind label r.spelling
+      → ScalarIs source s kind o (Ok r)
+  scalar_refused : (e : Fault) → o ≡ refused (number_of e.refusal) e.place → ScalarIs source s kind o (Err e)

@@ -1,55 +1,62 @@
 // A value by its first byte: which kind it is, and whether it may begin there.
 ghost use Rattle.std.specs.Prelude.{◌≡◌, ◌-◌, ◌≤◌};
-ghost use Rattle.reader.specs.Begins.{beginning, room_refusal, refusal_for};
+ghost use Rattle.spec.specs.Read.{room_for};
+ghost use Rattle.spec.specs.Fault.{outcome, outcome_by};
+ghost use Rattle.reader.specs.Begins.{beginning, kind_at, container_room};
 
-use spec::{limits, refusal};
+use lexer::{Cursor, peek};
+use spec::limits;
+use spec::refusal::{Fault, Refusal};
 use tape::layout;
 
-// No value begins with the byte.
-const NO_KIND: u16 = 7;
-
-// The kind of the value that begins with a byte.
-pub fn beginning(b: u8) -> u16
+// The kind of the value that begins with a byte, if one does.
+#[tactic(auto, using(lexer::proofs::Auto::auto), unfolding(crate::specs::Begins::beginning, spec::specs::Numbers::is_digit, spec::specs::Bytes::within))]
+fn beginning(b: u8) -> Option<u16>
     ensures { result ≡ beginning b }
 {
     match b {
-        b'[' => layout::ARRAY,
-        b'{' => layout::OBJECT,
-        b'"' => layout::STRING,
-        b'0'..=b'9' => layout::NUMBER,
-        b'-' => layout::NUMBER,
-        b'n' => layout::NULL,
-        b't' => layout::TRUE,
-        b'f' => layout::FALSE,
-        _ => NO_KIND,
+        b'[' => Some(layout::ARRAY),
+        b'{' => Some(layout::OBJECT),
+        b'"' => Some(layout::STRING),
+        b'-' | b'0'..=b'9' => Some(layout::NUMBER),
+        b'n' => Some(layout::NULL),
+        b't' => Some(layout::TRUE),
+        b'f' => Some(layout::FALSE),
+        _ => None,
     }
 }
 
-// The number of the refusal at a value's first byte, or 0 for none. The value is to begin in `row`; the text's rows
-// begin at `base`.
-pub fn room_refusal(base: usize, row: usize) -> u8
+// The kind of the value that begins at a cursor.
+#[tactic(auto, using(lexer::proofs::Auto::auto), unfolding(crate::specs::Begins::kind_at, crate::specs::Begins::kind_or_refused, spec::specs::Fault::outcome_by, spec::specs::Fault::number_of))]
+pub fn kind_at(s: &[u8], at: Cursor) -> Result<u16, Fault>
+    ensures { outcome result ≡ kind_at s.now at.at }
+{
+    let Some(kind) = beginning(peek(s, at.at)) else {
+        return Err(Refusal::NotJson.at(at.at));
+    };
+    Ok(kind)
+}
+
+// Whether there is room for the value at a cursor. It is to begin in `row`; the text's rows begin at `base`.
+#[tactic(auto, using(lexer::proofs::Auto::auto), unfolding(spec::specs::Read::room_for, spec::specs::Fault::outcome_by, spec::specs::Fault::number_of))]
+pub fn room_for(base: usize, row: usize, at: Cursor) -> Result<(), Fault>
     requires { base ≤ row }
-    ensures { result ≡ room_refusal (row - base) }
+    ensures { outcome_by (λ _. at.at) result ≡ room_for (row - base) at.at }
 {
     if row - base < limits::MAX_NODES {
-        return refusal::DONE;
+        return Ok(());
     }
-    refusal::TOO_MANY_NODES
+    Err(Refusal::TooManyNodes.at(at.at))
 }
 
-// The same for a value of a kind, with `levels` levels left. On one byte the order is 3, 5, 6.
-pub fn refusal_at(kind: u16, levels: u32, base: usize, row: usize) -> u8
+// The same for a container, with `levels` levels left. On one byte the order is 5, 6.
+#[tactic(auto, using(lexer::proofs::Auto::auto), unfolding(crate::specs::Begins::container_room, spec::specs::Fault::outcome_by, spec::specs::Fault::number_of))]
+pub fn container_room(levels: u32, base: usize, row: usize, at: Cursor) -> Result<(), Fault>
     requires { base ≤ row }
-    ensures { result ≡ refusal_for kind levels (row - base) }
+    ensures { outcome_by (λ _. at.at) result ≡ container_room levels (row - base) at.at }
 {
-    if kind == NO_KIND {
-        return refusal::NOT_JSON;
-    }
-    if kind < layout::ARRAY {
-        return room_refusal(base, row);
-    }
     if levels == 0 {
-        return refusal::TOO_DEEP;
+        return Err(Refusal::TooDeep.at(at.at));
     }
-    room_refusal(base, row)
+    room_for(base, row, at)
 }

@@ -11,10 +11,12 @@ mod values;
 mod items;
 // a member's name, and whether it is repeated
 mod names;
+// the text that is being read, and a container in it
+mod containers;
 // what is read of scalars and names
 mod words;
 // a value by its first byte
 mod begins;
 
 pub use texts::{read_document, read_patch};
-pub use values::Read;
+pub use values::Value;

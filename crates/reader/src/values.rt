@@ -1,30 +1,29 @@
 // Values, one level inside the other.
-ghost use Rattle.std.specs.Prelude.{◌≡◌, ◌+◌, ◌%◌, ◌<◌, ◌≤◌, length, set};
-ghost use Rattle.spec.specs.Limits.{max_nodes};
+ghost use Rattle.std.specs.Prelude.{◌≡◌, ◌+◌, ◌-◌, ◌%◌, ◌<◌, ◌≤◌, Some, length, set};
 ghost use Rattle.spec.specs.Bytes.{byte};
 ghost use Rattle.tape.specs.Layout.{values, sources, array_kind, scratch_row};
 ghost use Rattle.tape.specs.Fields.{row_with};
 ghost use Rattle.reader.specs.Begins.{beginning};
 ghost use Rattle.reader.specs.Work.{work_before, work_after};
 ghost use Rattle.reader.specs.Names.{Lent};
-ghost use Rattle.reader.specs.Taken.{read_to, Closing, ScalarTaken, ValueTaken};
+ghost use Rattle.reader.specs.Taken.{container_cell, ScalarTaken, ValueTaken};
 
-use crate::begins::{beginning, refusal_at, room_refusal};
+use crate::begins::{container_room, kind_at, room_for};
+use crate::containers::{Container, Source};
 use crate::items::{Item, next_item};
-use crate::names::Container;
-use crate::words::{Spelled, no_spelling, past_byte, scalar};
-use lexer::{Cursor, peek};
-use spec::refusal;
+use crate::words::{no_spelling, past_byte, scalar};
+use lexer::Cursor;
+use spec::refusal::Fault;
 use tape::fields::{Cell, Name, node_of};
 use tape::layout;
 use tape::layout::Node;
 use tape::moves::store;
 
+// The cursor after a value, and the row after its last.
 #[derive(Clone, Copy)]
-pub enum Read {
-    // the cursor after the value, and the row after its last
-    Value(Cursor, usize),
-    Refused(u8, usize),
+pub struct Value {
+    pub next: Cursor,
+    pub end: usize,
 }
 
 // A node is stored in a row, with `span` nodes below it.
@@ -34,20 +33,10 @@ fn put(nodes: &mut [Node], row: usize, cell: Cell, span: usize)
     store(nodes, row, node_of(cell, span));
 }
 
-// What was read of a scalar, as a value in the rows up to `end`.
-fn read_to(spelled: Spelled, end: usize) -> Read
-    ensures { result ≡ read_to spelled end }
-{
-    match spelled {
-        Spelled::Read(next, _) => Read::Value(next, end),
-        Spelled::Refused(number, place) => Read::Refused(number, place),
-    }
-}
-
-// The end of a container: its node is stored in its row. Its items stand in the rows behind it, up to `end`.
-fn close(nodes: &mut [Node], row: usize, kind: u16, name: Name, next: Cursor, end: usize) -> Read
+// A container's node is stored in its row, when its items are known. They stand in the rows behind it, up to `end`.
+fn close(nodes: &mut [Node], row: usize, kind: u16, name: Name, end: usize)
     requires { row < end }
-    ensures { Closing kind name row end nodes.old nodes.new next result }
+    ensures { nodes.new ≡ set nodes.old row (row_with (container_cell kind name) ((end - row - 1) % values)) }
 {
     let value = no_spelling();
     put(
@@ -61,47 +50,39 @@ fn close(nodes: &mut [Node], row: usize, kind: u16, name: Name, next: Cursor, en
         },
         end - row - 1,
     );
-    Read::Value(next, end)
 }
 
-// A scalar of a kind is stored in a row, under a name. The text's rows begin at `base`: a value has begun for each row
-// from there up to this one.
+// A scalar of a kind is stored in a row, under a name. A value has begun for each of the text's rows up to this one.
 fn scalar_value(
     s: &[u8],
     nodes: &mut [Node],
     at: Cursor,
     kind: u16,
-    source: u16,
+    source: Source,
     name: Name,
-    base: usize,
     row: usize,
-) -> Read
-    requires kind_value { (kind ≡ beginning (byte s.now at.at)) × (kind < array_kind) × (base ≤ row)
-        × (base + max_nodes ≤ scratch_row) }
-    requires source_lt_sources { (source < sources) × (length s.now < values) × (scratch_row ≤ length nodes.old) }
-    ensures { ScalarTaken source s.now at.at name base row nodes.old
-        nodes.new result }
+) -> Result<Value, Fault>
+    requires kind_value { (beginning (byte s.now at.at) ≡ Some kind) × (kind < array_kind) × (source.base ≤ row) }
+    requires lent { (length s.now < values) × (scratch_row ≤ length nodes.old) }
+    ensures { ScalarTaken source s.now at.at name row nodes.old nodes.new result }
 {
-    let number = room_refusal(base, row);
-    if number != refusal::DONE {
-        return Read::Refused(number, at.at);
-    }
-    let spelled = scalar(s, at, kind, source);
-    let Spelled::Read(next, value) = spelled else {
-        return read_to(spelled, row);
-    };
+    room_for(source.base, row, at)?;
+    let read = scalar(s, at, kind, source.number)?;
     put(
         nodes,
         row,
         Cell {
             kind,
-            value,
+            value: read.spelling,
             name,
             origin: 0,
         },
         0,
     );
-    Read::Value(next, row + 1)
+    Ok(Value {
+        next: read.next,
+        end: row + 1,
+    })
 }
 
 // The same for what is no scalar: a container is stored from `row` on. Its scalars are read in the loop, so that only
@@ -113,21 +94,16 @@ fn container(
     at: Cursor,
     levels: u32,
     kind: u16,
-    source: u16,
+    source: Source,
     name: Name,
-    base: usize,
     row: usize,
-) -> Read
-    requires lent { Lent source s.now (record { nodes = nodes.old; index = index.old }) }
-    requires kind_value { (kind ≡ beginning (byte s.now at.at)) × (array_kind ≤ kind) × (base ≤ row)
-        × (base + max_nodes ≤ scratch_row) }
-    ensures { ValueTaken source s.now at.at levels name base row (work_before nodes.old index.old)
+) -> Result<Value, Fault>
+    requires lent { Lent s.now (record { nodes = nodes.old; index = index.old }) }
+    requires kind_value { (beginning (byte s.now at.at) ≡ Some kind) × (array_kind ≤ kind) × (source.base ≤ row) }
+    ensures { ValueTaken source s.now at.at levels name row (work_before nodes.old index.old)
         (work_after nodes.new index.new) result }
 {
-    let number = refusal_at(kind, levels, base, row);
-    if number != refusal::DONE {
-        return Read::Refused(number, at.at);
-    }
+    container_room(levels, source.base, row, at)?;
     let object = kind == layout::OBJECT;
     let left = levels - 1;
     let mut next = past_byte(s, at);
@@ -136,56 +112,51 @@ fn container(
         let items = Container {
             object,
             source,
-            base,
             row,
             end,
         };
-        match next_item(s, nodes, index, next, items) {
-            Item::Begins(first, title) => {
-                // the kind of the item
-                let item = beginning(peek(s, first.at));
-                if item < layout::ARRAY {
-                    let r = scalar_value(s, nodes, first, item, source, title, base, end);
-                    let Read::Value(after, free) = r else {
-                        return r;
-                    };
-                    next = after;
-                    end = free;
+        match next_item(s, nodes, index, next, items)? {
+            Item::Begins(item) => {
+                let sort = kind_at(s, item.next)?;
+                if sort < layout::ARRAY {
+                    let read = scalar_value(s, nodes, item.next, sort, source, item.name, end)?;
+                    next = read.next;
+                    end = read.end;
                     continue;
                 }
-                let r = container(s, nodes, index, first, left, item, source, title, base, end);
-                let Read::Value(after, free) = r else {
-                    return r;
-                };
-                next = after;
-                end = free;
+                let inner = container(
+                    s, nodes, index, item.next, left, sort, source, item.name, end,
+                )?;
+                next = inner.next;
+                end = inner.end;
             }
-            Item::Closed(after) => return close(nodes, row, kind, name, after, end),
-            Item::Refused(number, place) => return Read::Refused(number, place),
+            Item::Closed(last) => {
+                close(nodes, row, kind, name, end);
+                return Ok(Value { next: last, end });
+            }
         }
     }
 }
 
 // The value at a cursor is stored from `row` on, under a name.
-pub fn value(
+pub fn read_value(
     s: &[u8],
     nodes: &mut [Node],
     index: &mut [u16],
     at: Cursor,
     levels: u32,
-    source: u16,
+    source: Source,
     name: Name,
-    base: usize,
     row: usize,
-) -> Read
-    requires lent { Lent source s.now (record { nodes = nodes.old; index = index.old }) }
-    requires base_le_row { (base ≤ row) × (base + max_nodes ≤ scratch_row) }
-    ensures { ValueTaken source s.now at.at levels name base row (work_before nodes.old index.old)
+) -> Result<Value, Fault>
+    requires lent { Lent s.now (record { nodes = nodes.old; index = index.old }) }
+    requires base_le_row { source.base ≤ row }
+    ensures { ValueTaken source s.now at.at levels name row (work_before nodes.old index.old)
         (work_after nodes.new index.new) result }
 {
-    let kind = beginning(peek(s, at.at));
+    let kind = kind_at(s, at)?;
     if kind < layout::ARRAY {
-        return scalar_value(s, nodes, at, kind, source, name, base, row);
+        return scalar_value(s, nodes, at, kind, source, name, row);
     }
-    container(s, nodes, index, at, levels, kind, source, name, base, row)
+    container(s, nodes, index, at, levels, kind, source, name, row)
 }

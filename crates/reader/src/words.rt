@@ -1,28 +1,29 @@
 // What is read of a scalar or of a name: a spelling, which says where its text stands.
 ghost use Rattle.std.specs.Prelude.{◌≡◌, ◌+◌, ◌<◌, ◌≤◌, length};
 ghost use Rattle.spec.specs.Read.{number_value, string_value};
+ghost use Rattle.lexer.specs.Answers.{scan_outcome};
 ghost use Rattle.tape.specs.Layout.{values, sources, number_kind, string_kind, array_kind};
 ghost use Rattle.reader.specs.Begins.{scalar_of};
 ghost use Rattle.reader.specs.Words.{no_spelling, nameless, number_spelling, string_form, string_spelling};
-ghost use Rattle.reader.specs.Words.{unspelled, unquoted, unnamed, untitled, ScalarIs};
+ghost use Rattle.reader.specs.Words.{literal_end, past_separator, ScalarIs};
 
-use lexer::{Cursor, Name, Quoted, Scan};
-use spec::refusal;
+use lexer::Cursor;
+use spec::refusal::{Fault, Refusal};
 use tape::fields::Spelling;
 use tape::{fields, layout};
 
-// The cursor after a scalar, and its spelling; or a refusal's number and place.
+// The cursor after a scalar, and its spelling.
 #[derive(Clone, Copy)]
-pub enum Spelled {
-    Read(Cursor, Spelling),
-    Refused(u8, usize),
+pub struct Spelled {
+    pub next: Cursor,
+    pub spelling: Spelling,
 }
 
-// The same for a name.
+// A name, and the cursor where the value of that name begins.
 #[derive(Clone, Copy)]
-pub enum Named {
-    Read(Cursor, fields::Name),
-    Refused(u8, usize),
+pub struct Named {
+    pub next: Cursor,
+    pub name: fields::Name,
 }
 
 // The spelling of what has no text.
@@ -47,6 +48,7 @@ pub fn no_name() -> fields::Name
     }
 }
 
+#[tactic(auto, unfolding(crate::specs::Words::string_form))]
 fn string_form(plain: bool) -> u16
     ensures { result ≡ string_form plain }
 {
@@ -84,70 +86,27 @@ fn spell_number(source: u16, at: usize, next: usize) -> Spelling
     }
 }
 
-// What was scanned: a literal, which spells nothing, or a refusal that is handed on.
-fn unspelled(scan: Scan) -> Spelled
-    ensures { result ≡ unspelled scan }
-{
-    match scan {
-        Scan::To(next) => Spelled::Read(next, no_spelling()),
-        Scan::Refused(number, place) => Spelled::Refused(number, place),
-    }
-}
-
-// A string's refusal, handed on.
-fn unquoted(quoted: Quoted) -> Spelled
-    ensures { result ≡ unquoted quoted }
-{
-    match quoted {
-        Quoted::Read { next, plain: _ } => Spelled::Read(next, no_spelling()),
-        Quoted::Refused(place) => Spelled::Refused(refusal::NOT_JSON, place),
-    }
-}
-
-// A refusal in the place of a name, handed on.
-pub fn unnamed(scan: Scan) -> Named
-    ensures { result ≡ unnamed scan }
-{
-    match scan {
-        Scan::To(next) => Named::Read(next, no_name()),
-        Scan::Refused(number, place) => Named::Refused(number, place),
-    }
-}
-
-// A name's refusal, handed on.
-pub fn untitled(name: Name) -> Named
-    ensures { result ≡ untitled name }
-{
-    match name {
-        Name::Read {
-            next,
-            hash: _,
-            plain: _,
-        } => Named::Read(next, no_name()),
-        Name::Refused(place) => Named::Refused(refusal::NOT_JSON, place),
-    }
-}
-
-fn number(s: &[u8], at: Cursor, source: u16) -> Spelled
+fn number(s: &[u8], at: Cursor, source: u16) -> Result<Spelled, Fault>
     requires { (source < sources) × (length s.now < values) }
     ensures { ScalarIs source s.now number_kind (number_value s.now at.at) result }
 {
-    let scan = at.number(s);
-    let Scan::To(next) = scan else {
-        return unspelled(scan);
-    };
-    Spelled::Read(next, spell_number(source, at.at, next.at))
+    let next = at.number(s)?;
+    Ok(Spelled {
+        next,
+        spelling: spell_number(source, at.at, next.at),
+    })
 }
 
-fn string(s: &[u8], at: Cursor, source: u16) -> Spelled
+fn string(s: &[u8], at: Cursor, source: u16) -> Result<Spelled, Fault>
     requires { (source < sources) × (length s.now < values) }
     ensures { ScalarIs source s.now string_kind (string_value s.now at.at) result }
 {
-    let quoted = at.quoted(s);
-    let Quoted::Read { next, plain } = quoted else {
-        return unquoted(quoted);
-    };
-    Spelled::Read(next, spell_string(plain, source, at.at + 1, next.at))
+    let read = at.quoted(s)?;
+    let next = read.next;
+    Ok(Spelled {
+        next,
+        spelling: spell_string(read.plain, source, at.at + 1, next.at),
+    })
 }
 
 // The cursor after the byte here, which is in the text.
@@ -159,8 +118,35 @@ pub fn past_byte(s: &[u8], at: Cursor) -> Cursor
     read.next
 }
 
+// The cursor after a comma or a colon that must stand here, and after the blanks behind it.
+pub fn separator(s: &[u8], at: Cursor, mark: u8) -> Result<Cursor, Fault>
+    requires { 1 ≤ mark }
+    ensures { scan_outcome result ≡ past_separator s.now mark at.at }
+{
+    let read = at.read(s);
+    if read.byte != mark {
+        return Err(Refusal::NotJson.at(at.at));
+    }
+    let behind = read.next;
+    Ok(behind.blanks(s))
+}
+
+// The cursor after a literal of a kind, given the one after its first byte.
+#[tactic(auto, using(lexer::proofs::Auto::auto), unfolding(crate::specs::Words::literal_end))]
+fn literal(s: &[u8], rest: Cursor, kind: u16) -> Result<Cursor, Fault>
+    ensures { scan_outcome result ≡ literal_end kind s.now rest.at }
+{
+    if kind == layout::NULL {
+        return rest.null_literal(s);
+    }
+    if kind == layout::TRUE {
+        return rest.true_literal(s);
+    }
+    rest.false_literal(s)
+}
+
 // The scalar of a kind at a cursor.
-pub fn scalar(s: &[u8], at: Cursor, kind: u16, source: u16) -> Spelled
+pub fn scalar(s: &[u8], at: Cursor, kind: u16, source: u16) -> Result<Spelled, Fault>
     requires { (source < sources) × (length s.now < values) × (at.at < length s.now) × (kind < array_kind) }
     ensures { ScalarIs source s.now kind (scalar_of kind s.now at.at) result }
 {
@@ -170,12 +156,9 @@ pub fn scalar(s: &[u8], at: Cursor, kind: u16, source: u16) -> Spelled
     if kind == layout::NUMBER {
         return number(s, at, source);
     }
-    let rest = past_byte(s, at);
-    if kind == layout::NULL {
-        return unspelled(rest.null_literal(s));
-    }
-    if kind == layout::TRUE {
-        return unspelled(rest.true_literal(s));
-    }
-    unspelled(rest.false_literal(s))
+    let next = literal(s, past_byte(s, at), kind)?;
+    Ok(Spelled {
+        next,
+        spelling: no_spelling(),
+    })
 }

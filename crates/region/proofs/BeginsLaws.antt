@@ -1,5 +1,6 @@
 -- The loop over a region's characters and those of a path.
-use Rattle.std.specs.Prelude.{if◌then◌else◌}
+use Rattle.std.specs.Prelude.{if◌then◌else◌, Result}
+use Rattle.std.specs.Result.{is_ok}
 use mathlib.Core.Path.{◌≡◌, refl, ap, sym, ◌∙◌}
 use mathlib.Core.Bool.{Bool, true, false, not, true≢false}
 use mathlib.Core.List.{[], ◌∷◌}
@@ -25,7 +26,7 @@ use Rattle.pointer.specs.Tokens.{accepted}
 use Rattle.pointer.specs.Prefix.{PrefixOf}
 use Rattle.fragment.specs.Link.{character_at, characters_from, characters, is_utf8, is_pointer}
 use Rattle.fragment.specs.Scan.{verdict}
-use Rattle.fragment.specs.declared.scan.Verdict.{Verdict}
+use Rattle.fragment.specs.declared.scan.NotPointer.{NotPointer}
 use Rattle.region.specs.Answer.{region_tokens}
 use Rattle.region.specs.Begins.{begins, SameByte}
 use Rattle.region.proofs.SpellLaws.{begins-tokens}
@@ -90,31 +91,15 @@ module _ (s : Bytes) where
       go (ok cs) f = absurd (true≢false (sym (ap accepted f) ∙ e))
       go (refused number place) f = refl
 
-  pointer_so : verdict s ≡ Verdict.Pointer → (is_utf8 s ≡ true) × (is_pointer s ≡ true)
-  unfolding verdict
-  pointer_so e = go (is_utf8 s) refl (is_pointer s) refl e
-    where
-      go : (a : Bool) → is_utf8 s ≡ a → (b : Bool) → is_pointer s ≡ b
-          → (if a then (if b then Verdict.Pointer else Verdict.Malformed) else Verdict.NotUtf8) ≡ Verdict.Pointer → (is_utf8 s ≡ true) × (is_pointer s ≡ true)
-      go true f true g h = (f, g)
-      go true f false g h = absurd (let z : ◌≡◌ {A = ℕ} 0 1 = cc in omega arith)
-      go false f b g h = absurd (let z : ◌≡◌ {A = ℕ} 0 1 = cc in omega arith)
-
-  other_so : {v : Verdict} → verdict s ≡ v → (v ≡ Verdict.Pointer → ⊥) → accepted (region_tokens s) ≡ false
+  -- whether the verdict is good
+  pub told_region : {v : Result (Unit {0}) NotPointer} → v ≡ verdict s → is_ok v ≡ accepted (region_tokens s)
   unfolding verdict is_pointer region_tokens
-  other_so e n = go (is_utf8 s) refl (is_pointer s) refl
+  told_region e = ap is_ok e ∙ go (is_utf8 s) refl (is_pointer s) refl
     where
-      go : (a : Bool) → is_utf8 s ≡ a → (b : Bool) → is_pointer s ≡ b → accepted (region_tokens s) ≡ false
-      go false f b g = utf8_not f
-      go true f false g = g
-      go true f true g = absurd (n (sym e ∙ rw (f, g)))
-
-  pub told_pointer : verdict s ≡ Verdict.Pointer → true ≡ accepted (region_tokens s)
-  unfolding is_pointer region_tokens
-  told_pointer e = sym (pointer_so e).1
-
-  pub told-other : {v : Verdict} → verdict s ≡ v → (v ≡ Verdict.Pointer → ⊥) → false ≡ accepted (region_tokens s)
-  told-other e n = sym (other_so e n)
+      go : (a : Bool) → is_utf8 s ≡ a → (b : Bool) → is_pointer s ≡ b → is_ok (verdict s) ≡ accepted (region_tokens s)
+      go false f b g = rw f (sym (utf8_not f))
+      go true f true g = rw (f, g)
+      go true f false g = rw (f, g)
 
 -- ---- a slash
 

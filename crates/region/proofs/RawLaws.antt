@@ -5,8 +5,9 @@ use mathlib.Core.Bool.{Bool, true, false}
 use Prim.Native.Nat.{ℕ, zero, suc, ◌+◌, ◌*◌, ◌-◌, ◌≤◌, ◌<◌}
 use Prim.Native.Char.{code}
 use native.Mathlib.Omega.{arith}
-use native.Mathlib.Decide.{dec_lt, ℕ_discrete}
-use lib.ListN.{length}
+use native.Mathlib.Decide.{dec_lt}
+use lib.ListN.{length, take, get_or}
+use lib.Seq.{get_or-take}
 use borrow.Author.Tests.{ne_eqb, lt-leb}
 use Rattle.spec.specs.Outcome.{Outcome, ok, refused, ◌>>=◌}
 use Rattle.spec.specs.Bytes.{Bytes, byte, byte_in, within}
@@ -17,7 +18,7 @@ use Rattle.lexer.proofs.Tests.{above_within}
 use Rattle.lexer.proofs.AnswerLaws.{byte_taken}
 use Rattle.text.specs.Decode.{character_in}
 use Rattle.fragment.specs.Link.{character_at}
-use Rattle.region.specs.Begins.{RawTo, Raw, SameTo, BeginsRaw}
+use Rattle.region.specs.Begins.{Raw, SameTo, BeginsRaw}
 use Rattle.region.proofs.BeginsLaws.{Ahead, ahead_all, ahead_next, self_at, self_in, at_past, at_within, none_read}
 
 -- ---- what one outcome gives, another gives
@@ -106,30 +107,12 @@ module _ {region part : Bytes} (begins : BeginsRaw region part) where
   pub ahead_raw : Ahead region part (length region) (length region)
   ahead_raw = ahead_from (length region) 0 (omega arith) (omega arith) (ahead_all region part)
 
--- ---- the loops
-pub same_none : {region part : Bytes} → SameTo region part 0
-same_none = record { each = λ i h. absurd (omega arith) }
-
-pub same_more : {region part : Bytes} {n : ℕ} → SameTo region part n → byte part n ≡ byte region n → SameTo region part (n + 1)
-same_more {region} {part} {n} same h = record { each = λ i l. go i l (ℕ_discrete i n) }
-  where
-    go : (i : ℕ) → i < n + 1 → Dec (i ≡ n) → byte part i ≡ byte region i
-    go i l (yes e) = ap (byte part) e ∙ h ∙ sym (ap (byte region) e)
-    go i l (no d) = same.each i (omega arith)
-
-pub raw_none : {region : Bytes} → RawTo region 0
-raw_none = record { each = λ i h. absurd (omega arith) }
-
-pub raw_more : {region : Bytes} {n : ℕ} → RawTo region n → (byte region n < 0x80 → stands_for_itself (byte region n) ≡ true) → RawTo region (n + 1)
-raw_more {region} {n} raw h = record { each = λ i l. go i l (ℕ_discrete i n) }
-  where
-    go : (i : ℕ) → i < n + 1 → Dec (i ≡ n) → byte region i < 0x80 → stands_for_itself (byte region i) ≡ true
-    go i l (yes e) = subst (λ (k : ℕ). byte region k < 0x80 → stands_for_itself (byte region k) ≡ true) (sym e) h
-    go i l (no d) = raw.each i (omega arith)
-
--- at the end of a loop
-pub raw_all : {region : Bytes} {n : ℕ} → RawTo region n → length region ≤ n → Raw region
-raw_all raw l = record { each = λ i h. raw.each i (omega arith) }
-
-pub begins_all : {region part : Bytes} {n : ℕ} → Raw region → length region ≤ length part → SameTo region part n → length region ≤ n → BeginsRaw region part
-begins_all raw long same l = record { raw = raw; long = long; same = record { each = λ i h. same.each i (omega arith) } }
+-- ---- the bytes of the region in front of a part
+pub begins_all : {region part : Bytes} → Raw region → length region ≤ length part → region ≡ take (length region) part → BeginsRaw region part
+unfolding byte
+begins_all {region} {part} raw long same =
+    record {
+      raw = raw;
+      long = long;
+      same = record { each = λ i h. sym (get_or-take (length region) part i 0 h) ∙ ap (λ l. get_or l i 0) (sym same) };
+    }

@@ -1,13 +1,17 @@
 -- Laws of the shape with the rule, each for one way out of a function.
 use Prim.Native.Nat.{ℕ, ◌+◌, ◌≤◌, ◌<◌}
 use native.Mathlib.Omega.{arith}
-use mathlib.Core.Path.{◌≡◌, refl, sym, ap, ◌∙◌}
+use mathlib.Core.Path.{◌≡◌, refl, sym, ap, ◌∙◌, subst}
 use mathlib.Core.Bool.{Bool, true, false, ◌&&◌, not}
 use mathlib.Core.List.{[], ◌∷◌}
 use lib.ListN.{length, get_or}
+use Rattle.std.specs.Prelude.{Option, Some, None, Ok, Err, ◌⊎◌}
+use Rattle.std.proofs.Common.{inl, inr}
 use borrow.Author.Tests.{eq-eqb, ne_eqb, le-leb, lt-leb}
-use Rattle.spec.specs.Outcome.{Outcome, ok, refused, require}
-use Rattle.spec.specs.Refusal.{wrong_shape, move_into_child, not_permitted}
+use Rattle.spec.specs.Outcome.{ok, refused, require}
+use Rattle.spec.specs.Refusal.{move_into_child, not_permitted}
+use Rattle.spec.specs.Fault.{number_of}
+use Rattle.spec.specs.declared.refusal.Refusal.{Refusal}
 use Rattle.spec.specs.Bytes.{Bytes, Text, ascii}
 use Rattle.spec.specs.Forest.{Forest, none, tree, count}
 use Rattle.spec.specs.Value as Value
@@ -30,16 +34,13 @@ use Rattle.tape.proofs.Rows.{inside_here, no_node}
 use Rattle.tape.proofs.Held.{held_node}
 use Rattle.table.specs.Meaning.{part_of, members, meant}
 use Rattle.table.specs.Sound.{NodeHeld, RowsHeld}
-use Rattle.shape.specs.Kinds.{kind_outcome, answered, asks}
+use Rattle.shape.specs.Kinds.{spec_kind, kind_outcome}
 use Rattle.shape.specs.Members.{ForMeant, StringIs}
 use Rattle.shape.specs.Operation as Shapes
-use Rattle.shape.specs.Operation.{Answers, OperationNumber, Knows, KindIs, MembersAre}
-use Rattle.shape.specs.Patch.{ShapeIs}
+use Rattle.shape.specs.Operation.{Verdict, Answers, OperationNumber, KindIs, MembersAre}
+use Rattle.shape.specs.Patch.{Shape, ShapeIs}
 use Rattle.shape.specs.Patch as Patch
 use Rattle.shape.specs.declared.kinds.Kind.{Kind}
-use Rattle.shape.specs.declared.members.Spelled.{Spelled}
-use Rattle.shape.specs.declared.patch.Shape.{Shape}
-use Rattle.shape.proofs.KindLaws.{asks_known}
 use Rattle.shape.proofs.AnswerLaws.{answers_ok, answers_refused, text_decoded, operation_kind, kind_refused, kind_known}
 use Rattle.shape.proofs.RunLaws.{rows_children, rows-first, first-node, rows_next, one_more, array-here, counted}
 use Rattle.region.specs.Rule.{is_makers, is_test, kind_permitted, permitted, operation_within, operations_within, elements_within, shape_within}
@@ -49,19 +50,41 @@ use Rattle.region.specs.Within.{ElementNumber, ForRegion, ElementIs, ElementsAre
 use Rattle.region.proofs.RuleLaws.{within_ok, within-broken, within_refused}
 
 -- ---- the kind that an operation may be of
-module _ (op : ℕ) where
-  same_answer : (q q' : Operation.Kind → Bool) (o : Outcome Operation.Kind) → ((k : Operation.Kind) → q k ≡ q' k) → answered q o ≡ answered q' o
-  unfolding answered
-  same_answer q q' (ok k) e = e k
-  same_answer q q' (refused number place) e = refl
+module _ (op : ℕ) (kind : Kind) where
+  pub first-test : op ≡ 1 → kind ≡ Kind.Test → true ≡ kind_permitted op (spec_kind kind)
+  unfolding kind_permitted is_test spec_kind
+  first-test e t = rw (eq-eqb op 1 e, t)
 
-  pub first_kind : (kind : Kind) → op ≡ 1 → asks is_test kind ≡ asks (kind_permitted op) kind
-  unfolding kind_permitted
-  first_kind kind e = same_answer is_test (kind_permitted op) (kind_outcome kind) (λ k. rw (eq-eqb op 1 e))
+  pub first-other : op ≡ 1 → (kind ≡ Kind.Test → ⊥) → false ≡ kind_permitted op (spec_kind kind)
+  unfolding kind_permitted is_test spec_kind
+  first-other e n = rw (eq-eqb op 1 e) (go kind n)
+    where
+      go : (k : Kind) → (k ≡ Kind.Test → ⊥) → false ≡ is_test (spec_kind k)
+      go Kind.Add n = refl
+      go Kind.Remove n = refl
+      go Kind.Replace n = refl
+      go Kind.Move n = refl
+      go Kind.Copy n = refl
+      go Kind.Test n = absurd (n refl)
 
-  pub later_kind : (kind : Kind) → (op ≡ 1 → ⊥) → asks is_makers kind ≡ asks (kind_permitted op) kind
-  unfolding kind_permitted
-  later_kind kind e = same_answer is_makers (kind_permitted op) (kind_outcome kind) (λ k. rw (ne_eqb op 1 e))
+  pub later-makers : (op ≡ 1 → ⊥) → (kind ≡ Kind.Add) ⊎ ((kind ≡ Kind.Replace) ⊎ (kind ≡ Kind.Test)) → true ≡ kind_permitted op (spec_kind kind)
+  unfolding kind_permitted is_makers spec_kind
+  later-makers d (inl a) = rw (ne_eqb op 1 d, a)
+  later-makers d (inr (inl r)) = rw (ne_eqb op 1 d, r)
+  later-makers d (inr (inr t)) = rw (ne_eqb op 1 d, t)
+
+  pub later-other : (op ≡ 1 → ⊥) → (kind ≡ Kind.Add → ⊥) → (kind ≡ Kind.Replace → ⊥) → (kind ≡ Kind.Test → ⊥)
+      → false ≡ kind_permitted op (spec_kind kind)
+  unfolding kind_permitted is_makers spec_kind
+  later-other d a r t = rw (ne_eqb op 1 d) (go kind a r t)
+    where
+      go : (k : Kind) → (k ≡ Kind.Add → ⊥) → (k ≡ Kind.Replace → ⊥) → (k ≡ Kind.Test → ⊥) → false ≡ is_makers (spec_kind k)
+      go Kind.Add a r t = absurd (a refl)
+      go Kind.Remove a r t = refl
+      go Kind.Replace a r t = absurd (r refl)
+      go Kind.Move a r t = refl
+      go Kind.Copy a r t = refl
+      go Kind.Test a r t = absurd (t refl)
 
 -- ---- what an operation says: its kind, and its path
 record Said (v : Value.Value) (o : Operation.Operation) : Type 0 where
@@ -101,8 +124,8 @@ said v o e =
 pub record PathIs (w : Table) (row : ℕ) (region : Bytes) (r : Bool) : Type 0 where
   pub held : ForRegion region λ R. ForMeant w row λ v. (o : Operation.Operation) → operation v ≡ ok o → r ≡ proper_prefix R o.path
 
-module _ {w : Table} {row : ℕ} {region : Bytes} {path : Spelled} (is : StringIs w row (ascii "path") path) where
-  pub path_judged : (s : Spelling) → path ≡ Spelled.As s → {bytes : Bytes} → bytes ≡ part_of w.texts s
+module _ {w : Table} {row : ℕ} {region : Bytes} {path : Option Spelling} (is : StringIs w row (ascii "path") path) where
+  pub path_judged : (s : Spelling) → path ≡ Some s → {bytes : Bytes} → bytes ≡ part_of w.texts s
       → {r : Bool} → PrefixOf (region_tokens region) (tokens (decode bytes)) r → PathIs w row region r
   path_judged s e {bytes} b judged =
       record {
@@ -112,69 +135,73 @@ module _ {w : Table} {row : ℕ} {region : Bytes} {path : Spelled} (is : StringI
             judged.right R o.path q (ap (λ t. tokens (decode t)) b ∙ ap tokens (sym it) ∙ (said _ o h).tokens_are);
       }
 
--- ---- one element, each way out of `element_number`
+-- ---- one element, each way out of `element_right`
 
 -- a refusal of an operation is one of a maker's operation
-within_wrong : (R : Tokens) (op : ℕ) (v : Value.Value) {n : ℕ} → Answers (operation v) n → (n ≡ 0 → ⊥) → Answers (operation_within R op v) n
-within_wrong R op v {n} a d = let (e, h) = answers_refused a d in rw (within_refused R op v e) (Shapes.wrong n h)
+within_wrong : (R : Tokens) (op : ℕ) (v : Value.Value) {r : Verdict} {x : Refusal} → Answers (operation v) r → r ≡ Err x
+    → Answers (operation_within R op v) (Err x)
+within_wrong R op v {x = x} a d = rw (within_refused R op v (answers_refused a d)) (Shapes.wrong x)
 
-module _ {w : Table} {row : ℕ} (op : ℕ) {kind : Kind} (is : KindIs w row kind) where
-  pub element_unknown : {region : Bytes} → kind_outcome kind ≡ refused wrong_shape 0 → ElementIs w row op region 8
+module _ {w : Table} {row : ℕ} (op : ℕ) {found : Option Kind} (is : KindIs w row found) where
+  pub element_unknown : {region : Bytes} → found ≡ None → ElementIs w row op region (Err Refusal.WrongShape)
+  unfolding kind_outcome
   element_unknown e =
       record {
         number = Within.shape Shapes.shape;
-        held = λ R q c kids n. within_wrong R op _ (kind_refused _ (is.held c kids n) e) (λ z. omega arith);
+        held = λ R q c kids n. within_wrong R op _ (kind_refused _ (is.held c kids n) (ap kind_outcome e)) refl;
       }
 
-  module _ {k : Operation.Kind} (known : kind_outcome kind ≡ ok k) {n : ℕ} (ms : MembersAre w row kind n) where
-    operation-told : {c : Cell} {kids : Forest Cell} → NodeHeld w row c kids → Answers (operation (meant w.texts c kids)) n
-    operation-told {c} {kids} h = kind_known _ (is.held c kids h) known (ms.held k (record { is = known }) c kids h)
+  module _ {kind : Kind} (known : found ≡ Some kind) {r : Verdict} (ms : MembersAre w row kind r) where
+    known_as : kind_outcome found ≡ ok (spec_kind kind)
+    unfolding kind_outcome
+    known_as = ap kind_outcome known
 
-    pub element_malformed : {region : Bytes} → (n ≡ 0 → ⊥) → ElementIs w row op region n
+    operation-told : {c : Cell} {kids : Forest Cell} → NodeHeld w row c kids → Answers (operation (meant w.texts c kids)) r
+    operation-told {c} {kids} h = kind_known _ (is.held c kids h) known_as (ms.held c kids h)
+
+    pub element_malformed : {region : Bytes} {x : Refusal} → r ≡ Err x → ElementIs w row op region (Err x)
     element_malformed d =
-        record { number = Within.shape ms.number; held = λ R q c kids h. within_wrong R op _ (operation-told h) d }
+        record { number = Within.shape (subst OperationNumber d ms.number); held = λ R q c kids h. within_wrong R op _ (operation-told h) d }
 
-    module _ (zero : n ≡ 0) where
+    module _ (fine : r ≡ Ok tt) where
       -- it is an operation of that kind
       told-operation : {c : Cell} {kids : Forest Cell} → NodeHeld w row c kids
-          → (o : Operation.Operation) × (operation (meant w.texts c kids) ≡ ok o) × (k ≡ o.kind)
+          → (o : Operation.Operation) × (operation (meant w.texts c kids) ≡ ok o) × (spec_kind kind ≡ o.kind)
       told-operation {c} {kids} h =
-          let (o, e) = answers_ok (operation-told h) zero in
-          let both : ok k ≡ ok o.kind = sym known ∙ is.held c kids h ∙ (said _ o e).kind in
-          let same : k ≡ o.kind = cc in
+          let (o, e) = answers_ok (operation-told h) fine in
+          let both : ok (spec_kind kind) ≡ ok o.kind = sym known_as ∙ is.held c kids h ∙ (said _ o e).kind in
+          let same : spec_kind kind ≡ o.kind = cc in
           (o, e, same)
 
-      module _ {may : Bool} (asked : may ≡ asks (kind_permitted op) kind) where
-        kind_may : may ≡ kind_permitted op k
-        kind_may = asks_known (kind_permitted op) kind known asked
-
-        pub element_other : {region : Bytes} → may ≡ false → ElementIs w row op region 17
-        unfolding permitted
+      module _ {may : Bool} (asked : may ≡ kind_permitted op (spec_kind kind)) where
+        pub element_other : {region : Bytes} → may ≡ false → ElementIs w row op region (Err Refusal.NotPermitted)
+        unfolding permitted number_of
         element_other e =
             record {
               number = Within.rule;
               held = λ R q c kids h.
                   let (o, is-it, same) = told-operation h in
-                  let broken : permitted R op o ≡ false = rw (← same, ← kind_may, e) in
-                  rw (within-broken R op _ is-it broken) (Shapes.wrong 17 (omega arith));
+                  let broken : permitted R op o ≡ false = rw (← same, ← asked, e) in
+                  rw (within-broken R op _ is-it broken) (Shapes.wrong Refusal.NotPermitted);
             }
 
         module _ {region : Bytes} {inside : Bool} (path : PathIs w row region inside) (e : may ≡ true) where
-          both_tests : (R : Tokens) (o : Operation.Operation) → k ≡ o.kind → inside ≡ proper_prefix R o.path → permitted R op o ≡ inside
+          both_tests : (R : Tokens) (o : Operation.Operation) → spec_kind kind ≡ o.kind → inside ≡ proper_prefix R o.path → permitted R op o ≡ inside
           unfolding permitted
-          both_tests R o same told = rw (← same, ← kind_may, e) (sym told)
+          both_tests R o same told = rw (← same, ← asked, e) (sym told)
 
-          pub element_outside : inside ≡ false → ElementIs w row op region 17
+          pub element_outside : inside ≡ false → ElementIs w row op region (Err Refusal.NotPermitted)
+          unfolding number_of
           element_outside no-prefix =
               record {
                 number = Within.rule;
                 held = λ R q c kids h.
                     let (o, is-it, same) = told-operation h in
                     let broken = both_tests R o same (path.held R q c kids h o is-it) ∙ no-prefix in
-                    rw (within-broken R op _ is-it broken) (Shapes.wrong 17 (omega arith));
+                    rw (within-broken R op _ is-it broken) (Shapes.wrong Refusal.NotPermitted);
               }
 
-          pub element_inside : inside ≡ true → ElementIs w row op region 0
+          pub element_inside : inside ≡ true → ElementIs w row op region (Ok tt)
           element_inside prefix =
               record {
                 number = Within.shape Shapes.nothing;
@@ -210,7 +237,7 @@ pub left_all : (w : Table) (start end : ℕ) (region : Bytes) → LeftAny w star
 left_all w start end region R q f h = record { left = f; rows = h; whole = λ r is. is }
 
 module _ {w : Table} {start end row op : ℕ} {region : Bytes} (any : LeftAny w start end region row op) where
-  pub left_none : end ≤ row → ElementsAre w start end region Shape.Right
+  pub left_none : end ≤ row → ElementsAre w start end region (Ok tt)
   unfolding operations_within map_forest
   left_none h =
       record {
@@ -218,37 +245,38 @@ module _ {w : Table} {start end row op : ℕ} {region : Bytes} (any : LeftAny w 
         held = λ R q f held.
             let l = any R q f held in
             let e : l.left ≡ none = size_none l.left (omega (arith, l.rows.ends)) in
-            l.whole Shape.Right (rw e (Patch.right []));
+            l.whole (Ok tt) (rw e (Patch.right []));
       }
 
   module _ (more : row < end) where
     -- the row is in the table
-    pub left_inside : length w.nodes ≤ row → ElementsAre w start end region Shape.Right
+    pub left_inside : length w.nodes ≤ row → ElementsAre w start end region (Ok tt)
     left_inside h =
         record {
           number = Within.all_right;
           held = λ R q f held. rows-first (any R q f held).rows more (λ c kids rest e r. absurd (omega (arith, inside_here (held_node r.held))));
         }
 
-    module _ {n : ℕ} (is : ElementIs w row (op + 1) region n) where
-      pub left_refused : (n ≡ 0 → ⊥) → ElementsAre w start end region (Shape.Refused n (op + 1))
-      left_refused d =
+    module _ {verdict : Verdict} (is : ElementIs w row (op + 1) region verdict) where
+      pub left_refused : {x : Refusal} → verdict ≡ Err x → ElementsAre w start end region (Err (record { refusal = x; op = op + 1 }))
+      left_refused {x} d =
           record {
-            number = Within.one_wrong is.number;
+            number = Within.one_wrong (subst ElementNumber d is.number);
             held = λ R q f held.
                 let l = any R q f held in
                 rows-first l.rows more
                 (λ c kids rest e r.
-                let (refusal, h) = answers_refused (is.held R q c kids (first-node r)) d in
-                l.whole (Shape.Refused n (op + 1)) (rw (e, first_refused w.texts R (op + 1) c kids rest n refusal) (Patch.wrong n (op + 1))));
+                let refusal = answers_refused (is.held R q c kids (first-node r)) d in
+                l.whole (Err (record { refusal = x; op = op + 1 }))
+                (rw (e, first_refused w.texts R (op + 1) c kids rest (number_of x) refusal) (Patch.wrong (record { refusal = x; op = op + 1 }))));
           }
 
-      pub left_next : n ≡ 0 → (next : ℕ) → next ≡ end_of w.nodes row → LeftAny w start end region next (op + 1)
-      left_next zero next at R q f held =
+      pub left_next : verdict ≡ Ok tt → (next : ℕ) → next ≡ end_of w.nodes row → LeftAny w start end region next (op + 1)
+      left_next fine next at R q f held =
           let l = any R q f held in
           rows-first l.rows more
           (λ c kids rest e r.
-          let (o, result) = answers_ok (is.held R q c kids (first-node r)) zero in
+          let (o, result) = answers_ok (is.held R q c kids (first-node r)) fine in
           record {
             left = rest;
             rows = rows_next r next at;
@@ -270,38 +298,39 @@ no-elements R (tree x kids rest) e z = absurd (omega arith)
 
 -- each way out of `shape_within`
 module _ {w : Table} {row : ℕ} (region : Bytes) where
-  pub within-other : (kind_of (get_or w.nodes row []) ≡ 5 → ⊥) → PatchWithinIs w row region (Shape.Refused 8 0)
-  unfolding shape_within
-  within-other d = record { number = Within.no-array d; held = λ R q c kids n. rw (array-here n, ne_eqb _ 5 d) (Patch.wrong 8 0) }
+  pub within-other : (kind_of (get_or w.nodes row []) ≡ 5 → ⊥) → PatchWithinIs w row region (Err (record { refusal = Refusal.WrongShape; op = 0 }))
+  unfolding shape_within number_of
+  within-other d = record { number = Within.no-array d; held = λ R q c kids n. rw (array-here n, ne_eqb _ 5 d) (Patch.wrong (record { refusal = Refusal.WrongShape; op = 0 })) }
 
   module _ (array : kind_of (get_or w.nodes row []) ≡ 5) where
-    pub within_out : length w.nodes ≤ row → PatchWithinIs w row region Shape.Right
+    pub within_out : length w.nodes ≤ row → PatchWithinIs w row region (Ok tt)
     within_out h = record { number = Within.judged array Within.all_right; held = λ R q c kids n. no_node (held_node n.held) h }
 
     module _ {number : ℕ} (many : ArityIs w.nodes row number) where
-      pub within_long : 256 < number → PatchWithinIs w row region (Shape.Refused 9 0)
-      unfolding shape_within
+      pub within_long : 256 < number → PatchWithinIs w row region (Err (record { refusal = Refusal.TooManyOperations; op = 0 }))
+      unfolding shape_within number_of
       within_long h =
           record {
             number = Within.too_many;
-            held = λ R q c kids n. rw (array-here n, eq-eqb _ 5 array, counted n many, lt-leb number 256 h) (Patch.wrong 9 0);
+            held = λ R q c kids n. rw (array-here n, eq-eqb _ 5 array, counted n many, lt-leb number 256 h) (Patch.wrong (record { refusal = Refusal.TooManyOperations; op = 0 }));
           }
 
       module _ (few : number ≤ 256) where
-        pub within_empty : number ≡ 0 → PatchWithinIs w row region (Shape.Refused 17 0)
-        unfolding shape_within
+        pub within_empty : number ≡ 0 → PatchWithinIs w row region (Err (record { refusal = Refusal.NotPermitted; op = 0 }))
+        unfolding shape_within number_of
         within_empty z =
             record {
               number = Within.no_operations;
               held = λ R q c kids n.
                   let none_so = no-elements R (members w.texts kids) (counted n many) z in
-                  rw (array-here n, eq-eqb _ 5 array, counted n many, le-leb number 256 few, none_so) (Patch.wrong 17 0);
+                  rw (array-here n, eq-eqb _ 5 array, counted n many, le-leb number 256 few, none_so) (Patch.wrong (record { refusal = Refusal.NotPermitted; op = 0 }));
             }
 
-        pub within-elements : (number ≡ 0 → ⊥) → {end : ℕ} → end ≡ end_of w.nodes row → {r : Shape} → ElementsAre w (row + 1) end region r
-            → PatchWithinIs w row region r
+        pub within-elements : (number ≡ 0 → ⊥) → {end : ℕ} → end ≡ end_of w.nodes row → {text : Bytes} → text ≡ region → {r : Shape}
+            → ElementsAre w (row + 1) end text r → PatchWithinIs w row region r
         unfolding shape_within
-        within-elements d {end} e is =
+        within-elements d {end} e same {r} of_text =
+            let is : ElementsAre w (row + 1) end region r = subst (λ t. ElementsAre w (row + 1) end t r) same of_text in
             record {
               number = Within.judged array is.number;
               held = λ R q c kids n.

@@ -10,29 +10,29 @@ ghost use Rattle.fragment.specs.Link.{character_at};
 ghost use Rattle.region.specs.Answer.{region_tokens};
 ghost use Rattle.region.specs.Begins.{begins, Raw, BeginsRaw, SameByte};
 
-use fragment::{Verdict, verdict_of};
+use fragment::verdict_of;
 use lexer::{Character, Cursor, peek, stands_for_itself};
+use spec::refusal::Fault;
 use text::letters::string_letter;
 
 // Whether a text is a region: UTF-8, and a pointer.
 pub fn is_region(region: &[u8]) -> bool
     ensures { result ≡ accepted (region_tokens region.now) }
 {
-    match verdict_of(region) {
-        Verdict::Pointer => true,
-        Verdict::NotUtf8 => false,
-        Verdict::Malformed => false,
-    }
+    verdict_of(region).is_ok()
 }
 
 // The character of a text in UTF-8 at a place.
-fn character_at(s: &[u8], at: usize) -> Character
+fn character_at(s: &[u8], at: usize) -> Result<Character, Fault>
     requires { at < length s.now }
     ensures { character_outcome result ≡ character_at s.now at }
 {
     let b = peek(s, at);
     if b < 0x80 {
-        return Character::Scalar(b as u32, Cursor { at: at + 1 });
+        return Ok(Character {
+            code: u32::from(b),
+            next: Cursor { at: at + 1 },
+        });
     }
     (Cursor { at }).character(s)
 }
@@ -41,46 +41,14 @@ fn character_at(s: &[u8], at: usize) -> Character
 fn is_escaped(b: u8) -> bool
     ensures { result ≡ false → b < 0x80 → stands_for_itself b ≡ true }
 {
-    if 0x7F < b {
-        return false;
-    }
-    !stands_for_itself(b)
+    b < 0x80 && !stands_for_itself(b)
 }
 
 // Whether a region's bytes can stand in a JSON string as they are.
-pub fn is_raw(region: &[u8]) -> bool
+fn is_raw(region: &[u8]) -> bool
     ensures { result ≡ true → Raw region.now }
 {
-    let mut i = 0;
-    while i < region.len() {
-        if is_escaped(region[i]) {
-            return false;
-        }
-        i += 1;
-    }
-    true
-}
-
-// Whether a part begins with the bytes of a region that can stand in it as they are. This is one test for each byte,
-// and most paths pass it.
-fn begins_raw(region: &[u8], raw: bool, part: &[u8]) -> bool
-    requires { raw ≡ true → Raw region.now }
-    ensures { result ≡ true → BeginsRaw region.now part.now }
-{
-    if !raw {
-        return false;
-    }
-    if part.len() < region.len() {
-        return false;
-    }
-    let mut i = 0;
-    while i < region.len() {
-        if part[i] != region[i] {
-            return false;
-        }
-        i += 1;
-    }
-    true
+    !region.iter().any(|&b| is_escaped(b))
 }
 
 // Whether a region and a part go on with the same byte, which is a character by itself. Where they do not, they may
@@ -89,14 +57,7 @@ fn same_byte(region: &[u8], i: usize, part: &[u8], j: usize) -> bool
     requires { i < length region.now }
     ensures { result ≡ true → SameByte region.now i part.now j }
 {
-    if part.len() <= j {
-        return false;
-    }
-    let b = region[i];
-    if part[j] != b {
-        return false;
-    }
-    stands_for_itself(b)
+    j < part.len() && part[j] == region[i] && stands_for_itself(region[i])
 }
 
 // Whether a part goes on with a slash at a place.
@@ -107,12 +68,12 @@ fn slash_at(part: &[u8], at: usize) -> bool
         return true;
     }
     match string_letter(part, at) {
-        Character::Scalar(c, _) => c == 0x2F,
-        Character::Refused(_) => false,
+        Ok(c) => c.code == 0x2F,
+        Err(_) => false,
     }
 }
 
-// As `is_inside`, character by character, however each is written.
+// Whether a region contains a path, character by character, however each is written.
 fn is_inside_spelled(region: &[u8], part: &[u8]) -> bool
     ensures { PrefixOf (region_tokens region.now) (tokens (decode part.now)) result }
 {
@@ -124,31 +85,56 @@ fn is_inside_spelled(region: &[u8], part: &[u8]) -> bool
             j += 1;
             continue;
         }
-        let Character::Scalar(c, next) = character_at(region, i) else {
+        let Ok(c) = character_at(region, i) else {
             return false;
         };
-        let Character::Scalar(d, after) = string_letter(part, j) else {
+        let Ok(d) = string_letter(part, j) else {
             return false;
         };
-        if c != d {
+        if c.code != d.code {
             return false;
         }
-        i = next.at;
-        j = after.at;
+        i = c.next.at;
+        j = d.next.at;
     }
     slash_at(part, j)
 }
 
-// Whether the tokens of a path begin with those of a region, and there is at least one more. The path is a pointer in a
-// JSON string; `part` is what stands between the quotation marks. Both are compared as texts, and a slash must follow:
-// a token is written in one way only, so nothing need be unescaped. `raw` tells whether the region can stand in a JSON
-// string as it is.
-pub fn is_inside(region: &[u8], raw: bool, part: &[u8]) -> bool
-    requires { raw ≡ true → Raw region.now }
-    ensures { PrefixOf (region_tokens region.now) (tokens (decode part.now)) result }
-{
-    if begins_raw(region, raw, part) {
-        return slash_at(part, region.len());
+// A region, and whether it can stand in a JSON string as it is.
+#[derive(Clone, Copy)]
+pub struct Region<'a> {
+    pub text: &'a [u8],
+    raw: bool,
+    ghost told: { raw ≡ true → Raw text.now },
+}
+
+impl<'a> Region<'a> {
+    pub fn new(text: &'a [u8]) -> Region<'a>
+        ensures { result.text.now ≡ text.now }
+    {
+        Region {
+            text,
+            raw: is_raw(text),
+        }
     }
-    is_inside_spelled(region, part)
+
+    // Whether a part begins with the bytes of a region that can stand in it as they are. This is one test for each
+    // byte, and most paths pass it.
+    fn begins_raw(self, part: &[u8]) -> bool
+        ensures { result ≡ true → BeginsRaw self.entry.text.now part.now }
+    {
+        self.raw && part.starts_with(self.text)
+    }
+
+    // Whether the tokens of a path begin with those of a region, and there is at least one more. The path is a pointer
+    // in a JSON string; `part` is what stands between the quotation marks. Both are compared as texts, and a slash must
+    // follow: a token is written in one way only, so nothing need be unescaped.
+    pub fn contains(self, part: &[u8]) -> bool
+        ensures { PrefixOf (region_tokens self.entry.text.now) (tokens (decode part.now)) result }
+    {
+        if self.begins_raw(part) {
+            return slash_at(part, self.text.len());
+        }
+        is_inside_spelled(self.text, part)
+    }
 }

@@ -1,4 +1,5 @@
 -- Laws of the stages of the call with a region that lists origins, each for one way out of a stage.
+use Rattle.std.specs.Prelude.{Result, Ok, Err, IsErrAnd}
 use Prim.Native.Nat.{ℕ, ◌≤◌, ◌<◌}
 use native.Mathlib.Omega.{arith}
 use mathlib.Core.Path.{◌≡◌, refl, subst, ap, ◌∙◌}
@@ -8,6 +9,7 @@ use lib.ListN.{length}
 use borrow.Author.Tests.{le-ltb, lt-ltb}
 use Rattle.spec.specs.Outcome.{Outcome, ok, refused}
 use Rattle.spec.specs.Refusal.{work_too_short, input_too_long, malformed_pointer}
+use Rattle.spec.specs.Fault.{number_of}
 use Rattle.spec.specs.Limits.{max_bytes}
 use Rattle.spec.specs.Bytes.{Bytes}
 use Rattle.spec.specs.Value as Plain
@@ -21,16 +23,20 @@ use Rattle.spec.proofs.ShapeTheorem.{shaped_so}
 use Rattle.pointer.specs.Tokens.{accepted}
 use Rattle.pointer.proofs.AcceptLaws.{accepted_ok}
 use Rattle.tape.specs.Layout.{patch_row}
-use Rattle.tape.specs.Lent.{Table}
+use Rattle.tape.specs.Fields.{Row}
+use Rattle.tape.specs.Lent.{Texts, Table}
 use Rattle.walk.specs.Names.{Short}
-use Rattle.shape.specs.Patch.{ShapeIs, right, wrong}
-use Rattle.shape.specs.declared.patch.Shape.{Shape}
+use Rattle.shape.specs.Patch.{Shape, ShapeIs, right, wrong}
+use Rattle.shape.specs.declared.patch.Misshapen.{Misshapen}
 use Rattle.changes.specs.Document.{Document}
 use Rattle.origin.specs.Answer.{unlisted, Lending, answer_of, applied}
 use Rattle.origin_within.specs.Answer.{patched_within, on_patch_within, on_document_within, answer_within}
-use Rattle.json_patch.specs.Stages.{MisshapenIs, PatchHeld}
+use Rattle.json_patch.specs.Stages.{as_answer, MisshapenIs, PatchHeld}
+use Rattle.json_patch.specs.Reads.{LengthsAre, TextsRead}
+use Rattle.json_patch.specs.declared.texts.Unread.{Unread}
 use Rattle.json_patch.specs.Call.{RefusalIs}
 use Rattle.json_patch.specs.declared.answer.Answer.{Answer}
+use Rattle.json_patch.proofs.ReadLaws.{long_by, unread_by}
 use Rattle.json_patch.proofs.StageLaws.{shape_right}
 use Rattle.region.specs.Rule.{shape_within}
 use Rattle.region.specs.Answer.{region_tokens}
@@ -38,13 +44,13 @@ use Rattle.region.specs.Within.{PatchWithinIs}
 use Rattle.region.proofs.ClaimTheorems.{shaped_within}
 use Rattle.listing.specs.Call.{Outputs, ListedIs}
 use Rattle.listing.specs.Stages.{RunListedIs}
-use Rattle.listing.proofs.StageLaws.{listed-refusal}
+use Rattle.listing.proofs.StageLaws.{listed-refusal, listed-handed}
 use Rattle.region_listing.specs.Stages.{RunWithinIs}
 
 -- ---- the region
 module _ {w : Table} (region : Bytes) {o : Outputs} {used : ℕ} {r : Answer} where
-  pub region_malformed : accepted (region_tokens region) ≡ false → RefusalIs malformed_pointer 0 0 0 r → RunWithinIs w region o o used r
-  unfolding patched_within accepted
+  pub region_malformed : accepted (region_tokens region) ≡ false → RefusalIs malformed_pointer 0 0 0 r → RunWithinIs w region o o used (Err r)
+  unfolding patched_within accepted as_answer
   region_malformed e is v p d held short = go (region_tokens region) e
     where
       go : (q : Outcome Tokens) → accepted q ≡ false → ListedIs (patched_within (length o.output) (length o.list) v p q) o o r
@@ -57,23 +63,23 @@ module _ {w : Table} {region : Bytes} {s : Shape} (shaped : PatchWithinIs w patc
   shape-told {R} q held = subst (λ u. ShapeIs (shape_within R u) s) held.means (shaped.held R q held.c held.kids held.held)
 
   -- the text given as the region is one
-  module _ (one : accepted (region_tokens region) ≡ true) {o : Outputs} {used : ℕ} {r : Answer} where
+  module _ (one : accepted (region_tokens region) ≡ true) {o : Outputs} {used : ℕ} (r : Result ℕ Answer) where
     within-tokens : {o' : Outputs} → ((R : Tokens) → region_tokens region ≡ ok R → (v p : Plain.Value) → Document w used v → PatchHeld w p
-        → Short w.texts → ListedIs (applied (length o.output) (length o.list) v (shape_within R p)) o o' r) → RunWithinIs w region o o' used r
+        → Short w.texts → ListedIs (applied (length o.output) (length o.list) v (shape_within R p)) o o' (as_answer r)) → RunWithinIs w region o o' used r
     unfolding patched_within
     within-tokens f v p d held short = let (R, q) = accepted_ok (region_tokens region) one in rw q (f R q v p d held short)
 
-    pub within_misshapen : {number op : ℕ} → s ≡ Shape.Refused number op → MisshapenIs s r → RunWithinIs w region o o used r
+    pub within_misshapen : {m : Misshapen} → s ≡ Err m → IsErrAnd r (MisshapenIs m) → RunWithinIs w region o o used r
     unfolding applied on_finish answer_of
-    within_misshapen e is = within-tokens λ R q v p d held short. go v (shape-told q held) refl
+    within_misshapen {m} e is = within-tokens λ R q v p d held short. go v (shape-told q held) refl
       where
         go : (v : Plain.Value) {q : Run (List Operation.Operation)} {t : Shape} → ShapeIs q t → s ≡ t
-            → ListedIs (applied (length o.output) (length o.list) v q) o o r
+            → ListedIs (applied (length o.output) (length o.list) v q) o o (as_answer r)
         go v (right os) f = absurd (let z : ◌≡◌ {A = ℕ} 0 1 = cc in omega arith)
-        go v (wrong number op) f = listed-refusal (is number op f)
+        go v (wrong n) f = let same : m ≡ n = cc in rw (← same) (listed-handed r is (λ a h. listed-refusal h))
 
     -- what has the shape of a maker's patch has that of a patch
-    pub within_right : {o' : Outputs} → s ≡ Shape.Right → RunListedIs w o o' used r → RunWithinIs w region o o' used r
+    pub within_right : {u : Unit {0}} {o' : Outputs} → s ≡ Ok u → RunListedIs w o o' used r → RunWithinIs w region o o' used r
     unfolding applied on_finish
     within_right e runs =
         within-tokens λ R q v p d held short.
@@ -126,6 +132,22 @@ module _ (D P region : Bytes) (lent : Lending Lent) where
           within-applied {v} e f =
               within-read ∙ ap (λ q. on_document_within lent.call.output lent.list q P region) e
               ∙ ap (λ q. on_patch_within lent.call.output lent.list v q region) f
+
+-- ---- the two texts read
+module _ {T : Texts} (region : Bytes) (lent : Lending Lent) (enough : work_suffices lent.call ≡ true) where
+  pub lengths_refused : {s : Result (Unit {0}) Unread} {u : Unread} → LengthsAre T s → s ≡ Err u
+      → answer_within T.document T.patch region lent ≡ unlisted (Spec.refusal (number_of u.fault.refusal) u.text 0 u.fault.place)
+  lengths_refused is t =
+      long_by (λ n x place. answer_within T.document T.patch region lent ≡ unlisted (Spec.refusal n x 0 place)) is t
+      (within-document_long _ _ _ _ enough) (within-patch_long _ _ _ _ enough)
+
+  pub texts_refused : (length T.document ≤ max_bytes) × (length T.patch ≤ max_bytes) → length region ≤ max_bytes
+      → {nodes : List Row} {s : Result ℕ Unread} {u : Unread} → TextsRead T nodes s → s ≡ Err u
+      → answer_within T.document T.patch region lent ≡ unlisted (Spec.refusal (number_of u.fault.refusal) u.text 0 u.fault.place)
+  texts_refused short small reads t =
+      unread_by (λ n x place. answer_within T.document T.patch region lent ≡ unlisted (Spec.refusal n x 0 place)) reads t
+      (λ n place h. within-document_unread _ _ _ _ enough short.0 short.1 small h)
+      (λ n place v h i. within-patch_unread _ _ _ _ enough short.0 short.1 small h i)
 
 -- only whether the work area suffices, and the rooms, make a difference
 pub within_same : (D P region : Bytes) (lent lent' : Lending Lent) → work_suffices lent.call ≡ work_suffices lent'.call

@@ -5,11 +5,10 @@ ghost use Rattle.region_listing.specs.Call.{ApplyWithinListingIs};
 
 use crate::stages::checked_within;
 use index;
-use json_patch::{Answer, refused};
-use spec::refusal;
+use json_patch::{Answer, clear, refusal_answer, suffices};
+use spec::refusal::Refusal;
 use tape::layout;
 use tape::layout::Node;
-use tape::moves::wipe;
 
 // The patch of a maker is applied to the document within a region, which is a pointer's text in UTF-8. The result is
 // written to `output` and the origins of its values to `origins`, or the call is refused. `nodes` and `index` are the
@@ -27,13 +26,10 @@ pub fn apply_within_listing<'a>(
         (list_before output.old origins.old nodes.old index.old)
         (list_after output.new origins.new nodes.new index.new) result }
 {
-    if nodes.len() < layout::ROWS {
-        return refused(refusal::WORK_TOO_SHORT, 0, 0, 0);
+    if !suffices(nodes, index) {
+        return refusal_answer(Refusal::WorkTooShort, 0, 0, 0);
     }
-    if index.len() < index::SLOTS {
-        return refused(refusal::WORK_TOO_SHORT, 0, 0, 0);
-    }
-    let answer = checked_within(
+    let done = checked_within(
         [document, patch],
         region,
         output,
@@ -41,7 +37,6 @@ pub fn apply_within_listing<'a>(
         &mut nodes[..layout::ROWS],
         &mut index[..index::SLOTS],
     );
-    wipe(nodes);
-    index::empty(index);
-    answer
+    clear(nodes, index);
+    Answer::from(done)
 }

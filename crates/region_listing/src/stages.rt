@@ -4,12 +4,11 @@ ghost use Rattle.tape.specs.Lent.{lent, before};
 ghost use Rattle.listing.specs.Call.{outputs_before, outputs_after, list_before};
 ghost use Rattle.region_listing.specs.Stages.{RunWithinIs, CheckedWithinIs};
 
-use json_patch::{Answer, misshapen, refused, unread};
+use json_patch::{Answer, check_lengths, read_texts, refusal_answer};
 use listing::run_listed;
-use reader::{Read, read_document, read_patch};
 use region::{is_region, shape_within};
-use shape::Shape;
-use spec::{limits, refusal};
+use spec::limits;
+use spec::refusal::Refusal;
 use tape::layout;
 use tape::layout::{Node, Texts};
 
@@ -22,17 +21,14 @@ fn run_within<'a>(
     nodes: &mut [Node],
     index: &mut [u16],
     used: usize,
-) -> Answer
+) -> Result<usize, Answer>
     ensures { RunWithinIs (before texts nodes.old) region.now (outputs_before output.old origins.old)
         (outputs_after output.new origins.new) used result }
 {
     if !is_region(region) {
-        return refused(refusal::MALFORMED_POINTER, 0, 0, 0);
+        return Err(refusal_answer(Refusal::MalformedPointer, 0, 0, 0));
     }
-    let shape = shape_within(texts, nodes, layout::PATCH, region);
-    let Shape::Right = shape else {
-        return misshapen(shape);
-    };
+    shape_within(texts, nodes, layout::PATCH, region)?;
     run_listed(texts, output, origins, nodes, index, used)
 }
 
@@ -44,26 +40,14 @@ pub fn checked_within<'a>(
     origins: &mut [u16],
     nodes: &mut [Node],
     index: &mut [u16],
-) -> Answer
+) -> Result<usize, Answer>
     ensures { CheckedWithinIs (lent texts) region.now (list_before output.old origins.old nodes.old index.old)
         (outputs_after output.new origins.new) result }
 {
-    if limits::MAX_BYTES < texts[0].len() {
-        return refused(refusal::INPUT_TOO_LONG, 1, 0, 0);
-    }
-    if limits::MAX_BYTES < texts[1].len() {
-        return refused(refusal::INPUT_TOO_LONG, 2, 0, 0);
-    }
+    check_lengths(texts)?;
     if limits::MAX_BYTES < region.len() {
-        return refused(refusal::INPUT_TOO_LONG, 0, 0, 0);
+        return Err(refusal_answer(Refusal::InputTooLong, 0, 0, 0));
     }
-    let document = read_document(texts, nodes, index);
-    let Read::Value(_, used) = document else {
-        return unread(1, document);
-    };
-    let patch = read_patch(texts, nodes, index);
-    let Read::Value(_, _) = patch else {
-        return unread(2, patch);
-    };
+    let used = read_texts(texts, nodes, index)?;
     run_within(texts, region, output, origins, nodes, index, used)
 }

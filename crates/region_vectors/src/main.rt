@@ -3,97 +3,38 @@
 // second program answers, so that each run compares the two.
 #![tactic(auto)]
 
-ghost use Rattle.std.specs.Prelude.{◌≤◌, length};
-
 use cases::{
-    Case, Contents, Found, all_bytes, buffer, bytes_of, case_at, front, print_no_case, read_cases,
-    say, work_clear,
+    Case, UNWRITTEN, all_from, buffer, bytes_of, each_case, left_well, print_name, read_cases,
 };
 use index;
-use json_patch::Answer;
 use region_call::apply_within;
-use report::report;
+use report::print_report;
 use std::io;
 use tape::fields::narrow;
 use tape::layout;
-use tape::layout::Node;
 
 const OUTPUT: usize = 65_536;
 
 // The output, and the newline.
-const LINE: usize = 65_537;
-
-// A record less than the work area has.
-const SHORT_ROWS: usize = 6_143;
-
-// What the output holds before a call: a byte that no text has.
-const UNWRITTEN: u8 = 255;
-
-// The answer's line. It is laid down in the output, which begins with the text.
-fn print_answer(rt: &impl Print, answer: Answer, output: &mut [u8]) -> io::Result<()> {
-    let n = report(answer, output);
-    say(rt, front(output, n))
-}
-
-// The call, with the first `room` bytes of the output lent.
-fn lend<'a>(
-    document: &'a [u8],
-    patch: &'a [u8],
-    region: &[u8],
-    room: usize,
-    output: &mut [u8],
-    nodes: &mut [Node],
-    index: &mut [u16],
-) -> Answer
-    requires { room ≤ length output.old }
-{
-    apply_within(document, patch, region, &mut output[..room], nodes, index)
-}
+const LINE: usize = OUTPUT + 1;
 
 // The case's line, with another text in it where there is less room than the case asks for, or where the call has not
-// left the memory as it must. Before the call the work area holds rubbish.
+// left the memory as it must. Before the call the work area holds rubbish. The programs for other calls have the same
+// lines around theirs: the crate `cases`, which they share, knows no `Answer`.
 fn run_case(rt: &impl Print, file: &[u8], c: Case, rubbish: u16) -> io::Result<()> {
-    let texts = c.texts;
-    let document = bytes_of(file, texts.first);
-    let patch = bytes_of(file, texts.second);
-    let region = bytes_of(file, texts.third);
-    let room = c.rooms.first;
-    say(rt, bytes_of(file, c.name))?;
-    say(rt, b": ")?;
-    if OUTPUT < room {
-        return say(rt, b"there is less room\n");
-    }
+    let document = bytes_of(file, c.texts.first);
+    let patch = bytes_of(file, c.texts.second);
+    let region = bytes_of(file, c.texts.third);
+    print_name(rt, file, c)?;
     let mut output = [UNWRITTEN; LINE];
-    let node = [rubbish; 8];
-    let mut nodes = [node; layout::ROWS];
+    let Some(lent) = output[..OUTPUT].get_mut(..c.rooms.first) else {
+        return println!(rt; "there is less room");
+    };
+    let mut nodes = [[rubbish; 8]; layout::ROWS];
     let mut index = [rubbish; index::SLOTS];
-    let answer = lend(
-        document,
-        patch,
-        region,
-        room,
-        &mut output,
-        &mut nodes,
-        &mut index,
-    );
-    if !work_clear(&nodes, &index) {
-        return say(rt, b"the work area is not all zero\n");
-    }
-    if !all_bytes(&output, answer.length, UNWRITTEN) {
-        return say(rt, b"the output is changed behind the text\n");
-    }
-    print_answer(rt, answer, &mut output)
-}
-
-// One case after another, to the end of the file. What the work area holds before a call differs from case to case.
-fn run_all(rt: &impl Print, file: &[u8]) -> io::Result<()> {
-    let mut at = 0;
-    while at < file.len() {
-        let Found::Here(c) = case_at(file, at, 1, 3) else {
-            return print_no_case(rt, at);
-        };
-        run_case(rt, file, c, narrow(at))?;
-        at = c.next;
+    let answer = apply_within(document, patch, region, lent, &mut nodes, &mut index);
+    if left_well(rt, &nodes, &index, &output, answer.length)? {
+        print_report(rt, answer, &mut output)?;
     }
     Ok(())
 }
@@ -102,22 +43,22 @@ fn run_all(rt: &impl Print, file: &[u8]) -> io::Result<()> {
 // and the output is untouched.
 fn run_short(rt: &impl Print) -> io::Result<()> {
     let mut output = [UNWRITTEN; 80];
-    let node = [1u16; 8];
-    let mut nodes = [node; SHORT_ROWS];
-    let mut index = [1u16; index::SLOTS];
+    let mut nodes = [[1; 8]; layout::ROWS - 1];
+    let mut index = [1; index::SLOTS];
     let answer = apply_within(b"[]", b"[]", b"", &mut output, &mut nodes, &mut index);
-    say(rt, b"work-a-record-short: ")?;
-    if !all_bytes(&output, 0, UNWRITTEN) {
-        return say(rt, b"the output is changed\n");
+    print!(rt; "work-a-record-short: ")?;
+    if !all_from(&output, 0, UNWRITTEN) {
+        return println!(rt; "the output is changed");
     }
-    print_answer(rt, answer, &mut output)
+    print_report(rt, answer, &mut output)
 }
 
 fn main(rt: HostRuntime) -> io::Result<()> {
     let mut room = buffer();
-    let Contents::Bytes(n) = read_cases(&rt, &mut room) else {
-        return say(&rt, b"unreadable\n");
+    let Some(file) = read_cases(&rt, &mut room) else {
+        return println!(rt; "unreadable");
     };
-    run_all(&rt, front(&room, n))?;
+    // what the work area holds before a call differs from case to case
+    each_case(&rt, file, 1, 3, |at, c| run_case(&rt, file, c, narrow(at)))?;
     run_short(&rt)
 }

@@ -1,5 +1,5 @@
 // The line that the patch tool prints: SPECIFICATION 10.2. `run` makes it of a document and a patch, `report` of
-// an answer of the call.
+// an answer of the call, which `print_report` prints.
 //
 // What is proved: the bytes laid down are those of the definition `line_of` (specs/Line), of the answer that the
 // definition `answer` of crate `spec` gives, as many as there is room for; behind them the buffer is as it was. Where
@@ -9,7 +9,6 @@
 
 mod pieces; // the pieces of the line
 
-ghost use Rattle.std.specs.Prelude.{◌≡◌, ◌-◌};
 ghost use Rattle.json_patch.specs.Call.{given, memory_before, memory_after};
 ghost use Rattle.writer.specs.Writing.{Placed};
 ghost use Rattle.report.specs.Report.{ending, RunIs};
@@ -17,6 +16,7 @@ ghost use Rattle.report.specs.Report.{ending, RunIs};
 use json_patch::{Answer, apply};
 use pieces::put_ending;
 pub use pieces::{put_bytes, put_two_fields};
+use std::io;
 use tape::layout::Node;
 
 // What ends the line is laid down behind the text that the call has left in the first `length` bytes of the output: a
@@ -32,11 +32,10 @@ pub fn report(answer: Answer, output: &mut [u8]) -> usize
     at + n
 }
 
-// All bytes but the last.
-fn but_one(length: usize) -> usize
-    ensures { result ≡ length - 1 }
-{
-    if length == 0 { 0 } else { length - 1 }
+// The answer's line, printed. It is laid down in the output, which begins with the text.
+pub fn print_report<P: Print>(rt: &P, answer: Answer, output: &mut [u8]) -> io::Result<()> {
+    let n = report(answer, output);
+    rt.write_all(&output[..n])
 }
 
 // The patch is applied to the document, with all of `line` but its last byte lent as output, and the line laid down
@@ -51,7 +50,7 @@ pub fn run<'a>(
     ensures { RunIs (given document.now patch.now) (memory_before line.old nodes.old index.old)
         (memory_after line.new nodes.new index.new) result }
 {
-    let room = but_one(line.len());
+    let room = line.len().saturating_sub(1);
     let answer = apply(document, patch, &mut line[..room], nodes, index);
     report(answer, line)
 }

@@ -1,6 +1,7 @@
 // The pieces of the line, each laid down at the front of `out`, which is the rest of the output: as many bytes as
-// there is room for. The answer is how many.
-ghost use Rattle.std.specs.Prelude.{◌≡◌, ◌+◌, ◌%◌, ◌++◌, min};
+// there is room for. The answer is how many. `write!` would not do: `Placed` in the contracts of `report` and `run` says
+// what is laid down also where there is less room than the line, and `write!` says nothing of a line that does not fit.
+ghost use Rattle.std.specs.Prelude.{◌≡◌, ◌+◌, ◌%◌, ◌++◌};
 ghost use Rattle.writer.specs.Writing.{Placed};
 ghost use Rattle.report.specs.Line.{in_decimal, last_field};
 ghost use Rattle.report.specs.Report.{refusal_of, ending};
@@ -11,18 +12,11 @@ use tape::layout::PLAIN_STRING;
 use text::write_text;
 use writer::put_byte;
 
-// The smaller of two numbers.
-fn least(a: usize, b: usize) -> usize
-    ensures { result ≡ min a b }
-{
-    if a < b { a } else { b }
-}
-
 pub fn put_bytes(s: &[u8], out: &mut [u8]) -> usize
     ensures { Placed s.now 0 out.old out.new result }
 {
     let count = write_text(long(PLAIN_STRING), s, out);
-    least(count, out.len())
+    count.min(out.len())
 }
 
 fn last_digit(n: u64) -> u8

@@ -1,18 +1,13 @@
--- Laws of the kinds of operations: a name's kind, by the tests that it passes, and what is known of a known kind.
-use mathlib.Core.Path.{◌≡◌, refl, ap, ◌∙◌, sym}
-use mathlib.Core.Bool.{Bool, true, false, not, true≢false}
+-- Laws of the kinds of operations: a name's kind, by the tests that it passes.
+use mathlib.Core.Path.{◌≡◌}
+use mathlib.Core.Bool.{true, false}
 use Rattle.spec.specs.Outcome.{ok, refused}
 use Rattle.spec.specs.Refusal.{wrong_shape}
 use Rattle.spec.specs.Bytes.{Text, ascii}
 use Rattle.spec.specs.Value.{same_text}
-use Rattle.spec.specs.Operation as Operation
 use Rattle.spec.specs.Operation.{add, remove, replace, move, copy, test}
-use Rattle.spec.specs.Patch.{kind_named, uses_value, uses_from, is_move}
-use Rattle.pointer.specs.Tokens.{accepted}
-use Rattle.shape.specs.Kinds.{kind_outcome, answered, asks, uses_of}
-use Rattle.shape.specs.Operation.{Knows}
-use Rattle.shape.specs.declared.kinds.Uses.{Uses}
-use Rattle.shape.specs.declared.kinds.Kind.{Kind}
+use Rattle.spec.specs.Patch.{kind_named}
+use Rattle.shape.specs.Kinds.{spec_kind}
 
 module _ (t : Text) where
   pub add_named : same_text t (ascii "add") ≡ true → ok add ≡ kind_named t
@@ -49,33 +44,7 @@ module _ (t : Text) where
               unfolding kind_named
               none_named = rw (not-add, not-remove, not-replace, not-Move, not-copy, not_test)
 
-pub not_known : (kind : Kind) → accepted (kind_outcome kind) ≡ false → kind_outcome kind ≡ refused wrong_shape 0
-unfolding kind_outcome accepted
-not_known Kind.Add e = absurd (true≢false e)
-not_known Kind.Remove e = absurd (true≢false e)
-not_known Kind.Replace e = absurd (true≢false e)
-not_known Kind.Move e = absurd (true≢false e)
-not_known Kind.Copy e = absurd (true≢false e)
-not_known Kind.Test e = absurd (true≢false e)
-not_known Kind.Unknown e = refl
-
--- a question about a known kind
-pub asks_known : (q : Operation.Kind → Bool) (kind : Kind) {k : Operation.Kind} {r : Bool} → kind_outcome kind ≡ ok k → r ≡ asks q kind → r ≡ q k
-unfolding answered
-asks_known q kind known e = e ∙ ap (answered q) known
-
--- what a known kind uses
-module _ {kind : Kind} {k : Operation.Kind} (known : Knows kind k) {u : Uses} (is : u ≡ uses_of kind) where
-  pub value-used : u.value ≡ uses_value k
-  value-used = asks_known uses_value kind known.is (ap (λ (u : Uses). u.value) is)
-
-  pub from_used : u.from ≡ uses_from k
-  from_used = asks_known uses_from kind known.is (ap (λ (u : Uses). u.from) is)
-
-  pub moves_known : u.moves ≡ is_move k
-  moves_known = asks_known is_move kind known.is (ap (λ (u : Uses). u.moves) is)
-
--- a test `if !..` that is not taken
-pub not_false : (b : Bool) → not b ≡ false → b ≡ true
-not_false true e = refl
-not_false false e = sym e
+-- the kind that one of the words names, computed
+unfoldable pub words : Unit {0}
+unfolding spec_kind kind_named same_text ascii
+words = tt

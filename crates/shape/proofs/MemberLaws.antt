@@ -1,5 +1,6 @@
 -- Laws of a search for a member: the child that it finds, and the string that this is.
 use Prim.Native.Nat.{ℕ, zero, suc, ◌+◌, ◌≤◌, ◌<◌}
+use Rattle.std.specs.Prelude.{Option, Some, None}
 use native.Mathlib.Omega.{arith}
 use mathlib.Core.Path.{◌≡◌, refl, sym, ap, ◌∙◌, subst}
 use mathlib.Core.Bool.{Bool, true, false}
@@ -29,13 +30,11 @@ use Rattle.tape.proofs.Map.{count_map, size-map, map-nth}
 use Rattle.table.specs.Meaning.{part_of, spelled, label_of, entry_of, members, meant}
 use Rattle.table.specs.Sound.{NodeHeld, RowsHeld}
 use Rattle.table.specs.Find as Find
-use Rattle.table.specs.Find.{Found, Between, FindAsciiIs}
-use Rattle.table.specs.declared.find.Member.{Member}
+use Rattle.table.specs.Find.{Found, FindAsciiIs}
 use Rattle.table.proofs.AllLaws.{all_first, all_kids, all_nth}
 use Rattle.table.proofs.MeaningLaws.{is_string_label}
 use Rattle.table.proofs.Search.{finds_ascii}
-use Rattle.shape.specs.Members.{Sought, found, missing, MemberIs, found_at, text_outcome, TextIs, string_in, string_at, StringIs}
-use Rattle.shape.specs.declared.members.Spelled.{Spelled}
+use Rattle.shape.specs.Members.{Sought, found, missing, MemberIs, text_outcome, TextIs, string_in, string_at, StringIs}
 use Rattle.tape.specs.Lent.{Texts, Table}
 
 -- ---- a member
@@ -68,7 +67,7 @@ module _ {w : Table} {row : ℕ} {c : Cell} {kids : Forest Cell} (n : NodeHeld w
   member-missing name is = rw (is, count_map (entry_of w.texts) kids, le-ltb (count kids) (count kids) (omega arith))
 
   -- what the search answers is the member
-  member-sought : {name : Text} {r : Member} → Found w.texts (row + 1) kids name r → Sought w row name (meant w.texts c kids) r
+  member-sought : {name : Text} {r : Option ℕ} → Found w.texts (row + 1) kids name r → Sought w row name (meant w.texts c kids) r
   unfolding child_row
   member-sought {name} (Find.found k at is l place) =
       let all : size (members w.texts kids) ≡ size kids = size-map (entry_of w.texts) kids in
@@ -79,14 +78,14 @@ module _ {w : Table} {row : ℕ} {c : Cell} {kids : Forest Cell} (n : NodeHeld w
 
 -- each way out of `member`
 module _ {w : Table} {row : ℕ} {name : Text} where
-  pub member_is : {r : Member} {end : ℕ} → end ≡ end_of w.nodes row → FindAsciiIs w (row + 1) end name r → MemberIs w row name r
+  pub member_is : {r : Option ℕ} {end : ℕ} → end ≡ end_of w.nodes row → FindAsciiIs w (row + 1) end name r → MemberIs w row name r
   member_is {r} {end} e is =
       record {
         rows = subst (λ n. FindAsciiIs w (row + 1) n name r) e is;
         held = λ c kids n. member-sought n (is.held kids (members-asked n end e));
       }
 
-  pub member-out : length w.nodes ≤ row → MemberIs w row name Member.Missing
+  pub member-out : length w.nodes ≤ row → MemberIs w row name None
   member-out h = member_is refl (finds_ascii _ refl refl (Find.sought_over (omega arith)))
 
 -- ---- a string
@@ -117,22 +116,17 @@ module _ (name : Text) (v : Value.Value) where
   string-none e = rw e
 
 -- no text
-text_not : {T : Texts} {t : Outcome Text} → t ≡ refused wrong_shape 0 → TextIs T t Spelled.Not
+text_not : {T : Texts} {t : Outcome Text} → t ≡ refused wrong_shape 0 → TextIs T t None
 unfolding text_outcome
 text_not e = record { text = sym e; decoded = sym e }
 
--- a row that is found is in the table
-between_at : (start end : ℕ) (nodes : List Row) (m : Member) {at : ℕ} → m ≡ Member.At at → Between start end nodes m → at < length nodes
-between_at start end nodes (Member.At b) {at} e (low, high, inside) = let same : b ≡ at = cc in rw same at inside
-between_at start end nodes Member.Missing e z = absurd (let z : ◌≡◌ {A = ℕ} 0 1 = cc in omega arith)
-
 -- what an answer of the search tells, once it is known
 module _ {w : Table} {row : ℕ} {name : Text} {v : Value.Value} where
-  pub sought_missing : {r : Member} → r ≡ Member.Missing → Sought w row name v r → member name v ≡ refused wrong_shape 0
+  pub sought_missing : {r : Option ℕ} → r ≡ None → Sought w row name v r → member name v ≡ refused wrong_shape 0
   sought_missing is (found l s n e) = absurd (let z : ◌≡◌ {A = ℕ} 0 1 = cc in omega arith)
   sought_missing is (missing e) = e
 
-  pub sought_at : {r : Member} (at : ℕ) → r ≡ Member.At at → Sought w row name v r
+  pub sought_at : {r : Option ℕ} (at : ℕ) → r ≡ Some at → Sought w row name v r
       → (e : Cell) × (below : Forest Cell) × (row < at) × (at + size below ≤ row + size v.kids)
       × (NodeHeld w at e below) × (member name v ≡ ok (meant w.texts e below))
   sought_at at is (found {at = b} {e} {below} l s n m) =
@@ -142,11 +136,11 @@ module _ {w : Table} {row : ℕ} {name : Text} {v : Value.Value} where
 
 -- ---- the text of a row
 module _ (node : Row) where
-  string_in_lem : kind_of node ≡ 4 → string_in node ≡ Spelled.As (value_of node)
+  string_in_lem : kind_of node ≡ 4 → string_in node ≡ Some (value_of node)
   unfolding string_in
   string_in_lem e = rw (eq-eqb (kind_of node) 4 e)
 
-  none_in : (kind_of node ≡ 4 → ⊥) → string_in node ≡ Spelled.Not
+  none_in : (kind_of node ≡ 4 → ⊥) → string_in node ≡ None
   unfolding string_in
   none_in d = rw (ne_eqb (kind_of node) 4 d)
 
@@ -162,8 +156,8 @@ module _ {w : Table} {at : ℕ} {e : Cell} {below : Forest Cell} (n : NodeHeld w
           let k : e.kind ≡ 4 = eqb-true e.kind 4 f in
           let bounds = n.label.string.form k in
           let text : t ≡ ok (spelled w.texts e.value) = is ∙ string-label w.texts e.kind e.value k in
-          let there : string_in (get_or w.nodes at []) ≡ Spelled.As e.value =
-          string_in_lem _ (kind_here node ∙ k) ∙ ap (λ (d : Cell). Spelled.As d.value) (cell_here node []) in
+          let there : string_in (get_or w.nodes at []) ≡ Some e.value =
+          string_in_lem _ (kind_here node ∙ k) ∙ ap (λ (d : Cell). Some d.value) (cell_here node []) in
           subst (TextIs w.texts t) (sym there)
           (record { text = sym text; decoded = sym (text ∙ ap ok (form_decodes _ (part_of w.texts e.value) bounds.0 bounds.1)) })
       go false f =
@@ -172,66 +166,40 @@ module _ {w : Table} {at : ℕ} {e : Cell} {below : Forest Cell} (n : NodeHeld w
           subst (TextIs w.texts t) (sym (none_in _ (λ k. d (sym (kind_here node) ∙ k))))
           (text_not (is ∙ other_label w.texts e.kind e.value (formed_fit n.held.formed).kind d))
 
--- ---- a row that is 0 where there is no member
-pub found_none : (at : ℕ) → at ≡ 0 → found_at at ≡ Member.Missing
-unfolding found_at
-found_none at e = rw e
-
-pub found_row : (at : ℕ) → (at ≡ 0 → ⊥) → found_at at ≡ Member.At at
-unfolding found_at
-found_row zero d = absurd (d refl)
-found_row (suc at) d = refl
-
-module _ (nodes : List Row) (at : ℕ) where
-  pub in_none : at ≡ 0 → Spelled.Not ≡ string_at nodes (found_at at)
+-- each way out of `string_in`
+module _ (nodes : List Row) {m : Option ℕ} where
+  pub in_none : m ≡ None → None ≡ string_at nodes m
   unfolding string_at
-  in_none e = sym (ap (string_at nodes) (found_none at e))
+  in_none e = sym (ap (string_at nodes) e)
 
-  in_row : (at ≡ 0 → ⊥) → string_at nodes (found_at at) ≡ string_in (get_or nodes at [])
-  unfolding string_at
-  in_row d = ap (string_at nodes) (found_row at d)
+  module _ (at : ℕ) (there : m ≡ Some at) where
+    in_row : string_at nodes m ≡ string_in (get_or nodes at [])
+    unfolding string_at
+    in_row = ap (string_at nodes) there
 
-  module _ (d : at ≡ 0 → ⊥) where
-    pub in_out : length nodes ≤ at → Spelled.Not ≡ string_at nodes (found_at at)
+    pub in_out : length nodes ≤ at → None ≡ string_at nodes m
     unfolding string_in
-    in_out h = sym (in_row d ∙ ap string_in (get_or-eq_default nodes [] h))
+    in_out h = sym (in_row ∙ ap string_in (get_or-eq_default nodes [] h))
 
-    pub in_other : (kind_of (get_or nodes at []) ≡ 4 → ⊥) → Spelled.Not ≡ string_at nodes (found_at at)
-    in_other k = sym (in_row d ∙ none_in _ k)
+    pub in_other : (kind_of (get_or nodes at []) ≡ 4 → ⊥) → None ≡ string_at nodes m
+    in_other k = sym (in_row ∙ none_in _ k)
 
-    pub in-string : {s : Spelling} → kind_of (get_or nodes at []) ≡ 4 → s ≡ value_of (get_or nodes at []) → Spelled.As s ≡ string_at nodes (found_at at)
-    in-string k e = ap Spelled.As e ∙ sym (in_row d ∙ string_in_lem _ k)
+    pub in-string : {s : Spelling} → kind_of (get_or nodes at []) ≡ 4 → s ≡ value_of (get_or nodes at []) → Some s ≡ string_at nodes m
+    in-string k e = ap Some e ∙ sym (in_row ∙ string_in_lem _ k)
 
-sought_text : {w : Table} {row : ℕ} {name : Text} {v : Value.Value} {m : Member} → Sought w row name v m
+sought_text : {w : Table} {row : ℕ} {name : Text} {v : Value.Value} {m : Option ℕ} → Sought w row name v m
     → TextIs w.texts (string_member name v) (string_at w.nodes m)
 unfolding string_at
 sought_text {name = name} {v} (found l s n is) = node_text n (string_of_lem name v _ is)
 sought_text {name = name} {v} (missing e) = text_not (string-none name v e)
 
--- each way out of `string_member`
-module _ {w : Table} {row : ℕ} {name : Text} {m : Member} (is : MemberIs w row name m) where
-  pub string-is : {r : Spelled} → r ≡ string_at w.nodes m → StringIs w row name r
-  string-is {r} e =
-      record {
-        at = m;
-        member = is;
-        rows = e;
-        held = λ c kids n. subst (TextIs w.texts (string_member name (meant w.texts c kids))) (sym e) (sought_text (is.held c kids n));
-      }
-
-  pub string-missing : m ≡ Member.Missing → StringIs w row name Spelled.Not
-  unfolding string_at
-  string-missing e = string-is (sym (ap (string_at w.nodes) e))
-
-  -- by the kind and the text of the row that was found
-  module _ (at : ℕ) (there : m ≡ Member.At at) where
-    pub found_inside : at < length w.nodes
-    found_inside = between_at (row + 1) (end_of w.nodes row) w.nodes m there is.rows.place
-
-    pub string-other : (kind_of (get_or w.nodes at []) ≡ 4 → ⊥) → StringIs w row name Spelled.Not
-    unfolding string_at
-    string-other d = string-is (sym (ap (string_at w.nodes) there ∙ none_in _ d))
-
-    pub string-found : {s : Spelling} → kind_of (get_or w.nodes at []) ≡ 4 → s ≡ value_of (get_or w.nodes at []) → StringIs w row name (Spelled.As s)
-    unfolding string_at
-    string-found k e = string-is (sym (ap (string_at w.nodes) there ∙ string_in_lem _ k ∙ ap Spelled.As (sym e)))
+-- the string of the member that was found
+pub string-is : {w : Table} {row : ℕ} {name : Text} {m : Option ℕ} → MemberIs w row name m → {r : Option Spelling} → r ≡ string_at w.nodes m
+    → StringIs w row name r
+string-is {w} {name = name} {m} is e =
+    record {
+      at = m;
+      member = is;
+      rows = e;
+      held = λ c kids n. subst (TextIs w.texts (string_member name (meant w.texts c kids))) (sym e) (sought_text (is.held c kids n));
+    }

@@ -5,6 +5,7 @@ use mathlib.Core.Path.{◌≡◌, sym, ap, ◌∙◌, subst}
 use mathlib.Core.List.{List, [], ◌∷◌}
 use lib.Dec.{eqb}
 use lib.ListN.{length, get_or}
+use Rattle.std.specs.Prelude.{Ok, Err}
 use borrow.Author.Tests.{eq-eqb, ne_eqb, le-leb, lt-leb}
 use Rattle.spec.specs.Outcome.{ok, refused}
 use Rattle.spec.specs.Forest.{Forest, none, tree, count}
@@ -24,9 +25,10 @@ use Rattle.table.specs.Meaning.{entry_of, members, meant}
 use Rattle.table.specs.Sound.{NodeHeld, RowsHeld}
 use Rattle.table.proofs.AllLaws.{all_first, all_kids, all_rest}
 use Rattle.table.proofs.MeaningLaws.{is_array_label}
-use Rattle.shape.specs.Operation.{OperationIs}
-use Rattle.shape.specs.Patch.{ShapeIs, right, wrong, all_right, one_wrong, ElementsAre, no-array, too_many, judged, PatchIs}
-use Rattle.shape.specs.declared.patch.Shape.{Shape}
+use Rattle.shape.specs.Operation.{Verdict, OperationNumber, OperationIs}
+use Rattle.shape.specs.Patch.{Shape, ShapeIs, right, wrong, all_right, one_wrong, ElementsAre, no-array, too_many, judged, PatchIs}
+use Rattle.spec.specs.Fault.{number_of}
+use Rattle.spec.specs.declared.refusal.Refusal.{Refusal}
 use Rattle.shape.proofs.AnswerLaws.{answers_ok, answers_refused}
 use Rattle.tape.specs.Lent.{Texts, Table}
 
@@ -66,7 +68,7 @@ pub one_more : (o : Operation.Operation) {run : Run (List Operation.Operation)} 
     → ShapeIs run r → ShapeIs (on_finish run (λ os. finished (o ∷ os))) r
 unfolding on_finish
 one_more o (right os) = right (o ∷ os)
-one_more o (wrong number op) = wrong number op
+one_more o (wrong e) = wrong e
 
 -- ---- the loop: `op` trees are passed, and what is answered of those that are left is the answer
 pub record Left (w : Table) (end row op : ℕ) (f : Forest Cell) : Type 0 where
@@ -82,7 +84,7 @@ pub left_all : (w : Table) (start end : ℕ) → LeftAny w start end start 0
 left_all w start end f h = record { left = f; rows = h; whole = λ r is. is }
 
 module _ {w : Table} {start end row op : ℕ} (any : LeftAny w start end row op) where
-  pub left_none : end ≤ row → ElementsAre w start end Shape.Right
+  pub left_none : end ≤ row → ElementsAre w start end (Ok tt)
   unfolding operations map_forest
   left_none h =
       record {
@@ -90,37 +92,38 @@ module _ {w : Table} {start end row op : ℕ} (any : LeftAny w start end row op)
         held = λ f held.
             let l = any f held in
             let e : l.left ≡ none = size_none l.left (omega (arith, l.rows.ends)) in
-            l.whole Shape.Right (rw e (right []));
+            l.whole (Ok tt) (rw e (right []));
       }
 
   module _ (more : row < end) where
     -- the row is in the table
-    pub left_inside : length w.nodes ≤ row → ElementsAre w start end Shape.Right
+    pub left_inside : length w.nodes ≤ row → ElementsAre w start end (Ok tt)
     left_inside h =
         record {
           number = all_right;
           held = λ f held. rows-first (any f held).rows more (λ c kids rest e r. absurd (omega (arith, inside_here (held_node r.held))));
         }
 
-    module _ {n : ℕ} (is : OperationIs w row n) where
-      pub left_refused : (n ≡ 0 → ⊥) → ElementsAre w start end (Shape.Refused n (op + 1))
-      left_refused d =
+    module _ {verdict : Verdict} (is : OperationIs w row verdict) where
+      pub left_refused : {x : Refusal} → verdict ≡ Err x → ElementsAre w start end (Err (record { refusal = x; op = op + 1 }))
+      left_refused {x} f =
           record {
-            number = one_wrong is.number;
-            held = λ f held.
-                let l = any f held in
+            number = one_wrong (subst OperationNumber f is.number);
+            held = λ g held.
+                let l = any g held in
                 rows-first l.rows more
                 (λ c kids rest e r.
-                let (refusal, h) = answers_refused (is.held c kids (first-node r)) d in
-                l.whole (Shape.Refused n (op + 1)) (rw (e, first_refused w.texts (op + 1) c kids rest n refusal) (wrong n (op + 1))));
+                let refusal = answers_refused (is.held c kids (first-node r)) f in
+                l.whole (Err (record { refusal = x; op = op + 1 }))
+                (rw (e, first_refused w.texts (op + 1) c kids rest (number_of x) refusal) (wrong (record { refusal = x; op = op + 1 }))));
           }
 
-      pub left_next : n ≡ 0 → (next : ℕ) → next ≡ end_of w.nodes row → LeftAny w start end next (op + 1)
-      left_next zero next at f held =
+      pub left_next : verdict ≡ Ok tt → (next : ℕ) → next ≡ end_of w.nodes row → LeftAny w start end next (op + 1)
+      left_next fine next at f held =
           let l = any f held in
           rows-first l.rows more
           (λ c kids rest e r.
-          let (o, result) = answers_ok (is.held c kids (first-node r)) zero in
+          let (o, result) = answers_ok (is.held c kids (first-node r)) fine in
           record {
             left = rest;
             rows = rows_next r next at;
@@ -138,21 +141,21 @@ module _ {w : Table} {row : ℕ} {c : Cell} {kids : Forest Cell} (n : NodeHeld w
 
 -- each way out of `shape_of`
 module _ {w : Table} {row : ℕ} where
-  pub patch-other : (kind_of (get_or w.nodes row []) ≡ 5 → ⊥) → PatchIs w row (Shape.Refused 8 0)
-  unfolding shape
-  patch-other d = record { number = no-array d; held = λ c kids n. rw (array-here n, ne_eqb _ 5 d) (wrong 8 0) }
+  pub patch-other : (kind_of (get_or w.nodes row []) ≡ 5 → ⊥) → PatchIs w row (Err (record { refusal = Refusal.WrongShape; op = 0 }))
+  unfolding shape number_of
+  patch-other d = record { number = no-array d; held = λ c kids n. rw (array-here n, ne_eqb _ 5 d) (wrong (record { refusal = Refusal.WrongShape; op = 0 })) }
 
   module _ (array : kind_of (get_or w.nodes row []) ≡ 5) where
-    pub patch_out : length w.nodes ≤ row → PatchIs w row Shape.Right
+    pub patch_out : length w.nodes ≤ row → PatchIs w row (Ok tt)
     patch_out h = record { number = judged array all_right; held = λ c kids n. no_node (held_node n.held) h }
 
     module _ {number : ℕ} (many : ArityIs w.nodes row number) where
-      pub patch_long : 256 < number → PatchIs w row (Shape.Refused 9 0)
-      unfolding shape
+      pub patch_long : 256 < number → PatchIs w row (Err (record { refusal = Refusal.TooManyOperations; op = 0 }))
+      unfolding shape number_of
       patch_long h =
           record {
             number = too_many;
-            held = λ c kids n. rw (array-here n, eq-eqb _ 5 array, counted n many, lt-leb number 256 h) (wrong 9 0);
+            held = λ c kids n. rw (array-here n, eq-eqb _ 5 array, counted n many, lt-leb number 256 h) (wrong (record { refusal = Refusal.TooManyOperations; op = 0 }));
           }
 
       pub patch-elements : number ≤ 256 → {end : ℕ} → end ≡ end_of w.nodes row → {r : Shape} → ElementsAre w (row + 1) end r → PatchIs w row r

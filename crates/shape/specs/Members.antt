@@ -1,5 +1,5 @@
 -- What a search for a member of an operation answers.
-use Rattle.std.specs.Prelude.{ℕ, zero, suc, ◌+◌, ◌<◌, ◌≤◌, ◌≡◌, List, [], eqb, get_or, if◌then◌else◌}
+use Rattle.std.specs.Prelude.{ℕ, ◌+◌, ◌<◌, ◌≤◌, ◌≡◌, Option, Some, None, List, [], eqb, get_or, if◌then◌else◌}
 use Rattle.spec.specs.Outcome.{Outcome, ok, refused}
 use Rattle.spec.specs.Refusal.{wrong_shape}
 use Rattle.spec.specs.Bytes.{Text, ascii}
@@ -18,43 +18,37 @@ use Rattle.tape.specs.Lent.{Texts, Table}
 use Rattle.table.specs.Meaning.{part_of, spelled, meant, short_hash}
 use Rattle.table.specs.Sound.{NodeHeld, ForHeld}
 use Rattle.table.specs.Find.{is_named, FindAsciiIs}
-use Rattle.table.specs.declared.find.Member.{Member}
 use Rattle.shape.specs.declared.all_members.Members.{Members}
-use Rattle.shape.specs.declared.members.Spelled.{Spelled}
 
 -- what holds of the value of whatever node the table holds in a row
 abbrev pub ForMeant : Table → ℕ → (Value.Value → Type 0) → Type 0
 ForMeant w row Q = ForHeld w row λ c kids. Q (meant w.texts c kids)
 
 -- the member of a name, of the object in a row: a node in the rows behind it that are the object's, or the refusal of the definition
-pub data Sought (w : Table) (row : ℕ) (name : Text) (v : Value.Value) : Member → Type 0 where
+pub data Sought (w : Table) (row : ℕ) (name : Text) (v : Value.Value) : Option ℕ → Type 0 where
   found : {at : ℕ} {e : Cell} {below : Forest Cell} → row < at → at + size below ≤ row + size v.kids → NodeHeld w at e below
       → member name v ≡ ok (meant w.texts e below)
-      → Sought w row name v (Member.At at)
-  missing : member name v ≡ refused wrong_shape 0 → Sought w row name v Member.Missing
+      → Sought w row name v (Some at)
+  missing : member name v ≡ refused wrong_shape 0 → Sought w row name v None
 
 -- whatever the table holds, the first row behind this one that has the name, up to the row behind its tree; and where it holds a node in the row
-pub record MemberIs (w : Table) (row : ℕ) (name : Text) (r : Member) : Type 0 where
+pub record MemberIs (w : Table) (row : ℕ) (name : Text) (r : Option ℕ) : Type 0 where
   pub rows : FindAsciiIs w (row + 1) (end_of w.nodes row) name r
   pub held : ForMeant w row λ v. Sought w row name v r
 
--- a row that is 0 where there is no member: row 0 is the document's root
-unfoldable pub found_at : ℕ → Member
-found_at zero = Member.Missing
-found_at (suc row) = Member.At (suc row)
-
 -- the four members that an operation may have, each found by its name
 pub record MembersFound (w : Table) (row : ℕ) (r : Members) : Type 0 where
-  pub op : MemberIs w row (ascii "op") (found_at r.op)
-  pub path : MemberIs w row (ascii "path") (found_at r.path)
-  pub value : MemberIs w row (ascii "value") (found_at r.value)
-  pub from : MemberIs w row (ascii "from") (found_at r.from)
+  pub op : MemberIs w row (ascii "op") r.op
+  pub path : MemberIs w row (ascii "path") r.path
+  pub value : MemberIs w row (ascii "value") r.value
+  pub from : MemberIs w row (ascii "from") r.from
 
 -- ---- one row of the pass: what was found before, and otherwise this row if it has the name
-unfoldable pub noted : Texts → Name → ℕ → ℕ → ℕ → Text → ℕ
-noted texts own at so_far h name = if eqb so_far 0 then (if is_named texts own h name then at else 0) else so_far
+unfoldable pub noted : Texts → Name → ℕ → Option ℕ → ℕ → Text → Option ℕ
+noted texts own at (Some row) h name = Some row
+noted texts own at None h name = if is_named texts own h name then Some at else None
 
-abbrev pub noted_name : Texts → Name → ℕ → ℕ → Text → ℕ
+abbrev pub noted_name : Texts → Name → ℕ → Option ℕ → Text → Option ℕ
 noted_name texts own at so_far name = noted texts own at so_far (short_hash (hash name)) name
 
 abbrev pub all_noted : Texts → Name → ℕ → Members → Members
@@ -68,26 +62,26 @@ all_noted texts own at m =
 
 -- ---- a string
 -- a string by where it stands, given what stands there
-unfoldable pub text_outcome : (Spelling → Text) → Spelled → Outcome Text
-text_outcome text (Spelled.As spelling) = ok (text spelling)
-text_outcome text Spelled.Not = refused wrong_shape 0
+unfoldable pub text_outcome : (Spelling → Text) → Option Spelling → Outcome Text
+text_outcome text (Some spelling) = ok (text spelling)
+text_outcome text None = refused wrong_shape 0
 
 -- a text, both by its spelling and decoded as a string, so that it can be read as a pointer where it stands
-pub record TextIs (T : Texts) (t : Outcome Text) (r : Spelled) : Type 0 where
+pub record TextIs (T : Texts) (t : Outcome Text) (r : Option Spelling) : Type 0 where
   pub text : text_outcome (spelled T) r ≡ t
   pub decoded : text_outcome (λ s. decode (part_of T s)) r ≡ t
 
 -- the text of a row, if it is a string's
-unfoldable pub string_in : Row → Spelled
-string_in node = if eqb (kind_of node) string_kind then Spelled.As (value_of node) else Spelled.Not
+unfoldable pub string_in : Row → Option Spelling
+string_in node = if eqb (kind_of node) string_kind then Some (value_of node) else None
 
-unfoldable pub string_at : List Row → Member → Spelled
-string_at nodes (Member.At at) = string_in (get_or nodes at [])
-string_at nodes Member.Missing = Spelled.Not
+unfoldable pub string_at : List Row → Option ℕ → Option Spelling
+string_at nodes (Some at) = string_in (get_or nodes at [])
+string_at nodes None = None
 
 -- whatever the table holds, the text of the member's row; and where it holds a node in the row
-pub record StringIs (w : Table) (row : ℕ) (name : Text) (r : Spelled) : Type 0 where
-  pub at : Member
+pub record StringIs (w : Table) (row : ℕ) (name : Text) (r : Option Spelling) : Type 0 where
+  pub at : Option ℕ
   pub member : MemberIs w row name at
   pub rows : r ≡ string_at w.nodes at
   pub held : ForMeant w row λ v. TextIs w.texts (string_member name v) r

@@ -1,6 +1,7 @@
 -- What the code answers for a whole patch.
-use Rattle.std.specs.Prelude.{ℕ, ◌≡◌, List, [], get_or}
-use Rattle.spec.specs.Refusal.{wrong_shape, too_many_operations}
+use Rattle.std.specs.Prelude.{ℕ, ◌≡◌, Result, Ok, Err, List, [], get_or}
+use Rattle.spec.specs.Fault.{number_of}
+use Rattle.spec.specs.declared.refusal.Refusal.{Refusal}
 use Rattle.spec.specs.Forest.{Forest}
 use Rattle.spec.specs.Operation as Operation
 use Rattle.spec.specs.Patch.{stop, Run, finished, stopped, operations, shape}
@@ -12,17 +13,21 @@ use Rattle.table.specs.Meaning.{members}
 use Rattle.table.specs.Sound.{RowsHeld}
 use Rattle.shape.specs.Members.{ForMeant}
 use Rattle.shape.specs.Operation.{OperationNumber}
-use Rattle.shape.specs.declared.patch.Shape.{Shape}
+use Rattle.shape.specs.declared.patch.Misshapen.{Misshapen}
+
+-- whether a patch has the right shape
+abbrev pub Shape : Type 0
+Shape = Result (Unit {0}) Misshapen
 
 -- whether there are operations, or the refusal and the op at which it is given
 pub data ShapeIs : Run (List Operation.Operation) → Shape → Type 0 where
-  right : (os : List Operation.Operation) → ShapeIs (finished os) Shape.Right
-  wrong : (number op : ℕ) → ShapeIs (stopped (stop number op 0 0)) (Shape.Refused number op)
+  right : (os : List Operation.Operation) → ShapeIs (finished os) (Ok tt)
+  wrong : (e : Misshapen) → ShapeIs (stopped (stop (number_of e.refusal) e.op 0 0)) (Err e)
 
 -- whatever the table holds, an operation is refused with one of the numbers of an operation
 pub data ElementNumber : Shape → Type 0 where
-  all_right : ElementNumber Shape.Right
-  one_wrong : {number op : ℕ} → OperationNumber number → ElementNumber (Shape.Refused number op)
+  all_right : ElementNumber (Ok tt)
+  one_wrong : {e : Misshapen} → OperationNumber (Err e.refusal) → ElementNumber (Err e)
 
 -- the operations in the rows from one up to another
 pub record ElementsAre (w : Table) (start end : ℕ) (r : Shape) : Type 0 where
@@ -32,8 +37,8 @@ pub record ElementsAre (w : Table) (start end : ℕ) (r : Shape) : Type 0 where
 -- whatever the table holds: by the row's kind. For an array's row whose tree is not held, it is free which of the other answers is given, and for
 -- which operation.
 pub data PatchNumber (w : Table) (row : ℕ) : Shape → Type 0 where
-  no-array : (kind_of (get_or w.nodes row []) ≡ array_kind → ⊥) → PatchNumber w row (Shape.Refused wrong_shape 0)
-  too_many : PatchNumber w row (Shape.Refused too_many_operations 0)
+  no-array : (kind_of (get_or w.nodes row []) ≡ array_kind → ⊥) → PatchNumber w row (Err (record { refusal = Refusal.WrongShape; op = 0 }))
+  too_many : PatchNumber w row (Err (record { refusal = Refusal.TooManyOperations; op = 0 }))
   judged : {r : Shape} → kind_of (get_or w.nodes row []) ≡ array_kind → ElementNumber r → PatchNumber w row r
 
 pub record PatchIs (w : Table) (row : ℕ) (r : Shape) : Type 0 where

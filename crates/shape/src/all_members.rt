@@ -12,13 +12,13 @@ use tape::layout;
 use tape::layout::{Node, Texts};
 use tape::nodes::end_of;
 
-// The rows of an operation's members, each 0 where there is none: row 0 is the document's root.
+// The rows of an operation's members.
 #[derive(Clone, Copy)]
 pub struct Members {
-    pub op: usize,
-    pub path: usize,
-    pub value: usize,
-    pub from: usize,
+    pub op: Option<usize>,
+    pub path: Option<usize>,
+    pub value: Option<usize>,
+    pub from: Option<usize>,
 }
 
 // What a node has room for of the hashes of the four names.
@@ -30,62 +30,63 @@ const VALUE: u16 = 51041;
 
 const FROM: u16 = 7926;
 
-// Whether two runs of bytes are the same.
-fn same_bytes(s: &[u8], word: &[u8]) -> bool
-    ensures { result ≡ same_text s.now word.now }
-{
-    if s.len() != word.len() {
-        return false;
-    }
-    let mut i = 0;
-    while i < word.len() {
-        if s[i] != word[i] {
-            return false;
-        }
-        i += 1;
-    }
-    true
-}
-
 // Whether a name says a word. The bytes of a name without escapes are compared first.
 fn says<'a>(texts: Texts<'a>, name: Spelling, word: &[u8]) -> bool
     requires { decode word.now ≡ word.now }
     ensures { result ≡ same_text (spelled (lent texts) name) word.now }
 {
-    if name.form == layout::PLAIN_STRING {
-        if same_bytes(part(texts, name), word) {
-            return true;
-        }
+    if name.form == layout::PLAIN_STRING && part(texts, name) == word {
+        return true;
     }
     spells(texts, name, word)
 }
 
 // The first row that has the name: what was found before, and otherwise this row if its name is the word.
-fn noted<'a>(texts: Texts<'a>, own: Name, at: usize, so_far: usize, hash: u16, word: &[u8]) -> usize
+fn noted<'a>(
+    texts: Texts<'a>,
+    own: Name,
+    at: usize,
+    so_far: Option<usize>,
+    hash: u16,
+    word: &[u8],
+) -> Option<usize>
     requires { decode word.now ≡ word.now }
     ensures { result ≡ noted (lent texts) own at so_far hash word.now }
 {
     if own.hash != hash {
         return so_far;
     }
-    if so_far != 0 {
+    if so_far.is_some() {
         return so_far;
     }
     if says(texts, own.text, word) {
-        return at;
+        return Some(at);
     }
-    so_far
+    None
 }
 
-// The same, for each of the four names.
+// The same, for each of the four names. A name has one hash, so it can be one of them at most.
 fn all_noted<'a>(texts: Texts<'a>, own: Name, at: usize, so_far: Members) -> Members
     ensures { result ≡ all_noted (lent texts) own at so_far }
 {
-    Members {
-        op: noted(texts, own, at, so_far.op, OP, b"op"),
-        path: noted(texts, own, at, so_far.path, PATH, b"path"),
-        value: noted(texts, own, at, so_far.value, VALUE, b"value"),
-        from: noted(texts, own, at, so_far.from, FROM, b"from"),
+    match own.hash {
+        OP => Members {
+            op: noted(texts, own, at, so_far.op, OP, b"op"),
+            ..so_far
+        },
+        PATH => Members {
+            path: noted(texts, own, at, so_far.path, PATH, b"path"),
+            ..so_far
+        },
+        VALUE => Members {
+            value: noted(texts, own, at, so_far.value, VALUE, b"value"),
+            ..so_far
+        },
+        FROM => Members {
+            from: noted(texts, own, at, so_far.from, FROM, b"from"),
+            ..so_far
+        },
+        _ => so_far,
     }
 }
 
@@ -94,10 +95,10 @@ pub fn members_of<'a>(texts: Texts<'a>, nodes: &[Node], row: usize) -> Members
     ensures { MembersFound (before texts nodes.now) row result }
 {
     let mut found = Members {
-        op: 0,
-        path: 0,
-        value: 0,
-        from: 0,
+        op: None,
+        path: None,
+        value: None,
+        from: None,
     };
     if nodes.len() <= row {
         return found;

@@ -1,16 +1,17 @@
 // The kinds of operations, by their names: RFC 6902, section 4.
-ghost use Rattle.std.specs.Prelude.{◌≡◌, true};
+ghost use Rattle.std.specs.Prelude.{◌≡◌};
+ghost use Rattle.spec.specs.Outcome.{ok};
 ghost use Rattle.spec.specs.Patch.{kind_named};
 ghost use Rattle.tape.specs.Lent.{lent};
 ghost use Rattle.table.specs.Meaning.{spelled};
-ghost use Rattle.shape.specs.Kinds.{kind_outcome, uses_of};
+ghost use Rattle.shape.specs.Kinds.{spec_kind, kind_outcome, uses_of};
 
 use lexer::peek;
 use table::spellings::{part, spells};
 use tape::fields::Spelling;
 use tape::layout::Texts;
 
-#[derive(Clone, Copy)]
+#[derive(Clone, Copy, Debug, PartialEq, Eq)]
 pub enum Kind {
     Add,
     Remove,
@@ -18,101 +19,85 @@ pub enum Kind {
     Move,
     Copy,
     Test,
-    Unknown,
 }
 
-// What a kind uses beside `op` and `path`, and whether it moves a value. An unknown kind uses nothing.
+// What a kind uses beside `op` and `path`, and whether it moves a value.
 #[derive(Clone, Copy)]
 pub struct Uses {
-    pub known: bool,
     pub value: bool,
     pub from: bool,
     pub moves: bool,
 }
 
-fn known(value: bool, from: bool, moves: bool) -> Uses
-    ensures { result ≡ record { known = true; value = value; from = from; moves = moves } }
+fn using(value: bool, from: bool, moves: bool) -> Uses
+    ensures { result ≡ record { value = value; from = from; moves = moves } }
 {
-    Uses {
-        known: true,
-        value,
-        from,
-        moves,
-    }
+    Uses { value, from, moves }
 }
 
 pub fn uses_of(kind: Kind) -> Uses
     ensures { result ≡ uses_of kind }
 {
     match kind {
-        Kind::Add => known(true, false, false),
-        Kind::Remove => known(false, false, false),
-        Kind::Replace => known(true, false, false),
-        Kind::Move => known(false, true, true),
-        Kind::Copy => known(false, true, false),
-        Kind::Test => known(true, false, false),
-        Kind::Unknown => Uses {
-            known: false,
-            value: false,
-            from: false,
-            moves: false,
-        },
+        Kind::Add => using(true, false, false),
+        Kind::Remove => using(false, false, false),
+        Kind::Replace => using(true, false, false),
+        Kind::Move => using(false, true, true),
+        Kind::Copy => using(false, true, false),
+        Kind::Test => using(true, false, false),
     }
 }
 
 // The kind that a text names. Each of the six words is tried in turn.
-fn any_kind<'a>(texts: Texts<'a>, op: Spelling) -> Kind
+// No table of words: each line here names its word and its kind.
+fn any_kind<'a>(texts: Texts<'a>, op: Spelling) -> Option<Kind>
     ensures { kind_outcome result ≡ kind_named (spelled (lent texts) op) }
 {
     if spells(texts, op, b"add") {
-        return Kind::Add;
+        return Some(Kind::Add);
     }
     if spells(texts, op, b"remove") {
-        return Kind::Remove;
+        return Some(Kind::Remove);
     }
     if spells(texts, op, b"replace") {
-        return Kind::Replace;
+        return Some(Kind::Replace);
     }
     if spells(texts, op, b"move") {
-        return Kind::Move;
+        return Some(Kind::Move);
     }
     if spells(texts, op, b"copy") {
-        return Kind::Copy;
+        return Some(Kind::Copy);
     }
     if spells(texts, op, b"test") {
-        return Kind::Test;
+        return Some(Kind::Test);
     }
-    Kind::Unknown
+    None
 }
 
 // The kind that a text names. The word of one kind is tried first.
-fn likely_kind<'a>(texts: Texts<'a>, op: Spelling, word: &[u8], kind: Kind) -> Kind
-    requires { kind_outcome kind ≡ kind_named word.now }
+fn likely_kind<'a>(texts: Texts<'a>, op: Spelling, word: &[u8], kind: Kind) -> Option<Kind>
+    requires { ok (spec_kind kind) ≡ kind_named word.now }
     ensures { kind_outcome result ≡ kind_named (spelled (lent texts) op) }
 {
     if spells(texts, op, word) {
-        return kind;
+        return Some(kind);
     }
     any_kind(texts, op)
 }
 
 // The kind that a text names. Its first byte tells which word is likely. Where the text is another, as it is with an
 // escape, all words are tried.
-pub fn kind_named<'a>(texts: Texts<'a>, op: Spelling) -> Kind
+#[tactic(auto, unfolding(crate::proofs::KindLaws::words))]
+pub fn kind_named<'a>(texts: Texts<'a>, op: Spelling) -> Option<Kind>
     ensures { kind_outcome result ≡ kind_named (spelled (lent texts) op) }
 {
-    let first = peek(part(texts, op), 0);
-    match first {
+    match peek(part(texts, op), 0) {
         b'a' => likely_kind(texts, op, b"add", Kind::Add),
         b'c' => likely_kind(texts, op, b"copy", Kind::Copy),
         b'm' => likely_kind(texts, op, b"move", Kind::Move),
         b't' => likely_kind(texts, op, b"test", Kind::Test),
-        b'r' => {
-            if op.length == 6 {
-                return likely_kind(texts, op, b"remove", Kind::Remove);
-            }
-            likely_kind(texts, op, b"replace", Kind::Replace)
-        }
+        b'r' if op.length == 6 => likely_kind(texts, op, b"remove", Kind::Remove),
+        b'r' => likely_kind(texts, op, b"replace", Kind::Replace),
         _ => any_kind(texts, op),
     }
 }

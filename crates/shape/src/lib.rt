@@ -1,7 +1,7 @@
 // The shape of a patch: SPECIFICATION 4. Nothing is stored: a member of an operation is found again when it runs.
 //
-// What is proved: for a patch that the table holds, `shape_of` answers as the definitions do, with the number of the
-// refusal and the operation.
+// What is proved: for a patch that the table holds, `shape_of` answers as the definitions do, with the refusal and
+// the operation.
 //
 // What a caller should know: every public function is total and changes nothing. Its contract also says what it
 // answers for a table that holds no tree, and what is free there.
@@ -15,6 +15,6 @@ mod patch; // the whole patch
 
 pub use all_members::{Members, members_of};
 pub use kinds::{Kind, Uses, kind_named, uses_of};
-pub use members::{Spelled, string_in, string_member};
-pub use operation::{kind_of, others_number};
-pub use patch::{Shape, shape_of};
+pub use members::{string_in, string_member};
+pub use operation::{kind_of, others_right};
+pub use patch::{Misshapen, shape_of};

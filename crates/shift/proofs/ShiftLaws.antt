@@ -1,4 +1,5 @@
 -- Laws of an element moved within its array: the rows of two runs of children change places, and nothing around the array changes.
+use Rattle.std.specs.Prelude.{Ok}
 use Prim.Native.Nat.{ℕ, ◌+◌, ◌-◌, ◌≤◌, ◌<◌}
 use native.Mathlib.Omega.{arith}
 use native.Mathlib.Decide.{dec_lt}
@@ -9,7 +10,7 @@ use lib.ListN.{length, take, drop, get_or, length-append}
 use lib.Seq.{take-take}
 use Rattle.spec.specs.Outcome.{ok}
 use Rattle.spec.specs.Limits.{max_nodes}
-use Rattle.spec.specs.Forest.{Forest, tree, count, size, before, nth, insert_at, remove_at, ◌⧺◌}
+use Rattle.spec.specs.Forest.{Forest, tree, count, size, nth, insert_at, remove_at, ◌⧺◌}
 use Rattle.tape.specs.Layout.{array_kind, scratch_row, rows}
 use Rattle.tape.specs.Fields.{Row, span_of, row_with}
 use Rattle.tape.specs.Columns.{replaced, moved, Scratched}
@@ -28,7 +29,6 @@ use Rattle.tape.proofs.Changes.{tape_exchange, laid_kids, laid_tree}
 use Rattle.walk.specs.Bearing.{borne}
 use Rattle.changes.specs.Site.{Standing, Site}
 use Rattle.changes.specs.Change.{ChangeAnswers, done}
-use Rattle.changes.specs.declared.answers.Altered.TheVariants.{Done}
 use Rattle.changes.proofs.CutLaws.{cut_inside, cut_formed, cut_sound, cut-size, past_front}
 use Rattle.changes.proofs.SiteLaws.{site_held, site_fit, site_deep, child-rows}
 use Rattle.changes.proofs.PutLaws.{in_use, changed_fits}
@@ -84,7 +84,7 @@ module _ {w : Table} {used row levels : ℕ} (z : Site w used row levels) (conta
         (laid_replaced (s.left ⧺ turned ⧺ s.right) at (size s.left) (m + n) words (laid_kids here) (omega (arith, z.few)) place
         (omega (arith, turned_inside)) many new) (ap (row_with z.c) (sym same_size)))
 
-    pub turned_answers : ChangeAnswers z ys (ok (borne w.texts z.c changed)) (Done used)
+    pub turned_answers : ChangeAnswers z ys (ok (borne w.texts z.c changed)) (Ok used)
     turned_answers =
         let stands : Standing w.texts ys used row z.around z.c (s.left ⧺ turned ⧺ s.right) =
         record {
@@ -107,7 +107,7 @@ module _ {w : Table} {used row levels : ℕ} (z : Site w used row levels) (conta
   then_kids = insert_at j (nth blank i z.kids) (remove_at i z.kids)
 
   abbrev Shifted : List Row → Type 0
-  Shifted ys = (rows ≤ length ys) × ChangeAnswers z ys (ok (borne w.texts z.c then_kids)) (Done used)
+  Shifted ys = (rows ≤ length ys) × ChangeAnswers z ys (ok (borne w.texts z.c then_kids)) (Ok used)
 
   -- rows that were exchanged, where others were copied to the scratch rows before
   exchanged : {place n m : ℕ} (s : Swap row z.kids then_kids place n m) (ys : List Row) (start k : ℕ) → start + k ≤ max_nodes

@@ -1,5 +1,5 @@
 -- A value moved within one array: what becomes of the rows, and of the document.
-use Rattle.std.specs.Prelude.{ℕ, ◌+◌, ◌-◌, ◌≤◌, ◌<◌, ◌≡◌, Bool, true, false, List, [], ◌∷◌, length, get_or}
+use Rattle.std.specs.Prelude.{ℕ, ◌+◌, ◌-◌, ◌≤◌, ◌<◌, ◌≡◌, Bool, true, false, List, [], ◌∷◌, length, get_or, Option, Some, None, Ok}
 use Rattle.spec.specs.Outcome.{ok}
 use Rattle.spec.specs.Bytes.{Text}
 use Rattle.spec.specs.Pointer.{Tokens}
@@ -16,19 +16,15 @@ use Rattle.tape.specs.Lent.{Texts, Table}
 use Rattle.table.specs.Meaning.{part_of, name_text}
 use Rattle.pointer.specs.Tokens.{TokenAt, token_bytes}
 use Rattle.pointer.specs.declared.answers.Token.{Token}
-use Rattle.pointer.specs.declared.answers.Token.TheVariants as Token
 use Rattle.walk.specs.Bearing.{borne}
 use Rattle.walk.specs.Names.{IsToken, Short, TokenNameIs}
 use Rattle.walk.specs.Path.{PathIs}
 use Rattle.walk.specs.Step.{StepIs}
-use Rattle.walk.specs.declared.steps.Child.TheVariants as Child
 use Rattle.changes.specs.Site.{Site}
 use Rattle.changes.specs.Rows.{SamePatch}
 use Rattle.changes.specs.Change.{ChangeAnswers}
 use Rattle.changes.specs.Document.{Bearing, judged_bearing, ResultsBearing}
-use Rattle.changes.specs.declared.answers.Altered.TheVariants as Altered
 use Rattle.shift.specs.declared.within.Pair.{Pair}
-use Rattle.shift.specs.declared.within.Pair.TheVariants.{Siblings, Apart}
 
 -- ---- rows that change places, by way of the scratch rows
 -- `count` from `at` on with those behind them
@@ -52,33 +48,34 @@ pub data TurnIs (nodes nodes' : List Row) (used at to : ℕ) : Bool → Type 0 w
 pub record Moves {w : Table} {used row levels : ℕ} (z : Site w used row levels) (nodes' : List Row) (ts us : Tokens) : Type 0 where
   pub result : Value.Value
   pub is : move_to ts us (borne w.texts z.c z.kids) ≡ ok result
-  pub answers : ChangeAnswers z nodes' (ok result) (Altered.Done used)
+  pub answers : ChangeAnswers z nodes' (ok result) (Ok used)
 
-pub data ChildShiftIs (w : Table) (nodes' : List Row) (used parent : ℕ) (token other : Name) : Bool → Type 0 where
+pub data ChildShiftIs (w : Table) (nodes' : List Row) (used : ℕ) (p : Pair) : Bool → Type 0 where
   child_shifted : SamePatch w.nodes nodes'
-      → ((levels : ℕ) (z : Site w used parent levels) → IsToken w.texts token → IsToken w.texts other
-      → (rows ≤ length nodes') × Moves z nodes' (name_text w.texts token ∷ []) (name_text w.texts other ∷ []))
-      → ChildShiftIs w nodes' used parent token other true
-  child-kept : nodes' ≡ w.nodes → ChildShiftIs w nodes' used parent token other false
+      → ((levels : ℕ) (z : Site w used p.parent levels) → IsToken w.texts p.token → IsToken w.texts p.other
+      → (rows ≤ length nodes') × Moves z nodes' (name_text w.texts p.token ∷ []) (name_text w.texts p.other ∷ []))
+      → ChildShiftIs w nodes' used p true
+  child-kept : nodes' ≡ w.nodes → ChildShiftIs w nodes' used p false
 
 -- ---- two pointers that name children of one node
 -- the last token of a path, or not the last
-pub data PairAt (T : Texts) (row : ℕ) (token : Name) (path : Spelling) (at : ℕ) : Token → Pair → Type 0 where
-  pair_last : {end : ℕ} (other : Name) → TokenNameIs T path at (Token.Last end) other → PairAt T row token path at (Token.Last end) (Siblings row token other)
-  pair_apart : {t : Token} → PairAt T row token path at t Apart
+pub data PairAt (T : Texts) (row : ℕ) (token : Name) (path : Spelling) (at : ℕ) : Token → Option Pair → Type 0 where
+  pair_last : {end : ℕ} (other : Name) → TokenNameIs T path at (Token.Last end) other
+      → PairAt T row token path at (Token.Last end) (Some (record { parent = row; token = token; other = other }))
+  pair_apart : {t : Token} → PairAt T row token path at t None
 
 -- along both pointers, each from a place on, beginning at the node in a row
-pub data Paired (w : Table) (from path : Spelling) : ℕ → ℕ → ℕ → Pair → Type 0 where
+pub data Paired (w : Table) (from path : Spelling) : ℕ → ℕ → ℕ → Option Pair → Type 0 where
   paired_last : {i j row end last : ℕ} {token other : Name}
       → TokenAt (part_of w.texts from) i (Token.Last end) → TokenNameIs w.texts from i (Token.Last end) token
       → TokenAt (part_of w.texts path) j (Token.Last last) → TokenNameIs w.texts path j (Token.Last last) other
-      → Paired w from path i j row (Siblings row token other)
-  paired_next : {i j row end next last after child : ℕ} {token : Name} {r : Pair}
+      → Paired w from path i j row (Some (record { parent = row; token = token; other = other }))
+  paired_next : {i j row end next last after child : ℕ} {token : Name} {r : Option Pair}
       → TokenAt (part_of w.texts from) i (Token.Next end next) → TokenNameIs w.texts from i (Token.Next end next) token
       → TokenAt (part_of w.texts path) j (Token.Next last after)
       → text_of 3 (token_bytes (part_of w.texts from) i (Token.Next end next)) ≡ text_of 3 (token_bytes (part_of w.texts path) j (Token.Next last after))
-      → StepIs w row token (Child.At child) → Paired w from path next after child r → Paired w from path i j row r
-  paired_apart : {i j row : ℕ} → Paired w from path i j row Apart
+      → StepIs w row token (Ok child) → Paired w from path next after child r → Paired w from path i j row r
+  paired_apart : {i j row : ℕ} → Paired w from path i j row None
 
 -- ---- a value moved, if both pointers name elements of one array; otherwise nothing changes
 -- The patch's rows are as they were. Where the table holds a document, it is then what the definitions' move makes of it, in as many rows.
@@ -86,7 +83,7 @@ pub data Paired (w : Table) (from path : Spelling) : ℕ → ℕ → ℕ → Pai
 pub record MovedWithin (w : Table) (nodes' : List Row) (used : ℕ) (from path : Spelling) : Type 0 where
   pub patch : SamePatch w.nodes nodes'
   pub bearing : (v : Value.Value) → Bearing w used v → Short w.texts → (g : Text) (gs : Tokens) → PathIs w.texts from (g ∷ gs)
-      → (ts : Tokens) → PathIs w.texts path ts → ResultsBearing w.texts nodes' (judged_bearing (move_to (g ∷ gs) ts v)) (Altered.Done used)
+      → (ts : Tokens) → PathIs w.texts path ts → ResultsBearing w.texts nodes' (judged_bearing (move_to (g ∷ gs) ts v)) (Ok used)
 
 pub data ShiftIs (w : Table) (nodes' : List Row) (used : ℕ) (from path : Spelling) : Bool → Type 0 where
   shifted : MovedWithin w nodes' used from path → ShiftIs w nodes' used from path true

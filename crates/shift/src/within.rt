@@ -15,7 +15,7 @@ use tape::layout::{Node, Texts};
 use tape::moves::{load, slide};
 use tape::nodes::{end_of, kind};
 use text::same_text;
-use walk::{Child, step, token_name};
+use walk::{step, token_name};
 
 // Rows change places with those behind them: the `count` rows from `at` on, and the `between` rows that follow.
 fn exchange_back(nodes: &mut [Node], at: usize, count: usize, between: usize)
@@ -27,7 +27,8 @@ fn exchange_back(nodes: &mut [Node], at: usize, count: usize, between: usize)
     slide(nodes, at + between, layout::SCRATCH, count);
 }
 
-// Rows change places with those before them: the `count` rows from `at` on, and those from `to` up to `at`.
+// Rows change places with those before them: the `count` rows from `at` on, and those from `to` up to `at`. One function
+// for both directions would be told the places of both runs before and after, and so be no plainer.
 fn exchange_front(nodes: &mut [Node], at: usize, count: usize, to: usize)
     requires { (at + count ≤ 2048) × (to ≤ at) }
     ensures { nodes.new ≡ exchanged_front nodes.old at count to }
@@ -64,25 +65,26 @@ fn turn(nodes: &mut [Node], used: usize, at: usize, to: usize) -> bool
     true
 }
 
-// Of the array in the row `parent`, the element that a token names is moved to the place that another names.
-fn shift<'a>(
-    texts: Texts<'a>,
-    nodes: &mut [Node],
-    used: usize,
-    parent: usize,
-    token: Name,
-    other: Name,
-) -> bool
+// Two children of the node in the row `parent`, by the tokens that name them.
+#[derive(Clone, Copy)]
+pub struct Pair {
+    pub parent: usize,
+    pub token: Name,
+    pub other: Name,
+}
+
+// The first of a pair, if they are elements of an array, is moved to the place of the other.
+fn shift<'a>(texts: Texts<'a>, nodes: &mut [Node], used: usize, pair: Pair) -> bool
     requires { used ≤ 2048 }
-    ensures { ChildShiftIs (before texts nodes.old) nodes.new used parent token other result }
+    ensures { ChildShiftIs (before texts nodes.old) nodes.new used pair result }
 {
-    if kind(nodes, parent) != layout::ARRAY {
+    if kind(nodes, pair.parent) != layout::ARRAY {
         return false;
     }
-    let Child::At(at) = step(texts, nodes, parent, token) else {
+    let Ok(at) = step(texts, nodes, pair.parent, pair.token) else {
         return false;
     };
-    let Child::At(to) = step(texts, nodes, parent, other) else {
+    let Ok(to) = step(texts, nodes, pair.parent, pair.other) else {
         return false;
     };
     // an element has no name
@@ -92,15 +94,7 @@ fn shift<'a>(
     turn(nodes, used, at, to)
 }
 
-// What two pointers name.
-#[derive(Clone, Copy)]
-pub enum Pair {
-    // children of one node, by its row and their tokens
-    Siblings(usize, Name, Name),
-    Apart,
-}
-
-// By the last token of the one pointer and a token of the other.
+// The pair that two pointers name, by the last token of the one and a token of the other.
 fn last_pair<'a>(
     texts: Texts<'a>,
     row: usize,
@@ -108,17 +102,21 @@ fn last_pair<'a>(
     path: Spelling,
     at: usize,
     last: Token,
-) -> Pair
+) -> Option<Pair>
     ensures { PairAt (lent texts) row token path at last result }
 {
     let other = token_name(texts, path, at, last);
     match last {
-        Token::Last { end: _ } => return Pair::Siblings(row, token, other),
-        Token::Next { end: _, next: _ } => return Pair::Apart,
+        Token::Last { .. } => Some(Pair {
+            parent: row,
+            token,
+            other,
+        }),
+        Token::Next { .. } => None,
     }
 }
 
-// Along two pointers, each from a place on, as long as their tokens are the same.
+// The pair that two pointers name, each from a place on, if all their tokens but the last are the same.
 fn siblings<'a>(
     texts: Texts<'a>,
     nodes: &[Node],
@@ -126,7 +124,7 @@ fn siblings<'a>(
     start: usize,
     path: Spelling,
     other: usize,
-) -> Pair
+) -> Option<Pair>
     ensures { Paired (before texts nodes.now) from path start other 0 result }
 {
     let a = part(texts, from);
@@ -138,22 +136,16 @@ fn siblings<'a>(
         let s = token(a, i);
         let t = token(b, j);
         let name = token_name(texts, from, i, s);
-        let Token::Next { end: _, next } = s else {
+        let Token::Next { next, .. } = s else {
             return last_pair(texts, row, name, path, j, t);
         };
-        let Token::Next {
-            end: _,
-            next: after,
-        } = t
-        else {
-            return Pair::Apart;
+        let Token::Next { next: after, .. } = t else {
+            return None;
         };
         if !same_text(3, token_part(a, i, s), 3, token_part(b, j, t)) {
-            return Pair::Apart;
+            return None;
         }
-        let Child::At(child) = step(texts, nodes, row, name) else {
-            return Pair::Apart;
-        };
+        let child = step(texts, nodes, row, name).ok()?;
         row = child;
         i = next;
         j = after;
@@ -162,14 +154,7 @@ fn siblings<'a>(
 
 // Whether a text ends in a digit, as an index does. This is a guess, asked first: other moves are not tried in vain.
 fn ends_in_digit(s: &[u8]) -> bool {
-    if s.len() == 0 {
-        return false;
-    }
-    let b = s[s.len() - 1];
-    if b < b'0' {
-        return false;
-    }
-    b <= b'9'
+    matches!(s, [.., b'0'..=b'9'])
 }
 
 // The value at `from` is moved to `path`, if both name elements of one array.
@@ -196,8 +181,8 @@ pub fn shift_within<'a>(
     let First::At(j) = first(b) else {
         return false;
     };
-    let Pair::Siblings(parent, token, other) = siblings(texts, nodes, from, i, path, j) else {
+    let Some(pair) = siblings(texts, nodes, from, i, path, j) else {
         return false;
     };
-    shift(texts, nodes, used, parent, token, other)
+    shift(texts, nodes, used, pair)
 }

@@ -1,3 +1,4 @@
+pub mod FaultLaws
 pub mod OutcomeLaws
 pub mod FartherLaws
 pub mod ListLaws

@@ -7,6 +7,7 @@ use native.Mathlib.Omega.{arith}
 use native.Mathlib.Decide.{ℕ_discrete, dec_lt}
 use lib.ListN.{length}
 use lib.Dec.{eqb, leb}
+use lib.Pointwise.{pointwise}
 use borrow.Author.Tests.{eqb-true, leb-true, eq-eqb}
 use Rattle.spec.specs.Bytes.{Text, within}
 use Rattle.spec.specs.Numbers.{is_digit}
@@ -16,6 +17,14 @@ use Rattle.spec.specs.Pointer.{is_index, all_digits}
 
 pub both_true : (a b : Bool) → (a && b) ≡ true → (a ≡ true) × (b ≡ true)
 both_true a b h = (and-eq-true_iff a b).0 h
+
+-- the library's comparison of two lists is the definitions' of two texts
+pub compared : (s t : Text) → pointwise eqb s t ≡ same_text s t
+unfolding same_text
+compared [] [] = refl
+compared [] (b ∷ t) = refl
+compared (a ∷ s) [] = refl
+compared (a ∷ s) (b ∷ t) = rw (compared s t)
 
 pub same_text_true : (s t : Text) → same_text s t ≡ true → s ≡ t
 unfolding same_text

@@ -1,5 +1,6 @@
 pub mod Outcome
 pub mod Refusal
+pub mod Fault
 pub mod Limits
 pub mod Bytes
 pub mod Strings

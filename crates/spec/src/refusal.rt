@@ -1,37 +1,52 @@
-// The numbers of the answer. specs/Refusal.antt has the same.
+// Why a call is refused. A refusal's number is that of the answer; specs/Fault.antt has the same.
+ghost use Rattle.std.specs.Prelude.{◌≡◌};
+ghost use Rattle.spec.specs.Fault.{number_of};
 
-pub const DONE: u8 = 0;
+#[derive(Clone, Copy, Debug, PartialEq, Eq)]
+pub enum Refusal {
+    WorkTooShort = 1,
+    InputTooLong = 2,
+    NotJson = 3,
+    RepeatedName = 4,
+    TooDeep = 5,
+    TooManyNodes = 6,
+    NumberOverLimit = 7,
+    WrongShape = 8,
+    TooManyOperations = 9,
+    MalformedPointer = 10,
+    LocationMissing = 11,
+    NoIndex = 12,
+    RemoveOfRoot = 13,
+    MoveIntoChild = 14,
+    TestDiffers = 15,
+    OutputTooShort = 16,
+    NotPermitted = 17,
+}
 
-pub const WORK_TOO_SHORT: u8 = 1;
+// A refusal, and its place: a byte offset in a text that is read, the count of tokens walked along a pointer that leads
+// nowhere, and 0 where the refusal has no place.
+#[derive(Clone, Copy, Debug, PartialEq, Eq)]
+pub struct Fault {
+    pub refusal: Refusal,
+    pub place: usize,
+}
 
-pub const INPUT_TOO_LONG: u8 = 2;
+impl Refusal {
+    // This refusal at a place.
+    pub fn at(self, place: usize) -> Fault
+        ensures { result ≡ record { refusal = self; place = place } }
+    {
+        Fault {
+            refusal: self,
+            place,
+        }
+    }
+}
 
-pub const NOT_JSON: u8 = 3;
+impl From<Refusal> for u8 {
+    ghost from_gives = { λ refusal number. number ≡ number_of refusal };
 
-pub const REPEATED_NAME: u8 = 4;
-
-pub const TOO_DEEP: u8 = 5;
-
-pub const TOO_MANY_NODES: u8 = 6;
-
-pub const NUMBER_OVER_LIMIT: u8 = 7;
-
-pub const WRONG_SHAPE: u8 = 8;
-
-pub const TOO_MANY_OPERATIONS: u8 = 9;
-
-pub const MALFORMED_POINTER: u8 = 10;
-
-pub const LOCATION_MISSING: u8 = 11;
-
-pub const NO_INDEX: u8 = 12;
-
-pub const REMOVE_OF_ROOT: u8 = 13;
-
-pub const MOVE_INTO_CHILD: u8 = 14;
-
-pub const TEST_DIFFERS: u8 = 15;
-
-pub const OUTPUT_TOO_SHORT: u8 = 16;
-
-pub const NOT_PERMITTED: u8 = 17;
+    fn from(refusal: Refusal) -> u8 {
+        refusal as u8
+    }
+}

@@ -5,9 +5,9 @@
 // those that it has given. No contract says what a file of the system gives.
 #![tactic(auto)]
 
-ghost use Rattle.std.specs.Prelude.{take};
-ghost use Rattle.std.specs.Io.KnownBytes.{Consumes};
-ghost use Rattle.streams.specs.Counts.{IsPrefixLen};
+ghost use Rattle.std.specs.Prelude.{take, IfSome, OnSome};
+ghost use Rattle.std.specs.Io.KnownBytes.{Consumes, IsAtEnd};
+ghost use Rattle.streams.specs.Counts.{IsPrefixLen, BeginsWith};
 
 use std::fs;
 use std::io::Read;
@@ -22,6 +22,7 @@ pub fn read_full<R: Read>(from: &mut R, buf: &mut [u8]) -> usize
     ensures within { IsPrefixLen result buf.new }
     ensures bytes { Consumes (R.remaining from.old) (R.remaining from.new) (take result buf.new) }
 {
+    // by hand, since std's `read_exact` says nothing of what was read before a read failed
     let mut done = 0;
     while done < buf.len() {
         let Ok(n) = from.read(&mut buf[done..]) else {
@@ -35,23 +36,55 @@ pub fn read_full<R: Read>(from: &mut R, buf: &mut [u8]) -> usize
     done
 }
 
+// All of the file's bytes are read to the front of `buf`, and the answer is how many there are; none where the file
+// cannot be read, or has more bytes than there is room for.
+pub fn read_all<R: Read>(from: &mut R, buf: &mut [u8]) -> Option<usize>
+    ensures within { IfSome result (λ n. IsPrefixLen n buf.new) }
+    ensures bytes { IfSome result
+        (λ n. Consumes (R.remaining from.old) (R.remaining from.new) (take n buf.new)) }
+    ensures whole { OnSome result (IsAtEnd (R.remaining from.new)) }
+{
+    let n = read_full(from, buf);
+    // another read answers 0 at the end of the file, and only there
+    let mut more = [0u8; 1];
+    match from.read(&mut more) {
+        Ok(0) => Some(n),
+        _ => None,
+    }
+}
+
+// The file's first bytes, as many as there is room for, are read to the front of `buf`, and the answer is how many
+// there are; none where the file cannot be read.
+pub fn read_front<R: Read>(from: &mut R, buf: &mut [u8]) -> Option<usize>
+    ensures within { IfSome result (λ n. IsPrefixLen n buf.new) }
+    ensures bytes { IfSome result (λ n. BeginsWith (R.remaining from.old) (take n buf.new)) }
+{
+    let n = read_full(from, buf);
+    if n == buf.len() {
+        return Some(n);
+    }
+    // another read answers 0 where the file has ended, and fails where it cannot be read
+    let mut more = [0u8; 1];
+    from.read(&mut more).ok()?;
+    Some(n)
+}
+
 // The file of that name, open for reading. A name that is no text, or has a zero byte, names none.
 pub fn open_named<R: Files>(rt: &R, name: &[u8]) -> Option<R::File> {
-    let Ok(path) = str::from_utf8(name) else {
-        return None;
-    };
-    let Ok(file) = fs::open(rt, path) else {
-        return None;
-    };
-    Some(file)
+    let path = str::from_utf8(name).ok()?;
+    fs::open(rt, path).ok()
 }
 
 // Argument `i` is copied to the front of `buf`, and its length is the answer; 0 where there is none, or no room for it.
 pub fn argument<R: Env>(rt: &R, i: usize, buf: &mut [u8]) -> usize
     ensures { IsPrefixLen result buf.new }
 {
-    let Ok(n) = rt.arg(i, buf) else {
-        return 0;
-    };
-    n
+    rt.arg(i, buf).unwrap_or(0)
+}
+
+// The file that argument `i` names, open for reading.
+pub fn open_argument<R: Env + Files>(rt: &R, i: usize) -> Option<R::File> {
+    let mut name = [0u8; NAME];
+    let n = argument(rt, i, &mut name);
+    open_named(rt, &name[..n])
 }

@@ -1,5 +1,5 @@
 -- Laws of a search for a name: what has been passed has other names.
-use Rattle.std.specs.Prelude.{if◌then◌else◌}
+use Rattle.std.specs.Prelude.{Option, Some, None, if◌then◌else◌}
 use Prim.Native.Nat.{ℕ, zero, suc, ◌+◌, ◌<◌, ◌≤◌}
 use native.Mathlib.Nat.{add-zero}
 use native.Mathlib.Omega.{arith}
@@ -30,8 +30,6 @@ use Rattle.tape.proofs.Map.{find-map, position-found, position_next, position_no
 use Rattle.table.specs.Meaning.{name_text, entry_of, short_hash, Hashed}
 use Rattle.table.specs.Find.{is_named, same_name, row_behind, limit_of, AllQuiet, Sought, sought_here, sought_next, sought_over, Found, found, missing}
 use Rattle.table.specs.Find.{Between, FindIs, FindAsciiIs}
-use Rattle.table.specs.declared.find.Member.{Member}
-use Rattle.table.specs.declared.find.Member.TheVariants.{At, Missing}
 use Rattle.table.proofs.AllLaws.{all_first, all_from}
 use Rattle.table.specs.Sound.{RowsHeld}
 
@@ -81,7 +79,7 @@ at_end {f = f} s h = go (dec_lt s.k (count f))
     go (no l) = omega arith
 
 module _ {w : Table} {start end : ℕ} {f : Forest Cell} {name : Text} {row : ℕ} (a : RowsHeld w start end f) (s : Seeking w.texts start f name row) where
-  pub seek_none : end ≤ row → Found w.texts start f name Missing
+  pub seek_none : end ≤ row → Found w.texts start f name None
   seek_none h =
       let all = at_end s (omega (arith, a.ends)) in
       let e : s.k ≡ count f = omega (arith, s.few) in
@@ -114,7 +112,7 @@ module _ {w : Table} {start end : ℕ} {f : Forest Cell} {name : Text} {row : �
     test_here : (r : Bool) → r ≡ same_text (name_text w.texts (name_of (get_or w.nodes row []))) name → named w.texts name (nth blank s.k f).root ≡ r
     test_here r t = sym (t ∙ ap (λ n. same_text (name_text w.texts n) name) (name_here))
 
-    pub seek_found : true ≡ same_text (name_text w.texts (name_of (get_or w.nodes row []))) name → Found w.texts start f name (At row)
+    pub seek_found : true ≡ same_text (name_text w.texts (name_of (get_or w.nodes row []))) name → Found w.texts start f name (Some row)
     seek_found t =
         found s.k row (find-map (entry_of w.texts) name f ∙ position-found (named w.texts name) blank s.k f there (test_here true t) s.passed)
         there s.place
@@ -138,10 +136,10 @@ module _ {w : Table} {start end : ℕ} {f : Forest Cell} {name : Text} {row : �
         span_here n ∙ ap size ((formed_fit n.held.formed).scalar (omega (arith, kind_here n)))
 
   -- no tree is left where a search ends
-  pub seek_over : (stop : ℕ) → stop ≡ limit_of w.nodes end → stop ≤ row → Found w.texts start f name Missing
+  pub seek_over : (stop : ℕ) → stop ≡ limit_of w.nodes end → stop ≤ row → Found w.texts start f name None
   seek_over stop e l = go (dec_lt row end)
     where
-      go : Dec (row < end) → Found w.texts start f name Missing
+      go : Dec (row < end) → Found w.texts start f name None
       go (yes h) = absurd (omega (arith, seek_inside h))
       go (no h) = seek_none (omega arith)
 
@@ -174,18 +172,18 @@ module _ (nodes : List Row) (row : ℕ) where
 
 -- what a search from `row` on finds, one from `start` on finds: all names that are passed between are others
 abbrev pub Passed : List Row → ℕ → (Name → Bool) → ℕ → ℕ → Type 0
-Passed nodes stop test start row = (r : Member) → Sought nodes stop test row r → Sought nodes stop test start r
+Passed nodes stop test start row = (r : Option ℕ) → Sought nodes stop test row r → Sought nodes stop test start r
 
 module _ {nodes : List Row} {stop : ℕ} {test : Name → Bool} {start row : ℕ} (so_far : Passed nodes stop test start row) where
   pub pass : (next : ℕ) {own : Name} → row < stop → false ≡ test own → own ≡ name_of (get_or nodes row [])
       → next ≡ row_behind nodes row → Passed nodes stop test start next
   pass next l t e f r s = so_far r (sought_next l (t ∙ ap test e) (subst (λ n. Sought nodes stop test n r) f s))
 
-  pub meet : {own : Name} → row < stop → true ≡ test own → own ≡ name_of (get_or nodes row []) → Sought nodes stop test start (At row)
-  meet l t e = so_far (At row) (sought_here l (t ∙ ap test e))
+  pub meet : {own : Name} → row < stop → true ≡ test own → own ≡ name_of (get_or nodes row []) → Sought nodes stop test start (Some row)
+  meet l t e = so_far (Some row) (sought_here l (t ∙ ap test e))
 
-  pub over : stop ≤ row → Sought nodes stop test start Missing
-  over l = so_far Missing (sought_over l)
+  pub over : stop ≤ row → Sought nodes stop test start None
+  over l = so_far None (sought_over l)
 
 -- quiet rows are passed
 module _ (T : Texts) (name : Name) {nodes : List Row} {stop start : ℕ} where
@@ -200,7 +198,7 @@ module _ (T : Texts) (name : Name) {nodes : List Row} {stop start : ℕ} where
 
 -- the row is one of those that were asked for
 sought_between : {nodes : List Row} {stop : ℕ} {test : Name → Bool} (start end : ℕ)
-    {row : ℕ} {r : Member} → Sought nodes stop test row r → stop ≡ limit_of nodes end → start ≤ row
+    {row : ℕ} {r : Option ℕ} → Sought nodes stop test row r → stop ≡ limit_of nodes end → start ≤ row
     → Between start end nodes r
 sought_between start end (sought_here l t) e h = (h, omega arith, omega arith)
 sought_between {nodes} start end (sought_next {row} l t s) e h = sought_between start end s e (omega (arith, behind_later nodes row))
@@ -210,14 +208,14 @@ sought_between start end (sought_over l) e h = tt
 module _ {w : Table} {start end stop : ℕ} {f : Forest Cell} {name : Text} {test : Name → Bool} (a : RowsHeld w start end f)
     (stops : stop ≡ limit_of w.nodes end)
     (same : (n : Name) → Hashed w.texts n → test n ≡ same_text (name_text w.texts n) name) where
-  sought_found : {row : ℕ} {r : Member} → Sought w.nodes stop test row r → Seeking w.texts start f name row → Found w.texts start f name r
+  sought_found : {row : ℕ} {r : Option ℕ} → Sought w.nodes stop test row r → Seeking w.texts start f name row → Found w.texts start f name r
   sought_found (sought_here l t) s = seek_found a s (omega arith) (t ∙ same _ (seek_hashed a s (omega arith)))
   sought_found (sought_next {row} l t rest) s =
       sought_found rest (seek_next a s (omega arith) _ (row_behind_lem w.nodes row (seek_scalar a s (omega arith)))
       (t ∙ same _ (seek_hashed a s (omega arith))))
   sought_found (sought_over l) s = seek_over a s stop stops l
 
-pub finds : {w : Table} {start end : ℕ} {name : Name} {r : Member} (stop : ℕ) → stop ≡ limit_of w.nodes end → Sought w.nodes stop
+pub finds : {w : Table} {start end : ℕ} {name : Name} {r : Option ℕ} (stop : ℕ) → stop ≡ limit_of w.nodes end → Sought w.nodes stop
     (λ n. same_name w.texts n name) start r → FindIs w start end name r
 finds {w} {start} {end} {name} {r} stop e s =
     record {
@@ -226,7 +224,7 @@ finds {w} {start} {end} {name} {r} stop e s =
       held = λ f a h. sought_found a e (λ n g. named_hashed w.texts n _ _ g h.is) s seeking_all;
     }
 
-pub finds_ascii : {w : Table} {start end h : ℕ} {name : Text} {r : Member} (stop : ℕ) → stop ≡ limit_of w.nodes end → h ≡ short_hash (hash name)
+pub finds_ascii : {w : Table} {start end h : ℕ} {name : Text} {r : Option ℕ} (stop : ℕ) → stop ≡ limit_of w.nodes end → h ≡ short_hash (hash name)
     → Sought w.nodes stop (λ n. is_named w.texts n h name) start r → FindAsciiIs w start end name r
 finds_ascii {w} {start} {end} {h} {name} {r} stop e g s =
     record {

@@ -1,5 +1,5 @@
 -- What a search for a member by its name answers.
-use Rattle.std.specs.Prelude.{ℕ, ◌+◌, ◌<◌, ◌≤◌, min, ◌≡◌, Bool, true, false, ◌&&◌, List, [], eqb, ltb, length, get_or, if◌then◌else◌}
+use Rattle.std.specs.Prelude.{ℕ, ◌+◌, ◌<◌, ◌≤◌, min, ◌≡◌, Bool, true, false, ◌&&◌, List, [], eqb, ltb, length, get_or, Option, Some, None, if◌then◌else◌}
 use Rattle.spec.specs.Bytes.{Text}
 use Rattle.spec.specs.Forest.{Forest, count, size, before}
 use Rattle.spec.specs.Value.{same_text, find}
@@ -12,8 +12,6 @@ use Rattle.tape.specs.Lent.{Texts, Table}
 use Rattle.tape.specs.Rows.{block}
 use Rattle.table.specs.Meaning.{name_text, members, short_hash, Hashed}
 use Rattle.table.specs.Sound.{RowsHeld}
-use Rattle.table.specs.declared.find.Member.{Member}
-use Rattle.table.specs.declared.find.Member.TheVariants.{At, Missing}
 
 -- ---- names compared: first their hashes, then their texts. A name without the hash of its text is thus the same as no other.
 -- a name, and a text with its hash
@@ -34,11 +32,11 @@ abbrev pub limit_of : List Row → ℕ → ℕ
 limit_of nodes end = min end (length nodes)
 
 -- the first of these rows whose name passes a test
-pub data Sought (nodes : List Row) (stop : ℕ) (test : Name → Bool) : ℕ → Member → Type 0 where
-  sought_here : {row : ℕ} → row < stop → true ≡ test (name_of (get_or nodes row [])) → Sought nodes stop test row (At row)
-  sought_next : {row : ℕ} {r : Member} → row < stop → false ≡ test (name_of (get_or nodes row [])) → Sought nodes stop test (row_behind nodes row) r
+pub data Sought (nodes : List Row) (stop : ℕ) (test : Name → Bool) : ℕ → Option ℕ → Type 0 where
+  sought_here : {row : ℕ} → row < stop → true ≡ test (name_of (get_or nodes row [])) → Sought nodes stop test row (Some row)
+  sought_next : {row : ℕ} {r : Option ℕ} → row < stop → false ≡ test (name_of (get_or nodes row [])) → Sought nodes stop test (row_behind nodes row) r
       → Sought nodes stop test row r
-  sought_over : {row : ℕ} → stop ≤ row → Sought nodes stop test row Missing
+  sought_over : {row : ℕ} → stop ≤ row → Sought nodes stop test row None
 
 -- ---- rows looked at together
 -- a row whose node has no children, and whose name has another hash than this one
@@ -54,22 +52,22 @@ abbrev pub QuietIs : List Row → ℕ → ℕ → ℕ → Bool → Type 0
 QuietIs nodes row stop hash r = r ≡ true → (row + block ≤ stop) × AllQuiet nodes hash row block
 
 -- ---- of a forest that the table holds from a row on: the row of the first tree that has the name, or none
-pub data Found (texts : Texts) (start : ℕ) (f : Forest Cell) (name : Text) : Member → Type 0 where
-  found : (k row : ℕ) → find name (members texts f) ≡ k → k < count f → row ≡ start + size (before k f) → Found texts start f name (At row)
-  missing : find name (members texts f) ≡ count f → Found texts start f name Missing
+pub data Found (texts : Texts) (start : ℕ) (f : Forest Cell) (name : Text) : Option ℕ → Type 0 where
+  found : (k row : ℕ) → find name (members texts f) ≡ k → k < count f → row ≡ start + size (before k f) → Found texts start f name (Some row)
+  missing : find name (members texts f) ≡ count f → Found texts start f name None
 
 -- the row is in the table and among those that were asked for
-abbrev pub Between : ℕ → ℕ → List Row → Member → Type 0
-Between start end nodes (At row) = (start ≤ row) × (row < end) × (row < length nodes)
-Between start end nodes Missing = Unit {0}
+abbrev pub Between : ℕ → ℕ → List Row → Option ℕ → Type 0
+Between start end nodes (Some row) = (start ≤ row) × (row < end) × (row < length nodes)
+Between start end nodes None = Unit {0}
 
 -- ---- what a search answers among the trees in the rows from one up to another: whatever the table holds, and where it holds a forest
-pub record FindIs (w : Table) (start end : ℕ) (name : Name) (r : Member) : Type 0 where
+pub record FindIs (w : Table) (start end : ℕ) (name : Name) (r : Option ℕ) : Type 0 where
   pub rows : Sought w.nodes (limit_of w.nodes end) (λ n. same_name w.texts n name) start r
   pub place : Between start end w.nodes r
   pub held : (f : Forest Cell) → RowsHeld w start end f → Hashed w.texts name → Found w.texts start f (name_text w.texts name) r
 
-pub record FindAsciiIs (w : Table) (start end : ℕ) (name : Text) (r : Member) : Type 0 where
+pub record FindAsciiIs (w : Table) (start end : ℕ) (name : Text) (r : Option ℕ) : Type 0 where
   pub rows : Sought w.nodes (limit_of w.nodes end) (λ n. is_named w.texts n (short_hash (hash name)) name) start r
   pub place : Between start end w.nodes r
   pub held : (f : Forest Cell) → RowsHeld w start end f → Found w.texts start f name r

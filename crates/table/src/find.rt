@@ -1,41 +1,21 @@
 // A member found by its name.
-ghost use Rattle.std.specs.Prelude.{◌≡◌, ◌≤◌, min, length};
+ghost use Rattle.std.specs.Prelude.{◌≡◌, ◌≤◌, length};
 ghost use Rattle.lexer.specs.Hash.{hash};
 ghost use Rattle.tape.specs.Lent.{lent, before};
 ghost use Rattle.table.specs.Meaning.{short_hash};
-ghost use Rattle.table.specs.Find.{same_name, is_named, limit_of, QuietIs, FindIs, FindAsciiIs};
+ghost use Rattle.table.specs.Find.{same_name, is_named, QuietIs, FindIs, FindAsciiIs};
 
 use crate::spellings::{same_spelling, spells};
 use lexer::mix;
 use tape::fields::{Name, kind_in, name_of, wide};
 use tape::layout::{ARRAY, HASH, Node, SPAN, TAGS, Texts};
-use tape::nodes::BLOCK;
-
-#[derive(Clone, Copy)]
-pub enum Member {
-    // the member's row
-    At(usize),
-    Missing,
-}
+use tape::nodes::{BLOCK, childless};
 
 // Whether two names are the same. Their texts are compared only where their hashes are equal.
 pub fn same_name<'a>(texts: Texts<'a>, a: Name, b: Name) -> bool
     ensures { result ≡ same_name (lent texts) a b }
 {
-    if a.hash != b.hash {
-        return false;
-    }
-    same_spelling(texts, a.text, b.text)
-}
-
-// The rows from `end` on, or behind the table, are not looked at.
-fn limit(nodes: &[Node], end: usize) -> usize
-    ensures { result ≡ limit_of nodes.now end }
-{
-    if end < nodes.len() {
-        return end;
-    }
-    nodes.len()
+    a.hash == b.hash && same_spelling(texts, a.text, b.text)
 }
 
 // True only if the BLOCK rows from this one on are before `stop`, no node in them has children and no name has this
@@ -44,30 +24,24 @@ fn quiet(nodes: &[Node], row: usize, stop: usize, hash: u16) -> bool
     requires { (row ≤ stop) × (stop ≤ length nodes.now) }
     ensures { QuietIs nodes.now row stop hash result }
 {
-    if row % BLOCK != 0 {
+    if row % BLOCK != 0 || stop - row < BLOCK {
         return false;
     }
-    if stop - row < BLOCK {
-        return false;
-    }
-    // an `or` is 0 only if each of its numbers is
-    let mut spans: u16 = 0;
-    let mut i = 0;
-    while i < BLOCK {
-        if nodes[row + i][HASH] == hash {
-            return false;
-        }
-        spans |= nodes[row + i][SPAN];
-        i += 1;
-    }
-    spans == 0
+    let block = &nodes[row..row + BLOCK];
+    block.iter().all(|node| node[HASH] != hash) && childless(block)
 }
 
-// The first of the trees in the rows from `start` up to `end` that has the name.
-pub fn find<'a>(texts: Texts<'a>, nodes: &[Node], start: usize, end: usize, name: Name) -> Member
+// The row of the first of the trees in the rows from `start` up to `end` that has the name.
+pub fn find<'a>(
+    texts: Texts<'a>,
+    nodes: &[Node],
+    start: usize,
+    end: usize,
+    name: Name,
+) -> Option<usize>
     ensures { FindIs (before texts nodes.now) start end name result }
 {
-    let stop = limit(nodes, end);
+    let stop = end.min(nodes.len());
     let mut row = start;
     while row < stop {
         if quiet(nodes, row, stop, name.hash) {
@@ -75,7 +49,7 @@ pub fn find<'a>(texts: Texts<'a>, nodes: &[Node], start: usize, end: usize, name
             continue;
         }
         if same_name(texts, name_of(nodes[row]), name) {
-            return Member::At(row);
+            return Some(row);
         }
         // a scalar has no children; where its kind is predicted, the next turn does not wait for the span
         if kind_in(nodes[row][TAGS]) < ARRAY {
@@ -84,20 +58,14 @@ pub fn find<'a>(texts: Texts<'a>, nodes: &[Node], start: usize, end: usize, name
         }
         row = row + 1 + wide(nodes[row][SPAN]);
     }
-    Member::Missing
+    None
 }
 
 // The hash of a text that is given by its bytes, each of which is a character.
 fn hash_ascii(name: &[u8]) -> u32
     ensures { result ≡ hash name.now }
 {
-    let mut h: u32 = 0;
-    let mut i = 0;
-    while i < name.len() {
-        h = mix(h, name[i] as u32);
-        i += 1;
-    }
-    h
+    name.iter().fold(0, |h, b| mix(h, u32::from(*b)))
 }
 
 // The 16 bits of a hash that a node has room for: the lowest, since the last character changes them.
@@ -111,28 +79,26 @@ pub fn short(hash: u32) -> u16
 fn is_named<'a>(texts: Texts<'a>, own: Name, h: u16, name: &[u8]) -> bool
     ensures { result ≡ is_named (lent texts) own h name.now }
 {
-    if own.hash != h {
-        return false;
-    }
-    spells(texts, own.text, name)
+    own.hash == h && spells(texts, own.text, name)
 }
 
-// The same for a name that is given by its bytes, each of which is a character.
+// The same for a name that is given by its bytes, each of which is a character. Its loop is not that of `find`: one for
+// both, by a test, was proved, and took up to twice as long for the few members of an operation.
 pub fn find_ascii<'a>(
     texts: Texts<'a>,
     nodes: &[Node],
     start: usize,
     end: usize,
     name: &[u8],
-) -> Member
+) -> Option<usize>
     ensures { FindAsciiIs (before texts nodes.now) start end name.now result }
 {
     let h = short(hash_ascii(name));
-    let stop = limit(nodes, end);
+    let stop = end.min(nodes.len());
     let mut row = start;
     while row < stop {
         if is_named(texts, name_of(nodes[row]), h, name) {
-            return Member::At(row);
+            return Some(row);
         }
         if kind_in(nodes[row][TAGS]) < ARRAY {
             row += 1;
@@ -140,5 +106,5 @@ pub fn find_ascii<'a>(
         }
         row = row + 1 + wide(nodes[row][SPAN]);
     }
-    Member::Missing
+    None
 }

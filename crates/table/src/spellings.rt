@@ -5,17 +5,18 @@ ghost use Rattle.tape.specs.Lent.{lent};
 ghost use Rattle.table.specs.Meaning.{source_text, part_of, spelled};
 
 use tape::fields::{Spelling, long, wide};
-use tape::layout::Texts;
+use tape::layout::{IN_DOCUMENT, Texts};
 use text::{same_ascii, same_text};
 
 // The text that a source names.
 fn text_of<'a>(texts: Texts<'a>, source: u16) -> &'a [u8]
     ensures { result.now ≡ source_text (lent texts) source }
 {
-    if source == 0 {
-        return texts[0];
+    if source == IN_DOCUMENT {
+        texts[0]
+    } else {
+        texts[1]
     }
-    texts[1]
 }
 
 // The bytes that a spelling names, in the document or in the patch.
@@ -23,16 +24,8 @@ pub fn part<'a>(texts: Texts<'a>, spelling: Spelling) -> &'a [u8]
     ensures { result.now ≡ part_of (lent texts) spelling }
 {
     let s = text_of(texts, spelling.source);
-    let first = wide(spelling.start);
-    let count = wide(spelling.length);
-    if s.len() <= first {
-        let end = s.len();
-        return &s[end..];
-    }
-    if s.len() - first < count {
-        return &s[first..];
-    }
-    let end = first + count;
+    let first = wide(spelling.start).min(s.len());
+    let end = (first + wide(spelling.length)).min(s.len());
     &s[first..end]
 }
 
@@ -50,9 +43,6 @@ pub fn same_spelling<'a>(texts: Texts<'a>, a: Spelling, b: Spelling) -> bool
 pub fn spells<'a>(texts: Texts<'a>, spelling: Spelling, text: &[u8]) -> bool
     ensures { result ≡ same_text (spelled (lent texts) spelling) text.now }
 {
-    if wide(spelling.length) < text.len() {
-        return false;
-    }
-    let s = part(texts, spelling);
-    same_ascii(long(spelling.form), s, text)
+    text.len() <= wide(spelling.length)
+        && same_ascii(long(spelling.form), part(texts, spelling), text)
 }

@@ -1,4 +1,5 @@
 -- The contracts suppose nothing impossible: a column that holds the array [1, [2], 3] behind another word, and what the definitions say of it.
+use Rattle.std.specs.Prelude.{Ok, Err}
 use Prim.Native.Nat.{ℕ, ◌<◌}
 use native.Mathlib.Omega.{arith}
 use mathlib.Core.Path.{◌≡◌, refl}
@@ -13,7 +14,6 @@ use Rattle.tape.specs.Cell.{row_of, Fit, Formed, formed_none, formed_tree, Node,
 use Rattle.tape.proofs.Cells.{no_text, no_name}
 use Rattle.tape.specs.Columns.{splice_fits, spliced, replaced, inside}
 use Rattle.tape.specs.Rows.{end_of, child_row, child_of}
-use Rattle.tape.specs.declared.nodes.Located.TheVariants.{At, Fewer}
 
 abbrev number : Cell
 number = record { kind = number_kind; value = record { form = 4; source = 1; start = 300; length = 9 }; name = no_name; origin = 0 }
@@ -76,11 +76,11 @@ pub end_row : end_of column 1 ≡ 6
 end_row = refl
 
 -- its children stand in rows 2, 3 and 5
-pub third : child_of 1 2 kids ≡ At 5
+pub third : child_of 1 2 kids ≡ Ok 5
 unfolding child_of child_row count size before
 third = refl
 
-pub fourth : child_of 1 3 kids ≡ Fewer 3
+pub fourth : child_of 1 3 kids ≡ Err 3
 unfolding child_of child_row count size before
 fourth = refl
 

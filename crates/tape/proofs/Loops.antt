@@ -1,97 +1,36 @@
--- Laws of the loops that move words and clear them, and of the two moves that make a splice. `z` is what `get_or` gives behind the end of a column.
-use Prim.Native.Nat.{ℕ, suc, ◌+◌, ◌-◌, ◌≤◌, ◌<◌}
+-- Laws of a move, of the loop that clears words, and of the two moves that make a splice.
+use Rattle.std.specs.Prelude.{Bool, true, false, ◌&&◌, if◌then◌else◌}
+use Prim.Native.Nat.{ℕ, ◌+◌, ◌-◌, ◌≤◌, ◌<◌}
 use native.Mathlib.Omega.{arith}
-use mathlib.Core.Path.{◌≡◌, sym, ap, ◌∙◌}
-use mathlib.Core.List.{List, [], ◌∷◌, ◌++◌, append_assoc}
-use lib.ListN.{length, take, drop, get_or, set, replicate, replicate-append-replicate, length-replicate, take-append-drop}
-use lib.Seq.{paste-zero, sets-eq, drop-cons, take-take, drop-drop, take-add}
-use Rattle.tape.specs.Columns.{replaced, copied, moved, used_after, spliced, filled}
+use native.Mathlib.Numerals.{add-one}
+use mathlib.Core.Path.{◌≡◌, refl, sym, ap, ◌∙◌}
+use mathlib.Core.List.{List, [], ◌∷◌, ◌++◌, append_assoc, append-nil}
+use lib.ListN.{length, take, drop, get_or, set, replicate, replicate-append-replicate, length-replicate, take-append-drop, drop_of_length-le}
+use lib.Seq.{paste-zero, drop-cons, take-take, drop-drop, take-add, set-append_seam}
+use Rattle.tape.specs.Columns.{replaced, copied, inside, moved, used_after, spliced, filled}
 use Rattle.spec.proofs.ListLaws.{drop-take}
 use Rattle.tape.proofs.Columns.{Room, moved_in, spliced_in, filled_in, length-replaced, take-replaced, words-replaced, drop-replaced, replaced-one}
-use Rattle.tape.proofs.Columns.{replaced_further, replaced-before, length-words}
+use Rattle.tape.proofs.Columns.{replaced_further, length-words}
 
 -- ---- a copy
 module _ {W : Type 0} (xs : List W) (to start : ℕ) where
-  pub copied_none : copied xs to start 0 ≡ xs
-  unfolding copied replaced
-  copied_none = sym (paste-zero xs to (drop start xs))
-
   pub length-copied : (n : ℕ) → to + n ≤ length xs → start + n ≤ length xs → length (copied xs to start n) ≡ length xs
   unfolding copied
   length-copied n h k = length-replaced xs to n (take n (drop start xs)) h ∙ rw (length-words xs to start n h k) (omega arith)
-
-  -- one word stored
-  pub copied-one : (z : W) → to < length xs → start < length xs → set xs to (get_or xs start z) ≡ copied xs to start 1
-  unfolding copied
-  copied-one z h k = rw (drop-cons xs start z k) (replaced-one xs to (get_or xs start z) h)
-
-  -- four words stored, all of them loaded before
-  pub copied-four : (z : W) → to + 4 ≤ length xs → start + 4 ≤ length xs
-      → set (set (set (set xs to (get_or xs start z)) (to + 1) (get_or xs (start + 1) z)) (to + 2) (get_or xs (start + 2) z)) (to + 3) (get_or xs (start + 3) z)
-      ≡ copied xs to start 4
-  unfolding copied replaced
-  copied-four z h k =
-      let t1 : to + 1 ≡ suc to = omega arith in
-      let t2 : to + 2 ≡ suc (suc to) = omega arith in
-      let t3 : to + 3 ≡ suc (suc (suc to)) = omega arith in
-      let s1 : start + 1 ≡ suc start = omega arith in
-      let s2 : start + 2 ≡ suc (suc start) = omega arith in
-      let s3 : start + 3 ≡ suc (suc (suc start)) = omega arith in
-      rw (
-        t1,
-        t2,
-        t3,
-        s1,
-        s2,
-        s3,
-        drop-cons xs start z (omega arith),
-        drop-cons xs (suc start) z (omega arith),
-        drop-cons xs (suc (suc start)) z (omega arith),
-        drop-cons xs (suc (suc (suc start))) z (omega arith),
-      )
-      (sets-eq (get_or xs start z ∷ get_or xs (suc start) z ∷ get_or xs (suc (suc start)) z ∷ get_or xs (suc (suc (suc start))) z ∷ []) xs to (omega arith))
-
--- ---- a copy in two steps
-module _ {W : Type 0} (xs : List W) (to start m n : ℕ) where
-  words_further : take (m + n) (drop start xs) ≡ take m (drop start xs) ++ take n (drop (start + m) xs)
-  words_further = rw (take-add, drop-drop)
-
-  -- towards the front, the first words first: the others are where they were
-  pub copied_further : to ≤ start → start + (m + n) ≤ length xs → copied (copied xs to start m) (to + m) (start + m) n ≡ copied xs to start (m + n)
-  unfolding copied
-  copied_further h k =
-      let new : List W = take m (drop start xs) in
-      let same : length new ≡ m = length-words xs to start m (omega arith) (omega arith) in
-      rw (drop-replaced xs to m new (omega arith) same (start + m) (omega arith), words_further)
-      (replaced_further xs to m n new (take n (drop (start + m) xs)) (omega arith) same)
-
-  -- towards the back, the last words first
-  pub copied-before : start ≤ to → to + (m + n) ≤ length xs → copied (copied xs (to + m) (start + m) n) to start m ≡ copied xs to start (m + n)
-  unfolding copied
-  copied-before h k =
-      let new : List W = take m (drop start xs) in
-      let more : List W = take n (drop (start + m) xs) in
-      let zs : List W = replaced xs (to + m) n more in
-      let few : start + m - start ≡ m = omega arith in
-      let words : (ys : List W) → take m (drop start ys) ≡ drop start (take (start + m) ys) = λ ys. sym
-      (drop-take start (start + m) ys ∙ ap (λ c. take c (drop start ys)) few) in
-      let same : take m (drop start zs) ≡ new = words zs ∙ ap (drop start) (take-replaced xs (to + m) n more (omega arith) (start + m) (omega arith)) ∙ sym
-      (words xs) in
-      rw (same, words_further) (replaced-before xs to m n new more (omega arith))
-
--- the words from the i-th on are copied, and then the m words before them, from the j-th on
-pub copied_upwards : {W : Type 0} (xs : List W) (to start count m i j : ℕ) → i ≡ j + m → i ≤ count → start ≤ to → to + count ≤ length xs
-    → copied (copied xs (to + i) (start + i) (count - i)) (to + j) (start + j) m ≡ copied xs (to + j) (start + j) (count - j)
-copied_upwards xs to start count m i j e few h k =
-    let t : to + i ≡ to + j + m = omega arith in
-    let s : start + i ≡ start + j + m = omega arith in
-    let n : count - j ≡ m + (count - i) = omega arith in
-    rw (t, s, n) (copied-before xs (to + j) (start + j) m (count - i) (omega arith) (omega arith))
 
 -- words copied to where they stand
 pub copied_same : {W : Type 0} (xs : List W) (at n : ℕ) → copied xs at at n ≡ xs
 unfolding copied replaced
 copied_same xs at n = rw (← take-add, take-append-drop)
+
+-- a move to where they stand
+pub moved_same : {W : Type 0} (xs : List W) (to start n : ℕ) → to ≡ start → moved xs to start n ≡ xs
+unfolding moved
+moved_same xs to start n e = rw e (go (inside xs start n))
+  where
+    go : (b : Bool) → (if b && b then copied xs start start n else xs) ≡ xs
+    go true = copied_same xs start n
+    go false = refl
 
 module _ {W : Type 0} (x : W) (xs : List W) (start : ℕ) where
   pub filled_none : replaced xs start 0 (replicate 0 x) ≡ xs
@@ -109,15 +48,23 @@ module _ {W : Type 0} (x : W) (xs : List W) (start : ℕ) where
       replaced-one ys (start + i) x (omega arith) ∙ replaced_further xs start i 1 (replicate i x) (x ∷ []) (omega arith) (length-replicate i x)
       ∙ ap (replaced xs start (i + 1)) (replicate-append-replicate i 1 x)
 
--- the first words filled, and then more
-pub filled_further : {W : Type 0} (x : W) (xs : List W) (start n : ℕ) → start + n ≤ length xs
-    → filled x (replaced xs 0 start (replicate start x)) start n ≡ replaced xs 0 (start + n) (replicate (start + n) x)
-filled_further {W} x xs start n h =
-    let ys : List W = replaced xs 0 start (replicate start x) in
-    let long : length ys ≡ length xs = length-filled x xs 0 start (omega arith) in
-    let first : 0 + start ≡ start = omega arith in
-    rw (filled_in ys x start n (omega arith), ← (replicate-append-replicate start n x))
-    (rw first at (replaced_further xs 0 start n (replicate start x) (replicate n x) (omega arith) (length-replicate start x)))
+-- ---- a part filled from the front, word by word
+module _ {W : Type 0} (x : W) (xs : List W) where
+  pub front_more : (i : ℕ) → i < length xs → set (replicate i x ++ drop i xs) i x ≡ replicate (i + 1) x ++ drop (i + 1) xs
+  front_more i h =
+      let here : drop i xs ≡ get_or xs i x ∷ drop (i + 1) xs = rw add-one (drop-cons xs i x h) in
+      let stored : set (replicate i x ++ get_or xs i x ∷ drop (i + 1) xs) i x ≡ replicate i x ++ x ∷ drop (i + 1) xs = rw (length-replicate i x) at
+      (set-append_seam (replicate i x) (get_or xs i x) (drop (i + 1) xs) x) in
+      ap (λ ys. set (replicate i x ++ ys) i x) here ∙ stored ∙ rw (← replicate-append-replicate i 1 x, append_assoc) refl
+
+  pub front_all : (i : ℕ) → length xs ≤ i → replicate i x ++ drop i xs ≡ replicate i x
+  front_all i h = rw (drop_of_length-le _ h) (append-nil (replicate i x))
+
+-- where the words of a part are the same, the part is filled
+pub part_filled : {W : Type 0} (x : W) (xs : List W) (start n m : ℕ) (ys : List W) → start + n ≤ length xs → m ≡ n → ys ≡ replicate n x
+    → take start xs ++ (ys ++ drop m (drop start xs)) ≡ filled x xs start n
+unfolding replaced
+part_filled x xs start n m ys h e f = rw (e, f, drop-drop, ← append_assoc) (sym (filled_in xs x start n h))
 
 -- ---- a splice by two moves
 module _ {W : Type 0} (xs : List W) (used at removed source n : ℕ) (in_use : at + removed ≤ used) (room : Room xs used removed source n) where

@@ -1,5 +1,5 @@
 -- Laws of nodes by their rows: what a node's row tells, and where its children stand.
-use Rattle.std.specs.Prelude.{if◌then◌else◌}
+use Rattle.std.specs.Prelude.{Result, Ok, Err, if◌then◌else◌}
 use Prim.Native.Nat.{ℕ, zero, suc, ◌+◌, ◌≤◌, ◌<◌}
 use native.Mathlib.Nat.{add-zero}
 use native.Mathlib.Numerals.{add-one}
@@ -15,10 +15,8 @@ use Rattle.tape.specs.Fields.{Row, kind_of, span_of, cell_of}
 use Rattle.tape.specs.Tape.{tape}
 use Rattle.tape.specs.declared.fields.Cell.{Cell}
 use Rattle.tape.specs.Cell.{row_of, Node}
-use Rattle.tape.specs.Rows.{end_of, child_row, child_of, ForNode, Leaves, Steps, steps_none, steps_next, ChildRows, child_at_lem, child_fewer, ArityRows}
+use Rattle.tape.specs.Rows.{end_of, child_row, child_of, ForNode, Leaves, Steps, steps_none, steps_next, ChildRows, child_at, child_fewer, ArityRows}
 use Rattle.tape.specs.Rows.{Bounded, ChildIs, ArityIs}
-use Rattle.tape.specs.declared.nodes.Located.{Located}
-use Rattle.tape.specs.declared.nodes.Located.TheVariants.{At, Fewer}
 use Rattle.tape.proofs.Forests.{size-cut, count-from, before_all, size-before_suc, count_le_size}
 use Rattle.tape.proofs.Tape.{holds_front, holds_kids, holds_size, holds_child}
 use Rattle.tape.proofs.Cells.{kind_row, span_row, cell_row, formed_fit, formed_kids, formed_child}
@@ -65,20 +63,20 @@ module _ {A : Type 0} (at : ℕ) (kids : Forest A) where
 
 -- what an answer of `child` tells
 module _ {A : Type 0} (at k : ℕ) (kids : Forest A) where
-  pub child_of_at : (row : ℕ) → At row ≡ child_of at k kids → (k < count kids) × (row ≡ child_row at k kids)
+  pub child_of_at : (row : ℕ) → Ok row ≡ child_of at k kids → (k < count kids) × (row ≡ child_row at k kids)
   unfolding child_of
   child_of_at row e = go (ltb k (count kids)) refl e
     where
-      go : (b : Bool) → ltb k (count kids) ≡ b → At row ≡ (if b then At (child_row at k kids) else Fewer (count kids))
+      go : (b : Bool) → ltb k (count kids) ≡ b → Ok row ≡ (if b then Ok (child_row at k kids) else Err (count kids))
           → (k < count kids) × (row ≡ child_row at k kids)
       go true p q = (ltb-true k (count kids) p, (cc))
       go false p q = absurd (let z : ◌≡◌ {A = ℕ} 0 1 = cc in omega arith)
 
-  pub child_of_fewer : (n : ℕ) → Fewer n ≡ child_of at k kids → (n ≤ k) × (n ≡ count kids)
+  pub child_of_fewer : (n : ℕ) → Err n ≡ child_of at k kids → (n ≤ k) × (n ≡ count kids)
   unfolding child_of
   child_of_fewer n e = go (ltb k (count kids)) refl e
     where
-      go : (b : Bool) → ltb k (count kids) ≡ b → Fewer n ≡ (if b then At (child_row at k kids) else Fewer (count kids)) → (n ≤ k) × (n ≡ count kids)
+      go : (b : Bool) → ltb k (count kids) ≡ b → Err n ≡ (if b then Ok (child_row at k kids) else Err (count kids)) → (n ≤ k) × (n ≡ count kids)
       go true p q = absurd (let z : ◌≡◌ {A = ℕ} 0 1 = cc in omega arith)
       go false p q = let same : n ≡ count kids = cc in (omega (arith, ltb-false k (count kids) p), same)
 
@@ -155,28 +153,28 @@ pub no_node : {C : Type 0} {xs : List Row} {at : ℕ} {c : Cell} {kids : Forest 
 no_node node h = absurd (omega (arith, inside_here node))
 
 module _ {xs : List Row} {at k : ℕ} where
-  child_of-rows : {r : Located} → ChildRows xs at k r → ForNode xs at (λ c kids. r ≡ child_of at k kids)
+  child_of-rows : {r : Result ℕ ℕ} → ChildRows xs at k r → ForNode xs at (λ c kids. r ≡ child_of at k kids)
   unfolding child_of
-  child_of-rows (child_at_lem s l) c kids node =
+  child_of-rows (child_at s l) c kids node =
       let p = steps_passed node s in
       let more : k < count kids = passed_more p (omega (arith, end_here node)) in
-      rw (lt-ltb k (count kids) more) (ap At p.place)
+      rw (lt-ltb k (count kids) more) (ap Ok p.place)
   child_of-rows (child_fewer s l few) c kids node =
       let n = passed_all (steps_passed node s) (omega (arith, end_here node)) in
-      rw (le-ltb k (count kids) (omega arith)) (ap Fewer n)
+      rw (le-ltb k (count kids) (omega arith)) (ap Err n)
 
-  child_is : {r : Located} → ChildRows xs at k r → Bounded xs at k r → ChildIs xs at k r
+  child_is : {r : Result ℕ ℕ} → ChildRows xs at k r → Bounded xs at k r → ChildIs xs at k r
   child_is rows place = record { rows = rows; place = place; held = child_of-rows rows }
 
   module _ {end : ℕ} (ends : end ≡ end_of xs at) {m row : ℕ} (s : Steps xs end (at + 1) m row) where
-    pub child-found : m ≡ k → row < end → at < row → ChildIs xs at k (At row)
-    child-found e l b = child_is (child_at_lem (subst (λ n. Steps xs (end_of xs at) (at + 1) n row) e (subst (λ n. Steps xs n (at + 1) m row) ends s))
+    pub child-found : m ≡ k → row < end → at < row → ChildIs xs at k (Ok row)
+    child-found e l b = child_is (child_at (subst (λ n. Steps xs (end_of xs at) (at + 1) n row) e (subst (λ n. Steps xs n (at + 1) m row) ends s))
         (omega arith)) (b, omega arith)
 
-    pub child_none : end ≤ row → m ≤ k → ChildIs xs at k (Fewer m)
+    pub child_none : end ≤ row → m ≤ k → ChildIs xs at k (Err m)
     child_none l few = child_is (child_fewer (subst (λ n. Steps xs n (at + 1) m row) ends s) (omega arith) few) few
 
-  pub child_out : length xs ≤ at → ChildIs xs at k (Fewer 0)
+  pub child_out : length xs ≤ at → ChildIs xs at k (Err 0)
   child_out out = child_is (child_fewer steps_none (omega arith) (omega arith)) (omega arith)
 
 module _ {xs : List Row} {at : ℕ} where

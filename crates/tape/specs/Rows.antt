@@ -1,11 +1,10 @@
 -- What the functions on nodes answer, of whatever node the table holds in a row.
-use Rattle.std.specs.Prelude.{ℕ, ◌+◌, ◌<◌, ◌≤◌, min, ◌≡◌, Bool, true, List, [], leb, ltb, length, get_or, if◌then◌else◌}
+use Rattle.std.specs.Prelude.{ℕ, ◌+◌, ◌<◌, ◌≤◌, min, ◌≡◌, Bool, true, List, [], leb, ltb, length, get_or, Result, Ok, Err, if◌then◌else◌}
 use Rattle.spec.specs.Forest.{Forest, count, size, before}
 use Rattle.tape.specs.Fields.{Row, span_of}
 use Rattle.tape.specs.declared.fields.Cell.{Cell}
+use Rattle.tape.specs.declared.nodes.Reached.{Reached}
 use Rattle.tape.specs.Cell.{Node, level, deep}
-use Rattle.tape.specs.declared.nodes.Located.{Located}
-use Rattle.tape.specs.declared.nodes.Located.TheVariants.{At, Fewer}
 
 -- the row behind the tree that begins in a row, and in no case a row behind the table
 abbrev pub end_of : List Row → ℕ → ℕ
@@ -15,8 +14,8 @@ end_of nodes at = min (at + 1 + span_of (get_or nodes at [])) (length nodes)
 unfoldable pub child_row : {A : Type 0} → ℕ → ℕ → Forest A → ℕ
 child_row at k kids = at + 1 + size (before k kids)
 
-unfoldable pub child_of : {A : Type 0} → ℕ → ℕ → Forest A → Located
-child_of at k kids = if ltb k (count kids) then At (child_row at k kids) else Fewer (count kids)
+unfoldable pub child_of : {A : Type 0} → ℕ → ℕ → Forest A → Result ℕ ℕ
+child_of at k kids = if ltb k (count kids) then Ok (child_row at k kids) else Err (count kids)
 
 -- what holds of whatever node the table holds in a row
 abbrev pub ForNode : List Row → ℕ → (Cell → Forest Cell → Type 0) → Type 0
@@ -28,10 +27,18 @@ pub data Steps (nodes : List Row) (end start : ℕ) : ℕ → ℕ → Type 0 whe
   steps_none : Steps nodes end start 0 start
   steps_next : {n row : ℕ} → Steps nodes end start n row → row < end → Steps nodes end start (n + 1) (end_of nodes row)
 
+-- as many of them as a node has children, and at most `most`; the row behind them is in the table, or where it ends
+pub record PassIs (nodes : List Row) (at most : ℕ) (r : Reached) : Type 0 where
+  pub steps : Steps nodes (end_of nodes at) (at + 1) r.count r.row
+  pub few : r.count ≤ most
+  pub all : r.count < most → end_of nodes at ≤ r.row
+  pub behind : r.count + at < r.row
+  pub inside : r.row ≤ length nodes
+
 -- the k-th of them behind the row `at`, or how many there are
-pub data ChildRows (nodes : List Row) (at k : ℕ) : Located → Type 0 where
-  child_at_lem : {row : ℕ} → Steps nodes (end_of nodes at) (at + 1) k row → row < end_of nodes at → ChildRows nodes at k (At row)
-  child_fewer : {n last : ℕ} → Steps nodes (end_of nodes at) (at + 1) n last → end_of nodes at ≤ last → n ≤ k → ChildRows nodes at k (Fewer n)
+pub data ChildRows (nodes : List Row) (at k : ℕ) : Result ℕ ℕ → Type 0 where
+  child_at : {row : ℕ} → Steps nodes (end_of nodes at) (at + 1) k row → row < end_of nodes at → ChildRows nodes at k (Ok row)
+  child_fewer : {n last : ℕ} → Steps nodes (end_of nodes at) (at + 1) n last → end_of nodes at ≤ last → n ≤ k → ChildRows nodes at k (Err n)
 
 pub record ArityRows (nodes : List Row) (at r : ℕ) : Type 0 where
   pub last : ℕ
@@ -39,12 +46,12 @@ pub record ArityRows (nodes : List Row) (at r : ℕ) : Type 0 where
   pub all : end_of nodes at ≤ last
 
 -- a child's row is in the table, behind its parent's
-abbrev pub Bounded : List Row → ℕ → ℕ → Located → Type 0
-Bounded nodes at k (At row) = (at < row) × (row < length nodes)
-Bounded nodes at k (Fewer n) = n ≤ k
+abbrev pub Bounded : List Row → ℕ → ℕ → Result ℕ ℕ → Type 0
+Bounded nodes at k (Ok row) = (at < row) × (row < length nodes)
+Bounded nodes at k (Err n) = n ≤ k
 
 -- ---- the answers of `child`, `arity` and `within`: whatever the table holds, and where it holds a node in the row
-pub record ChildIs (nodes : List Row) (at k : ℕ) (r : Located) : Type 0 where
+pub record ChildIs (nodes : List Row) (at k : ℕ) (r : Result ℕ ℕ) : Type 0 where
   pub rows : ChildRows nodes at k r
   pub place : Bounded nodes at k r
   pub held : ForNode nodes at (λ c kids. r ≡ child_of at k kids)

@@ -1,8 +1,9 @@
 // Nodes moved in the table. Each public function is total: where the numbers do not fit the table, nothing changes.
-ghost use Rattle.std.specs.Prelude.{◌≡◌, ◌+◌, ◌≤◌, length, get_or, set};
+ghost use Rattle.std.specs.Prelude.{◌≡◌, ◌+◌, ◌<◌, ◌≤◌, length, get_or, set};
+ghost use Rattle.std.specs.Bool.{MatchBool};
 ghost use Rattle.tape.specs.Layout.{rows};
 ghost use Rattle.tape.specs.Fields.{no_node};
-ghost use Rattle.tape.specs.Columns.{copied, moved, spliced, wiped};
+ghost use Rattle.tape.specs.Columns.{moved, spliced, wiped};
 
 use crate::layout::{NO_NODE, Node, ROWS};
 
@@ -10,10 +11,7 @@ use crate::layout::{NO_NODE, Node, ROWS};
 pub fn load(nodes: &[Node], row: usize) -> Node
     ensures { result ≡ get_or nodes.now row no_node }
 {
-    if nodes.len() <= row {
-        return NO_NODE;
-    }
-    nodes[row]
+    nodes.get(row).copied().unwrap_or(NO_NODE)
 }
 
 pub fn store(nodes: &mut [Node], row: usize, node: Node)
@@ -24,20 +22,21 @@ pub fn store(nodes: &mut [Node], row: usize, node: Node)
     }
 }
 
+// Whether there are `count` rows from `at` on.
+fn inside(nodes: &[Node], at: usize, count: usize) -> bool
+    ensures { MatchBool result (at + count ≤ length nodes.now) (length nodes.now < at + count) }
+{
+    count <= nodes.len() && at <= nodes.len() - count
+}
+
 // `count` rows from `start` on are made rows without a node.
 pub fn clear(nodes: &mut [Node], start: usize, count: usize)
     ensures { nodes.new ≡ wiped nodes.old start count }
 {
-    if nodes.len() < count {
-        return;
-    }
-    if nodes.len() - count < start {
-        return;
-    }
-    let mut i = 0;
-    while i < count {
-        nodes[start + i] = NO_NODE;
-        i += 1;
+    if inside(nodes, start, count) {
+        for node in &mut nodes[start..start + count] {
+            *node = NO_NODE;
+        }
     }
 }
 
@@ -48,50 +47,12 @@ pub fn wipe(nodes: &mut [Node])
     clear(nodes, 0, ROWS);
 }
 
-// Nodes are copied towards the front, the first ones first.
-fn shift_down(nodes: &mut [Node], to: usize, start: usize, count: usize)
-    requires { (to ≤ start) × (start + count ≤ length nodes.old) }
-    ensures { nodes.new ≡ copied nodes.old to start count }
-{
-    let mut i = 0;
-    while i < count {
-        nodes[to + i] = nodes[start + i];
-        i += 1;
-    }
-}
-
-// Nodes are copied towards the back, the last ones first.
-fn shift_up(nodes: &mut [Node], to: usize, start: usize, count: usize)
-    requires { (start ≤ to) × (to + count ≤ length nodes.old) }
-    ensures { nodes.new ≡ copied nodes.old to start count }
-{
-    let mut i = count;
-    while 0 < i {
-        i -= 1;
-        nodes[to + i] = nodes[start + i];
-    }
-}
-
 // `count` nodes from `start` on are copied to the rows from `to` on; the two runs may overlap.
 pub fn slide(nodes: &mut [Node], to: usize, start: usize, count: usize)
     ensures { nodes.new ≡ moved nodes.old to start count }
 {
-    if nodes.len() < count {
-        return;
-    }
-    let last = nodes.len() - count;
-    if last < to {
-        return;
-    }
-    if last < start {
-        return;
-    }
-    if to < start {
-        shift_down(nodes, to, start, count);
-        return;
-    }
-    if start < to {
-        shift_up(nodes, to, start, count);
+    if to != start && inside(nodes, to, count) && inside(nodes, start, count) {
+        nodes.copy_within(start..start + count, to);
     }
 }
 
@@ -107,23 +68,10 @@ pub fn splice(
 )
     ensures { nodes.new ≡ spliced nodes.old used at removed source count }
 {
-    if used < removed {
+    let Some(kept) = used.checked_sub(removed) else {
         return;
-    }
-    let kept = used - removed;
-    if kept < at {
-        return;
-    }
-    if source < used {
-        return;
-    }
-    if source - kept < count {
-        return;
-    }
-    if nodes.len() < count {
-        return;
-    }
-    if nodes.len() - count < source {
+    };
+    if kept < at || source < used || source - kept < count || !inside(nodes, source, count) {
         return;
     }
     slide(nodes, at + count, at + removed, kept - at);

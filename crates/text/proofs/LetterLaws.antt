@@ -14,6 +14,9 @@ use Rattle.spec.specs.Refusal.{not_json}
 use Rattle.spec.specs.Bytes.{Bytes, Text, byte, within}
 use Rattle.spec.proofs.OutcomeLaws.{refused≢ok, both_ok}
 use Rattle.lexer.specs.declared.cursor.Cursor.{Cursor}
+use Rattle.std.specs.Prelude.{Result, Ok, Err}
+use Rattle.spec.specs.Fault.{number_of}
+use Rattle.spec.specs.declared.refusal.Fault.{Fault}
 use Rattle.lexer.specs.declared.characters.Character.{Character}
 use Rattle.lexer.specs.Names.{stands_for_itself}
 use Rattle.lexer.specs.Answers.{character_outcome}
@@ -196,19 +199,19 @@ plain_letter form s at = go (is_letter (byte s at)) (within 1 3 form) refl refl
 
 -- ---- what the code answered
 
-module _ (form : ℕ) (s : Bytes) (at : ℕ) {r : Character} (e : character_outcome r ≡ letter_at form s at) where
-  pub scalar_text : (c : ℕ) (next : Cursor) → r ≡ Character.Scalar c next → text_from form s at ≡ c ∷ text_from form s next.at
-  scalar_text c next t = (letter_begins form s at (c, next.at) (scalar_ok c next e t)).text
+module _ (form : ℕ) (s : Bytes) (at : ℕ) {r : Result Character Fault} (e : character_outcome r ≡ letter_at form s at) where
+  pub scalar_text : (c : Character) → r ≡ Ok c → text_from form s at ≡ c.code ∷ text_from form s c.next.at
+  scalar_text c t = (letter_begins form s at (c.code, c.next.at) (scalar_ok c e t)).text
 
   -- the letter takes a byte of those that are left
-  pub scalar_less : (c : ℕ) (next : Cursor) → r ≡ Character.Scalar c next → length s - next.at < length s - at
-  scalar_less c next t = omega (arith, (letter_begins form s at (c, next.at) (scalar_ok c next e t)).past)
+  pub scalar_less : (c : Character) → r ≡ Ok c → length s - c.next.at < length s - at
+  scalar_less c t = omega (arith, (letter_begins form s at (c.code, c.next.at) (scalar_ok c e t)).past)
 
-  pub scalar-inside : (c : ℕ) (next : Cursor) → r ≡ Character.Scalar c next → next.at ≤ length s
-  scalar-inside c next t = (letter_begins form s at (c, next.at) (scalar_ok c next e t)).past.1
+  pub scalar-inside : (c : Character) → r ≡ Ok c → c.next.at ≤ length s
+  scalar-inside c t = (letter_begins form s at (c.code, c.next.at) (scalar_ok c e t)).past.1
 
-  pub refused_text : (place : ℕ) → r ≡ Character.Refused place → text_from form s at ≡ []
-  refused_text place t = letter_ends form s at not_json place (character_refused place e t)
+  pub refused_text : (x : Fault) → r ≡ Err x → text_from form s at ≡ []
+  refused_text x t = letter_ends form s at (number_of x.refusal) x.place (character_refused x e t)
 
 module _ (form : ℕ) (s : Bytes) (at : ℕ) {r : ℕ} (e : r ≡ plain_at form s at) (n : r ≡ 0 → ⊥) where
   pub plain_ok : letter_at form s at ≡ ok (r, at + 1)

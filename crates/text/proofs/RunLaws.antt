@@ -12,6 +12,8 @@ use Rattle.spec.specs.Bytes.{Bytes, byte, ascii}
 use Rattle.spec.specs.Strings.{short_escape, character}
 use Rattle.spec.specs.Write.{utf8, write_character, write_characters}
 use Rattle.lexer.specs.declared.cursor.Cursor.{Cursor}
+use Rattle.std.specs.Prelude.{Result, Ok}
+use Rattle.spec.specs.declared.refusal.Fault.{Fault}
 use Rattle.lexer.specs.declared.characters.Character.{Character}
 use Rattle.lexer.specs.Answers.{character_outcome}
 use Rattle.lexer.specs.Names.{part}
@@ -110,11 +112,11 @@ module _ {s : Bytes} {total at : ℕ} (k : Counted s total at) where
   counted-run r = let l = run_inside k.inside r in record { inside = l; whole = omega (arith, run_length l r, k.whole) }
 
   -- a letter that the code read
-  pub counted_letter : {c n : ℕ} {next : Cursor} {r : Character}
-      → character_outcome r ≡ letter_at 2 s at → r ≡ Character.Scalar c next → n ≡ length (write_character c) →
-      Counted s (total + n) next.at
-  counted_letter {c} {n} {next} e t m =
-      record { inside = scalar-inside 2 s at e c next t; whole = omega (arith, length_more (scalar_text 2 s at e c next t), k.whole) }
+  pub counted_letter : {n : ℕ} {c : Character} {r : Result Character Fault}
+      → character_outcome r ≡ letter_at 2 s at → r ≡ Ok c → n ≡ length (write_character c.code) →
+      Counted s (total + n) c.next.at
+  counted_letter {n} {c} e t m =
+      record { inside = scalar-inside 2 s at e c t; whole = omega (arith, length_more (scalar_text 2 s at e c t), k.whole) }
 
   pub counted_ends : text_from 2 s at ≡ [] → total ≡ length (write_characters (text_of 2 s))
   counted_ends e = omega (arith, length_ends e, k.whole)
@@ -142,10 +144,10 @@ module _ {s out₀ out : Bytes} {put at : ℕ} (w : Writing s out₀ out put at)
       omega (arith, laying_bound (laying_on w.laying (part s at to) to (run-written r) (record { next_is = refl; after_is = refl })))
 
   -- a letter that the code read
-  pub writing_letter : {c put' : ℕ} {next : Cursor} {r : Character} {out' : Bytes} → character_outcome r ≡ letter_at 2 s at → r ≡ Character.Scalar c next →
-      Stored (write_character c) put out out' put' → Writing s out₀ out' put' next.at
-  writing_letter {c} {next = next} e t p =
-      record { inside = scalar-inside 2 s at e c next t; laying = laying_more w.laying c next.at (scalar_text 2 s at e c next t) p }
+  pub writing_letter : {put' : ℕ} {c : Character} {r : Result Character Fault} {out' : Bytes} → character_outcome r ≡ letter_at 2 s at → r ≡ Ok c →
+      Stored (write_character c.code) put out out' put' → Writing s out₀ out' put' c.next.at
+  writing_letter {c} e t p =
+      record { inside = scalar-inside 2 s at e c t; laying = laying_more w.laying c.code c.next.at (scalar_text 2 s at e c t) p }
 
   pub writing_ends : text_from 2 s at ≡ [] → LaidDown (write_characters (text_of 2 s)) out₀ out put
   writing_ends e = laying_ends w.laying e

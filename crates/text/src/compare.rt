@@ -5,33 +5,12 @@ ghost use Rattle.text.specs.Decode.{text_from, text_of};
 ghost use Rattle.text.specs.Letters.{Common};
 
 use crate::letters::{any_letter, is_form, is_letter, letter, plain};
-use lexer::Character;
-
-// Whether two parts have the same bytes.
-fn same_bytes(a: &[u8], b: &[u8]) -> bool
-    ensures { result ≡ same_text a.now b.now }
-{
-    if a.len() != b.len() {
-        return false;
-    }
-    let mut i = 0;
-    while i < a.len() {
-        if a[i] != b[i] {
-            return false;
-        }
-        i += 1;
-    }
-    true
-}
 
 // Whether a text has ended at a place of its part.
 fn ended(form: u64, s: &[u8], at: usize) -> bool
     ensures { result ≡ same_text [] (text_from form s.now at) }
 {
-    let Character::Refused(_) = letter(form, s, at) else {
-        return false;
-    };
-    true
+    letter(form, s, at).is_err()
 }
 
 // How many bytes at the front of two parts are the same, each a letter by itself. Passed at once, they need one test
@@ -39,27 +18,16 @@ fn ended(form: u64, s: &[u8], at: usize) -> bool
 fn common(form: u64, a: &[u8], other: u64, b: &[u8]) -> usize
     ensures { Common form a.now other b.now result }
 {
-    if !is_form(form) {
+    if !is_form(form) || !is_form(other) {
         return 0;
     }
-    if !is_form(other) {
-        return 0;
+    let end = a.len().min(b.len());
+    for i in 0..end {
+        if a[i] != b[i] || !is_letter(a[i]) {
+            return i;
+        }
     }
-    let mut i = 0;
-    while i < a.len() {
-        if b.len() <= i {
-            return i;
-        }
-        let c = a[i];
-        if b[i] != c {
-            return i;
-        }
-        if !is_letter(c) {
-            return i;
-        }
-        i += 1;
-    }
-    i
+    end
 }
 
 // Whether two parts say the same text, character by character after the bytes that they begin with in common.
@@ -71,27 +39,25 @@ fn same_letters(form: u64, a: &[u8], other: u64, b: &[u8]) -> bool
     let mut j = start;
     loop {
         let p = plain(form, a, i);
-        if p != 0 {
-            if plain(other, b, j) == p {
-                i += 1;
-                j += 1;
-                continue;
-            }
+        if p != 0 && plain(other, b, j) == p {
+            i += 1;
+            j += 1;
+            continue;
         }
         if a.len() <= i {
             return ended(other, b, j);
         }
-        let Character::Scalar(c, next) = any_letter(form, a, i) else {
+        let Ok(c) = any_letter(form, a, i) else {
             return ended(other, b, j);
         };
-        let Character::Scalar(d, after) = any_letter(other, b, j) else {
+        let Ok(d) = any_letter(other, b, j) else {
             return false;
         };
-        if c != d {
+        if c.code != d.code {
             return false;
         }
-        i = next.at;
-        j = after.at;
+        i = c.next.at;
+        j = d.next.at;
     }
 }
 
@@ -99,10 +65,8 @@ fn same_letters(form: u64, a: &[u8], other: u64, b: &[u8]) -> bool
 pub fn same_text(form: u64, a: &[u8], other: u64, b: &[u8]) -> bool
     ensures { result ≡ same_text (text_of form a.now) (text_of other b.now) }
 {
-    if form == other {
-        if same_bytes(a, b) {
-            return true;
-        }
+    if form == other && a == b {
+        return true;
     }
     same_letters(form, a, other, b)
 }
@@ -116,16 +80,16 @@ pub fn same_ascii(form: u64, a: &[u8], constant: &[u8]) -> bool
     let mut i = start;
     let mut j = start;
     loop {
-        let Character::Scalar(c, next) = letter(form, a, i) else {
+        let Ok(c) = letter(form, a, i) else {
             return j == constant.len();
         };
         if constant.len() <= j {
             return false;
         }
-        if c != constant[j] as u32 {
+        if c.code != constant[j] as u32 {
             return false;
         }
-        i = next.at;
+        i = c.next.at;
         j += 1;
     }
 }

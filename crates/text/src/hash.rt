@@ -4,7 +4,7 @@ ghost use Rattle.lexer.specs.Hash.{hash};
 ghost use Rattle.text.specs.Decode.{text_of};
 
 use crate::letters::{any_letter, plain};
-use lexer::{Character, mix};
+use lexer::mix;
 
 // The hash of what a part says: the same for all parts that say the same text, and below 2 ^ 28.
 pub fn hash_text(form: u64, s: &[u8]) -> u32
@@ -22,10 +22,10 @@ pub fn hash_text(form: u64, s: &[u8]) -> u32
         if s.len() <= at {
             return h;
         }
-        let Character::Scalar(c, next) = any_letter(form, s, at) else {
+        let Ok(c) = any_letter(form, s, at) else {
             return h;
         };
-        h = mix(h, c);
-        at = next.at;
+        h = mix(h, c.code);
+        at = c.next.at;
     }
 }

@@ -7,7 +7,6 @@ ghost use Rattle.text.specs.Written.{written};
 use crate::escapes::short_letter;
 use crate::letters::{letter, string_letter};
 use crate::runs::run_end;
-use lexer::Character;
 
 // The number of bytes of a code point in UTF-8.
 fn utf8_length(c: u32) -> usize
@@ -45,11 +44,11 @@ fn text_length(form: u64, s: &[u8]) -> usize
     let mut total = 0;
     let mut at = 0;
     loop {
-        let Character::Scalar(c, next) = letter(form, s, at) else {
+        let Ok(c) = letter(form, s, at) else {
             return total;
         };
-        total += character_length(c);
-        at = next.at;
+        total += character_length(c.code);
+        at = c.next.at;
     }
 }
 
@@ -63,11 +62,11 @@ fn string_length(s: &[u8]) -> usize
     loop {
         let at = run_end(s, start);
         total += at - start;
-        let Character::Scalar(c, next) = string_letter(s, at) else {
+        let Ok(c) = string_letter(s, at) else {
             return total;
         };
-        total += character_length(c);
-        start = next.at;
+        total += character_length(c.code);
+        start = c.next.at;
     }
 }
 

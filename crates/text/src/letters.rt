@@ -1,114 +1,104 @@
 // One character of what a part says.
 ghost use Rattle.std.specs.Prelude.{◌≡◌};
-ghost use Rattle.spec.specs.Outcome.{ok};
 ghost use Rattle.spec.specs.Bytes.{within};
 ghost use Rattle.lexer.specs.Answers.{character_outcome};
 ghost use Rattle.text.specs.Decode.{character_in};
 ghost use Rattle.text.specs.Letters.{after_tilde, token_letter, letter_at, is_letter, plain_at};
 
 use lexer::{Character, Cursor, peek};
+use spec::refusal::{Fault, Refusal};
 
 // The character of a string at a place of its part; refused where the string ends.
-pub fn string_letter(s: &[u8], at: usize) -> Character
+pub fn string_letter(s: &[u8], at: usize) -> Result<Character, Fault>
     ensures { character_outcome result ≡ character_in s.now at }
 {
     if peek(s, at) == b'"' {
-        return Character::Refused(at);
+        return Err(Refusal::NotJson.at(at));
     }
     (Cursor { at }).character(s)
 }
 
 // The character that a `~` begins, given the cursor behind it.
 fn after_tilde(s: &[u8], next: Cursor) -> Character
-    ensures { character_outcome result ≡ ok (after_tilde (character_in s.now next.at) next.at) }
+    ensures { (result.code, result.next.at) ≡ after_tilde (character_in s.now next.at) next.at }
 {
-    let Character::Scalar(c, after) = string_letter(s, next.at) else {
-        return Character::Scalar(0x7E, next);
+    let Ok(c) = string_letter(s, next.at) else {
+        return Character { code: 0x7E, next };
     };
-    match c {
-        0x30 => Character::Scalar(0x7E, after),
-        0x31 => Character::Scalar(0x2F, after),
-        _ => Character::Scalar(0x7E, next),
+    match c.code {
+        0x30 => Character {
+            code: 0x7E,
+            next: c.next,
+        },
+        0x31 => Character {
+            code: 0x2F,
+            next: c.next,
+        },
+        _ => Character { code: 0x7E, next },
     }
 }
 
 // The character of a pointer's token at a place of its part, `~0` and `~1` each read as one.
-fn token_letter(s: &[u8], at: usize) -> Character
+fn token_letter(s: &[u8], at: usize) -> Result<Character, Fault>
     ensures { character_outcome result ≡ token_letter s.now at }
 {
-    let r = string_letter(s, at);
-    let Character::Scalar(c, next) = r else {
-        return r;
-    };
-    if c == 0x7E {
-        return after_tilde(s, next);
+    let c = string_letter(s, at)?;
+    if c.code == 0x7E {
+        return Ok(after_tilde(s, c.next));
     }
-    Character::Scalar(c, next)
+    Ok(c)
 }
 
 // Whether a byte is a letter by itself in every form, as most bytes of most texts are.
+#[tactic(auto, using(lexer::proofs::Auto::auto), unfolding(crate::specs::Letters::is_letter, lexer::specs::Names::stands_for_itself, spec::specs::Bytes::within))]
 pub fn is_letter(b: u8) -> bool
     ensures { result ≡ is_letter b }
 {
-    if b < 0x20 {
-        return false;
-    }
-    if b'~' <= b {
-        return false;
-    }
-    if b == b'"' {
-        return false;
-    }
-    b != b'\\'
+    matches!(b, 0x20..=b'}') && b != b'"' && b != b'\\'
 }
 
 // Whether a form says any text but the empty one.
 pub fn is_form(form: u64) -> bool
     ensures { result ≡ within 1 3 form }
 {
-    match form {
-        1..=3 => true,
-        _ => false,
-    }
+    matches!(form, 1..=3)
 }
 
 // The byte at a place where it is the letter there by itself, and 0 otherwise. Asking this first keeps a loop over
 // letters quick.
+#[tactic(auto, using(lexer::proofs::Auto::auto), unfolding(crate::specs::Letters::plain_at))]
 pub fn plain(form: u64, s: &[u8], at: usize) -> u8
     ensures { result ≡ plain_at form s.now at }
 {
     let b = peek(s, at);
-    if !is_letter(b) {
-        return 0;
-    }
-    if !is_form(form) {
-        return 0;
-    }
-    b
+    if is_letter(b) && is_form(form) { b } else { 0 }
 }
 
 // The character at a place of a part in a form, with the cursor behind it; refused where the text ends.
-pub fn any_letter(form: u64, s: &[u8], at: usize) -> Character
+#[tactic(auto, using(lexer::proofs::Auto::auto), unfolding(crate::specs::Letters::letter_at, spec::specs::Fault::outcome_by, spec::specs::Fault::number_of))]
+pub fn any_letter(form: u64, s: &[u8], at: usize) -> Result<Character, Fault>
     ensures { character_outcome result ≡ letter_at form s.now at }
 {
     match form {
-        1 => string_letter(s, at),
-        2 => string_letter(s, at),
+        1 | 2 => string_letter(s, at),
         3 => token_letter(s, at),
-        _ => Character::Refused(at),
+        _ => Err(Refusal::NotJson.at(at)),
     }
 }
 
 // The same, with the quickest tests first: a byte that is a letter by itself, and the part's end.
-pub fn letter(form: u64, s: &[u8], at: usize) -> Character
+pub fn letter(form: u64, s: &[u8], at: usize) -> Result<Character, Fault>
     ensures { character_outcome result ≡ letter_at form s.now at }
 {
     let b = plain(form, s, at);
     if b != 0 {
-        return Character::Scalar(b as u32, Cursor { at: at + 1 });
+        return Ok(Character {
+            code: b as u32,
+            next: Cursor { at: at + 1 },
+        });
     }
     if s.len() <= at {
-        return Character::Refused(at);
+        return Err(Refusal::NotJson.at(at));
     }
     any_letter(form, s, at)
 }

@@ -1,6 +1,5 @@
 // Texts laid down in the output.
-ghost use Rattle.std.specs.Prelude.{◌≡◌, [], ◌∷◌, ◌+◌, ◌-◌, ◌%◌, ◌<◌, min, length, set};
-ghost use Rattle.std.proofs.lemmas.List.Edits.{sets};
+ghost use Rattle.std.specs.Prelude.{◌≡◌, ◌+◌, ◌%◌, ◌<◌, length};
 ghost use Rattle.spec.specs.Write.{utf8, write_character, write_characters};
 ghost use Rattle.text.specs.Decode.{text_of};
 ghost use Rattle.text.specs.Written.{Stored, LaidDown, written, hex_escape};
@@ -8,40 +7,17 @@ ghost use Rattle.text.specs.Written.{Stored, LaidDown, written, hex_escape};
 use crate::escapes::{hex_digit, short_letter};
 use crate::letters::{letter, string_letter};
 use crate::runs::run_end;
-use lexer::Character;
 
-// A byte stored at a place, where there is room.
-fn put(out: &mut [u8], at: usize, b: u8)
-    ensures { out.new ≡ set out.old at b }
+// Bytes from a place on, where there is room; the answer is the place after them.
+fn put_bytes(out: &mut [u8], at: usize, s: &[u8]) -> usize
+    requires { at + length s.now < 0x1_0000_0000_0000_0000 }
+    ensures { Stored s.now at out.old out.new result }
 {
-    if at < out.len() {
-        out[at] = b;
+    let n = s.len().min(out.len().saturating_sub(at));
+    for i in 0..n {
+        out[at + i] = s[i];
     }
-}
-
-// Two bytes from a place on; three; four.
-fn put_two(out: &mut [u8], at: usize, a: u8, b: u8)
-    requires { at < 0xFFFF_FFFF_FFFF_FF00 }
-    ensures { out.new ≡ sets out.old at (a ∷ b ∷ []) }
-{
-    put(out, at, a);
-    put(out, at + 1, b);
-}
-
-fn put_three(out: &mut [u8], at: usize, a: u8, b: u8, c: u8)
-    requires { at < 0xFFFF_FFFF_FFFF_FF00 }
-    ensures { out.new ≡ sets out.old at (a ∷ b ∷ c ∷ []) }
-{
-    put_two(out, at, a, b);
-    put(out, at + 2, c);
-}
-
-fn put_four(out: &mut [u8], at: usize, a: u8, b: u8, c: u8, d: u8)
-    requires { at < 0xFFFF_FFFF_FFFF_FF00 }
-    ensures { out.new ≡ sets out.old at (a ∷ b ∷ c ∷ d ∷ []) }
-{
-    put_three(out, at, a, b, c);
-    put(out, at + 3, d);
+    at + s.len()
 }
 
 // A control as \u00 and two hexadecimal digits, from a place on; the answer is the place after it.
@@ -51,9 +27,7 @@ fn put_hex(out: &mut [u8], at: usize, c: u32) -> usize
 {
     let high = hex_digit((c / 16) as u8);
     let low = hex_digit((c % 16) as u8);
-    put_four(out, at, b'\\', b'u', b'0', b'0');
-    put_two(out, at + 4, high, low);
-    at + 6
+    put_bytes(out, at, &[b'\\', b'u', b'0', b'0', high, low])
 }
 
 // A byte of UTF-8 after the first, with the last six bits of a number.
@@ -69,22 +43,18 @@ fn put_utf8(out: &mut [u8], at: usize, c: u32) -> usize
     ensures { Stored (utf8 c) at out.old out.new result }
 {
     if c < 0x80 {
-        put(out, at, c as u8);
-        return at + 1;
+        return put_bytes(out, at, &[c as u8]);
     }
     let last = continuation(c);
     if c < 0x800 {
-        put_two(out, at, (0xC0 + c / 64) as u8, last);
-        return at + 2;
+        return put_bytes(out, at, &[(0xC0 + c / 64) as u8, last]);
     }
     let middle = continuation(c / 64);
     if c < 0x1_0000 {
-        put_three(out, at, (0xE0 + c / 4096) as u8, middle, last);
-        return at + 3;
+        return put_bytes(out, at, &[(0xE0 + c / 4096) as u8, middle, last]);
     }
     let second = continuation(c / 4096);
-    put_four(out, at, (0xF0 + c / 262144) as u8, second, middle, last);
-    at + 4
+    put_bytes(out, at, &[(0xF0 + c / 262144) as u8, second, middle, last])
 }
 
 // A character of a string, from a place on; the answer is the place after it.
@@ -94,8 +64,7 @@ fn put_character(out: &mut [u8], at: usize, c: u32) -> usize
 {
     let e = short_letter(c);
     if e != 0 {
-        put_two(out, at, b'\\', e);
-        return at + 2;
+        return put_bytes(out, at, &[b'\\', e]);
     }
     if c < 0x20 {
         return put_hex(out, at, c);
@@ -111,40 +80,12 @@ fn write_letters(form: u64, s: &[u8], out: &mut [u8]) -> usize
     let mut put = 0;
     let mut at = 0;
     loop {
-        let Character::Scalar(c, next) = letter(form, s, at) else {
+        let Ok(c) = letter(form, s, at) else {
             return put;
         };
-        put = put_character(out, put, c);
-        at = next.at;
+        put = put_character(out, put, c.code);
+        at = c.next.at;
     }
-}
-
-// The smaller of two numbers.
-fn least(a: usize, b: usize) -> usize
-    ensures { result ≡ min a b }
-{
-    if a < b { a } else { b }
-}
-
-// How many bytes there is room for from a place on.
-fn room(length: usize, at: usize) -> usize
-    ensures { result ≡ length - at }
-{
-    if at < length { length - at } else { 0 }
-}
-
-// Bytes from a place on, where there is room; the answer is the place after them.
-fn put_bytes(out: &mut [u8], at: usize, s: &[u8]) -> usize
-    requires { at + length s.now < 0x1_0000_0000_0000_0000 }
-    ensures { Stored s.now at out.old out.new result }
-{
-    let n = least(s.len(), room(out.len(), at));
-    let mut i = 0;
-    while i < n {
-        out[at + i] = s[i];
-        i += 1;
-    }
-    at + s.len()
 }
 
 // A string's text at the front of the output: a run of characters that are written as they are read, then one that
@@ -157,11 +98,11 @@ fn write_string(s: &[u8], out: &mut [u8]) -> usize
     loop {
         let at = run_end(s, start);
         put = put_bytes(out, put, &s[start..at]);
-        let Character::Scalar(c, next) = string_letter(s, at) else {
+        let Ok(c) = string_letter(s, at) else {
             return put;
         };
-        put = put_character(out, put, c);
-        start = next.at;
+        put = put_character(out, put, c.code);
+        start = c.next.at;
     }
 }
 

@@ -1,5 +1,5 @@
 -- Laws of the call: what is lent in part, and cleared.
-use Rattle.std.specs.Prelude.{if◌then◌else◌}
+use Rattle.std.specs.Prelude.{if◌then◌else◌, Result, Err}
 use Prim.Native.Nat.{ℕ, ◌≤◌, ◌<◌}
 use native.Mathlib.Omega.{arith}
 use mathlib.Core.Path.{◌≡◌, refl, sym, ap, subst, ◌∙◌}
@@ -18,15 +18,16 @@ use Rattle.spec.specs.Answer.{work_suffices, on_document, answer}
 use Rattle.tape.specs.Columns.{filled}
 use Rattle.tape.specs.Fields.{Row, no_node}
 use Rattle.tape.specs.Lent.{Texts}
-use Rattle.json_patch.specs.Call.{Memory, RefusalIs, Answered, wiped, lent_of}
+use Rattle.json_patch.specs.Call.{Memory, RefusalIs, wiped, lent_of}
 use Rattle.json_patch.specs.declared.answer.Answer.{Answer}
-use Rattle.json_patch.proofs.AnswerLaws.{answered-refusal, work_suffices_lem, nodes_short, index_short, answer_work_short, answer-read, answer_same}
+use Rattle.json_patch.proofs.AnswerLaws.{answered-refusal, work_suffices_lem, answer_work_short, answer-read, answer_same}
 use Rattle.json_patch.proofs.CallLaws.{part-wiped}
 use Rattle.reversal.specs.UndoValue.{undo_value}
 use Rattle.reversal.specs.UndoAnswer.{UndoLent, undo_refusal, undo_read, undo_operations, after_patch, undo_answer}
-use Rattle.undo.specs.Call.{UndoMemory, undo_lent_of, undo_suffices, UndoIs}
-use Rattle.undo.specs.Stages.{WithoutIs, CheckedIs}
+use Rattle.undo.specs.Call.{UndoMemory, undo_lent_of, undo_suffices, outputs_of, UndoAnswered, as_undo_answer, UndoIs}
+use Rattle.undo.specs.Stages.{CheckedIs}
 use Rattle.undo.specs.declared.answer.UndoAnswer.{UndoAnswer}
+use Rattle.undo.specs.declared.answer.Written.{Written}
 use Rattle.undo.proofs.AnswerLaws.{undo_as}
 
 -- ---- the buffer
@@ -59,38 +60,28 @@ module _ (D P : Bytes) (lent : UndoLent) where
       go false e = refl
 
 -- ---- SPECIFICATION 2.4: after a 1, no buffer has changed.
-module _ {T : Texts} {m : UndoMemory} {a : Answer} {r : UndoAnswer} (is : RefusalIs work_too_short 0 0 0 a) (without : WithoutIs a r) where
+module _ {T : Texts} {m : UndoMemory} {a : Answer} {r : UndoAnswer} (is : RefusalIs work_too_short 0 0 0 a) (told : r ≡ as_undo_answer (Err a)) where
   untouched : undo_suffices (undo_lent_of m) ≡ false → undo_answer T.document T.patch (undo_lent_of m) ≡ undo_refusal (Plain.refusal work_too_short 0 0 0)
       → UndoIs T m m r
-  unfolding wiped
+  unfolding wiped as_undo_answer
   untouched short e =
       record {
         answered =
             undo_as e
-            (record {
-              answered = subst (Answered (Plain.refusal work_too_short 0 0 0) m.patch.output m.patch.output) (sym without.0) (answered-refusal is);
-              undo_length = without.1;
-              undo_output = refl;
-            });
+            (subst (UndoAnswered (undo_refusal (Plain.refusal work_too_short 0 0 0)) (outputs_of m) (outputs_of m)) (sym told)
+            (record { answered = answered-refusal is; undo_length = refl; undo_output = refl }));
         nodes-after = rw short;
         index_after = rw short;
         work_after_lem = rw short;
       }
 
-  area_missing : work_suffices (lent_of m.patch) ≡ false → UndoIs T m m r
+  pub area_missing : work_suffices (lent_of m.patch) ≡ false → UndoIs T m m r
   unfolding undo_suffices
   area_missing h = untouched (rw h) (area_short T.document T.patch (undo_lent_of m) h)
 
-  pub nodes_missing : length m.patch.nodes < work_nodes → UndoIs T m m r
-  nodes_missing h = area_missing (nodes_short (lent_of m.patch) h)
-
-  pub index_missing : work_nodes ≤ length m.patch.nodes → length m.patch.index < work_entries → UndoIs T m m r
-  index_missing h i = area_missing (index_short (lent_of m.patch) h i)
-
-  pub buffer_missing : work_nodes ≤ length m.patch.nodes → work_entries ≤ length m.patch.index → length m.work < max_bytes → UndoIs T m m r
+  pub buffer_missing : work_suffices (lent_of m.patch) ≡ true → length m.work < max_bytes → UndoIs T m m r
   unfolding undo_suffices
-  buffer_missing h i j =
-      untouched (rw (work_suffices_lem (lent_of m.patch) h i, lt-leb max_bytes (length m.work) j)) (buffer_short T.document T.patch (undo_lent_of m) j)
+  buffer_missing h j = untouched (rw (h, lt-leb max_bytes (length m.work) j)) (buffer_short T.document T.patch (undo_lent_of m) j)
 
 -- ---- SPECIFICATION 2.4: after any other answer the work area is all zero; where a work buffer is longer than stated, the part beyond is unchanged.
 undo_same : (D P : Bytes) (l l' : UndoLent) → answer D P l.patch ≡ answer D P l'.patch → l.undo ≡ l'.undo → max_bytes ≤ l.work → max_bytes ≤ l'.work
@@ -100,20 +91,20 @@ undo_same D P l l' e o h i =
     ∙ ap (λ a. after_patch l'.undo a (undo_value (undo_operations D P))) e ∙ sym (buffer_enough D P l' i)
 
 pub undo_done : {T : Texts} {r : UndoAnswer} {out out' : Bytes} {undo undo' : Bytes} {ns ns' : List Row} {xs xs' : List ℕ} {ws ws' : Bytes}
-    → work_nodes ≤ length ns → work_entries ≤ length xs → max_bytes ≤ length ws
+    (done : Result Written Answer) → work_nodes ≤ length ns → work_entries ≤ length xs → max_bytes ≤ length ws
     → CheckedIs T (record {
       patch = record { output = out; nodes = take work_nodes ns; index = take work_entries xs };
       undo = undo;
       work = take max_bytes ws;
-    }) (record { document = out'; undo = undo' }) r
+    }) (record { document = out'; undo = undo' }) done → r ≡ as_undo_answer done
     → (rows : List Row) → length rows ≡ length (take work_nodes ns) → ns' ≡ filled no_node (rows ++ drop work_nodes ns) 0 work_nodes
     → (entries : List ℕ) → length entries ≡ length (take work_entries xs) → xs' ≡ filled 0 (entries ++ drop work_entries xs) 0 work_entries
     → (buffer : Bytes) → length buffer ≡ length (take max_bytes ws) → ws' ≡ filled 0 (buffer ++ drop max_bytes ws) 0 max_bytes
     → UndoIs T (record { patch = record { output = out; nodes = ns; index = xs }; undo = undo; work = ws })
     (record { patch = record { output = out'; nodes = ns'; index = xs' }; undo = undo'; work = ws' }) r
 unfolding undo_suffices
-undo_done {T} {out = out} {undo = undo} {ns = ns} {xs = xs} {ws = ws}
-    long longer longest is rows same nodes_are entries same_entries index_is buffer same-buffer work-is =
+undo_done {T} {out = out} {out' = out'} {undo = undo} {undo' = undo'} {ns = ns} {xs = xs} {ws = ws}
+    done long longer longest is told rows same nodes_are entries same_entries index_is buffer same-buffer work-is =
     let all : Memory = record { output = out; nodes = ns; index = xs } in
     let part : Memory = record { output = out; nodes = take work_nodes ns; index = take work_entries xs } in
     let h : work_nodes ≤ length (take work_nodes ns) = omega (arith, length-take-le work_nodes ns long) in
@@ -124,7 +115,9 @@ undo_done {T} {out = out} {undo = undo} {ns = ns} {xs = xs} {ws = ws}
     let plain = answer_same T.document T.patch (lent_of all) (lent_of part) (enough ∙ sym part-enough) refl in
     let suffices : (work_suffices (lent_of all) && leb max_bytes (length ws)) ≡ true = rw (enough, le-leb max_bytes (length ws) longest) in
     record {
-      answered = undo_as (undo_same T.document T.patch _ _ plain refl longest (omega (arith, j))) (is h i j);
+      answered =
+          undo_as (undo_same T.document T.patch _ _ plain refl longest (omega (arith, j)))
+          (subst (UndoAnswered _ (record { document = out; undo = undo }) (record { document = out'; undo = undo' })) (sym told) (is h i j));
       nodes-after = nodes_are ∙ part-wiped work_nodes no_node ns rows long same ∙ ap (λ b. wiped b work_nodes no_node ns) (sym suffices);
       index_after = index_is ∙ part-wiped work_entries 0 xs entries longer same_entries ∙ ap (λ b. wiped b work_entries 0 xs) (sym suffices);
       work_after_lem = work-is ∙ part-wiped max_bytes 0 ws buffer longest same-buffer ∙ ap (λ b. wiped b max_bytes 0 ws) (sym suffices);

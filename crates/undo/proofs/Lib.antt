@@ -1,5 +1,6 @@
 pub mod SlashLaws
 pub mod PathLaws
+pub mod LoggedLaws
 pub mod MendLaws
 pub mod SiteLaws
 pub mod AncestorLaws

@@ -1,10 +1,12 @@
 -- Laws of what takes back a value that is put in at a location.
+use Rattle.std.specs.Prelude.{Result, Ok, Err}
 use Prim.Native.Nat.{ℕ}
 use native.Mathlib.Omega.{arith}
-use mathlib.Core.Path.{◌≡◌, ap, sym, subst, ◌∙◌}
+use mathlib.Core.Path.{◌≡◌, refl, ap, sym, subst, ◌∙◌}
 use mathlib.Core.Bool.{Bool, true, false}
 use mathlib.Core.List.{[], ◌∷◌}
 use lib.Dec.{ltb}
+use Rattle.spec.specs.declared.refusal.Fault.{Fault}
 use Rattle.spec.specs.Bytes.{Bytes, Text}
 use Rattle.spec.specs.Worth.{decimal}
 use Rattle.spec.specs.Value as Value
@@ -20,7 +22,6 @@ use Rattle.tape.specs.Lent.{Texts, Table}
 use Rattle.table.specs.Meaning.{part_of, meant}
 use Rattle.walk.specs.Names.{Short}
 use Rattle.walk.specs.Path.{PathIs, WalkIs}
-use Rattle.walk.specs.declared.path.Reached.{Reached}
 use Rattle.pointer.specs.Tokens.{FirstOf}
 use Rattle.pointer.specs.declared.answers.First.{First}
 use Rattle.pointer.proofs.WalkLaws.{first_root, first_at, first_malformed}
@@ -44,8 +45,8 @@ unfolding target_text
 target_at {T} {path} {ts} p = sym (pointers.written_so (decode (part_of T path)) ts p.is)
 
 -- ---- the value at a location, as it stands
-module _ {w : Table} {path : Spelling} (s : Reached) (is : WalkIs w document_row path s) where
-  pub walked-value : {used row : ℕ} {v : Value.Value} {ts : Tokens} → s ≡ Reached.At row → Document w used v → Short w.texts → PathIs w.texts path ts
+module _ {w : Table} {path : Spelling} (s : Result ℕ Fault) (is : WalkIs w document_row path s) where
+  pub walked-value : {used row : ℕ} {v : Value.Value} {ts : Tokens} → s ≡ Ok row → Document w used v → Short w.texts → PathIs w.texts path ts
       → ValueHeld w row (value_at ts v)
   walked-value {v = v} {ts} e d short p =
       the_value s is d short p e λ c kids f node inside.
@@ -58,7 +59,7 @@ module _ {w : Table} {path : Spelling} (s : Reached) (is : WalkIs w document_row
         shallow = omega (arith, ap depth at, depth_walked ts v (meant w.texts c kids) f, d.shallow);
       }
 
-  module _ {log r : Log} {before after : Bytes} (row : ℕ) (e : s ≡ Reached.At row) where
+  module _ {log r : Log} {before after : Bytes} (row : ℕ) (e : s ≡ Ok row) where
     pub removed_noted : NoteIs w log (Action.Add row) (Target.At path) before after r → NoteRemovedIs w log path before after r
     removed_noted note used v d short ts p there os noted =
         note os _ noted (undo_add ts (target_at p) (walked-value e d short p))
@@ -68,7 +69,7 @@ module _ {w : Table} {path : Spelling} (s : Reached) (is : WalkIs w document_row
         note os _ noted (undo_replace ts (target_at p) (walked-value e d short p))
 
   -- a value that is there is found
-  pub not_lost : {C : Type 0} {used number place : ℕ} {v : Value.Value} {ts : Tokens} → s ≡ Reached.Lost number place → Document w used v → Short w.texts
+  pub not_lost : {C : Type 0} {used : ℕ} {v : Value.Value} {ts : Tokens} {f : Fault} → s ≡ Err f → Document w used v → Short w.texts
       → PathIs w.texts path ts → Present ts v → C
   not_lost e d short p there = absurd (refused≢ok (sym (no_value s is d short p e) ∙ there.is))
 
@@ -94,17 +95,15 @@ module _ (t : Text) {i : Index} (is : i ≡ index_of t) where
   unfolding dash_index
   told_dash e = sym (ap dash_index e) ∙ ap dash_index is ∙ dash_index_lem t
 
-  pub told_at : (n : ℕ) → i ≡ Index.At n → false ≡ is_dash t
+  pub told_other : (i ≡ Index.Dash → ⊥) → false ≡ is_dash t
   unfolding dash_index
-  told_at n e = sym (ap dash_index e) ∙ ap dash_index is ∙ dash_index_lem t
-
-  pub told_beyond : i ≡ Index.Beyond → false ≡ is_dash t
-  unfolding dash_index
-  told_beyond e = sym (ap dash_index e) ∙ ap dash_index is ∙ dash_index_lem t
-
-  pub told_not : i ≡ Index.Not → false ≡ is_dash t
-  unfolding dash_index
-  told_not e = sym (ap dash_index e) ∙ ap dash_index is ∙ dash_index_lem t
+  told_other e = sym (go i e) ∙ ap dash_index is ∙ dash_index_lem t
+    where
+      go : (j : Index) → (j ≡ Index.Dash → ⊥) → dash_index j ≡ false
+      go Index.Dash f = absurd (f refl)
+      go (Index.At n) f = refl
+      go Index.Beyond f = refl
+      go Index.Not f = refl
 
 -- ---- the root
 pub root_noted : {w : Table} {path : Spelling} {log r : Log} {before after : Bytes} (f : First) → FirstOf (part_of w.texts path) f → f ≡ First.Root

@@ -1,10 +1,12 @@
 -- Laws of a move with its undo noted, each for one way out of a function.
+use Rattle.std.specs.Prelude.{Option, Some, None, Result, Ok, Err}
 use Prim.Native.Nat.{ℕ, ◌+◌, ◌<◌}
 use native.Mathlib.Omega.{arith}
 use mathlib.Core.Path.{◌≡◌, ap, sym, subst, ◌∙◌}
 use mathlib.Core.Bool.{Bool, true, false, ◌&&◌}
 use mathlib.Core.List.{List, [], ◌∷◌, ◌++◌}
 use Rattle.spec.specs.Outcome.{Outcome, ok, ◌>>=◌}
+use Rattle.spec.specs.declared.refusal.Fault.{Fault}
 use Rattle.spec.specs.Bytes.{Bytes, Text, ascii}
 use Rattle.spec.specs.Forest.{Forest, size}
 use Rattle.spec.specs.Value as Value
@@ -35,18 +37,16 @@ use Rattle.pointer.specs.declared.answers.First.{First}
 use Rattle.pointer.proofs.WalkLaws.{first_root, first_at, first_malformed}
 use Rattle.walk.specs.Names.{Short}
 use Rattle.walk.specs.Path.{PathIs, WalkIs}
-use Rattle.walk.specs.declared.path.Reached.{Reached}
 use Rattle.shape.specs.Members.{StringIs}
-use Rattle.shape.specs.declared.members.Spelled.{Spelled}
 use Rattle.changes.specs.Site.{table}
 use Rattle.changes.specs.Document.{Document, judged, Results, results, refusal, removes_at, ChangeAtIs, Bearing, judged_bearing, ResultsBearing}
 use Rattle.changes.specs.declared.answers.Change.TheVariants.{Add, Remove}
-use Rattle.changes.specs.declared.answers.Altered.{Altered}
-use Rattle.changes.specs.declared.answers.Altered.TheVariants.{Done, Refused}
 use Rattle.changes.proofs.TokenLaws.{some_token}
 use Rattle.changes.proofs.DocumentLaws.{the_value, no_value, the_bearing}
-use Rattle.operations.specs.Answers.{from_or_path, at_path}
-use Rattle.operations.specs.Perform.{SetAsideIs, MoveAsideIs, Listed, OperationFor}
+use Rattle.operations.specs.Answers.{from_or_path, told_at}
+use Rattle.operations.specs.declared.answers.Pointer.TheVariants as Pointer
+use Rattle.operations.specs.declared.answers.Failure.{Failure}
+use Rattle.operations.specs.Perform.{SetAsideIs, MoveAsideIs, Listed, OperationFor, PerformIs}
 use Rattle.operations.proofs.AnswerLaws.{which_from, from_there, bearing_there, same_performs, path_performs}
 use Rattle.operations.proofs.BearingLaws.{move_with}
 use Rattle.operations.proofs.PatchLaws.{patch_then, patch_aside}
@@ -58,9 +58,9 @@ use Rattle.operations.proofs.PerformLaws.{move_is, spelled_not, source}
 use Rattle.reversal.specs.Undo.{result_or, value_at, remaining, mended, is_replace, undo_moved, undo_move, undo_of}
 use Rattle.undo_log.specs.Log.{Noted, ValueHeld, undo_add, NoteIs}
 use Rattle.undo.specs.Mend.{NoteReplacedIs, MendIs}
-use Rattle.undo.specs.Step.{StepsTo, StepsBearing, PlainIs, InObjectIs, HoldsIs, MoveApartIs, MoveFromIs, MoveBelowIs, MoveStepIs}
+use Rattle.undo.specs.Step.{rows_of, StepsTo, StepsBearing, PlainIs, InObjectIs, HoldsIs, MoveApartIs, MoveFromIs, MoveBelowIs, MoveStepIs}
 use Rattle.undo_log.specs.declared.log.Log.{Log}
-use Rattle.undo.specs.declared.moving.Stepped.{Stepped}
+use Rattle.undo.specs.declared.logged.Logged.{Logged}
 use Rattle.undo_log.specs.declared.note.Action.TheVariants as Action
 use Rattle.undo_log.specs.declared.note.Target.TheVariants as Target
 use Rattle.undo.proofs.PathLaws.{value-walked, depth_walked}
@@ -124,22 +124,22 @@ module _ (w : Table) (path from : Spelling) (to : Bytes) (to_is : to ≡ part_of
         absurd (first_malformed (part_of w.texts path) f first_here ts bad p.is)
 
 -- ---- a move in two steps
-no_result : {T : Texts} {o : Outcome Value.Value} {nodes' : List Row} {r : Altered} {number place : ℕ} {C : Type 0} → Results T nodes' o r
-    → r ≡ Refused number place
+no_result : {T : Texts} {o : Outcome Value.Value} {nodes' : List Row} {r : Result ℕ Fault} {x : Fault} {C : Type 0} → Results T nodes' o r
+    → r ≡ Err x
     → (v : Value.Value) → o ≡ ok v → C
 no_result (results f d') h v e = absurd (let z : ◌≡◌ {A = ℕ} 0 1 = cc in omega arith)
 no_result (refusal f) h v e = absurd (refused≢ok (sym f ∙ e))
 
-module _ {w : Table} {aside left-nodes : List Row} {used row : ℕ} {from : Spelling} (is : SetAsideIs w.nodes aside row) (q : Altered)
+module _ {w : Table} {aside left-nodes : List Row} {used row : ℕ} {from : Spelling} (is : SetAsideIs w.nodes aside row) (q : Result ℕ Fault)
     (removed : ChangeAtIs (table w.texts aside) left-nodes used from Remove q) where
-  left_document : (left : ℕ) → q ≡ Done left → {v : Value.Value} → Document w used v → Short w.texts → {g : Text} {gs : Tokens}
+  left_document : (left : ℕ) → q ≡ Ok left → {v : Value.Value} → Document w used v → Short w.texts → {g : Text} {gs : Tokens}
       → PathIs w.texts from (g ∷ gs) → {c : Cell} {kids : Forest Cell} → NodeHeld w row c kids → row + size kids < used → (u : Value.Value)
       → remove_at_path (g ∷ gs) v ≡ ok u → Document (table w.texts left-nodes) left u
   left_document left e {v} d short {g} {gs} from_is node inside u there =
       let aside-d = aside_document d node inside is in
       go (removed.held v aside-d short (g ∷ gs) from_is remove_at_path removes_at) e (document_removed aside-d (g ∷ gs) ∙ there)
     where
-      go : {o : Outcome Value.Value} {r : Altered} → Results w.texts left-nodes o r → r ≡ Done left → o ≡ ok u
+      go : {o : Outcome Value.Value} {r : Result ℕ Fault} → Results w.texts left-nodes o r → r ≡ Ok left → o ≡ ok u
           → Document (table w.texts left-nodes) left u
       go (results {used = n} {v = x} f d') h k =
           let same : n ≡ left = cc in
@@ -147,9 +147,9 @@ module _ {w : Table} {aside left-nodes : List Row} {used row : ℕ} {from : Spel
           subst (λ m. Document (table w.texts left-nodes) m u) same (subst (λ y. Document (table w.texts left-nodes) n y) value d')
       go (refusal f) h k = absurd (let z : ◌≡◌ {A = ℕ} 0 1 = cc in omega arith)
 
-module _ {w : Table} {aside left-nodes : List Row} {used row : ℕ} {from path : Spelling} (is : SetAsideIs w.nodes aside row) (q : Altered)
+module _ {w : Table} {aside left-nodes : List Row} {used row : ℕ} {from path : Spelling} (is : SetAsideIs w.nodes aside row) (q : Result ℕ Fault)
     (removed : ChangeAtIs (table w.texts aside) left-nodes used from Remove q) where
-  apart-results : {nodes' : List Row} {r : Altered} → MoveAsideIs (table w.texts aside) nodes' used from path r → {v : Value.Value} → Document w used v
+  apart-results : {nodes' : List Row} {r : Result ℕ Fault} → MoveAsideIs (table w.texts aside) nodes' used from path r → {v : Value.Value} → Document w used v
       → Short w.texts → {g : Text} {gs : Tokens} → PathIs w.texts from (g ∷ gs) → {ts : Tokens} → PathIs w.texts path ts → {c : Cell}
       → {kids : Forest Cell} → NodeHeld w row c kids → row + size kids < used → walk (g ∷ gs) v ≡ ok (meant w.texts c kids)
       → Results w.texts nodes' (judged (move_to (g ∷ gs) ts v)) r
@@ -159,7 +159,7 @@ module _ {w : Table} {aside left-nodes : List Row} {used row : ℕ} {from path :
       (moved.held v (aside_document d node inside is) short g gs from_is ts path_is c kids (aside_offered d node inside is))
 
   -- with origins
-  apart-bearing : {nodes' : List Row} {r : Altered} → MoveAsideIs (table w.texts aside) nodes' used from path r → {v : Origin.Value} → Bearing w used v
+  apart-bearing : {nodes' : List Row} {r : Result ℕ Fault} → MoveAsideIs (table w.texts aside) nodes' used from path r → {v : Origin.Value} → Bearing w used v
       → Short w.texts → {g : Text} {gs : Tokens} → PathIs w.texts from (g ∷ gs) → {ts : Tokens} → PathIs w.texts path ts → {c : Cell}
       → {kids : Forest Cell} → NodeHeld w row c kids → row + size kids < used → Origins.walk (g ∷ gs) v ≡ ok (borne w.texts c kids)
       → ResultsBearing w.texts nodes' (judged_bearing (OriginOperation.move_to (g ∷ gs) ts v)) r
@@ -168,7 +168,7 @@ module _ {w : Table} {aside left-nodes : List Row} {used row : ℕ} {from path :
       same_results (rw found)
       (moved.bearing v (aside_bearing b node inside is) short g gs from_is ts path_is c kids (aside_offered b.document node inside is))
 
-  pub apart_refused : {number place : ℕ} → q ≡ Refused number place → {work : Bytes} {log : Log} → (r : Stepped) → r.outcome ≡ at_path q
+  pub apart_refused : {f : Fault} → q ≡ Err f → {work : Bytes} {log : Log} → (r : Result Logged Failure) → rows_of r ≡ told_at Pointer.Path q
       → MoveApartIs w left-nodes work work used from path row log r
   apart_refused e r same =
       record {
@@ -177,17 +177,17 @@ module _ {w : Table} {aside left-nodes : List Row} {used row : ℕ} {from path :
             let result = apart-results (aside_refused q removed e) d short from_is path_is node inside found in
             record {
               results = path_performs (λ n. from_there (g ∷ gs) v n found) same result;
-              noted = λ v' h. no_result result e v' h;
+              noted = λ v' h logged m. no_result result e v' h;
             };
         bearing = λ v b short g gs from_is ts path_is c kids node inside found.
             path_performs (λ n. bearing_there (g ∷ gs) v n found) same
             (apart-bearing (aside_refused q removed e) b short from_is path_is node inside found);
       }
 
-  pub apart-done : (left : ℕ) → q ≡ Done left → {work work' : Bytes} {log mended-log : Log}
+  pub apart-done : (left : ℕ) → q ≡ Ok left → {work work' : Bytes} {log mended-log : Log}
       → MendIs (table w.texts left-nodes) log path work work' mended-log
-      → {nodes' : List Row} (p : Altered) → ChangeAtIs (table w.texts left-nodes) nodes' left path (Add scratch_row) p → (r : Stepped) → r.outcome ≡ at_path p
-      → r.log ≡ mended-log → MoveApartIs w nodes' work work' used from path row log r
+      → {nodes' : List Row} (p : Result ℕ Fault) → ChangeAtIs (table w.texts left-nodes) nodes' left path (Add scratch_row) p → (r : Result Logged Failure)
+      → rows_of r ≡ told_at Pointer.Path p → ((logged : Logged) → r ≡ Ok logged → logged.log ≡ mended-log) → MoveApartIs w nodes' work work' used from path row log r
   apart-done left e {work' = work'} mend p added r same same_log =
       let whole = aside_done q removed left e added in
       record {
@@ -195,10 +195,10 @@ module _ {w : Table} {aside left-nodes : List Row} {used row : ℕ} {from path :
         held = λ v d short g gs from_is ts path_is c kids node inside found u rem os noted.
             record {
               results = path_performs (λ n. from_there (g ∷ gs) v n found) same (apart-results whole d short from_is path_is node inside found);
-              noted = λ v' h.
+              noted = λ v' h logged answered.
                   let m = moves g gs ts v v' h in
                   let left_is : m.left ≡ u = one (sym m.removed ∙ rem) in
-                  subst (λ l. Noted l work' (mended ts u ∷ os)) (sym same_log)
+                  subst (λ l. Noted l work' (mended ts u ∷ os)) (sym (same_log logged answered))
                   (mend left u (left_document is q removed left e d short from_is node inside u rem) short ts path_is
                   (record { new = m.value; result = m.result; is = ap (add_at ts m.value) (sym left_is) ∙ m.added }) os noted);
             };
@@ -222,18 +222,23 @@ module _ (o : Operation) (kind : o.kind ≡ Operation.move) {g : Text} {gs : Tok
   unfolding undo_of undo_move undo_moved remaining result_or
   undo_apart e = rw (kind, from, removed, e)
 
-steps_as : {T : Texts} {nodes' : List Row} {o p : Outcome Value.Value} {pointer which : ℕ → ℕ} {us vs : List Operation} {work' : Bytes} {r : Stepped} → o ≡ p
+steps_as : {T : Texts} {nodes' : List Row} {o p : Outcome Value.Value} {pointer which : ℕ → ℕ} {us vs : List Operation} {work' : Bytes} {r : Result Logged Failure} → o ≡ p
     → ((n : ℕ) → pointer n ≡ which n) → us ≡ vs → StepsTo T nodes' p which vs work' r → StepsTo T nodes' o pointer us work' r
 steps_as {work' = work'} {r} e g f s =
-    record { results = same_performs e g s.results; noted = λ v h. subst (Noted r.log work') (sym f) (s.noted v (sym e ∙ h)) }
+    record { results = same_performs e g s.results; noted = λ v h logged m. subst (Noted logged.log work') (sym f) (s.noted v (sym e ∙ h) logged m) }
 
--- an operation as it is; so a move, in whatever form it is asked for
-plain_bearing : {w : Table} {nodes' : List Row} {used row op : ℕ} {log : Log} {r : Stepped} → PlainIs w nodes' used row op log r → {v : Origin.Value}
+-- an operation as it is, by what it answers
+pub plain_is : {w : Table} {nodes' : List Row} {used row op : ℕ} {log : Log} {q : Result ℕ Failure} → PerformIs w nodes' used row op q
+    → (r : Result Logged Failure) → rows_of r ≡ q → ((logged : Logged) → r ≡ Ok logged → logged.log ≡ log) → PlainIs w nodes' used row op log r
+plain_is {w} {nodes'} {used} {row} {op} is r e same = record { performs = subst (PerformIs w nodes' used row op) (sym e) is; same = same }
+
+-- so a move, in whatever form it is asked for
+plain_bearing : {w : Table} {nodes' : List Row} {used row op : ℕ} {log : Log} {r : Result Logged Failure} → PlainIs w nodes' used row op log r → {v : Origin.Value}
     → Bearing w used v → Short w.texts → {o : Operation} (l : Listed w row o) → StepsBearing w nodes' op l v r
 plain_bearing p {v} b short {o} l = p.performs.bearing v b short o l tt
 
-plain_moves : {w : Table} {nodes' : List Row} {used row op : ℕ} {path : Spelling} {log : Log} {r : Stepped} → PlainIs w nodes' used row op log r
-    → OperationFor (λ k. k ≡ op) w nodes' used row path Operation.move r.outcome
+plain_moves : {w : Table} {nodes' : List Row} {used row op : ℕ} {path : Spelling} {log : Log} {r : Result Logged Failure} → PlainIs w nodes' used row op log r
+    → OperationFor (λ k. k ≡ op) w nodes' used row path Operation.move (rows_of r)
 plain_moves {w} {nodes'} {r = r} p =
     record {
       patch = p.performs.patch;
@@ -241,13 +246,13 @@ plain_moves {w} {nodes'} {r = r} p =
     }
 
 -- with what is noted before it
-pub plain_steps : {w : Table} {nodes' : List Row} {used row op : ℕ} {log : Log} {r : Stepped} → PlainIs w nodes' used row op log r → {v : Value.Value}
+pub plain_steps : {w : Table} {nodes' : List Row} {used row op : ℕ} {log : Log} {r : Result Logged Failure} → PlainIs w nodes' used row op log r → {v : Value.Value}
     → Document w used v → Short w.texts → {o : Operation} → Listed w row o → {us : List Operation} {work : Bytes}
     → ((u : Value.Value) → limited o v ≡ ok u → Noted log work us) → StepsTo w.texts nodes' (limited o v) (which_pointer o v) us work r
 plain_steps p {v} d short {o} l {us} {work} noted =
     record {
       results = p.performs.held v d short o l;
-      noted = λ u h. subst (λ k. Noted k work us) (sym p.same) (noted u h);
+      noted = λ u h logged m. subst (λ k. Noted k work us) (sym (p.same logged m)) (noted u h);
     }
 
 move_limited : (o : Operation) (v : Value.Value) → o.kind ≡ Operation.move → {gs : Tokens} → o.from ≡ gs → limited o v ≡ judged (move_to gs o.path v)
@@ -258,7 +263,7 @@ unfolding uses_from
 move_pointer o v kind from n = which_from o v (ap uses_from kind) n ∙ ap (λ g. from_or_path g v n) from
 
 module _ {w : Table} {used row at : ℕ} {from path : Spelling} {b : Bool} (holds : HoldsIs w path from b) where
-  pub from_over : b ≡ true → {log replaced : Log} {work work' : Bytes} → NoteReplacedIs w log path work work' replaced → {nodes' : List Row} {r : Stepped}
+  pub from_over : b ≡ true → {log replaced : Log} {work work' : Bytes} → NoteReplacedIs w log path work work' replaced → {nodes' : List Row} {r : Result Logged Failure}
       → {op : ℕ} → PlainIs w nodes' used row op replaced r → MoveFromIs w nodes' work work' used row op from path at log r
   from_over e {log} {replaced} {work} {work'} note plain =
       record {
@@ -275,7 +280,7 @@ module _ {w : Table} {used row at : ℕ} {from path : Spelling} {b : Bool} (hold
       }
 
   pub from-apart : b ≡ false → {log added : Log} {work work₁ work' : Bytes} → NoteIs w log (Action.Add at) (Target.At from) work work₁ added
-      → {nodes' : List Row} {r : Stepped} → MoveApartIs w nodes' work₁ work' used from path at added r
+      → {nodes' : List Row} {r : Result Logged Failure} → MoveApartIs w nodes' work₁ work' used from path at added r
       → {op : ℕ} → MoveFromIs w nodes' work work' used row op from path at log r
   from-apart e note apart {op} =
       record {
@@ -302,8 +307,8 @@ module _ {w : Table} {used row at : ℕ} {from path : Spelling} {b : Bool} (hold
       }
 
 -- ---- by what the walk to `from` leads to
-module _ {w : Table} {used row : ℕ} {from path : Spelling} (s : Reached) (is : WalkIs w document_row from s) {nodes' : List Row} {log : Log} {r : Stepped} where
-  pub below_lost : {number place : ℕ} → s ≡ Reached.Lost number place → {work : Bytes} → {op : ℕ} → PlainIs w nodes' used row op log r
+module _ {w : Table} {used row : ℕ} {from path : Spelling} (s : Result ℕ Fault) (is : WalkIs w document_row from s) {nodes' : List Row} {log : Log} {r : Result Logged Failure} where
+  pub below_lost : {f : Fault} → s ≡ Err f → {work : Bytes} → {op : ℕ} → PlainIs w nodes' used row op log r
       → MoveBelowIs w nodes' work work used row op from path log r
   below_lost e plain =
       record {
@@ -315,7 +320,7 @@ module _ {w : Table} {used row : ℕ} {from path : Spelling} (s : Reached) (is :
         bearing = λ v b short o l kind g gs from_is from-path path_is. plain_bearing plain b short l;
       }
 
-  pub below_found : (at : ℕ) → s ≡ Reached.At at → {work work' : Bytes} {op : ℕ} → MoveFromIs w nodes' work work' used row op from path at log r
+  pub below_found : (at : ℕ) → s ≡ Ok at → {work work' : Bytes} {op : ℕ} → MoveFromIs w nodes' work work' used row op from path at log r
       → MoveBelowIs w nodes' work work' used row op from path log r
   below_found at e moved =
       record {
@@ -332,13 +337,13 @@ module _ {w : Table} {used row : ℕ} {from path : Spelling} (s : Reached) (is :
 first_in : (pointer : Bytes) {s : Bytes} → pointer ≡ s → {f : First} → FirstOf pointer f → FirstOf s f
 first_in pointer e {f} first = subst (λ t. FirstOf t f) e first
 
-move_source : {w : Table} {row : ℕ} {s : Spelled} → StringIs w row (ascii "from") s → (from : Spelling) → s ≡ Spelled.As from → {o : Operation}
+move_source : {w : Table} {row : ℕ} {s : Option Spelling} → StringIs w row (ascii "from") s → (from : Spelling) → s ≡ Some from → {o : Operation}
     → Listed w row o → o.kind ≡ Operation.move → PathIs w.texts from o.from
 unfolding uses_from
 move_source is from e l kind = source is from e l (ap uses_from kind)
 
-module _ {w : Table} {used row : ℕ} {path : Spelling} {s : Spelled} (is : StringIs w row (ascii "from") s) {nodes' : List Row} {log : Log} {r : Stepped} where
-  pub from_missing : s ≡ Spelled.Not → {work : Bytes} {op : ℕ} → PlainIs w nodes' used row op log r → MoveStepIs w nodes' work work used row op path log r
+module _ {w : Table} {used row : ℕ} {path : Spelling} {s : Option Spelling} (is : StringIs w row (ascii "from") s) {nodes' : List Row} {log : Log} {r : Result Logged Failure} where
+  pub from_missing : s ≡ None → {work : Bytes} {op : ℕ} → PlainIs w nodes' used row op log r → MoveStepIs w nodes' work work used row op path log r
   unfolding uses_from
   from_missing e plain =
       record {
@@ -347,7 +352,7 @@ module _ {w : Table} {used row : ℕ} {path : Spelling} {s : Spelled} (is : Stri
             absurd (spelled_not (is.held l.c l.kids l.held) ((told _ o l.is).from_there (ap uses_from kind)) e);
       }
 
-  module _ (from : Spelling) (e : s ≡ Spelled.As from) (pointer : Bytes) (pointer_is : pointer ≡ part_of w.texts from) (f : First)
+  module _ (from : Spelling) (e : s ≡ Some from) (pointer : Bytes) (pointer_is : pointer ≡ part_of w.texts from) (f : First)
       (first : FirstOf pointer f) where
     pub step_root : f ≡ First.Root → {work : Bytes} {op : ℕ} → PlainIs w nodes' used row op log r → MoveStepIs w nodes' work work used row op path log r
     unfolding undo_of undo_move

@@ -1,4 +1,5 @@
 -- Laws of the operations of a patch, one after another, with their undo noted.
+use Rattle.std.specs.Prelude.{Result, Ok, Err}
 use Prim.Native.Nat.{ℕ, ◌+◌, ◌%◌, ◌≤◌, ◌<◌}
 use native.Mathlib.Omega.{arith}
 use mathlib.Core.Path.{◌≡◌, refl, sym, ap, subst, ◌∙◌}
@@ -24,25 +25,51 @@ use Rattle.walk.specs.Names.{Short}
 use Rattle.shape.proofs.RunLaws.{rows_children}
 use Rattle.changes.specs.Site.{table}
 use Rattle.changes.specs.Document.{Document}
-use Rattle.operations.specs.Answers.{Performs, performs}
-use Rattle.operations.specs.Run.{RanTo, halted}
-use Rattle.operations.specs.declared.answers.Performed.TheVariants as Performed
-use Rattle.operations.specs.declared.runs.Ran.{Ran}
+use Rattle.operations.specs.Answers.{stop_at, stopped_at, Performs, performs}
+use Rattle.operations.specs.declared.answers.Failure.{Failure}
+use Rattle.operations.specs.declared.answers.Stop.{Stop}
 use Rattle.operations.proofs.RunLaws.{Going, First, going_none, going_inside, going_first, going_refused, going_done, shape-operations}
 use Rattle.operations.proofs.RunLaws.{GoingAny, going_all, run_ends, run_inside, run_halts, run_next, run-patch}
 use Rattle.reversal.specs.Undo.{result_or, undo_of, undo_run}
 use Rattle.undo_log.specs.Log.{Noted}
 use Rattle.undo_log.specs.declared.log.Log.{Log}
-use Rattle.undo.specs.Step.{StepsTo, StepIs}
+use Rattle.undo.specs.Step.{rows_of, StepsTo, StepIs}
 use Rattle.undo.specs.Run.{LoggedTo, ElementsLoggedIs, LoggedIs}
-use Rattle.undo.specs.declared.moving.Stepped.{Stepped}
-use Rattle.undo.specs.declared.runs.Logged.{Logged}
+use Rattle.undo.specs.declared.logged.Logged.{Logged}
+use Rattle.undo.proofs.LoggedLaws.{one_log, nothing_logged}
+
+-- ---- an operation of the run, by what is answered of it
+module _ (op : ℕ) (q : Result Logged Failure) {r : Result Logged Stop} (tells : r ≡ stopped_at op q) where
+  stopped_ok : {logged : Logged} → r ≡ Ok logged → q ≡ Ok logged
+  unfolding stopped_at
+  stopped_ok {logged} e = go q (sym tells ∙ e)
+    where
+      go : (s : Result Logged Failure) → stopped_at op s ≡ Ok logged → s ≡ Ok logged
+      go (Ok l) f = cc
+      go (Err y) f = absurd (let z : ◌≡◌ {A = ℕ} 0 1 = cc in omega arith)
+
+  stopped_err : {x : Stop} → r ≡ Err x → (f : Failure) × (q ≡ Err f) × (x ≡ stop_at op f)
+  unfolding stopped_at
+  stopped_err {x} e = go q (sym tells ∙ e)
+    where
+      go : (s : Result Logged Failure) → stopped_at op s ≡ Err x → (f : Failure) × (s ≡ Err f) × (x ≡ stop_at op f)
+      go (Ok l) f = absurd (let z : ◌≡◌ {A = ℕ} 0 1 = cc in omega arith)
+      go (Err y) f = (y, refl, cc)
+
+  -- the same of the document's rows
+  rows_told : rows_of r ≡ stopped_at op (rows_of q)
+  unfolding rows_of stopped_at
+  rows_told = ap rows_of tells ∙ go q
+    where
+      go : (s : Result Logged Failure) → rows_of (stopped_at op s) ≡ stopped_at op (rows_of s)
+      go (Ok l) = refl
+      go (Err y) = refl
 
 -- ---- the loop: the undo of the operations that are passed is noted, and with the undo of those that are left it is the whole undo
-pub record Logging (w : Table) (used row end op : ℕ) (log : Log) (work : Bytes) (whole : Run Value.Value) (undo : List Operation) : Type 0 where
-  pub going : Going w used row end op whole
+pub record Logging (w : Table) (row end op : ℕ) (logged : Logged) (work : Bytes) (whole : Run Value.Value) (undo : List Operation) : Type 0 where
+  pub going : Going w logged.rows row end op whole
   pub earlier : List Operation
-  pub noted : Noted log work earlier
+  pub noted : Noted logged.log work earlier
   pub undoes : undo_run going.os going.now ++ earlier ≡ undo
 
 -- the undo of an operation that succeeds goes before those that are noted
@@ -56,39 +83,40 @@ unfolding operations map_forest size
 no_operation T op none os h e = cc
 no_operation T op (tree c kids rest) os h e = absurd (omega arith)
 
-module _ {w : Table} {used row end op : ℕ} {log : Log} {work : Bytes} {whole : Run Value.Value} {undo : List Operation}
-    (g : Logging w used row end op log work whole undo) where
-  logging_ends : end ≤ row → LoggedTo w.texts w.nodes whole undo work (record { ran = Ran.Done used; log = log })
-  unfolding undo_run
+module _ {w : Table} {row end op : ℕ} {logged : Logged} {work : Bytes} {whole : Run Value.Value} {undo : List Operation}
+    (g : Logging w row end op logged work whole undo) where
+  logging_ends : end ≤ row → LoggedTo w.texts w.nodes whole undo work (Ok logged)
+  unfolding undo_run rows_of
   logging_ends h =
       let none_left : g.going.os ≡ [] =
       no_operation w.texts (op + 1) g.going.left g.going.os (omega (arith, g.going.rows.ends)) g.going.are in
       let all : g.earlier ≡ undo = rw none_left at g.undoes in
-      record { ran = going_none g.going h; noted = λ v e. subst (Noted log work) all g.noted }
+      record {
+        ran = going_none g.going h;
+        noted = λ v e l m. subst (λ k. Noted k work undo) (sym (one_log refl l m)) (subst (Noted logged.log work) all g.noted);
+      }
 
-  module _ (more : row < end) {nodes' : List Row} {work' : Bytes} {r : Stepped} {k : ℕ} (is : StepIs w nodes' work work' used row k log r) where
+  module _ (more : row < end) {nodes' : List Row} {work' : Bytes} {r : Result Logged Failure} {k : ℕ}
+      (is : StepIs w nodes' work work' logged.rows row k logged.log r) where
     logging_steps : (first : First w row end op g.going.object g.going.os)
         → StepsTo w.texts nodes' (limited first.o g.going.now) (which_pointer first.o g.going.now)
         (undo_of first.o g.going.now ++ g.earlier) work' r
     logging_steps first =
         is.held g.going.now g.going.document g.going.short first.o first.listed g.earlier g.noted
 
-    logging_halts : {number place pointer : ℕ} → r.outcome ≡ Performed.Refused number place pointer
-        → LoggedTo w.texts nodes' whole undo work' (record { ran = Ran.Refused number (op + 1) place pointer; log = r.log })
-    logging_halts {number} {place} {pointer} e =
+    logging_halts : {f : Failure} → r ≡ Err f → LoggedTo w.texts nodes' whole undo work' (Err (stop_at (op + 1) f))
+    unfolding rows_of
+    logging_halts {f} e =
         let first = going_first g.going more in
-        let result = subst (Performs w.texts nodes' (limited first.o g.going.now) (which_pointer first.o g.going.now)) e
+        let result : Performs w.texts nodes' (limited first.o g.going.now) (which_pointer first.o g.going.now) (Err f) =
+        subst (Performs w.texts nodes' (limited first.o g.going.now) (which_pointer first.o g.going.now)) (ap rows_of e)
         (logging_steps first).results in
-        let stops = going_refused g.going first result in
-        record { ran = stops; noted = λ v f. absurd (not_finished stops f) }
-      where
-        not_finished : {v : Value.Value} → RanTo w.texts nodes' whole (Ran.Refused number (op + 1) place pointer) → whole ≡ finished v → ⊥
-        not_finished (halted s) f = let z : ◌≡◌ {A = ℕ} 0 1 = cc in omega arith
+        record { ran = going_refused g.going first result; noted = λ v h l m. nothing_logged m }
 
-    next_of : (first : First w row end op g.going.object g.going.os) {used' : ℕ}
-        → Performs w.texts nodes' (limited first.o g.going.now) (which_pointer first.o g.going.now) (Performed.Done used')
-        → ((v : Value.Value) → limited first.o g.going.now ≡ ok v → Noted r.log work' (undo_of first.o g.going.now ++ g.earlier))
-        → (next : ℕ) → next ≡ end_of nodes' row → Logging (table w.texts nodes') used' next end (op + 1) r.log work' whole undo
+    next_of : (first : First w row end op g.going.object g.going.os) {logged' : Logged}
+        → Performs w.texts nodes' (limited first.o g.going.now) (which_pointer first.o g.going.now) (Ok logged'.rows)
+        → ((v : Value.Value) → limited first.o g.going.now ≡ ok v → Noted logged'.log work' (undo_of first.o g.going.now ++ g.earlier))
+        → (next : ℕ) → next ≡ end_of nodes' row → Logging (table w.texts nodes') next end (op + 1) logged' work' whole undo
     unfolding going_done
     next_of first (performs {v = u} e d) noted next at =
         record {
@@ -100,40 +128,43 @@ module _ {w : Table} {used row end op : ℕ} {log : Log} {work : Bytes} {whole :
               ∙ ap (λ os. undo_run os g.going.now ++ g.earlier) (sym first.whole) ∙ g.undoes;
         }
 
-    logging_next : {used' : ℕ} → r.outcome ≡ Performed.Done used' → (next : ℕ) → next ≡ end_of nodes' row
-        → Logging (table w.texts nodes') used' next end (op + 1) r.log work' whole undo
-    logging_next {used'} e next at =
+    logging_next : {logged' : Logged} → r ≡ Ok logged' → (next : ℕ) → next ≡ end_of nodes' row
+        → Logging (table w.texts nodes') next end (op + 1) logged' work' whole undo
+    unfolding rows_of
+    logging_next {logged'} e next at =
         let first = going_first g.going more in
         let steps = logging_steps first in
-        next_of first (subst (Performs w.texts nodes' (limited first.o g.going.now) (which_pointer first.o g.going.now)) e
-        steps.results) steps.noted next at
+        let result : Performs w.texts nodes' (limited first.o g.going.now) (which_pointer first.o g.going.now) (Ok logged'.rows) =
+        subst (Performs w.texts nodes' (limited first.o g.going.now) (which_pointer first.o g.going.now)) (ap rows_of e) steps.results in
+        next_of first result (λ v h. steps.noted v h logged' e) next at
 
 -- ---- of whatever the table holds
-pub record LoggingAny (w₀ : Table) (used₀ start end : ℕ) (log₀ : Log) (work₀ : Bytes) (nodes : List Row) (work : Bytes) (used row op : ℕ)
-    (log : Log) : Type 0 where
-  pub going : GoingAny w₀ used₀ start end nodes used row op
-  pub held : (v : Value.Value) → Document w₀ used₀ v → Short w₀.texts → (f : Forest Cell) → RowsHeld w₀ start end f → patch_row ≤ start → end ≤ scratch_row
-      → (object : Bool) → ProperItems object (members w₀.texts f) → (os : List Operation) → operations 1 (members w₀.texts f) ≡ finished os
-      → (earlier : List Operation) → Noted log₀ work₀ earlier
-      → Logging (table w₀.texts nodes) used row end op log work (run limited 1 os v) (undo_run os v ++ earlier)
+pub record LoggingAny (w₀ : Table) (start end : ℕ) (begun : Logged) (work₀ : Bytes) (nodes : List Row) (work : Bytes) (row op : ℕ)
+    (logged : Logged) : Type 0 where
+  pub going : GoingAny w₀ begun.rows start end nodes logged.rows row op
+  pub held : (v : Value.Value) → Document w₀ begun.rows v → Short w₀.texts → (f : Forest Cell) → RowsHeld w₀ start end f → patch_row ≤ start
+      → end ≤ scratch_row → (object : Bool) → ProperItems object (members w₀.texts f) → (os : List Operation)
+      → operations 1 (members w₀.texts f) ≡ finished os → (earlier : List Operation) → Noted begun.log work₀ earlier
+      → Logging (table w₀.texts nodes) row end op logged work (run limited 1 os v) (undo_run os v ++ earlier)
 
-pub logging_all : (w : Table) (used start end : ℕ) (log : Log) (work : Bytes) → LoggingAny w used start end log work w.nodes work used start 0 log
+pub logging_all : (w : Table) (start end : ℕ) (begun : Logged) (work : Bytes) → LoggingAny w start end begun work w.nodes work start 0 begun
 unfolding going_all
-logging_all w used start end log work =
+logging_all w start end begun work =
     record {
-      going = going_all w used start end;
+      going = going_all w begun.rows start end;
       held = λ v document short f rows behind before object proper os are earlier noted.
           record {
-            going = (going_all w used start end).held v document short f rows behind before object proper os are;
+            going = (going_all w begun.rows start end).held v document short f rows behind before object proper os are;
             earlier = earlier;
             noted = noted;
             undoes = refl;
           };
     }
 
-module _ {w₀ : Table} {used₀ start end : ℕ} {log₀ : Log} {work₀ : Bytes} {nodes : List Row} {work : Bytes} {used row op : ℕ} {log : Log}
-    (any : LoggingAny w₀ used₀ start end log₀ work₀ nodes work used row op log) where
-  pub logged_ends : end ≤ row → ElementsLoggedIs w₀ nodes work₀ work used₀ start end log₀ (record { ran = Ran.Done used; log = log })
+module _ {w₀ : Table} {start end : ℕ} {begun : Logged} {work₀ : Bytes} {nodes : List Row} {work : Bytes} {row op : ℕ} {logged : Logged}
+    (any : LoggingAny w₀ start end begun work₀ nodes work row op logged) where
+  pub logged_ends : end ≤ row → ElementsLoggedIs w₀ nodes work₀ work begun.rows start end begun.log (Ok logged)
+  unfolding rows_of
   logged_ends h =
       record {
         runs = run_ends any.going h;
@@ -142,7 +173,7 @@ module _ {w₀ : Table} {used₀ start end : ℕ} {log₀ : Log} {work₀ : Byte
       }
 
   module _ (more : row < end) where
-    pub logged_inside : length nodes ≤ row → {r : Logged} → ElementsLoggedIs w₀ nodes work₀ work used₀ start end log₀ r
+    pub logged_inside : length nodes ≤ row → {r : Result Logged Stop} → ElementsLoggedIs w₀ nodes work₀ work begun.rows start end begun.log r
     logged_inside h =
         record {
           runs = run_inside any.going more h;
@@ -151,27 +182,32 @@ module _ {w₀ : Table} {used₀ start end : ℕ} {log₀ : Log} {work₀ : Byte
         }
 
     -- the operation's number fits its field
-    module _ {nodes' : List Row} {work' : Bytes} {r : Stepped} {k : ℕ} (is : StepIs (table w₀.texts nodes) nodes' work work' used row k log r)
-        (number : k ≡ (op + 1) % values) (low : op ≤ row) where
-      pub logged_halts : {number place pointer : ℕ} → r.outcome ≡ Performed.Refused number place pointer
-          → ElementsLoggedIs w₀ nodes' work₀ work' used₀ start end log₀ (record { ran = Ran.Refused number (op + 1) place pointer; log = r.log })
-      logged_halts e =
+    module _ {nodes' : List Row} {work' : Bytes} {r : Result Logged Failure} {k : ℕ}
+        (is : StepIs (table w₀.texts nodes) nodes' work work' logged.rows row k logged.log r)
+        (number : k ≡ (op + 1) % values) (low : op ≤ row) {q : Result Logged Stop} (tells : q ≡ stopped_at (op + 1) r) where
+      pub logged_halts : {x : Stop} → q ≡ Err x → ElementsLoggedIs w₀ nodes' work₀ work' begun.rows start end begun.log (Err x)
+      unfolding rows_of
+      logged_halts {x} e =
+          let (y, f, x-is) = stopped_err _ r tells e in
           record {
-            runs = run_halts any.going more is.performs number low e;
-            held = λ v document short f rows behind before object proper os are earlier noted.
-                logging_halts (any.held v document short f rows behind before object proper os are earlier noted) more is e;
+            runs = run_halts any.going more is.performs number low (rows_told _ r tells) (ap rows_of e);
+            held = λ v document short f' rows behind before object proper os are earlier noted.
+                subst (λ s. LoggedTo w₀.texts nodes' (run limited 1 os v) (undo_run os v ++ earlier) work' (Err s)) (sym x-is)
+                (logging_halts (any.held v document short f' rows behind before object proper os are earlier noted) more is f);
           }
 
-      pub logged_next : {used' : ℕ} → r.outcome ≡ Performed.Done used' → (next : ℕ) → next ≡ end_of nodes' row
-          → LoggingAny w₀ used₀ start end log₀ work₀ nodes' work' used' next (op + 1) r.log
-      logged_next e next at =
+      pub logged_next : {logged' : Logged} → q ≡ Ok logged' → (next : ℕ) → next ≡ end_of nodes' row
+          → LoggingAny w₀ start end begun work₀ nodes' work' next (op + 1) logged'
+      unfolding rows_of
+      logged_next {logged'} e next at =
           record {
-            going = run_next any.going more is.performs number low e next at;
+            going = run_next any.going more is.performs number low (rows_told _ r tells) (ap rows_of e) next at;
             held = λ v document short f rows behind before object proper os are earlier noted.
-                logging_next (any.held v document short f rows behind before object proper os are earlier noted) more is e next at;
+                logging_next (any.held v document short f rows behind before object proper os are earlier noted) more is
+                (stopped_ok _ r tells e) next at;
           }
 
-pub logged_patch : {w : Table} {nodes' : List Row} {work work' : Bytes} {used : ℕ} {log : Log} {r : Logged} (end : ℕ) → end ≡ end_of w.nodes patch_row
+pub logged_patch : {w : Table} {nodes' : List Row} {work work' : Bytes} {used : ℕ} {log : Log} {r : Result Logged Stop} (end : ℕ) → end ≡ end_of w.nodes patch_row
     → ElementsLoggedIs w nodes' work work' used (patch_row + 1) end log r → LoggedIs w nodes' work work' used log r
 logged_patch {w} end e is =
     record {

@@ -1,4 +1,5 @@
 -- Laws of the parent of a location where a value is put in, and of its last token.
+use Rattle.std.specs.Prelude.{Result, Ok, Err}
 use Prim.Native.Nat.{ℕ, ◌%◌, ◌≤◌, ◌<◌}
 use native.Mathlib.Omega.{arith}
 use mathlib.Core.Path.{◌≡◌, ap, sym, subst, ◌∙◌}
@@ -8,6 +9,9 @@ use lib.ListN.{length, take, drop, get_or, length-drop, length-take}
 use lib.Seq.{take-take}
 use lib.Dec.{eqb}
 use Rattle.spec.specs.Outcome.{Outcome, ok, refused}
+use Rattle.spec.specs.Fault.{number_of}
+use Rattle.spec.specs.declared.refusal.Refusal.{Refusal}
+use Rattle.spec.specs.declared.refusal.Fault.{Fault}
 use Rattle.spec.specs.Bytes.{Bytes, Text}
 use Rattle.spec.specs.Forest.{count, nth}
 use Rattle.spec.specs.Value as Value
@@ -34,8 +38,6 @@ use Rattle.table.proofs.MeaningLaws.{is_array_label, is_object_label}
 use Rattle.walk.specs.Names.{Short, NamesToken, TokenNameIs}
 use Rattle.walk.specs.Step.{Stepped, stepped, missed, StepIs}
 use Rattle.walk.specs.Path.{PathIs, WalkIs}
-use Rattle.walk.specs.declared.steps.Child.{Child}
-use Rattle.walk.specs.declared.path.Reached.{Reached}
 use Rattle.walk.proofs.Children.{child-meant, child_held}
 use Rattle.pointer.specs.Tokens.{TokenAt, token_bytes}
 use Rattle.pointer.specs.declared.answers.Token.{Token}
@@ -97,8 +99,8 @@ module _ {w : Table} {used : ℕ} {v : Value.Value} (d : Document w used v) (sho
       one e = cc
 
   -- all that is known there
-  pub site_there : {tok : Token} {name : Name} {s : Reached} {row : ℕ} (parent : Spelling) → parent ≡ shortened path cut.end → WalkIs w document_row parent s
-      → s ≡ Reached.At row
+  pub site_there : {tok : Token} {name : Name} {s : Result ℕ Fault} {row : ℕ} (parent : Spelling) → parent ≡ shortened path cut.end → WalkIs w document_row parent s
+      → s ≡ Ok row
       → TokenAt pointer cut.next tok → TokenNameIs w.texts path cut.next tok name → Addable (t ∷ ts) v
       → Site w path cut.next row name t ts (value_at (parent_tokens t ts) v)
   unfolding add_at
@@ -201,12 +203,12 @@ module _ {w : Table} {path : Spelling} {next row : ℕ} {name : Name} {t : Text}
           shallow = omega (arith, ap depth here, deep, z.parent.shallow);
         }
 
-    pub old_undoes : {r : Child} (child-row : ℕ) → StepIs w row name r → r ≡ Child.At child-row
+    pub old_undoes : {r : Result ℕ Refusal} (child-row : ℕ) → StepIs w row name r → r ≡ Ok child-row
         → Undoes w (Target.At path) (Action.Replace child-row) (mended_in (parent_tokens t ts) (last_token t ts) p)
     old_undoes {r} child-row is e = go (is.held z.named.token z.parent.c z.parent.kids z.parent.held) e
       where
-        go : {q : Child} → Stepped row z.parent.kids (child_at (name_text w.texts name) (meant w.texts z.parent.c z.parent.kids)) q
-            → q ≡ Child.At child-row → Undoes w (Target.At path) (Action.Replace child-row) (mended_in (parent_tokens t ts) (last_token t ts) p)
+        go : {q : Result ℕ Refusal} → Stepped row z.parent.kids (child_at (name_text w.texts name) (meant w.texts z.parent.c z.parent.kids)) q
+            → q ≡ Ok child-row → Undoes w (Target.At path) (Action.Replace child-row) (mended_in (parent_tokens t ts) (last_token t ts) p)
         go (stepped k at f l place) g =
             let same : at ≡ child-row = cc in
             let there = step_is f in
@@ -214,15 +216,15 @@ module _ {w : Table} {path : Spelling} {next row : ℕ} {name : Name} {t : Text}
             (undo_replace (parent_tokens t ts ++ (last_token t ts ∷ [])) whole_target (child-value k at there l place))
         go (missed n f) g = absurd (let y : ◌≡◌ {A = ℕ} 0 1 = cc in omega arith)
 
-    pub new_undoes : {r : Child} (number : ℕ) → StepIs w row name r → r ≡ Child.Refused number
+    pub new_undoes : {r : Result ℕ Refusal} (f : Refusal) → StepIs w row name r → r ≡ Err f
         → Undoes w (Target.At path) Action.Remove (mended_in (parent_tokens t ts) (last_token t ts) p)
-    new_undoes {r} number is e = go (is.held z.named.token z.parent.c z.parent.kids z.parent.held) e
+    new_undoes {r} f is e = go (is.held z.named.token z.parent.c z.parent.kids z.parent.held) e
       where
-        go : {q : Child} → Stepped row z.parent.kids (child_at (name_text w.texts name) (meant w.texts z.parent.c z.parent.kids)) q
-            → q ≡ Child.Refused number → Undoes w (Target.At path) Action.Remove (mended_in (parent_tokens t ts) (last_token t ts) p)
+        go : {q : Result ℕ Refusal} → Stepped row z.parent.kids (child_at (name_text w.texts name) (meant w.texts z.parent.c z.parent.kids)) q
+            → q ≡ Err f → Undoes w (Target.At path) Action.Remove (mended_in (parent_tokens t ts) (last_token t ts) p)
         go (stepped k at f l place) g = absurd (let y : ◌≡◌ {A = ℕ} 0 1 = cc in omega arith)
-        go (missed n f) g =
-            rw (mended_new (parent_tokens t ts) (last_token t ts) p other (new_there n (step_is f)))
+        go (missed x none) g =
+            rw (mended_new (parent_tokens t ts) (last_token t ts) p other (new_there (number_of x) (step_is none)))
             (undo_remove (parent_tokens t ts ++ (last_token t ts ∷ [])) whole_target)
 
 -- ---- an array or not, by the kind in the row

@@ -1,9 +1,11 @@
 -- Laws of one operation with its undo noted, each for one way out of a function.
+use Rattle.std.specs.Prelude.{Option, Some, None, Result}
 use Prim.Native.Nat.{ℕ}
+use mathlib.Core.Logic.{◌⊎◌, inl, inr}
 use mathlib.Core.Path.{◌≡◌, refl, ap, sym, ◌∙◌}
 use mathlib.Core.Bool.{true, false, false≢true}
 use mathlib.Core.List.{List, [], ◌∷◌}
-use Rattle.spec.specs.Outcome.{Outcome, ok, refused}
+use Rattle.spec.specs.Outcome.{Outcome, ok}
 use Rattle.spec.specs.Bytes.{Bytes, Text, ascii}
 use Rattle.spec.specs.Value as Value
 use Rattle.spec.specs.Value.{value_of}
@@ -19,12 +21,12 @@ use Rattle.tape.specs.Fields.{Row}
 use Rattle.tape.specs.declared.fields.Spelling.{Spelling}
 use Rattle.tape.specs.Lent.{Table}
 use Rattle.walk.specs.Path.{PathIs}
-use Rattle.shape.specs.Kinds.{kind_outcome, answered, uses_of}
+use Rattle.shape.specs.Kinds.{spec_kind, kind_outcome, uses_of}
 use Rattle.shape.specs.Members.{StringIs}
-use Rattle.shape.specs.Operation.{KindIs, Knows}
+use Rattle.shape.specs.Operation.{KindIs}
 use Rattle.shape.specs.declared.kinds.Kind.{Kind}
 use Rattle.shape.specs.declared.kinds.Uses.{Uses}
-use Rattle.shape.specs.declared.members.Spelled.{Spelled}
+use Rattle.operations.specs.declared.answers.Failure.{Failure}
 use Rattle.operations.specs.Perform.{Listed}
 use Rattle.operations.proofs.ToldLaws.{told}
 use Rattle.operations.proofs.PerformLaws.{spelled_not, spelled_path, of_kind}
@@ -32,7 +34,7 @@ use Rattle.reversal.specs.Undo.{undo_of}
 use Rattle.undo_log.specs.declared.log.Log.{Log}
 use Rattle.undo.specs.Mend.{Present, Addable, NoteRemovedIs, NoteReplacedIs, MendIs}
 use Rattle.undo.specs.Step.{PlainIs, NoteBeforeIs, MoveStepIs, StepIs}
-use Rattle.undo.specs.declared.moving.Stepped.{Stepped}
+use Rattle.undo.specs.declared.logged.Logged.{Logged}
 use Rattle.undo.proofs.MoveLaws.{judged_result, plain_steps}
 
 -- ---- a change that asks for a child finds a value
@@ -98,69 +100,65 @@ module _ (o : Operation) (v w : Value.Value) (done : limited o v ≡ ok w) where
   replaced : o.kind ≡ Operation.replace → Present o.path v
   replaced e = let (u, h) = performed in replaced_present o.path o.value v u (sym (replaces o v e) ∙ h)
 
-known : {kind k : Kind} {o : Operation.Kind} → kind ≡ k → Knows kind o → {p : Operation.Kind} → kind_outcome k ≡ ok p → o ≡ p
-known {kind} {k} {o} e knows {p} f =
-    let same : ok o ≡ ok p = sym knows.is ∙ ap kind_outcome e ∙ f in
-    cc
+known : {kind k : Kind} {o : Operation.Kind} → kind ≡ k → spec_kind kind ≡ o → o ≡ spec_kind k
+known e knows = sym knows ∙ ap spec_kind e
 
 module _ {w : Table} {path : Spelling} {kind : Kind} {log r : Log} {work work' : Bytes} where
-  pub before_add : kind ≡ Kind.Add → MendIs w log path work work' r → NoteBeforeIs w work work' kind path log r
-  unfolding undo_of kind_outcome
-  before_add e mend used v d short o knows moves p v' done os noted =
-      let k = known e knows refl in
+  -- a new value: of an addition, or of a copy
+  pub before_put : (kind ≡ Kind.Add) ⊎ (kind ≡ Kind.Copy) → MendIs w log path work work' r → NoteBeforeIs w work work' kind path log r
+  unfolding undo_of spec_kind
+  before_put (inl e) mend used v d short o knows moves p v' done os noted =
+      let k = known e knows in
       rw k (mend used v d short o.path p (added o v v' done k) os noted)
-
-  pub before_copy : kind ≡ Kind.Copy → MendIs w log path work work' r → NoteBeforeIs w work work' kind path log r
-  unfolding undo_of kind_outcome
-  before_copy e mend used v d short o knows moves p v' done os noted =
-      let k = known e knows refl in
+  before_put (inr e) mend used v d short o knows moves p v' done os noted =
+      let k = known e knows in
       rw k (mend used v d short o.path p (copied o v v' done k) os noted)
 
   pub before_remove : kind ≡ Kind.Remove → NoteRemovedIs w log path work work' r → NoteBeforeIs w work work' kind path log r
-  unfolding undo_of kind_outcome
+  unfolding undo_of spec_kind
   before_remove e note used v d short o knows moves p v' done os noted =
-      let k = known e knows refl in
+      let k = known e knows in
       rw k (note used v d short o.path p (removed o v v' done k) os noted)
 
   pub before_replace : kind ≡ Kind.Replace → NoteReplacedIs w log path work work' r → NoteBeforeIs w work work' kind path log r
-  unfolding undo_of kind_outcome
+  unfolding undo_of spec_kind
   before_replace e note used v d short o knows moves p v' done os noted =
-      let k = known e knows refl in
+      let k = known e knows in
       rw k (note used v d short o.path p (replaced o v v' done k) os noted)
 
+-- nothing: a move is noted by itself, and a test gives nothing
 module _ {w : Table} {path : Spelling} {kind : Kind} {log : Log} {work : Bytes} where
-  pub before_test : kind ≡ Kind.Test → NoteBeforeIs w work work kind path log log
-  unfolding undo_of kind_outcome
-  before_test e used v d short o knows moves p v' done os noted = rw (known e knows refl) noted
-
-  pub before_move : kind ≡ Kind.Move → NoteBeforeIs w work work kind path log log
-  unfolding kind_outcome is_move
-  before_move e used v d short o knows moves p v' done os noted =
-      absurd (false≢true (sym moves ∙ ap is_move (known e knows refl)))
-
-  pub before_unknown : kind ≡ Kind.Unknown → NoteBeforeIs w work work kind path log log
-  unfolding kind_outcome
-  before_unknown e used v d short o knows moves p v' done os noted = absurd (refused≢ok (sym (ap kind_outcome e) ∙ knows.is))
+  pub before_none : (kind ≡ Kind.Move) ⊎ (kind ≡ Kind.Test) → NoteBeforeIs w work work kind path log log
+  unfolding undo_of spec_kind is_move
+  before_none (inl e) used v d short o knows moves p v' done os noted =
+      absurd (false≢true (sym moves ∙ ap is_move (known e knows)))
+  before_none (inr e) used v d short o knows moves p v' done os noted = rw (known e knows) noted
 
 -- ---- an operation, by its path and its kind
-module _ {w : Table} {used row : ℕ} {s : Spelled} (is : StringIs w row (ascii "path") s) {nodes' : List Row} {log : Log} {r : Stepped} where
-  pub path_missing : s ≡ Spelled.Not → {work : Bytes} {op : ℕ} → PlainIs w nodes' used row op log r → StepIs w nodes' work work used row op log r
+module _ {w : Table} {used row : ℕ} {s : Option Spelling} (is : StringIs w row (ascii "path") s) {nodes' : List Row} {log : Log} {r : Result Logged Failure} where
+  pub path_missing : s ≡ None → {work : Bytes} {op : ℕ} → PlainIs w nodes' used row op log r → StepIs w nodes' work work used row op log r
   path_missing e plain =
       record {
         performs = plain.performs;
         held = λ v d short o l os noted. absurd (spelled_not (is.held l.c l.kids l.held) (told _ o l.is).path_there e);
       }
 
-module _ {w : Table} {row : ℕ} {s : Spelled} (is : StringIs w row (ascii "path") s) (path : Spelling) (e : s ≡ Spelled.As path) where
+module _ {w : Table} {row : ℕ} {s : Option Spelling} (is : StringIs w row (ascii "path") s) (path : Spelling) (e : s ≡ Some path) where
   path_told : {o : Operation} → Listed w row o → PathIs w.texts path o.path
   path_told {o} l = let t = told _ o l.is in spelled_path (is.held l.c l.kids l.held) t.path_there e t.path_is
 
-kind_told : {w : Table} {row : ℕ} {kind : Kind} → KindIs w row kind → {o : Operation} → Listed w row o → Knows kind o.kind
-kind_told is {o} l = record { is = is.held l.c l.kids l.held ∙ (told _ o l.is).kind }
+-- its kind is known
+module _ {w : Table} {row : ℕ} {q : Option Kind} (is : KindIs w row q) {o : Operation} (l : Listed w row o) where
+  kind_listed : kind_outcome q ≡ ok o.kind
+  kind_listed = is.held l.c l.kids l.held ∙ (told _ o l.is).kind
 
-moves_told : {kind : Kind} {uses : Uses} → uses ≡ uses_of kind → {k : Operation.Kind} → Knows kind k → uses.moves ≡ is_move k
-unfolding answered
-moves_told e knows = ap (λ u. u.moves) e ∙ ap (answered is_move) knows.is
+  kind_told : {kind : Kind} → q ≡ Some kind → spec_kind kind ≡ o.kind
+  unfolding kind_outcome
+  kind_told {kind} e = let same : ok (spec_kind kind) ≡ ok o.kind = sym (ap kind_outcome e) ∙ kind_listed in cc
+
+  no_kind : {C : Type 0} → q ≡ None → C
+  unfolding kind_outcome
+  no_kind e = absurd (refused≢ok (sym (ap kind_outcome e) ∙ kind_listed))
 
 is_move_lem : (k : Operation.Kind) → is_move k ≡ true → k ≡ Operation.move
 unfolding is_move
@@ -171,22 +169,27 @@ is_move_lem Operation.move e = refl
 is_move_lem Operation.copy e = absurd (false≢true e)
 is_move_lem Operation.test e = absurd (false≢true e)
 
-known_move : (o : Outcome Operation.Kind) → answered is_move o ≡ true → o ≡ ok Operation.move
-unfolding answered
-known_move (ok k) e = ap ok (is_move_lem k e)
-known_move (refused number place) e = absurd (false≢true e)
+pub kind_missing : {w : Table} {used row op : ℕ} {q : Option Kind} → KindIs w row q → q ≡ None → {nodes' : List Row} {log : Log}
+    {r : Result Logged Failure} {work : Bytes} → PlainIs w nodes' used row op log r → StepIs w nodes' work work used row op log r
+kind_missing kind_is f plain =
+    record {
+      performs = plain.performs;
+      held = λ v d short o l os noted. no_kind kind_is l f;
+    }
 
-module _ {w : Table} {used row op : ℕ} {s : Spelled} (is : StringIs w row (ascii "path") s) (path : Spelling) (e : s ≡ Spelled.As path)
-    {kind : Kind} (kind_is : KindIs w row kind) {uses : Uses}
-    (uses-is : uses ≡ uses_of kind) {nodes' : List Row} {log : Log} {r : Stepped} {work work' : Bytes} where
+moves_is : (kind : Kind) {uses : Uses} → uses ≡ uses_of kind → uses.moves ≡ is_move (spec_kind kind)
+moves_is kind e = ap (λ (u : Uses). u.moves) e
+
+module _ {w : Table} {used row op : ℕ} {s : Option Spelling} (is : StringIs w row (ascii "path") s) (path : Spelling) (e : s ≡ Some path)
+    {q : Option Kind} (kind_is : KindIs w row q) {kind : Kind} (f : q ≡ Some kind) {uses : Uses} (uses-is : uses ≡ uses_of kind)
+    {nodes' : List Row} {log : Log} {r : Result Logged Failure} {work work' : Bytes} where
   pub step_moves : uses.moves ≡ true → MoveStepIs w nodes' work work' used row op path log r → StepIs w nodes' work work' used row op log r
+  unfolding kind_outcome
   step_moves m moved =
+      let moves = is_move_lem (spec_kind kind) (sym (moves_is kind uses-is) ∙ m) in
       record {
-        performs =
-            of_kind is kind_is Operation.move path e (known_move _ (sym (ap (λ u. u.moves) uses-is) ∙ m)) refl moved.performs;
-        held = λ v d short o l os noted.
-            let k = is_move_lem o.kind (sym (moves_told uses-is (kind_told kind_is l)) ∙ m) in
-            moved.held v d short o l k (path_told is path e l) os noted;
+        performs = of_kind is kind_is Operation.move path e (ap kind_outcome f ∙ ap ok moves) refl moved.performs;
+        held = λ v d short o l os noted. moved.held v d short o l (sym (kind_told kind_is l f) ∙ moves) (path_told is path e l) os noted;
       }
 
   pub step_other : uses.moves ≡ false → {before-log : Log} → NoteBeforeIs w work work' kind path log before-log
@@ -195,7 +198,7 @@ module _ {w : Table} {used row op : ℕ} {s : Spelled} (is : StringIs w row (asc
       record {
         performs = plain.performs;
         held = λ v d short o l os noted.
-            let knows = kind_told kind_is l in
-            let stays = sym (moves_told uses-is knows) ∙ m in
+            let knows = kind_told kind_is l f in
+            let stays : is_move o.kind ≡ false = ap is_move (sym knows) ∙ sym (moves_is kind uses-is) ∙ m in
             plain_steps plain d short l λ u h. note used v d short o knows stays (path_told is path e l) u h os noted;
       }

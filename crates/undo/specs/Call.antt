@@ -1,14 +1,17 @@
 -- What the call promises, on every input: the whole answer, and all lent memory afterwards, as equations with the definition `undo_answer`.
-use Rattle.std.specs.Prelude.{ℕ, ◌≡◌, Bool, ◌&&◌, List, [], ◌∷◌, ◌++◌, leb, length, drop}
+use Rattle.std.specs.Prelude.{ℕ, ◌≡◌, Bool, ◌&&◌, Result, Ok, Err, List, [], ◌∷◌, ◌++◌, leb, length, drop}
 use Rattle.spec.specs.Limits.{max_bytes, work_nodes, work_entries}
 use Rattle.spec.specs.Bytes.{Bytes}
 use Rattle.spec.specs.Answer.{work_suffices}
 use Rattle.tape.specs.Fields.{no_node}
 use Rattle.tape.specs.Lent.{Texts}
 use Rattle.json_patch.specs.Call.{Memory, lent_of, Answered, wiped}
+use Rattle.json_patch.specs.Stages.{as_answer}
+use Rattle.json_patch.specs.declared.answer.Answer.{Answer}
 use Rattle.reversal.specs.UndoAnswer as Spec
 use Rattle.reversal.specs.UndoAnswer.{UndoLent, undo_answer}
 use Rattle.undo.specs.declared.answer.UndoAnswer.{UndoAnswer}
+use Rattle.undo.specs.declared.answer.Written.{Written}
 
 -- ---- what a call is lent beside its two texts: what the plain call is lent, an output for the undo, and a buffer in which its text is made
 pub record UndoMemory : Type 0 where
@@ -44,6 +47,11 @@ pub record UndoAnswered (a : Spec.UndoAnswer) (before after : Outputs) (r : Undo
   pub answered : Answered a.answer before.document after.document r.answer
   pub undo_length : r.undo ≡ length a.undo
   pub undo_output : after.undo ≡ a.undo ++ drop (length a.undo) before.undo
+
+-- the answer of the stages as the call's: of a success it has the lengths of the two texts, and a refusal has no undo
+unfoldable pub as_undo_answer : Result Written Answer → UndoAnswer
+as_undo_answer (Ok written) = record { answer = as_answer (Ok written.document); undo = written.undo }
+as_undo_answer (Err refusal) = record { answer = refusal; undo = 0 }
 
 -- ---- the contract; the work area and the buffer are all zero for their stated lengths, or untouched where one was too short
 pub record UndoIs (T : Texts) (m m' : UndoMemory) (r : UndoAnswer) : Type 0 where

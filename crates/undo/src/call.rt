@@ -2,15 +2,15 @@
 ghost use Rattle.json_patch.specs.Call.{given, memory_before, memory_after};
 ghost use Rattle.undo.specs.Call.{with_before, with_after, UndoIs};
 
-use crate::answer::{UndoAnswer, without};
+use crate::answer::UndoAnswer;
 use crate::stages::checked;
 use index;
-use json_patch::refused;
-use spec::{limits, refusal};
+use json_patch::{clear, refusal_answer, suffices};
+use spec::limits;
+use spec::refusal::Refusal;
 use tape::layout;
 use tape::layout::Node;
-use tape::moves::wipe;
-use undo_log::log::clear;
+use undo_log::log;
 
 // As the plain call: the patch is applied to the document and the result written to `output`. Beside it the patch
 // that takes it back is written to `undo`. `work` is a buffer of at least MAX_BYTES bytes in which that is made; it may
@@ -28,16 +28,10 @@ pub fn apply_with_undo<'a>(
         (with_before (memory_before output.old nodes.old index.old) undo.old work.old)
         (with_after (memory_after output.new nodes.new index.new) undo.new work.new) result }
 {
-    if nodes.len() < layout::ROWS {
-        return without(refused(refusal::WORK_TOO_SHORT, 0, 0, 0));
+    if !suffices(nodes, index) || work.len() < limits::MAX_BYTES {
+        return UndoAnswer::from(Err(refusal_answer(Refusal::WorkTooShort, 0, 0, 0)));
     }
-    if index.len() < index::SLOTS {
-        return without(refused(refusal::WORK_TOO_SHORT, 0, 0, 0));
-    }
-    if work.len() < limits::MAX_BYTES {
-        return without(refused(refusal::WORK_TOO_SHORT, 0, 0, 0));
-    }
-    let answer = checked(
+    let done = checked(
         [document, patch],
         output,
         undo,
@@ -45,8 +39,7 @@ pub fn apply_with_undo<'a>(
         &mut index[..index::SLOTS],
         &mut work[..limits::MAX_BYTES],
     );
-    wipe(nodes);
-    index::empty(index);
-    clear(work);
-    answer
+    clear(nodes, index);
+    log::clear(work);
+    UndoAnswer::from(done)
 }

@@ -7,7 +7,7 @@ use tape::fields::{Spelling, narrow};
 use text::letter;
 
 // Where the last slash stands, and the place behind it, where the last token begins.
-#[derive(Clone, Copy)]
+#[derive(Clone, Copy, Debug, PartialEq, Eq)]
 pub struct Cut {
     pub end: usize,
     pub next: usize,
@@ -16,21 +16,18 @@ pub struct Cut {
 pub fn last_slash(pointer: &[u8]) -> Cut
     ensures { CutIs pointer.now result }
 {
+    let mut cut = Cut { end: 0, next: 0 };
     let mut at = 0;
-    let mut end = 0;
-    let mut next = 0;
-    loop {
-        let Character::Scalar(c, after) = letter(2, pointer, at) else {
-            return Cut { end, next };
-        };
-        if c == 0x2F {
-            end = at;
-            next = after.at;
-            at = after.at;
-            continue;
+    while let Ok(Character { code, next }) = letter(2, pointer, at) {
+        if code == 0x2F {
+            cut = Cut {
+                end: at,
+                next: next.at,
+            };
         }
-        at = after.at;
+        at = next.at;
     }
+    cut
 }
 
 // The first bytes of what a spelling names.
@@ -38,9 +35,7 @@ pub fn shortened(path: Spelling, length: usize) -> Spelling
     ensures { result ≡ shortened path length }
 {
     Spelling {
-        form: path.form,
-        source: path.source,
-        start: path.start,
         length: narrow(length),
+        ..path
     }
 }

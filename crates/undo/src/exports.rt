@@ -22,15 +22,6 @@ pub fn json_patch_apply_with_undo<'a>(
         (with_after (memory_after output.new nodes.new index.new) undo.new work.new) answer.new result }
 {
     let r = apply_with_undo(document, patch, output, undo, nodes, index, work);
-    let plain = r.answer;
-    *answer = [
-        plain.number as u64,
-        plain.text as u64,
-        plain.op as u64,
-        plain.place as u64,
-        plain.pointer as u64,
-        plain.length as u64,
-        r.undo as u64,
-    ];
-    plain.number as u32
+    *answer = r.into();
+    u32::from(r.answer.number)
 }

@@ -16,7 +16,7 @@ use tape::layout::{Node, Texts};
 use tape::nodes::{arity, kind};
 use undo_log::log::Log;
 use undo_log::note::{Action, Target, note};
-use walk::{Child, Reached, step, token_name, walk};
+use walk::{step, token_name, walk};
 
 // T-09: "a removed one is added": the value at `path` as it stands.
 pub fn note_removed<'a>(
@@ -28,13 +28,14 @@ pub fn note_removed<'a>(
 ) -> Log
     ensures { NoteRemovedIs (before texts nodes.now) log path work.old work.new result }
 {
-    let Reached::At(row) = walk(texts, nodes, layout::DOCUMENT, path) else {
+    let Ok(row) = walk(texts, nodes, layout::DOCUMENT, path) else {
         return log;
     };
     note(texts, nodes, log, Action::Add(row), Target::At(path), work)
 }
 
 // T-09: "a value that replaced another is replaced by the old one": the value at `path` as it stands.
+// Apart from `note_removed`: one function for both would take the action as a closure, with clauses of its own.
 pub fn note_replaced<'a>(
     texts: Texts<'a>,
     nodes: &[Node],
@@ -44,7 +45,7 @@ pub fn note_replaced<'a>(
 ) -> Log
     ensures { NoteReplacedIs (before texts nodes.now) log path work.old work.new result }
 {
-    let Reached::At(row) = walk(texts, nodes, layout::DOCUMENT, path) else {
+    let Ok(row) = walk(texts, nodes, layout::DOCUMENT, path) else {
         return log;
     };
     note(
@@ -61,12 +62,16 @@ pub fn note_replaced<'a>(
 fn is_dash(token: &[u8]) -> bool
     ensures { result ≡ is_dash (text_of 3 token.now) }
 {
-    match index(token) {
-        Index::Dash => true,
-        Index::At(_) => false,
-        Index::Beyond => false,
-        Index::Not => false,
-    }
+    matches!(index(token), Index::Dash)
+}
+
+// A location below the root: its pointer, where the last token begins there, that token, and the parent's row.
+#[derive(Clone, Copy)]
+struct Location {
+    path: Spelling,
+    next: usize,
+    name: Name,
+    parent: usize,
 }
 
 // T-09: "A value inserted in an array replaces nothing": it is removed, "an array's `-` as its index".
@@ -74,67 +79,41 @@ fn mend_element<'a>(
     texts: Texts<'a>,
     nodes: &[Node],
     log: Log,
-    path: Spelling,
-    next: usize,
-    parent: usize,
-    name: Name,
+    at: Location,
     work: &mut [u8],
 ) -> Log
-    ensures { MendElementIs (before texts nodes.now) log path next parent name
+    ensures { MendElementIs (before texts nodes.now) log at.path at.next at.parent at.name
         work.old work.new result }
 {
-    if is_dash(part(texts, name.text)) {
-        let target = Target::Appended(shortened(path, next), arity(nodes, parent));
-        return note(texts, nodes, log, Action::Remove, target, work);
-    }
-    note(texts, nodes, log, Action::Remove, Target::At(path), work)
+    let target = if is_dash(part(texts, at.name.text)) {
+        Target::Appended(shortened(at.path, at.next), arity(nodes, at.parent))
+    } else {
+        Target::At(at.path)
+    };
+    note(texts, nodes, log, Action::Remove, target, work)
 }
 
 // A member that is there is replaced by itself, and a new one removed.
-fn mend_member<'a>(
-    texts: Texts<'a>,
-    nodes: &[Node],
-    log: Log,
-    path: Spelling,
-    next: usize,
-    parent: usize,
-    name: Name,
-    work: &mut [u8],
-) -> Log
-    ensures { MendMemberIs (before texts nodes.now) log path next parent name
+fn mend_member<'a>(texts: Texts<'a>, nodes: &[Node], log: Log, at: Location, work: &mut [u8]) -> Log
+    ensures { MendMemberIs (before texts nodes.now) log at.path at.next at.parent at.name
         work.old work.new result }
 {
-    let Child::At(row) = step(texts, nodes, parent, name) else {
-        return note(texts, nodes, log, Action::Remove, Target::At(path), work);
+    let action = match step(texts, nodes, at.parent, at.name) {
+        Ok(row) => Action::Replace(row),
+        Err(_) => Action::Remove,
     };
-    note(
-        texts,
-        nodes,
-        log,
-        Action::Replace(row),
-        Target::At(path),
-        work,
-    )
+    note(texts, nodes, log, action, Target::At(at.path), work)
 }
 
 // By the last token and the parent in a row.
-fn mend_child<'a>(
-    texts: Texts<'a>,
-    nodes: &[Node],
-    log: Log,
-    path: Spelling,
-    next: usize,
-    parent: usize,
-    name: Name,
-    work: &mut [u8],
-) -> Log
-    ensures { MendChildIs (before texts nodes.now) log path next parent name
+fn mend_child<'a>(texts: Texts<'a>, nodes: &[Node], log: Log, at: Location, work: &mut [u8]) -> Log
+    ensures { MendChildIs (before texts nodes.now) log at.path at.next at.parent at.name
         work.old work.new result }
 {
-    if kind(nodes, parent) == layout::ARRAY {
-        return mend_element(texts, nodes, log, path, next, parent, name, work);
+    if kind(nodes, at.parent) == layout::ARRAY {
+        return mend_element(texts, nodes, log, at, work);
     }
-    mend_member(texts, nodes, log, path, next, parent, name, work)
+    mend_member(texts, nodes, log, at, work)
 }
 
 // Below the root.
@@ -149,11 +128,16 @@ fn mend_below<'a>(
 {
     let pointer = part(texts, path);
     let cut = last_slash(pointer);
-    let Reached::At(parent) = walk(texts, nodes, layout::DOCUMENT, shortened(path, cut.end)) else {
+    let Ok(parent) = walk(texts, nodes, layout::DOCUMENT, shortened(path, cut.end)) else {
         return log;
     };
-    let name = token_name(texts, path, cut.next, token(pointer, cut.next));
-    mend_child(texts, nodes, log, path, cut.next, parent, name, work)
+    let at = Location {
+        path,
+        next: cut.next,
+        name: token_name(texts, path, cut.next, token(pointer, cut.next)),
+        parent,
+    };
+    mend_child(texts, nodes, log, at, work)
 }
 
 // The undo of a value that is put in at `path`, noted before it is put in.
@@ -161,7 +145,7 @@ pub fn mend<'a>(texts: Texts<'a>, nodes: &[Node], log: Log, path: Spelling, work
     ensures { MendIs (before texts nodes.now) log path work.old work.new result }
 {
     match first(part(texts, path)) {
-        First::Root => return note(
+        First::Root => note(
             texts,
             nodes,
             log,
@@ -169,7 +153,7 @@ pub fn mend<'a>(texts: Texts<'a>, nodes: &[Node], log: Log, path: Spelling, work
             Target::At(path),
             work,
         ),
-        First::At(_) => return mend_below(texts, nodes, log, path, work),
-        First::Malformed => return log,
+        First::At(_) => mend_below(texts, nodes, log, path, work),
+        First::Malformed => log,
     }
 }

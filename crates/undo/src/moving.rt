@@ -5,34 +5,27 @@ ghost use Rattle.tape.specs.Lent.{before};
 ghost use Rattle.undo.specs.Step.{InObjectIs, HoldsIs, MoveApartIs, PlainIs, MoveFromIs, MoveBelowIs, MoveStepIs};
 
 use crate::cuts::{last_slash, shortened};
+use crate::logged::Logged;
 use crate::mending::{mend, note_replaced};
-use changes::{Altered, Change, change_at};
+use changes::{Change, change_at};
 use operations::perform::perform;
-use operations::{Performed, at_path, set_aside};
+use operations::{Failure, Pointer, set_aside};
 use pointer::{First, first, proper_prefix};
-use shape::{Spelled, string_member};
+use shape::string_member;
 use table::spellings::part;
 use tape::fields::Spelling;
 use tape::layout;
 use tape::layout::{Node, Texts};
 use tape::nodes::kind;
-use undo_log::log::Log;
 use undo_log::note::{Action, Target, note};
-use walk::{Reached, walk};
-
-// What an operation came to, and what is noted then.
-#[derive(Clone, Copy)]
-pub struct Stepped {
-    pub outcome: Performed,
-    pub log: Log,
-}
+use walk::walk;
 
 // Whether the parent of the location that `path` names is an object.
 fn in_object<'a>(texts: Texts<'a>, nodes: &[Node], path: Spelling) -> bool
     ensures { InObjectIs (before texts nodes.now) path result }
 {
     let cut = last_slash(part(texts, path));
-    let Reached::At(parent) = walk(texts, nodes, layout::DOCUMENT, shortened(path, cut.end)) else {
+    let Ok(parent) = walk(texts, nodes, layout::DOCUMENT, shortened(path, cut.end)) else {
         return false;
     };
     kind(nodes, parent) == layout::OBJECT
@@ -47,9 +40,9 @@ fn holds<'a>(texts: Texts<'a>, nodes: &[Node], path: Spelling, from: Spelling) -
         return false;
     }
     match first(to) {
-        First::Root => return true,
-        First::At(_) => return in_object(texts, nodes, path),
-        First::Malformed => return false,
+        First::Root => true,
+        First::At(_) => in_object(texts, nodes, path),
+        First::Malformed => false,
     }
 }
 
@@ -57,30 +50,21 @@ fn holds<'a>(texts: Texts<'a>, nodes: &[Node], path: Spelling, from: Spelling) -
 fn move_apart<'a>(
     texts: Texts<'a>,
     nodes: &mut [Node],
-    used: usize,
+    logged: Logged,
     from: Spelling,
     path: Spelling,
     row: usize,
-    log: Log,
     work: &mut [u8],
-) -> Stepped
+) -> Result<Logged, Failure>
     ensures { MoveApartIs (before texts nodes.old) nodes.new work.old work.new
-        used from path row log result }
+        logged.rows from path row logged.log result }
 {
     set_aside(nodes, row);
-    let removed = change_at(texts, nodes, used, from, Change::Remove);
-    let Altered::Done(left) = removed else {
-        return Stepped {
-            outcome: at_path(removed),
-            log,
-        };
-    };
-    let mended = mend(texts, nodes, log, path, work);
-    let outcome = at_path(change_at(texts, nodes, left, path, Change::Add(layout::SCRATCH)));
-    Stepped {
-        outcome,
-        log: mended,
-    }
+    let left = Pointer::Path.told(change_at(texts, nodes, logged.rows, from, Change::Remove))?;
+    let log = mend(texts, nodes, logged.log, path, work);
+    let add = Change::Add(layout::SCRATCH);
+    let rows = Pointer::Path.told(change_at(texts, nodes, left, path, add))?;
+    Ok(Logged { rows, log })
 }
 
 // The operation in a row of the patch, by its number, performed as it is; nothing more is noted.
@@ -88,15 +72,14 @@ pub fn plain<'a>(
     texts: Texts<'a>,
     nodes: &mut [Node],
     index: &mut [u16],
-    used: usize,
+    logged: Logged,
     row: usize,
     op: u16,
-    log: Log,
-) -> Stepped
-    ensures { PlainIs (before texts nodes.old) nodes.new used row op log result }
+) -> Result<Logged, Failure>
+    ensures { PlainIs (before texts nodes.old) nodes.new logged.rows row op logged.log result }
 {
-    let outcome = perform(texts, nodes, index, used, row, op);
-    Stepped { outcome, log }
+    let rows = perform(texts, nodes, index, logged.rows, row, op)?;
+    Ok(Logged { rows, ..logged })
 }
 
 // The value at `from`, which is in a row and not the root, is moved.
@@ -104,24 +87,30 @@ fn move_from<'a>(
     texts: Texts<'a>,
     nodes: &mut [Node],
     index: &mut [u16],
-    used: usize,
+    logged: Logged,
     row: usize,
     op: u16,
     from: Spelling,
     path: Spelling,
     at: usize,
-    log: Log,
     work: &mut [u8],
-) -> Stepped
-    ensures { MoveFromIs (before texts nodes.old) nodes.new work.old work.new used
-        row op from path at log result }
+) -> Result<Logged, Failure>
+    ensures { MoveFromIs (before texts nodes.old) nodes.new work.old work.new logged.rows
+        row op from path at logged.log result }
 {
     if holds(texts, nodes, path, from) {
-        let replaced = note_replaced(texts, nodes, log, path, work);
-        return plain(texts, nodes, index, used, row, op, replaced);
+        let log = note_replaced(texts, nodes, logged.log, path, work);
+        return plain(texts, nodes, index, Logged { log, ..logged }, row, op);
     }
-    let added = note(texts, nodes, log, Action::Add(at), Target::At(from), work);
-    move_apart(texts, nodes, used, from, path, at, added, work)
+    let log = note(
+        texts,
+        nodes,
+        logged.log,
+        Action::Add(at),
+        Target::At(from),
+        work,
+    );
+    move_apart(texts, nodes, Logged { log, ..logged }, from, path, at, work)
 }
 
 // The value at `from`, which is not the root, is moved, where there is one.
@@ -129,23 +118,20 @@ fn move_below<'a>(
     texts: Texts<'a>,
     nodes: &mut [Node],
     index: &mut [u16],
-    used: usize,
+    logged: Logged,
     row: usize,
     op: u16,
     from: Spelling,
     path: Spelling,
-    log: Log,
     work: &mut [u8],
-) -> Stepped
+) -> Result<Logged, Failure>
     ensures { MoveBelowIs (before texts nodes.old) nodes.new work.old work.new
-        used row op from path log result }
+        logged.rows row op from path logged.log result }
 {
-    let Reached::At(at) = walk(texts, nodes, layout::DOCUMENT, from) else {
-        return plain(texts, nodes, index, used, row, op, log);
+    let Ok(at) = walk(texts, nodes, layout::DOCUMENT, from) else {
+        return plain(texts, nodes, index, logged, row, op);
     };
-    move_from(
-        texts, nodes, index, used, row, op, from, path, at, log, work,
-    )
+    move_from(texts, nodes, index, logged, row, op, from, path, at, work)
 }
 
 // The move in a row of the patch. A move of root to root gives no operation.
@@ -153,24 +139,21 @@ pub fn move_step<'a>(
     texts: Texts<'a>,
     nodes: &mut [Node],
     index: &mut [u16],
-    used: usize,
+    logged: Logged,
     row: usize,
     op: u16,
     path: Spelling,
-    log: Log,
     work: &mut [u8],
-) -> Stepped
+) -> Result<Logged, Failure>
     ensures { MoveStepIs (before texts nodes.old) nodes.new work.old
-        work.new used row op path log result }
+        work.new logged.rows row op path logged.log result }
 {
-    let Spelled::As(from) = string_member(texts, nodes, row, b"from") else {
-        return plain(texts, nodes, index, used, row, op, log);
+    let Some(from) = string_member(texts, nodes, row, b"from") else {
+        return plain(texts, nodes, index, logged, row, op);
     };
     match first(part(texts, from)) {
-        First::Root => return plain(texts, nodes, index, used, row, op, log),
-        First::At(_) => return move_below(
-            texts, nodes, index, used, row, op, from, path, log, work,
-        ),
-        First::Malformed => return plain(texts, nodes, index, used, row, op, log),
+        First::Root => plain(texts, nodes, index, logged, row, op),
+        First::At(_) => move_below(texts, nodes, index, logged, row, op, from, path, work),
+        First::Malformed => plain(texts, nodes, index, logged, row, op),
     }
 }

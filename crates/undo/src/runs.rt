@@ -2,20 +2,13 @@
 ghost use Rattle.tape.specs.Lent.{before};
 ghost use Rattle.undo.specs.Run.{ElementsLoggedIs, LoggedIs};
 
+use crate::logged::Logged;
 use crate::steps::step;
-use operations::{Performed, Ran};
+use operations::Stop;
 use tape::fields::narrow;
 use tape::layout;
 use tape::layout::{Node, Texts};
 use tape::nodes::end_of;
-use undo_log::log::Log;
-
-// What a run came to, and what is noted then.
-#[derive(Clone, Copy)]
-pub struct Logged {
-    pub ran: Ran,
-    pub log: Log,
-}
 
 // The operations in the rows from `start` up to `end`, the first of which is operation 1; the first that fails ends
 // the run.
@@ -23,61 +16,41 @@ fn elements<'a>(
     texts: Texts<'a>,
     nodes: &mut [Node],
     index: &mut [u16],
-    used: usize,
+    begun: Logged,
     start: usize,
     end: usize,
-    log: Log,
     work: &mut [u8],
-) -> Logged
+) -> Result<Logged, Stop>
     ensures { ElementsLoggedIs (before texts nodes.old) nodes.new work.old
-        work.new used start end log result }
+        work.new begun.rows start end begun.log result }
 {
-    let mut rows = used;
+    let mut logged = begun;
     let mut row = start;
     let mut op = 0;
-    let mut noted = log;
+    // the next operation stands behind the tree of this one: no range steps so
     while row < end {
         if nodes.len() <= row {
-            return Logged {
-                ran: Ran::Done(rows),
-                log: noted,
-            };
+            return Ok(logged);
         }
         op += 1;
-        let stepped = step(texts, nodes, index, rows, row, narrow(op), noted, work);
-        noted = stepped.log;
-        let outcome = stepped.outcome;
-        match outcome {
-            Performed::Done(n) => {
-                rows = n;
-                row = end_of(nodes, row);
-            }
-            Performed::Refused(number, place, pointer) => {
-                return Logged {
-                    ran: Ran::Refused(number, op, place, pointer),
-                    log: noted,
-                };
-            }
-        }
+        let stepped = step(texts, nodes, index, logged, row, narrow(op), work);
+        logged = stepped.map_err(|failure| failure.stop(op))?;
+        row = end_of(nodes, row);
     }
-    Logged {
-        ran: Ran::Done(rows),
-        log: noted,
-    }
+    Ok(logged)
 }
 
-// The operations of a patch of the right shape, on a document of `used` rows.
+// The operations of a patch of the right shape, on a document of so many rows, from a log on.
 pub fn run<'a>(
     texts: Texts<'a>,
     nodes: &mut [Node],
     index: &mut [u16],
-    used: usize,
-    log: Log,
+    begun: Logged,
     work: &mut [u8],
-) -> Logged
+) -> Result<Logged, Stop>
     ensures { LoggedIs (before texts nodes.old) nodes.new work.old
-        work.new used log result }
+        work.new begun.rows begun.log result }
 {
     let end = end_of(nodes, layout::PATCH);
-    elements(texts, nodes, index, used, layout::PATCH + 1, end, log, work)
+    elements(texts, nodes, index, begun, layout::PATCH + 1, end, work)
 }

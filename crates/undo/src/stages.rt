@@ -1,16 +1,17 @@
-// The stages of the call, in the order of SPECIFICATION 16.4: those of the plain call, then the undo's.
+// The stages of the call, in the order of SPECIFICATION 16.4: those of the plain call, then the undo's. Each stage answers
+// with the lengths of the texts that were written, or with the answer of a call that is refused.
 ghost use Rattle.tape.specs.Lent.{lent, before};
 ghost use Rattle.json_patch.specs.Call.{memory_before};
 ghost use Rattle.undo.specs.Call.{with_before, Outputs};
 ghost use Rattle.undo.specs.Stages.{WriteBothIs, RunPatchIs, CheckedIs};
 
-use crate::answer::{UndoAnswer, without};
+use crate::answer::Written;
+use crate::logged::Logged;
 use crate::runs::run;
-use json_patch::{misshapen, refused, stopped, success, unread};
-use operations::Ran;
-use reader::{Read, read_document, read_patch};
-use shape::{Shape, shape_of};
-use spec::{limits, refusal};
+use json_patch::{Answer, check_lengths, read_texts, refusal_answer};
+use shape::shape_of;
+use spec::limits;
+use spec::refusal::Refusal;
 use tape::layout;
 use tape::layout::{Node, Texts};
 use undo_log::log::{Log, begin, copy_out, text_length, verdict};
@@ -24,7 +25,7 @@ fn write_both<'a>(
     nodes: &[Node],
     log: Log,
     work: &[u8],
-) -> UndoAnswer
+) -> Result<Written, Answer>
     ensures { WriteBothIs (before texts nodes.now)
         (record { document = output.old; undo = undo.old })
         (record { document = output.new; undo = undo.new }) work.now log result }
@@ -36,22 +37,19 @@ fn write_both<'a>(
         limits::MAX_DEPTH,
         output.len(),
     ) {
-        return without(refused(refusal::OUTPUT_TOO_SHORT, 0, 0, 0));
+        return Err(refusal_answer(Refusal::OutputTooShort, 0, 0, 0));
     }
-    let number = verdict(log);
-    if number != 0 {
-        return without(refused(number, 2, 0, 0));
-    }
+    verdict(log).map_err(|refusal| refusal_answer(refusal, 2, 0, 0))?;
     let length = text_length(log);
     if undo.len() < length {
-        return without(refused(refusal::OUTPUT_TOO_SHORT, 0, 0, 0));
+        return Err(refusal_answer(Refusal::OutputTooShort, 0, 0, 0));
     }
-    let written = write(texts, nodes, layout::DOCUMENT, limits::MAX_DEPTH, output);
+    let document = write(texts, nodes, layout::DOCUMENT, limits::MAX_DEPTH, output);
     copy_out(log, work, undo);
-    UndoAnswer {
-        answer: success(written),
+    Ok(Written {
+        document,
         undo: length,
-    }
+    })
 }
 
 // The patch, read before, is applied to the document, which has `used` rows.
@@ -63,21 +61,17 @@ fn run_patch<'a>(
     index: &mut [u16],
     work: &mut [u8],
     used: usize,
-) -> UndoAnswer
+) -> Result<Written, Answer>
     ensures { RunPatchIs (before texts nodes.old)
         (record { document = output.old; undo = undo.old })
         (record { document = output.new; undo = undo.new }) work.old used result }
 {
-    let shape = shape_of(texts, nodes, layout::PATCH);
-    let Shape::Right = shape else {
-        return without(misshapen(shape));
+    shape_of(texts, nodes, layout::PATCH)?;
+    let begun = Logged {
+        rows: used,
+        log: begin(work),
     };
-    let log = begin(work);
-    let logged = run(texts, nodes, index, used, log, work);
-    let ran = logged.ran;
-    let Ran::Done(_) = ran else {
-        return without(stopped(ran));
-    };
+    let logged = run(texts, nodes, index, begun, work)?;
     write_both(texts, output, undo, nodes, logged.log, work)
 }
 
@@ -89,23 +83,11 @@ pub fn checked<'a>(
     nodes: &mut [Node],
     index: &mut [u16],
     work: &mut [u8],
-) -> UndoAnswer
+) -> Result<Written, Answer>
     ensures { CheckedIs (lent texts) (with_before (memory_before output.old nodes.old index.old) undo.old work.old)
         (record { document = output.new; undo = undo.new }) result }
 {
-    if limits::MAX_BYTES < texts[0].len() {
-        return without(refused(refusal::INPUT_TOO_LONG, 1, 0, 0));
-    }
-    if limits::MAX_BYTES < texts[1].len() {
-        return without(refused(refusal::INPUT_TOO_LONG, 2, 0, 0));
-    }
-    let document = read_document(texts, nodes, index);
-    let Read::Value(_, used) = document else {
-        return without(unread(1, document));
-    };
-    let patch = read_patch(texts, nodes, index);
-    let Read::Value(_, _) = patch else {
-        return without(unread(2, patch));
-    };
+    check_lengths(texts)?;
+    let used = read_texts(texts, nodes, index)?;
     run_patch(texts, output, undo, nodes, index, work, used)
 }

@@ -2,9 +2,11 @@
 ghost use Rattle.tape.specs.Lent.{before};
 ghost use Rattle.undo.specs.Step.{NoteBeforeIs, StepIs};
 
+use crate::logged::Logged;
 use crate::mending::{mend, note_removed, note_replaced};
-use crate::moving::{Stepped, move_step, plain};
-use shape::{Kind, Spelled, kind_of, string_member, uses_of};
+use crate::moving::{move_step, plain};
+use operations::Failure;
+use shape::{Kind, kind_of, string_member, uses_of};
 use tape::fields::Spelling;
 use tape::layout::{Node, Texts};
 use undo_log::log::Log;
@@ -22,13 +24,10 @@ fn note_before<'a>(
     ensures { NoteBeforeIs (before texts nodes.now) work.old work.new kind path log result }
 {
     match kind {
-        Kind::Add => return mend(texts, nodes, log, path, work),
-        Kind::Remove => return note_removed(texts, nodes, log, path, work),
-        Kind::Replace => return note_replaced(texts, nodes, log, path, work),
-        Kind::Move => return log,
-        Kind::Copy => return mend(texts, nodes, log, path, work),
-        Kind::Test => return log,
-        Kind::Unknown => return log,
+        Kind::Add | Kind::Copy => mend(texts, nodes, log, path, work),
+        Kind::Remove => note_removed(texts, nodes, log, path, work),
+        Kind::Replace => note_replaced(texts, nodes, log, path, work),
+        Kind::Move | Kind::Test => log,
     }
 }
 
@@ -37,22 +36,23 @@ pub fn step<'a>(
     texts: Texts<'a>,
     nodes: &mut [Node],
     index: &mut [u16],
-    used: usize,
+    logged: Logged,
     row: usize,
     op: u16,
-    log: Log,
     work: &mut [u8],
-) -> Stepped
+) -> Result<Logged, Failure>
     ensures { StepIs (before texts nodes.old) nodes.new work.old
-        work.new used row op log result }
+        work.new logged.rows row op logged.log result }
 {
-    let Spelled::As(path) = string_member(texts, nodes, row, b"path") else {
-        return plain(texts, nodes, index, used, row, op, log);
+    let Some(path) = string_member(texts, nodes, row, b"path") else {
+        return plain(texts, nodes, index, logged, row, op);
     };
-    let kind = kind_of(texts, nodes, row);
+    let Some(kind) = kind_of(texts, nodes, row) else {
+        return plain(texts, nodes, index, logged, row, op);
+    };
     if uses_of(kind).moves {
-        return move_step(texts, nodes, index, used, row, op, path, log, work);
+        return move_step(texts, nodes, index, logged, row, op, path, work);
     }
-    let noted = note_before(texts, nodes, kind, path, log, work);
-    plain(texts, nodes, index, used, row, op, noted)
+    let log = note_before(texts, nodes, kind, path, logged.log, work);
+    plain(texts, nodes, index, Logged { log, ..logged }, row, op)
 }

@@ -1,5 +1,6 @@
 -- Laws of the call's answers with the list beside them: a refusal of the patch, and all written.
-use Rattle.std.specs.Prelude.{if◌then◌else◌}
+use Rattle.std.specs.Prelude.{if◌then◌else◌, Result, Err, IsErrAnd}
+use Rattle.std.proofs.lemmas.Result.{err_from_is_err_and}
 use Prim.Native.Nat.{ℕ, ◌≤◌, ◌<◌}
 use mathlib.Core.Path.{◌≡◌, refl, sym, ap, subst, ◌∙◌}
 use mathlib.Core.Bool.{Bool, true, false}
@@ -10,6 +11,8 @@ use borrow.Author.Tests.{le-leb, lt-leb}
 use Rattle.spec.specs.Outcome.{ok}
 use Rattle.spec.specs.Refusal.{done, output_too_short}
 use Rattle.spec.specs.Limits.{max_bytes}
+use Rattle.spec.specs.Fault.{number_of}
+use Rattle.spec.specs.declared.refusal.Refusal.{Refusal}
 use Rattle.spec.specs.Bytes.{Bytes}
 use Rattle.spec.specs.Value as Plain
 use Rattle.spec.specs.Patch.{shape}
@@ -27,8 +30,9 @@ use Rattle.json_patch.specs.Call.{Answered, RefusalIs}
 use Rattle.json_patch.specs.declared.answer.Answer.{Answer}
 use Rattle.json_patch.proofs.AnswerLaws.{answered-refusal}
 use Rattle.listing.proofs.StageLaws.{answer-applied}
-use Rattle.undo.specs.Stages.{WithoutIs}
+use Rattle.undo.specs.Call.{as_undo_answer}
 use Rattle.undo.specs.declared.answer.UndoAnswer.{UndoAnswer}
+use Rattle.undo.specs.declared.answer.Written.{Written}
 use Rattle.undo.proofs.AnswerLaws as Undo
 use Rattle.undo_listing.specs.Call.{Outputs, UndoListedIs}
 
@@ -45,10 +49,17 @@ after-unlisted room a u = go (eqb (PlainUndo.after_patch room a u).answer.number
     go true = refl
     go false = refl
 
-pub patch_refused : {s : Spec.Answer} {o : Outputs} {a : Answer} {r : UndoAnswer} (room : ℕ) (u : Plain.Value) → WithoutIs a r
-    → Answered s o.texts.document o.texts.document a → (n : ℕ) → a.number ≡ n → eqb n 0 ≡ false → UndoListedIs (after_patch room (unlisted s) u) o o r
-patch_refused {s} room u without h n is bad =
-    listed_as (after-unlisted room s u) (record { answered = Undo.patch_refused room u without h n is bad; list = refl })
+pub patch_refused : {s : Spec.Answer} {o : Outputs} {a : Answer} (room : ℕ) (u : Plain.Value)
+    → Answered s o.texts.document o.texts.document a → (e : Refusal) → a.number ≡ number_of e
+    → UndoListedIs (after_patch room (unlisted s) u) o o (as_undo_answer (Err a))
+patch_refused {s} room u h e is =
+    listed_as (after-unlisted room s u) (record { answered = Undo.patch_refused room u h e is; list = refl })
+
+-- what the exit of a `?` answers is the refusal that it was given, as the call's
+pub listed-handed : {a : Listed PlainUndo.UndoAnswer} {o o' : Outputs} {P : Answer → Type 0} (done : Result Written Answer) → IsErrAnd done P
+    → ((r : Answer) → P r → UndoListedIs a o o' (as_undo_answer (Err r))) → UndoListedIs a o o' (as_undo_answer done)
+listed-handed {a} {o} {o'} done is h =
+    let p = err_from_is_err_and done is in subst (λ q. UndoListedIs a o o' (as_undo_answer q)) (sym p.1) (h p.0 p.2)
 
 -- ---- the list measured
 -- it is too short, whether the text fits or not
@@ -91,11 +102,11 @@ module _ (D P : Bytes) (lent : Lending UndoLent) (buffer : max_bytes ≤ lent.ca
   unfolding undo_answer
   buffer_enough = rw (le-leb max_bytes lent.call.work buffer)
 
-  pub call_refused : {number text place : ℕ} {o : Outputs} {a : Answer} {r : UndoAnswer} → patch ≡ unlisted (Spec.refusal number text 0 place)
-      → eqb number 0 ≡ false → RefusalIs number text 0 place a → WithoutIs a r → UndoListedIs (undo_answer D P lent) o o r
-  call_refused {number} e bad is without =
-      listed_as (buffer_enough ∙ ap (λ a. after_patch lent.call.undo a (undo_value (undo_operations D P))) e)
-      (patch_refused lent.call.undo (undo_value (undo_operations D P)) without (answered-refusal is) number is.0 bad)
+  pub call_refused : {text place : ℕ} {o : Outputs} {a : Answer} (e : Refusal) → patch ≡ unlisted (Spec.refusal (number_of e) text 0 place)
+      → RefusalIs (number_of e) text 0 place a → UndoListedIs (undo_answer D P lent) o o (as_undo_answer (Err a))
+  call_refused e is refuses =
+      listed_as (buffer_enough ∙ ap (λ a. after_patch lent.call.undo a (undo_value (undo_operations D P))) is)
+      (patch_refused lent.call.undo (undo_value (undo_operations D P)) (answered-refusal refuses) e refuses.0)
 
   undo_read_lem : {v p : Plain.Value} → read D ≡ ok v → read P ≡ ok p → undo_operations D P ≡ undo_shaped v (shape p)
   unfolding undo_operations undo_read

@@ -1,5 +1,5 @@
 -- Laws of the call with an undo that lists origins: the work area and the buffer lent in part, and cleared.
-use Rattle.std.specs.Prelude.{if◌then◌else◌}
+use Rattle.std.specs.Prelude.{if◌then◌else◌, Result, Err}
 use Prim.Native.Nat.{ℕ, ◌≤◌, ◌<◌}
 use native.Mathlib.Omega.{arith}
 use mathlib.Core.Path.{◌≡◌, refl, sym, subst, ap, ◌∙◌}
@@ -21,15 +21,15 @@ use Rattle.reversal.specs.UndoValue.{undo_value}
 use Rattle.reversal.specs.UndoAnswer as PlainUndo
 use Rattle.reversal.specs.UndoAnswer.{UndoLent, undo_refusal, undo_operations}
 use Rattle.origin.specs.Answer.{Listed, unlisted, Lending, answer, beside, after_patch, undo_answer}
-use Rattle.json_patch.specs.Call.{Memory, lent_of, Answered, RefusalIs, wiped}
+use Rattle.json_patch.specs.Call.{Memory, lent_of, RefusalIs, wiped}
 use Rattle.json_patch.specs.declared.answer.Answer.{Answer}
-use Rattle.json_patch.proofs.AnswerLaws.{answered-refusal, work_suffices_lem, nodes_short, index_short}
+use Rattle.json_patch.proofs.AnswerLaws.{answered-refusal, work_suffices_lem}
 use Rattle.json_patch.proofs.CallLaws.{part-wiped}
 use Rattle.listing.proofs.StageLaws.{answer_work_short, answer_same}
-use Rattle.undo.specs.Call.{undo_lent_of, undo_suffices}
-use Rattle.undo.specs.Stages.{WithoutIs}
+use Rattle.undo.specs.Call.{undo_lent_of, undo_suffices, as_undo_answer}
 use Rattle.undo.specs.declared.answer.UndoAnswer.{UndoAnswer}
-use Rattle.undo_listing.specs.Call.{UndoListMemory, lending_of, UndoListingIs}
+use Rattle.undo.specs.declared.answer.Written.{Written}
+use Rattle.undo_listing.specs.Call.{UndoListMemory, outputs_of, lending_of, UndoListedIs, UndoListingIs}
 use Rattle.undo_listing.specs.Stages.{CheckedIs}
 use Rattle.undo_listing.proofs.AnswerLaws.{listed_as, buffer_enough}
 
@@ -52,45 +52,27 @@ module _ (D P : Bytes) (lent : Lending UndoLent) where
       go true e = rw e
       go false e = refl
 
-module _ {T : Texts} {m : UndoListMemory} {a : Answer} {r : UndoAnswer} (is : RefusalIs work_too_short 0 0 0 a) (without : WithoutIs a r) where
+module _ {T : Texts} {m : UndoListMemory} {a : Answer} {r : UndoAnswer} (is : RefusalIs work_too_short 0 0 0 a) (told : r ≡ as_undo_answer (Err a)) where
   untouched : undo_suffices (undo_lent_of m.call) ≡ false → undo_answer T.document T.patch (lending_of m) ≡ short_answer → UndoListingIs T m m r
-  unfolding wiped
+  unfolding wiped as_undo_answer
   untouched short e =
       record {
         listed =
             listed_as e
-            (record {
-              answered =
-                  record {
-                    answered =
-                        subst (Answered (Spec.refusal work_too_short 0 0 0) m.call.patch.output m.call.patch.output) (sym without.0)
-                        (answered-refusal is);
-                    undo_length = without.1;
-                    undo_output = refl;
-                  };
-              list = refl;
-            });
+            (subst (UndoListedIs short_answer (outputs_of m) (outputs_of m)) (sym told)
+            (record { answered = record { answered = answered-refusal is; undo_length = refl; undo_output = refl }; list = refl }));
         nodes-after = rw short;
         index_after = rw short;
         work_after_lem = rw short;
       }
 
-  area_missing : work_suffices (lent_of m.call.patch) ≡ false → UndoListingIs T m m r
+  pub area_missing : work_suffices (lent_of m.call.patch) ≡ false → UndoListingIs T m m r
   unfolding undo_suffices
   area_missing h = untouched (rw h) (area_short T.document T.patch (lending_of m) h)
 
-  pub nodes_missing : length m.call.patch.nodes < work_nodes → UndoListingIs T m m r
-  nodes_missing h = area_missing (nodes_short (lent_of m.call.patch) h)
-
-  pub index_missing : work_nodes ≤ length m.call.patch.nodes → length m.call.patch.index < work_entries → UndoListingIs T m m r
-  index_missing h i = area_missing (index_short (lent_of m.call.patch) h i)
-
-  pub buffer_missing : work_nodes ≤ length m.call.patch.nodes → work_entries ≤ length m.call.patch.index → length m.call.work < max_bytes
-      → UndoListingIs T m m r
+  pub buffer_missing : work_suffices (lent_of m.call.patch) ≡ true → length m.call.work < max_bytes → UndoListingIs T m m r
   unfolding undo_suffices
-  buffer_missing h i j =
-      untouched (rw (work_suffices_lem (lent_of m.call.patch) h i, lt-leb max_bytes (length m.call.work) j))
-      (buffer_short T.document T.patch (lending_of m) j)
+  buffer_missing h j = untouched (rw (h, lt-leb max_bytes (length m.call.work) j)) (buffer_short T.document T.patch (lending_of m) j)
 
 -- ---- SPECIFICATION 2.4: after any other answer the work area is all zero; where a work buffer is longer than stated, the part beyond is unchanged.
 undo_same : (D P : Bytes) (l l' : Lending UndoLent) → work_suffices l.call.patch ≡ work_suffices l'.call.patch
@@ -108,16 +90,16 @@ memory_of out undo list ns xs ws =
     record { call = record { patch = record { output = out; nodes = ns; index = xs }; undo = undo; work = ws }; list = list }
 
 pub undo_listed : {T : Texts} {r : UndoAnswer} {out out' undo undo' : Bytes} {list list' : List ℕ} {ns ns' : List Row} {xs xs' : List ℕ} {ws ws' : Bytes}
-    → work_nodes ≤ length ns → work_entries ≤ length xs → max_bytes ≤ length ws
+    (done : Result Written Answer) → work_nodes ≤ length ns → work_entries ≤ length xs → max_bytes ≤ length ws
     → CheckedIs T (memory_of out undo list (take work_nodes ns) (take work_entries xs) (take max_bytes ws))
-    (record { texts = record { document = out'; undo = undo' }; list = list' }) r
+    (record { texts = record { document = out'; undo = undo' }; list = list' }) done → r ≡ as_undo_answer done
     → (rows : List Row) → length rows ≡ length (take work_nodes ns) → ns' ≡ filled no_node (rows ++ drop work_nodes ns) 0 work_nodes
     → (entries : List ℕ) → length entries ≡ length (take work_entries xs) → xs' ≡ filled 0 (entries ++ drop work_entries xs) 0 work_entries
     → (buffer : Bytes) → length buffer ≡ length (take max_bytes ws) → ws' ≡ filled 0 (buffer ++ drop max_bytes ws) 0 max_bytes
     → UndoListingIs T (memory_of out undo list ns xs ws) (memory_of out' undo' list' ns' xs' ws') r
 unfolding undo_suffices
-undo_listed {T} {out = out} {ns = ns} {xs = xs} {ws = ws}
-    long longer longest is rows same nodes_are entries same_entries index_is buffer same-buffer work-is =
+undo_listed {T} {out = out} {out'} {undo} {undo'} {list} {list'} {ns = ns} {xs = xs} {ws = ws}
+    done long longer longest is told rows same nodes_are entries same_entries index_is buffer same-buffer work-is =
     let all : Memory = record { output = out; nodes = ns; index = xs } in
     let part : Memory = record { output = out; nodes = take work_nodes ns; index = take work_entries xs } in
     let h : work_nodes ≤ length (take work_nodes ns) = omega (arith, length-take-le work_nodes ns long) in
@@ -127,7 +109,10 @@ undo_listed {T} {out = out} {ns = ns} {xs = xs} {ws = ws}
     let part-enough : work_suffices (lent_of part) ≡ true = work_suffices_lem (lent_of part) h i in
     let suffices : (work_suffices (lent_of all) && leb max_bytes (length ws)) ≡ true = rw (enough, le-leb max_bytes (length ws) longest) in
     record {
-      listed = listed_as (undo_same T.document T.patch _ _ (enough ∙ sym part-enough) refl refl refl longest (omega (arith, j))) (is h i j);
+      listed =
+          listed_as (undo_same T.document T.patch _ _ (enough ∙ sym part-enough) refl refl refl longest (omega (arith, j)))
+          (subst (UndoListedIs _ (record { texts = record { document = out; undo = undo }; list = list })
+          (record { texts = record { document = out'; undo = undo' }; list = list' })) (sym told) (is h i j));
       nodes-after = nodes_are ∙ part-wiped work_nodes no_node ns rows long same ∙ ap (λ b. wiped b work_nodes no_node ns) (sym suffices);
       index_after = index_is ∙ part-wiped work_entries 0 xs entries longer same_entries ∙ ap (λ b. wiped b work_entries 0 xs) (sym suffices);
       work_after_lem = work-is ∙ part-wiped max_bytes 0 ws buffer longest same-buffer ∙ ap (λ b. wiped b max_bytes 0 ws) (sym suffices);

@@ -4,13 +4,13 @@ ghost use Rattle.undo_listing.specs.Call.{memory_before, memory_after, UndoListi
 
 use crate::stages::checked;
 use index;
-use json_patch::refused;
-use spec::{limits, refusal};
+use json_patch::{clear, refusal_answer, suffices};
+use spec::limits;
+use spec::refusal::Refusal;
 use tape::layout;
 use tape::layout::Node;
-use tape::moves::wipe;
-use undo::{UndoAnswer, without};
-use undo_log::log::clear;
+use undo::UndoAnswer;
+use undo_log::log;
 
 // As the call with an undo: the patch is applied to the document, the result written to `output` and the patch that
 // takes it back to `undo`. The origins of the result's values are written to `origins`. A refusal leaves all three
@@ -29,16 +29,10 @@ pub fn apply_with_undo_listing<'a>(
         (memory_before output.old undo.old origins.old nodes.old index.old work.old)
         (memory_after output.new undo.new origins.new nodes.new index.new work.new) result }
 {
-    if nodes.len() < layout::ROWS {
-        return without(refused(refusal::WORK_TOO_SHORT, 0, 0, 0));
+    if !suffices(nodes, index) || work.len() < limits::MAX_BYTES {
+        return UndoAnswer::from(Err(refusal_answer(Refusal::WorkTooShort, 0, 0, 0)));
     }
-    if index.len() < index::SLOTS {
-        return without(refused(refusal::WORK_TOO_SHORT, 0, 0, 0));
-    }
-    if work.len() < limits::MAX_BYTES {
-        return without(refused(refusal::WORK_TOO_SHORT, 0, 0, 0));
-    }
-    let answer = checked(
+    let done = checked(
         [document, patch],
         output,
         undo,
@@ -47,8 +41,7 @@ pub fn apply_with_undo_listing<'a>(
         &mut index[..index::SLOTS],
         &mut work[..limits::MAX_BYTES],
     );
-    wipe(nodes);
-    index::empty(index);
-    clear(work);
-    answer
+    clear(nodes, index);
+    log::clear(work);
+    UndoAnswer::from(done)
 }

@@ -23,15 +23,6 @@ pub fn json_patch_apply_with_undo_origins<'a>(
         (memory_after output.new undo.new origins.new nodes.new index.new work.new) answer.new result }
 {
     let r = apply_with_undo_listing(document, patch, output, undo, origins, nodes, index, work);
-    let plain = r.answer;
-    *answer = [
-        plain.number as u64,
-        plain.text as u64,
-        plain.op as u64,
-        plain.place as u64,
-        plain.pointer as u64,
-        plain.length as u64,
-        r.undo as u64,
-    ];
-    plain.number as u32
+    *answer = r.into();
+    u32::from(r.answer.number)
 }

@@ -1,5 +1,6 @@
 -- The digits of a position: the last one behind those of a tenth of it, and how many there are.
-use Prim.Native.Nat.{ℕ, zero, suc, ◌+◌, ◌/◌, ◌%◌, ◌≤◌, ◌<◌}
+use Prim.Native.Nat.{ℕ, zero, suc, ◌+◌, ◌*◌, ◌/◌, ◌%◌, ◌^◌, ◌≤◌, ◌<◌}
+use Rattle.std.proofs.Math.Nat.{pow-zero, pow-suc}
 use native.Mathlib.Omega.{arith}
 use mathlib.Core.Path.{◌≡◌, refl, sym, ap, ◌∙◌}
 use mathlib.Core.Bool.{true, false}
@@ -65,32 +66,18 @@ small_length n h = ap length (index_small n h)
 pub large_length : (n : ℕ) → 10 ≤ n → length (index_token n) ≡ length (index_token (n / 10)) + 1
 large_length n h = ap length (index_large n h) ∙ length-append (index_token (n / 10)) ((48 + n % 10) ∷ [])
 
-few_digits : (fuel n : ℕ) → n < fuel → length (index_token n) ≤ n / 10 + 1
-few_digits zero n h = absurd (omega arith)
-few_digits (suc fuel) n h =
-    by_test (ltb n 10)
-    (λ q. let e = small_length n (ltb-true n 10 q) in omega arith)
-    λ q.
-    let large = ltb-false n 10 q in
-    let e = large_length n large in
-    let k = few_digits fuel (n / 10) (omega arith) in
-    omega arith
+tens : (k : ℕ) → 1 ≤ 10 ^ k
+tens zero = omega (arith, pow-zero 10)
+tens (suc k) = omega (arith, pow-suc 10 k, tens k)
 
-pub index_short : (n : ℕ) → length (index_token n) ≤ n / 10 + 1
-index_short n = few_digits (suc n) n (omega arith)
-
-some_digits_lem : (n : ℕ) → 0 < length (index_token n)
-some_digits_lem n =
-    by_test (ltb n 10) (λ q. let e = small_length n (ltb-true n 10 q) in omega arith)
-    λ q. let e = large_length n (ltb-false n 10 q) in omega arith
-
--- a turn of the loop that counts them stays in range
-pub count_fits : (n rest count : ℕ) → 10 ≤ rest → length (index_token n) + 1 ≡ count + length (index_token rest) → count + 1 ≤ n / 10 + 1
-count_fits n rest count h e =
-    let l = large_length rest h in
-    let s = some_digits_lem (rest / 10) in
-    let k = index_short n in
-    omega arith
+-- one more than the power of ten that is reached
+pub length_by_power : (k n : ℕ) → 10 ^ k ≤ n → n < 10 * 10 ^ k → length (index_token n) ≡ k + 1
+length_by_power zero n l h = small_length n (omega (arith, pow-zero 10))
+length_by_power (suc k) n l h =
+    let power : 10 ^ suc k ≡ 10 ^ k * 10 = pow-suc 10 k in
+    let some : 1 ≤ 10 ^ k = tens k in
+    let tenth = length_by_power k (n / 10) (omega arith) (omega arith) in
+    large_length n (omega arith) ∙ ap (λ m. m + 1) tenth ∙ omega arith
 
 -- ---- digits need no escape
 digit-written : (d : ℕ) → d < 10 → write_character (48 + d) ≡ (48 + d) ∷ []

@@ -5,7 +5,9 @@ use mathlib.Core.Path.{◌≡◌, refl, sym, ap, ◌∙◌}
 use mathlib.Core.Bool.{true, false}
 use mathlib.Core.List.{List, [], ◌∷◌, ◌++◌}
 use lib.Dec.{leb}
-use lib.ListN.{length, take, drop, set, length-drop, length-set}
+use lib.ListN.{length, take, drop, set, replicate, length-take, length-drop, length-set}
+use Rattle.tape.specs.Columns.{filled}
+use Rattle.tape.proofs.Columns.{filled-first}
 use lib.Seq.{drop-drop, take_all}
 use borrow.Author.Tests.{le-leb, lt-leb}
 use Rattle.spec.specs.Bytes.{Bytes, ascii}
@@ -157,3 +159,10 @@ copied_out {work = work} {out} os start rest noted e f short room p q =
     let held = behind_held os noted start (omega (arith, noted.long)) short in
     let placed = placed_as (text_bracket os ∙ ap (λ b. (91 ∷ []) ++ b) (sym (written_plain _ ∙ all ∙ held))) (placed_then p q) in
     (placed_whole placed room).1
+
+-- ---- the front of a buffer made zero
+pub filled_front : (n : ℕ) (work : Bytes) {front : Bytes} → n ≤ length work → front ≡ replicate (length (take n work)) 0
+    → front ++ drop n work ≡ filled 0 work 0 n
+filled_front n work {front} h e =
+    let long : length (take n work) ≡ n = length-take n work ∙ omega arith in
+    ap (λ f. f ++ drop n work) (e ∙ ap (λ k. replicate k 0) long) ∙ sym (filled-first 0 work n h)

@@ -81,14 +81,12 @@ laid_from before start {text} {part} p room =
     ∙ ap (λ l. text ++ l) (ap (drop (length text)) whole ∙ drop-drop (length text) start before)
 
 -- this many bytes before the end of the buffer
-pub lay_down_is : (before : Bytes) (bytes : ℕ) {text part : Bytes} {next : ℕ} → Placed text 0 (lent_part before (length before - bytes)) part next
-    → (start : ℕ) → start + bytes ≡ length before → length text ≤ bytes
-    → drop start (back before (length before - bytes) part) ≡ text ++ drop (start + length text) before
-lay_down_is before bytes {text} {part} {next} p start e h = go (length before - bytes) (omega arith) p
-  where
-    go : (s : ℕ) → s ≡ start → Placed text 0 (lent_part before s) part next → drop start (back before s part) ≡ text ++ drop (start + length text) before
-    go s same q =
-        ap (λ k. drop k (back before s part)) (sym same) ∙ laid_from before s q (omega arith) ∙ ap (λ k. text ++ drop (k + length text) before) same
+pub lay_down_is : (before : Bytes) (bytes place : ℕ) {text part : Bytes} {next : ℕ} → place ≡ length before - bytes
+    → Placed text 0 (lent_part before place) part next → (start : ℕ) → start + bytes ≡ length before → length text ≤ bytes
+    → drop start (back before place part) ≡ text ++ drop (start + length text) before
+lay_down_is before bytes place {text} {part} is p start e h =
+    let same : place ≡ start = omega arith in
+    ap (λ k. drop k (back before place part)) (sym same) ∙ laid_from before place p (omega arith) ∙ ap (λ k. text ++ drop (k + length text) before) same
 
 -- ---- the log with one more operation
 pub noted_more : {w : Table} {log : Log} {action : Action} {target : Target} {before after : Bytes} {os : List Operation} {o : Operation} (r : Log)

@@ -1,4 +1,5 @@
 -- Laws of the pieces of an operation's text, and of the value that it carries.
+use mathlib.Core.Logic.{◌⊎◌, inl, inr}
 use Prim.Native.Nat.{ℕ, suc, ◌+◌, ◌≤◌, min}
 use native.Mathlib.Omega.{arith}
 use mathlib.Core.Path.{◌≡◌, refl, sym, ap, subst, ◌∙◌}
@@ -45,13 +46,10 @@ pub record Valued (w : Table) (row : ℕ) (o : Operation) : Type 0 where
   pub held : ValueHeld w row o.value
 
 module _ (w : Table) (action : Action) (o : Operation) (k : Carries w action o) where
-  pub valued_add : {row : ℕ} → action ≡ Add row → Valued w row o
+  pub valued : {row : ℕ} → (action ≡ Add row) ⊎ (action ≡ Replace row) → Valued w row o
   unfolding Carries uses_value
-  valued_add e = let both = subst (λ a. Carries w a o) e k in record { uses = ap uses_value both.0; held = both.1 }
-
-  pub valued_replace : {row : ℕ} → action ≡ Replace row → Valued w row o
-  unfolding Carries uses_value
-  valued_replace e = let both = subst (λ a. Carries w a o) e k in record { uses = ap uses_value both.0; held = both.1 }
+  valued (inl e) = let both = subst (λ a. Carries w a o) e k in record { uses = ap uses_value both.0; held = both.1 }
+  valued (inr e) = let both = subst (λ a. Carries w a o) e k in record { uses = ap uses_value both.0; held = both.1 }
 
   pub bare : action ≡ Remove → uses_value o.kind ≡ false
   unfolding Carries uses_value
@@ -110,13 +108,9 @@ put-value-is p q s =
     }
 
 module _ {w : Table} {action : Action} {before after : Bytes} {n : ℕ} where
-  pub put-ending_add : {row : ℕ} → action ≡ Add row → PutValueIs w row before after n → PutEndingIs w action before after n
-  put-ending_add e p =
-      record { some = p.some; held = λ o k. let v = valued_add w action o k e in placed_as (ending-valued v) (p.held o.value v.held) }
-
-  pub put-ending_replace : {row : ℕ} → action ≡ Replace row → PutValueIs w row before after n → PutEndingIs w action before after n
-  put-ending_replace e p =
-      record { some = p.some; held = λ o k. let v = valued_replace w action o k e in placed_as (ending-valued v) (p.held o.value v.held) }
+  pub put-ending_value : {row : ℕ} → (action ≡ Add row) ⊎ (action ≡ Replace row) → PutValueIs w row before after n → PutEndingIs w action before after n
+  put-ending_value e p =
+      record { some = p.some; held = λ o k. let v = valued w action o k e in placed_as (ending-valued v) (p.held o.value v.held) }
 
   pub put-ending_remove : action ≡ Remove → Placed (125 ∷ []) 0 before after n → PutEndingIs w action before after n
   put-ending_remove e p =

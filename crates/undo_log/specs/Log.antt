@@ -1,6 +1,8 @@
 -- The undo as it is laid down while the patch runs: from the end of a buffer towards its front, so that the last operation's stands first.
-use Rattle.std.specs.Prelude.{ℕ, suc, ◌+◌, ◌≤◌, min, ◌≡◌, false, List, [], ◌∷◌, ◌++◌, leb, length, drop, if◌then◌else◌}
+use Rattle.std.specs.Prelude.{ℕ, suc, ◌+◌, ◌≤◌, min, ◌≡◌, false, List, [], ◌∷◌, ◌++◌, leb, length, drop, if◌then◌else◌, Result, Ok, Err}
 use Rattle.spec.specs.Refusal.{done, input_too_long, too_deep, too_many_nodes, too_many_operations}
+use Rattle.spec.specs.Fault.{number_of}
+use Rattle.spec.specs.declared.refusal.Refusal.{Refusal}
 use Rattle.spec.specs.Limits.{max_bytes, max_depth, max_nodes, max_operations}
 use Rattle.spec.specs.Bytes.{Bytes, Text, ascii}
 use Rattle.spec.specs.Forest.{Forest, count}
@@ -83,8 +85,13 @@ undo_number u =
     else too_deep)
     else too_many_operations
 
-abbrev pub VerdictIs : Log → ℕ → Type 0
-VerdictIs log r = (work : Bytes) (os : List Operation) → Noted log work os → r ≡ undo_number (undo_value os)
+-- the number of a refusal, and 0 where there is none
+abbrev pub number_for : Result (Unit {0}) Refusal → ℕ
+number_for (Ok u) = done
+number_for (Err refusal) = number_of refusal
+
+abbrev pub VerdictIs : Log → Result (Unit {0}) Refusal → Type 0
+VerdictIs log r = (work : Bytes) (os : List Operation) → Noted log work os → number_for r ≡ undo_number (undo_value os)
 
 -- the length of a text that is within its limit
 abbrev pub LengthIs : Log → ℕ → Type 0

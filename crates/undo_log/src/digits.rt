@@ -11,6 +11,7 @@ fn last_digit(n: usize) -> u8
     b'0' + (n % 10) as u8
 }
 
+// It calls itself, since the last digit is the first that is known and no digit is kept.
 // They are laid down at the front of `out`, which is the rest of the output: as many as there is room for. The answer
 // is how many.
 pub fn put_digits(n: usize, out: &mut [u8]) -> usize
@@ -28,11 +29,8 @@ pub fn put_digits(n: usize, out: &mut [u8]) -> usize
 pub fn digits_length(n: usize) -> usize
     ensures { result ≡ length (index_token n) }
 {
-    let mut count = 1;
-    let mut rest = n;
-    while 10 <= rest {
-        rest = rest / 10;
-        count += 1;
+    match n.checked_ilog10() {
+        Some(tens) => tens as usize + 1,
+        None => 1,
     }
-    count
 }

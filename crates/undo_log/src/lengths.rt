@@ -1,6 +1,6 @@
 // How long the pieces of an operation's text are. Each length is cut off one past the limit of bytes, so that none
 // wraps.
-ghost use Rattle.std.specs.Prelude.{◌≡◌, ◌+◌, min, length};
+ghost use Rattle.std.specs.Prelude.{◌≡◌, ◌+◌, length};
 ghost use Rattle.tape.specs.Lent.{lent, before};
 ghost use Rattle.undo_log.specs.Pieces.{head_bytes, target_bytes, path_bytes, capped};
 ghost use Rattle.undo_log.specs.Pieces.{ValueLengthIs, EndingLengthIs, OperationLengthIs, MoreBytesIs};
@@ -13,33 +13,20 @@ use tape::layout::{Node, Texts};
 use text::written_length;
 use writer::measure;
 
-// The sum of two numbers, cut off at `most`.
-pub fn sum(a: usize, b: usize, most: usize) -> usize
-    ensures { result ≡ min (a + b) most }
-{
-    if most < a {
-        return most;
-    }
-    if most - a < b {
-        return most;
-    }
-    a + b
-}
-
 // The sum of two lengths.
 fn joined(a: usize, b: usize) -> usize
     ensures { result ≡ capped (a + b) }
 {
-    sum(a, b, limits::MAX_BYTES + 1)
+    a.saturating_add(b).min(limits::MAX_BYTES + 1)
 }
 
 fn target_length<'a>(texts: Texts<'a>, target: Target) -> usize
     ensures { result ≡ capped (length (target_bytes (lent texts) target)) }
 {
     match target {
-        Target::At(path) => return joined(written_length(2, part(texts, path)), 0),
+        Target::At(path) => joined(written_length(2, part(texts, path)), 0),
         Target::Appended(path, index) => {
-            return joined(written_length(2, part(texts, path)), digits_length(index));
+            joined(written_length(2, part(texts, path)), digits_length(index))
         }
     }
 }
@@ -54,9 +41,9 @@ fn head_length(action: Action) -> usize
     ensures { result ≡ length (head_bytes action) }
 {
     match action {
-        Action::Add(row) => return 20,
-        Action::Remove => return 23,
-        Action::Replace(row) => return 24,
+        Action::Add(_) => 20,
+        Action::Remove => 23,
+        Action::Replace(_) => 24,
     }
 }
 
@@ -71,9 +58,8 @@ fn ending_length<'a>(texts: Texts<'a>, nodes: &[Node], action: Action) -> usize
     ensures { EndingLengthIs (before texts nodes.now) action result }
 {
     match action {
-        Action::Add(row) => return value_length(texts, nodes, row),
-        Action::Remove => return 1,
-        Action::Replace(row) => return value_length(texts, nodes, row),
+        Action::Add(row) | Action::Replace(row) => value_length(texts, nodes, row),
+        Action::Remove => 1,
     }
 }
 

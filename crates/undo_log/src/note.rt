@@ -3,7 +3,7 @@ ghost use Rattle.tape.specs.Lent.{before};
 ghost use Rattle.undo_log.specs.Log.{NoteIs};
 ghost use Rattle.undo_log.specs.Pieces.{ShallowIs, WithValueIs, MoreNodesIs, LayDownIs};
 
-use crate::lengths::{more_bytes, sum};
+use crate::lengths::more_bytes;
 use crate::log::Log;
 use crate::pieces::put_operation;
 use spec::limits;
@@ -11,8 +11,9 @@ use tape::fields::Spelling;
 use tape::layout::{Node, Texts};
 use tape::nodes::{span, within};
 
-// What an operation of the undo does. A value is given by its row.
-#[derive(Clone, Copy)]
+// What an operation of the undo does. A value is given by its row. Crate changes has the same three as `Change`, of
+// rows of another table; undo_log stands below it (crates.txt).
+#[derive(Clone, Copy, Debug, PartialEq, Eq)]
 pub enum Action {
     Add(usize),
     Remove,
@@ -38,9 +39,8 @@ fn still_shallow(nodes: &[Node], shallow: bool, action: Action) -> bool
         return false;
     }
     match action {
-        Action::Add(row) => return within(nodes, row, VALUE_DEPTH),
-        Action::Remove => return true,
-        Action::Replace(row) => return within(nodes, row, VALUE_DEPTH),
+        Action::Add(row) | Action::Replace(row) => within(nodes, row, VALUE_DEPTH),
+        Action::Remove => true,
     }
 }
 
@@ -48,8 +48,9 @@ fn still_shallow(nodes: &[Node], shallow: bool, action: Action) -> bool
 fn with_value(nodes: &[Node], count: usize, row: usize) -> usize
     ensures { WithValueIs nodes.now count row result }
 {
-    let four = sum(count, 4, limits::MAX_NODES + 1);
-    sum(four, span(nodes, row), limits::MAX_NODES + 1)
+    let four = count.saturating_add(4);
+    four.saturating_add(span(nodes, row))
+        .min(limits::MAX_NODES + 1)
 }
 
 // How many values there are, with one more operation.
@@ -57,9 +58,8 @@ fn more_nodes(nodes: &[Node], count: usize, action: Action) -> usize
     ensures { MoreNodesIs nodes.now count action result }
 {
     match action {
-        Action::Add(row) => return with_value(nodes, count, row),
-        Action::Remove => return sum(count, 3, limits::MAX_NODES + 1),
-        Action::Replace(row) => return with_value(nodes, count, row),
+        Action::Add(row) | Action::Replace(row) => with_value(nodes, count, row),
+        Action::Remove => count.saturating_add(3).min(limits::MAX_NODES + 1),
     }
 }
 
@@ -74,10 +74,9 @@ fn lay_down<'a>(
 )
     ensures { LayDownIs (before texts nodes.now) action target bytes work.old work.new }
 {
-    if work.len() < bytes {
+    let Some(start) = work.len().checked_sub(bytes) else {
         return;
-    }
-    let start = work.len() - bytes;
+    };
     put_operation(texts, nodes, action, target, &mut work[start..]);
 }
 
@@ -95,7 +94,7 @@ pub fn note<'a>(
     let bytes = more_bytes(texts, nodes, log.bytes, action, target);
     lay_down(texts, nodes, bytes, action, target, work);
     Log {
-        count: sum(log.count, 1, limits::MAX_OPERATIONS + 1),
+        count: log.count.saturating_add(1).min(limits::MAX_OPERATIONS + 1),
         shallow: still_shallow(nodes, log.shallow, action),
         nodes: more_nodes(nodes, log.nodes, action),
         bytes,

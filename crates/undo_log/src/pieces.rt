@@ -16,13 +16,9 @@ fn put_head(action: Action, out: &mut [u8]) -> usize
     ensures { Placed (head_bytes action) 0 out.old out.new result }
 {
     match action {
-        Action::Add(row) => return put_part(PLAIN_STRING, b",{\"op\":\"add\",\"path\":", out),
-        Action::Remove => return put_part(PLAIN_STRING, b",{\"op\":\"remove\",\"path\":", out),
-        Action::Replace(row) => return put_part(
-            PLAIN_STRING,
-            b",{\"op\":\"replace\",\"path\":",
-            out,
-        ),
+        Action::Add(_) => put_part(PLAIN_STRING, b",{\"op\":\"add\",\"path\":", out),
+        Action::Remove => put_part(PLAIN_STRING, b",{\"op\":\"remove\",\"path\":", out),
+        Action::Replace(_) => put_part(PLAIN_STRING, b",{\"op\":\"replace\",\"path\":", out),
     }
 }
 
@@ -40,8 +36,8 @@ fn put_target<'a>(texts: Texts<'a>, target: Target, out: &mut [u8]) -> usize
     ensures { Placed (target_bytes (lent texts) target) 0 out.old out.new result }
 {
     match target {
-        Target::At(path) => return put_part(ESCAPED_STRING, part(texts, path), out),
-        Target::Appended(path, index) => return put_appended(part(texts, path), index, out),
+        Target::At(path) => put_part(ESCAPED_STRING, part(texts, path), out),
+        Target::Appended(path, index) => put_appended(part(texts, path), index, out),
     }
 }
 
@@ -72,9 +68,8 @@ fn put_ending<'a>(texts: Texts<'a>, nodes: &[Node], action: Action, out: &mut [u
     ensures { PutEndingIs (before texts nodes.now) action out.old out.new result }
 {
     match action {
-        Action::Add(row) => return put_value(texts, nodes, row, out),
-        Action::Remove => return put_byte(b'}', out),
-        Action::Replace(row) => return put_value(texts, nodes, row, out),
+        Action::Add(row) | Action::Replace(row) => put_value(texts, nodes, row, out),
+        Action::Remove => put_byte(b'}', out),
     }
 }
 

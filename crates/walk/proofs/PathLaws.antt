@@ -5,8 +5,11 @@ use mathlib.Core.Path.{◌≡◌, refl, ap, sym, ◌∙◌, subst}
 use mathlib.Core.Bool.{true, false, true≢false}
 use mathlib.Core.List.{[], ◌∷◌}
 use lib.ListN.{length}
+use Rattle.std.specs.Prelude.{Result, Ok, Err}
 use Rattle.spec.specs.Outcome.{Outcome, ok, refused, ◌>>=◌}
-use Rattle.spec.specs.Refusal.{malformed_pointer}
+use Rattle.spec.specs.Fault.{number_of}
+use Rattle.spec.specs.declared.refusal.Refusal.{Refusal}
+use Rattle.spec.specs.declared.refusal.Fault.{Fault}
 use Rattle.spec.specs.Bytes.{Bytes, Text}
 use Rattle.spec.specs.Forest.{Forest, size, nth}
 use Rattle.spec.specs.Pointer as Plain
@@ -35,9 +38,6 @@ use Rattle.table.specs.Sound.{NodeHeld, ForHeld}
 use Rattle.walk.specs.Step.{Stepped, stepped, missed, StepRows, StepIs}
 use Rattle.walk.specs.Path.{farther_by, reached_behind, PathIs, PathRows, TokensFrom, Walked, WalkedBearing, reached, lost, WalkFromIs, WalkIs}
 use Rattle.walk.specs.Path.{WalkRows, walk_lost, walk_last, walk_next, path_root, path_below, is_pointer}
-use Rattle.walk.specs.declared.steps.Child.{Child}
-use Rattle.walk.specs.declared.path.Reached.{Reached}
-use Rattle.walk.specs.declared.path.Reached.TheVariants.{At, Lost}
 use Rattle.walk.proofs.Children.{forget-borne, child-borne, child_at-borne, child_held, child-inside}
 use Rattle.tape.specs.Lent.{Table}
 
@@ -53,15 +53,16 @@ unfolding farther_by farther
 farther_more n (ok a) = refl
 farther_more n (refused number walked) = let e : n + suc walked ≡ n + 1 + walked = omega arith in ap (refused number) e
 
-reached_none : (r : Reached) → reached_behind 0 r ≡ r
+reached_none : (r : Result ℕ Fault) → reached_behind 0 r ≡ r
 unfolding reached_behind
-reached_none (At row) = refl
-reached_none (Lost number walked) = let e : 0 + walked ≡ walked = omega arith in ap (Lost number) e
+reached_none (Ok row) = refl
+reached_none (Err x) = let e : 0 + x.place ≡ x.place = omega arith in ap (λ (p : ℕ). Err (record { refusal = x.refusal; place = p })) e
 
-reached_more : (n : ℕ) (r : Reached) → reached_behind n (reached_behind 1 r) ≡ reached_behind (n + 1) r
+reached_more : (n : ℕ) (r : Result ℕ Fault) → reached_behind n (reached_behind 1 r) ≡ reached_behind (n + 1) r
 unfolding reached_behind
-reached_more n (At row) = refl
-reached_more n (Lost number walked) = let e : n + (1 + walked) ≡ n + 1 + walked = omega arith in ap (Lost number) e
+reached_more n (Ok row) = refl
+reached_more n (Err x) =
+    let e : n + (1 + x.place) ≡ n + 1 + x.place = omega arith in ap (λ (p : ℕ). Err (record { refusal = x.refusal; place = p })) e
 
 -- ---- the first step, once it is known where it leads
 module _ (t : Text) (ts : Tokens) (v : Value.Value) where
@@ -74,18 +75,18 @@ module _ (t : Text) (ts : Tokens) (v : Value.Value) where
   walk_off n p h = rw h
 
 -- ---- the origins forgotten
-forget_walked : {w : Table} {row span : ℕ} {o : Outcome Value.Value} {r : Reached} → WalkedBearing w row span o r → Walked w row span (forgotten o) r
+forget_walked : {w : Table} {row span : ℕ} {o : Outcome Value.Value} {r : Result ℕ Fault} → WalkedBearing w row span o r → Walked w row span (forgotten o) r
 unfolding forgotten
 forget_walked {w} (reached {c = c} {kids} e n low high) = reached (ap forgotten e ∙ ap ok (forget-borne w.texts c kids)) n low high
 forget_walked (lost e) = lost (ap forgotten e)
 
-pub plain_walked : {w : Table} {row span : ℕ} (ts : Tokens) (c : Cell) (kids : Forest Cell) {r : Reached}
+pub plain_walked : {w : Table} {row span : ℕ} (ts : Tokens) (c : Cell) (kids : Forest Cell) {r : Result ℕ Fault}
     → WalkedBearing w row span (walk ts (borne w.texts c kids)) r → Walked w row span (Plain.walk ts (meant w.texts c kids)) r
 plain_walked {w} {row} {span} ts c kids {r} h =
     subst (λ o. Walked w row span o r) (forget-walk ts (borne w.texts c kids) ∙ ap (Plain.walk ts) (forget-borne w.texts c kids)) (forget_walked h)
 
 -- a walk's contract, by what it says with origins
-module _ {w : Table} {row : ℕ} {path : Spelling} {at : ℕ} {r : Reached} where
+module _ {w : Table} {row : ℕ} {path : Spelling} {at : ℕ} {r : Result ℕ Fault} where
   pub walk-from_is : WalkRows w path at row r
       → ((ts : Tokens) → Short w.texts → at ≤ length (part_of w.texts path) → TokensFrom w.texts path at ts
       → ForHeld w row (λ c kids. WalkedBearing w row (size kids) (walk ts (borne w.texts c kids)) r)) → WalkFromIs w row path at r
@@ -111,7 +112,7 @@ underway_all {c = c} {kids} {ts} t n =
 
 module _ {w : Table} {start span : ℕ} {walked row : ℕ} {o : Outcome Value.Value} where
   -- no token is left
-  pub underway_done : {left : Outcome Tokens} → left ≡ ok [] → Underway w start span left walked row o → WalkedBearing w start span o (At row)
+  pub underway_done : {left : Outcome Tokens} → left ≡ ok [] → Underway w start span left walked row o → WalkedBearing w start span o (Ok row)
   unfolding walk farther_by
   underway_done e u =
       let same : ok [] ≡ ok u.ts = sym e ∙ u.tokens in
@@ -131,24 +132,25 @@ module _ {w : Table} {start span : ℕ} {walked row : ℕ} {o : Outcome Value.Va
         ∙ ap (λ ts. farther_by walked (walk ts (borne w.texts u.c u.kids))) (first.is ∙ ap (λ n. n ∷ first.rest) (sym named.says))
 
     -- the step to a child
-    abbrev Step : Child → Type 0
+    abbrev Step : Result ℕ Refusal → Type 0
     Step r = Stepped row u.kids (Plain.child_at (name_text w.texts name) (meant w.texts u.c u.kids)) r
 
     named-child : {p : Outcome ℕ} → Plain.child_at (name_text w.texts name) (meant w.texts u.c u.kids) ≡ p
         → child_at (name_text w.texts name) (borne w.texts u.c u.kids) ≡ p
     named-child e = child_at-borne w.texts (name_text w.texts name) u.c u.kids e
 
-    step_lost : {r : Child} → Step r → (number : ℕ) → r ≡ Child.Refused number → WalkedBearing w start span o (Lost number walked)
+    step_lost : {r : Result ℕ Refusal} → Step r → (x : Refusal) → r ≡ Err x
+        → WalkedBearing w start span o (Err (record { refusal = x; place = walked }))
     unfolding farther_by
-    step_lost (stepped k at' e l p) number f = absurd (let z : ◌≡◌ {A = ℕ} 0 1 = cc in omega arith)
-    step_lost (missed n e) number f =
-        let same : n ≡ number = cc in
+    step_lost (stepped k at' e l p) x f = absurd (let z : ◌≡◌ {A = ℕ} 0 1 = cc in omega arith)
+    step_lost (missed y e) x f =
+        let same : y ≡ x = cc in
         let here : walked + 0 ≡ walked = omega arith in
         lost
-        (outcome ∙ ap (farther_by walked) (walk_off (name_text w.texts name) first.rest (borne w.texts u.c u.kids) n 0 (named-child e))
-        ∙ ap (λ m. refused m (walked + 0)) same ∙ ap (refused number) here)
+        (outcome ∙ ap (farther_by walked) (walk_off (name_text w.texts name) first.rest (borne w.texts u.c u.kids) (number_of y) 0 (named-child e))
+        ∙ ap (λ z. refused (number_of z) (walked + 0)) same ∙ ap (refused (number_of x)) here)
 
-    step_next : {r : Child} → Step r → (child : ℕ) → r ≡ Child.At child → Underway w start span (tokens_behind s t) (walked + 1) child o
+    step_next : {r : Result ℕ Refusal} → Step r → (child : ℕ) → r ≡ Ok child → Underway w start span (tokens_behind s t) (walked + 1) child o
     step_next (stepped k at' e l p) child f =
         let same : at' ≡ child = cc in
         let place : child ≡ child_row row k u.kids = sym same ∙ p in
@@ -167,16 +169,16 @@ module _ {w : Table} {start span : ℕ} {walked row : ℕ} {o : Outcome Value.Va
         }
     step_next (missed n e) child f = absurd (let z : ◌≡◌ {A = ℕ} 0 1 = cc in omega arith)
 
-    module _ (r : Child) (step_is : StepIs w row name r) where
-      pub underway_lost : (number : ℕ) → r ≡ Child.Refused number → WalkedBearing w start span o (Lost number walked)
-      underway_lost number e = step_lost (step_is.held named.token u.c u.kids u.held) number e
+    module _ (r : Result ℕ Refusal) (step_is : StepIs w row name r) where
+      pub underway_lost : (x : Refusal) → r ≡ Err x → WalkedBearing w start span o (Err (record { refusal = x; place = walked }))
+      underway_lost x e = step_lost (step_is.held named.token u.c u.kids u.held) x e
 
-      pub underway_next : (child : ℕ) → r ≡ Child.At child → Underway w start span (tokens_behind s t) (walked + 1) child o
+      pub underway_next : (child : ℕ) → r ≡ Ok child → Underway w start span (tokens_behind s t) (walked + 1) child o
       underway_next child e = step_next (step_is.held named.token u.c u.kids u.held) child e
 
 -- ---- the loop: its state, of whatever node the table holds in the row where it began
 pub record Walking (w : Table) (start : ℕ) (path : Spelling) (first at row walked : ℕ) : Type 0 where
-  pub so_far : (r : Reached) → WalkRows w path at row r → WalkRows w path first start (reached_behind walked r)
+  pub so_far : (r : Result ℕ Fault) → WalkRows w path at row r → WalkRows w path first start (reached_behind walked r)
   -- each token walked took at least a slash
   pub counted : walked ≤ at
   pub inside : first ≤ length (part_of w.texts path) → at ≤ length (part_of w.texts path)
@@ -195,7 +197,7 @@ walking_all w start path first =
 
 module _ {w : Table} {start : ℕ} {path : Spelling} {first at row walked : ℕ} {name : Name} {t : Token} (g : Walking w start path first at row walked)
     (pointer : Bytes) (pointer_is : pointer ≡ part_of w.texts path) (is : TokenAt pointer at t)
-    (named : TokenNameIs w.texts path at t name) (r : Child) (step_is : StepIs w row name r) where
+    (named : TokenNameIs w.texts path at t name) (r : Result ℕ Refusal) (step_is : StepIs w row name r) where
   token_is : TokenAt (part_of w.texts path) at t
   token_is = subst (λ s. TokenAt s at t) pointer_is is
 
@@ -203,30 +205,31 @@ module _ {w : Table} {start : ℕ} {path : Spelling} {first at row walked : ℕ}
   named_step : StepRows w row (token_name w.texts path at t) r
   named_step = subst (λ n. StepRows w row n r) named.is step_is.rows
 
-  pub walking_lost : (number : ℕ) → r ≡ Child.Refused number → WalkFromIs w start path first (Lost number walked)
+  pub walking_lost : (x : Refusal) → r ≡ Err x → WalkFromIs w start path first (Err (record { refusal = x; place = walked }))
   unfolding reached_behind
-  walking_lost number e =
+  walking_lost x e =
       let here : walked + 0 ≡ walked = omega arith in
       walk-from_is
-      (subst (λ n. WalkRows w path first start (Lost number n)) here (g.so_far (Lost number 0) (walk_lost t token_is (rw e at named_step))))
-      (λ ts short i from c kids n. underway_lost token_is (named.names short (g.inside i)) (g.on ts short i from c kids n) r step_is number e)
+      (subst (λ (n : ℕ). WalkRows w path first start (Err (record { refusal = x; place = n }))) here
+      (g.so_far (Err (record { refusal = x; place = 0 })) (walk_lost t token_is (rw e at named_step))))
+      (λ ts short i from c kids n. underway_lost token_is (named.names short (g.inside i)) (g.on ts short i from c kids n) r step_is x e)
 
-  module _ (child : ℕ) (e : r ≡ Child.At child) where
+  module _ (child : ℕ) (e : r ≡ Ok child) where
     onward : (ts : Tokens) → Short w.texts → first ≤ length (part_of w.texts path) → TokensFrom w.texts path first ts
         → ForHeld w start λ c kids.
         Underway w start (size kids) (tokens_behind (part_of w.texts path) t) (walked + 1) child (walk ts (borne w.texts c kids))
     onward ts short i from c kids n =
         underway_next token_is (named.names short (g.inside i)) (g.on ts short i from c kids n) r step_is child e
 
-    stepped_to : {u : Token} → t ≡ u → StepRows w row (token_name w.texts path at u) (Child.At child)
+    stepped_to : {u : Token} → t ≡ u → StepRows w row (token_name w.texts path at u) (Ok child)
     stepped_to {u} f =
-        subst (λ v. StepRows w row (token_name w.texts path at v) (Child.At child)) f
+        subst (λ v. StepRows w row (token_name w.texts path at v) (Ok child)) f
         (subst (StepRows w row (token_name w.texts path at t)) e named_step)
 
-    pub walking_done : (end : ℕ) → t ≡ Token.Last end → WalkFromIs w start path first (At child)
+    pub walking_done : (end : ℕ) → t ≡ Token.Last end → WalkFromIs w start path first (Ok child)
     unfolding reached_behind
     walking_done end f =
-        walk-from_is (g.so_far (At child) (walk_last end (subst (λ u. TokenAt (part_of w.texts path) at u) f token_is) (stepped_to f)))
+        walk-from_is (g.so_far (Ok child) (walk_last end (subst (λ u. TokenAt (part_of w.texts path) at u) f token_is) (stepped_to f)))
         (λ ts short i from c kids n. underway_done (behind_last (part_of w.texts path) t end f) (onward ts short i from c kids n))
 
     pub walking_next : (end next : ℕ) → t ≡ Token.Next end next → Walking w start path first next child (walked + 1)
@@ -254,19 +257,20 @@ first_of {f} pointer e is = subst (λ s. FirstOf s f) e is
 
 module _ {w : Table} {start : ℕ} {path : Spelling} (pointer : Bytes) (pointer_is : pointer ≡ part_of w.texts path) where
   -- a text without tokens is no pointer
-  pub walk_malformed : accepted (tokens (decode pointer)) ≡ false → WalkIs w start path (Lost malformed_pointer 0)
+  pub walk_malformed : accepted (tokens (decode pointer)) ≡ false → {x : Fault} → x ≡ record { refusal = Refusal.MalformedPointer; place = 0 }
+      → WalkIs w start path (Err x)
   unfolding accepted
-  walk_malformed h =
+  walk_malformed h is =
       let no : is_pointer w.texts path ≡ false = rw (← pointer_is) h in
       record {
-        malformed = λ e. refl;
+        malformed = λ e. ap Err is;
         rows = λ e. absurd (true≢false (sym e ∙ no));
         held = λ ts short p c kids n. absurd (true≢false (sym (ap accepted p.is) ∙ no));
         bearing = λ ts short p c kids n. absurd (true≢false (sym (ap accepted p.is) ∙ no));
       }
 
   module _ (well : accepted (tokens (decode pointer)) ≡ true) (f : First) (is : FirstOf pointer f) where
-    walk_is : {r : Reached} → PathRows w start path r → ((ts : Tokens) → Short w.texts → PathIs w.texts path ts
+    walk_is : {r : Result ℕ Fault} → PathRows w start path r → ((ts : Tokens) → Short w.texts → PathIs w.texts path ts
         → ForHeld w start (λ c kids. WalkedBearing w start (size kids) (walk ts (borne w.texts c kids)) r)) → WalkIs w start path r
     walk_is rows all =
         let well_pointer : is_pointer w.texts path ≡ true = rw (← pointer_is) well in
@@ -277,7 +281,7 @@ module _ {w : Table} {start : ℕ} {path : Spelling} (pointer : Bytes) (pointer_
           bearing = all;
         }
 
-    pub walk_root : f ≡ First.Root → WalkIs w start path (At start)
+    pub walk_root : f ≡ First.Root → WalkIs w start path (Ok start)
     unfolding walk
     walk_root e =
         let first_is = first_of pointer pointer_is is in
@@ -286,7 +290,7 @@ module _ {w : Table} {start : ℕ} {path : Spelling} (pointer : Bytes) (pointer_
         let none : ts ≡ [] = WalkLaws.first_root (part_of w.texts path) f first_is ts e p.is in
         reached (ap (λ us. walk us (borne w.texts c kids)) none) n (omega arith) (omega arith))
 
-    pub walk_at : (at : ℕ) → f ≡ First.At at → {r : Reached} → WalkFromIs w start path at r → WalkIs w start path r
+    pub walk_at : (at : ℕ) → f ≡ First.At at → {r : Result ℕ Fault} → WalkFromIs w start path at r → WalkIs w start path r
     walk_at at e {r} g =
         let first_is = first_of pointer pointer_is is in
         walk_is (path_below (subst (FirstOf (part_of w.texts path)) e first_is) g.rows)
@@ -296,7 +300,7 @@ module _ {w : Table} {start : ℕ} {path : Spelling} (pointer : Bytes) (pointer_
         g.bearing ts short inside (record { is = from }))
 
     -- a pointer begins with a slash, or is empty
-    pub walk_never : f ≡ First.Malformed → {r : Reached} → WalkIs w start path r
+    pub walk_never : f ≡ First.Malformed → {r : Result ℕ Fault} → WalkIs w start path r
     walk_never e =
         let some = accepted_ok (tokens (decode pointer)) well in
         absurd (WalkLaws.first_malformed pointer f is some.0 e some.1)

@@ -6,5 +6,5 @@ pub mod steps; // from a value to its child by a token
 pub mod path; // from a value to the one that a pointer leads to
 
 pub use names::{no_name, token_name};
-pub use path::{Reached, walk};
-pub use steps::{Child, step};
+pub use path::walk;
+pub use steps::step;

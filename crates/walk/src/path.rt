@@ -3,29 +3,22 @@ ghost use Rattle.tape.specs.Lent.{before};
 ghost use Rattle.walk.specs.Path.{WalkFromIs, WalkIs};
 
 use crate::names::token_name;
-use crate::steps::{Child, step};
+use crate::steps::step;
 use pointer::{First, Token, first, is_pointer, token};
-use spec::refusal;
+use spec::refusal::{Fault, Refusal};
 use table::spellings::part;
 use tape::fields::Spelling;
 use tape::layout::{Node, Texts};
 
-#[derive(Clone, Copy)]
-pub enum Reached {
-    // the row of the value
-    At(usize),
-    // the number of the refusal, and how many tokens were walked before the one that failed
-    Lost(u8, usize),
-}
-
-// From the node in the row `start`, along the tokens from a place of the pointer on, one after another.
+// From the node in the row `start`, along the tokens from a place of the pointer on, one after another. The answer is
+// the row of the value; the place of a fault is how many tokens were walked before the one that failed.
 fn walk_from<'a>(
     texts: Texts<'a>,
     nodes: &[Node],
     start: usize,
     path: Spelling,
     first: usize,
-) -> Reached
+) -> Result<usize, Fault>
     ensures { WalkFromIs (before texts nodes.now) start path first result }
 {
     let pointer = part(texts, path);
@@ -35,32 +28,36 @@ fn walk_from<'a>(
     loop {
         let t = token(pointer, at);
         let name = token_name(texts, path, at, t);
-        match step(texts, nodes, row, name) {
-            Child::At(child) => {
-                let Token::Next { end: _, next } = t else {
-                    return Reached::At(child);
-                };
-                row = child;
-                at = next;
-                walked += 1;
-            }
-            Child::Refused(number) => return Reached::Lost(number, walked),
-        }
+        // A match, since `map_err` and `?` bring the facts of a closure into the loop.
+        row = match step(texts, nodes, row, name) {
+            Ok(child) => child,
+            Err(refusal) => return Err(refusal.at(walked)),
+        };
+        let Token::Next { end: _, next } = t else {
+            return Ok(row);
+        };
+        at = next;
+        walked += 1;
     }
 }
 
-// From the node in the row `start`, along the pointer that `path` spells. A text that is no pointer is refused with
-// 10.
-pub fn walk<'a>(texts: Texts<'a>, nodes: &[Node], start: usize, path: Spelling) -> Reached
+// From the node in the row `start`, along the pointer that `path` spells, as `walk_from`. A text that is no pointer is
+// malformed.
+pub fn walk<'a>(
+    texts: Texts<'a>,
+    nodes: &[Node],
+    start: usize,
+    path: Spelling,
+) -> Result<usize, Fault>
     ensures { WalkIs (before texts nodes.now) start path result }
 {
     let pointer = part(texts, path);
     if !is_pointer(pointer) {
-        return Reached::Lost(refusal::MALFORMED_POINTER, 0);
+        return Err(Refusal::MalformedPointer.at(0));
     }
     match first(pointer) {
-        First::Root => Reached::At(start),
+        First::Root => Ok(start),
         First::At(at) => walk_from(texts, nodes, start, path, at),
-        First::Malformed => Reached::Lost(refusal::MALFORMED_POINTER, 0),
+        First::Malformed => Err(Refusal::MalformedPointer.at(0)),
     }
 }

@@ -3,68 +3,49 @@ ghost use Rattle.tape.specs.Lent.{before};
 ghost use Rattle.walk.specs.Step.{NthIs, ElementIs, MemberIs, StepIs};
 
 use pointer::{Index, index};
-use spec::refusal;
-use table::find::{Member, find};
+use spec::refusal::Refusal;
+use table::find::find;
 use table::spellings::part;
 use tape::fields::Name;
 use tape::layout::{Node, Texts};
-use tape::nodes::Located;
 use tape::{layout, nodes};
 
-#[derive(Clone, Copy)]
-pub enum Child {
-    // the child's row
-    At(usize),
-    // the number of the refusal
-    Refused(u8),
-}
-
-// The child at a position.
-fn nth<'a>(texts: Texts<'a>, nodes: &[Node], row: usize, k: usize) -> Child
+// The row of the child at a position.
+fn nth<'a>(texts: Texts<'a>, nodes: &[Node], row: usize, k: usize) -> Result<usize, Refusal>
     ensures { NthIs (before texts nodes.now) row k result }
 {
-    let Located::At(at) = nodes::child(nodes, row, k) else {
-        return Child::Refused(refusal::LOCATION_MISSING);
-    };
-    Child::At(at)
+    nodes::child(nodes, row, k).or(Err(Refusal::LocationMissing))
 }
 
-// An array's element.
-fn element<'a>(texts: Texts<'a>, nodes: &[Node], row: usize, token: Name) -> Child
+// The row of an array's element.
+fn element<'a>(texts: Texts<'a>, nodes: &[Node], row: usize, token: Name) -> Result<usize, Refusal>
     ensures { ElementIs (before texts nodes.now) row token result }
 {
-    let i = index(part(texts, token.text));
-    match i {
-        Index::At(n) => return nth(texts, nodes, row, n),
-        Index::Not => return Child::Refused(refusal::NO_INDEX),
-        Index::Dash => return Child::Refused(refusal::LOCATION_MISSING),
-        Index::Beyond => return Child::Refused(refusal::LOCATION_MISSING),
+    match index(part(texts, token.text)) {
+        Index::At(n) => nth(texts, nodes, row, n),
+        Index::Not => Err(Refusal::NoIndex),
+        Index::Dash => Err(Refusal::LocationMissing),
+        Index::Beyond => Err(Refusal::LocationMissing),
     }
 }
 
-// An object's member.
-fn member<'a>(texts: Texts<'a>, nodes: &[Node], row: usize, token: Name) -> Child
+// The row of an object's member.
+fn member<'a>(texts: Texts<'a>, nodes: &[Node], row: usize, token: Name) -> Result<usize, Refusal>
     ensures { MemberIs (before texts nodes.now) row token result }
 {
     if nodes.len() <= row {
-        return Child::Refused(refusal::LOCATION_MISSING);
+        return Err(Refusal::LocationMissing);
     }
-    let Member::At(at) = find(texts, nodes, row + 1, nodes::end_of(nodes, row), token) else {
-        return Child::Refused(refusal::LOCATION_MISSING);
-    };
-    Child::At(at)
+    find(texts, nodes, row + 1, nodes::end_of(nodes, row), token).ok_or(Refusal::LocationMissing)
 }
 
-// The child of the node in a row that a token names; the token is given as a name, with its hash.
-pub fn step<'a>(texts: Texts<'a>, nodes: &[Node], row: usize, token: Name) -> Child
+// The row of the child, of the node in a row, that a token names; the token is given as a name, with its hash.
+pub fn step<'a>(texts: Texts<'a>, nodes: &[Node], row: usize, token: Name) -> Result<usize, Refusal>
     ensures { StepIs (before texts nodes.now) row token result }
 {
-    let k = nodes::kind(nodes, row);
-    if k == layout::ARRAY {
-        return element(texts, nodes, row, token);
+    match nodes::kind(nodes, row) {
+        layout::ARRAY => element(texts, nodes, row, token),
+        layout::OBJECT => member(texts, nodes, row, token),
+        _ => Err(Refusal::LocationMissing),
     }
-    if k == layout::OBJECT {
-        return member(texts, nodes, row, token);
-    }
-    Child::Refused(refusal::LOCATION_MISSING)
 }

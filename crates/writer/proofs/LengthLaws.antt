@@ -2,11 +2,10 @@
 use Rattle.std.specs.Prelude.{if◌then◌else◌}
 use Prim.Native.Nat.{ℕ, ◌+◌, ◌≤◌}
 use native.Mathlib.Omega.{arith}
-use mathlib.Core.Path.{◌≡◌, refl, sym, ap, ap₂, ◌∙◌}
+use mathlib.Core.Path.{◌≡◌, sym, ap, ap₂, ◌∙◌}
 use mathlib.Core.Bool.{Bool, true, false}
 use mathlib.Core.List.{[], ◌∷◌}
 use lib.Dec.{eqb}
-use borrow.Author.Tests.{ne_eqb}
 use lib.ListN.{length, drop, length-append, length-take}
 use Rattle.spec.specs.Bytes.{Bytes, ascii}
 use Rattle.spec.specs.Write.{comma}
@@ -25,18 +24,6 @@ pub comma_short : (first : Bool) → length (comma first) ≤ 1
 unfolding comma ascii
 comma_short true = omega arith
 comma_short false = omega arith
-
-pub literal_false : (kind : ℕ) → kind ≡ false_kind → 5 ≡ length (literal_bytes kind)
-unfolding literal_bytes ascii
-literal_false kind e = rw e
-
-pub literal_other : (kind : ℕ) → (kind ≡ false_kind → ⊥) → 4 ≡ length (literal_bytes kind)
-unfolding literal_bytes ascii
-literal_other kind e = rw (ne_eqb kind false_kind e) (go (eqb kind true_kind))
-  where
-    go : (a : Bool) → 4 ≡ length (if a then ascii "true" else ascii "null")
-    go true = refl
-    go false = refl
 
 literal_short : (kind : ℕ) → length (literal_bytes kind) ≤ 5
 unfolding literal_bytes ascii

@@ -9,7 +9,6 @@ use lib.ListN.{length, take, drop, set, length-append, length-drop, take-append-
 use lib.Seq.{sets, length-sets, take-set-le, drop-set-add, take_all}
 use borrow.Rule.Slice.PartMut.{put_mid, same_len_mid}
 use Rattle.spec.specs.Bytes.{Bytes}
-use Rattle.text.specs.Written.{written, LaidDown}
 use Rattle.text.proofs.StoreLaws.{sets_out, stores_on, laid_down}
 use Rattle.writer.specs.Writing.{Placed, PlacedSome}
 
@@ -43,13 +42,6 @@ placed_as {at = at} {before} e p = record {
   next_is = p.next_is ∙ ap (λ b. min (at + length b) (length before)) (sym e);
   after_is = p.after_is ∙ ap (sets before at) (sym e);
 }
-
--- a part that another crate lays down, in its form
-pub placed-part : (s : Bytes) {form form' : ℕ} {before after : Bytes} {count n : ℕ} → form' ≡ form → LaidDown (written form' s) before after count
-    → n ≡ min count (length after) → Placed (written form s) 0 before after n
-placed-part s {form} {form'} {before} {after} e p f =
-    let long : length after ≡ length before = ap length p.after_is ∙ length-sets before 0 (written form' s) in
-    rw (← e) (record { next_is = omega (arith, p.count_is); after_is = p.after_is })
 
 pub placed_none : (at : ℕ) (before : Bytes) → at ≤ length before → Placed [] at before before at
 placed_none at before h = record { next_is = omega arith; after_is = refl }

@@ -8,7 +8,8 @@ use mathlib.Core.Bool.{Bool, true, false, true≢false}
 use mathlib.Core.List.{List, [], ◌++◌}
 use lib.Dec.{eqb, leb}
 use borrow.Author.Tests.{leb-true, leb-false, le-leb, lt-leb}
-use lib.ListN.{length, get_or, length-append}
+use lib.ListN.{length, get_or, take, drop, length-take, length-append}
+use lib.Seq.{get_or-take, get_or-drop}
 use Rattle.spec.specs.Forest.{Forest, none, tree, size}
 use Rattle.spec.specs.Write.{write_items, write}
 use Rattle.tape.specs.Layout.{array_kind, object_kind}
@@ -133,6 +134,12 @@ module _ {nodes : List Row} {at : ℕ} where
         let held = w.node.held in
         let all : row - at ≡ suc (size kids) = omega (arith, end_here (held_node held)) in
         omega (arith, s.is, ap (rows_bytes nodes at) all, node-rows held, writable_bytes (record { texts = T; nodes = nodes }) c kids w)
+
+-- a row of the part that is counted
+pub row_within : (nodes : List Row) (at end k : ℕ) → k < length (take (end - at) (drop at nodes))
+    → get_or (take (end - at) (drop at nodes)) k [] ≡ get_or nodes (at + k) []
+row_within nodes at end k h =
+    get_or-take (end - at) (drop at nodes) k [] (omega (arith, length-take (end - at) (drop at nodes))) ∙ get_or-drop at nodes k []
 
 -- ---- each way out of `surely_fits`
 module _ {nodes : List Row} {at room : ℕ} where

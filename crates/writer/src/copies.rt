@@ -7,11 +7,7 @@ fn copy(s: &[u8], from: usize, count: usize, out: &mut [u8], to: usize)
     requires { (from + count ≤ length s.now) × (to + count ≤ length out.old) }
     ensures { out.new ≡ sets out.old to (take count (drop from s.now)) }
 {
-    let mut i = 0;
-    while i < count {
-        out[to + i] = s[from + i];
-        i += 1;
-    }
+    out[to..to + count].copy_from_slice(&s[from..from + count]);
 }
 
 // All of `s`, by its first `count` bytes and its last `count`. Where these overlap, a byte is copied twice.

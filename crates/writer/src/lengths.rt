@@ -2,8 +2,9 @@
 ghost use Rattle.tape.specs.Lent.{lent};
 ghost use Rattle.std.specs.Prelude.{◌≡◌, length};
 ghost use Rattle.spec.specs.Write.{comma};
-ghost use Rattle.writer.specs.Pieces.{string_bytes, literal_bytes, scalar_bytes, name_bytes, prefix_bytes};
+ghost use Rattle.writer.specs.Pieces.{string_bytes, scalar_bytes, name_bytes, prefix_bytes};
 
+use crate::pieces::literal;
 use table::spellings::part;
 use tape::fields::{Name, Spelling, long};
 use tape::layout;
@@ -17,15 +18,6 @@ fn string_length<'a>(texts: Texts<'a>, spelling: Spelling) -> usize
     written_length(long(spelling.form), s) + 2
 }
 
-fn literal_length(kind: u16) -> usize
-    ensures { result ≡ length (literal_bytes kind) }
-{
-    if kind == layout::FALSE {
-        return 5;
-    }
-    4
-}
-
 // The length of a value that is no container.
 pub fn scalar_length<'a>(texts: Texts<'a>, kind: u16, value: Spelling) -> usize
     ensures { result ≡ length (scalar_bytes (lent texts) kind value) }
@@ -37,9 +29,10 @@ pub fn scalar_length<'a>(texts: Texts<'a>, kind: u16, value: Spelling) -> usize
         let s = part(texts, value);
         return s.len();
     }
-    literal_length(kind)
+    literal(kind).len()
 }
 
+#[tactic(auto, unfolding(spec::specs::Write::comma, spec::specs::Bytes::ascii))]
 fn comma_length(first: bool) -> usize
     ensures { result ≡ length (comma first) }
 {

@@ -1,6 +1,6 @@
 // Bytes laid down at the front of `out`, which is the rest of the output: as many as there is room for. The answer is
 // how many.
-ghost use Rattle.std.specs.Prelude.{◌≡◌, [], ◌∷◌, ◌++◌, ◌+◌, ◌≤◌, min, length};
+ghost use Rattle.std.specs.Prelude.{[], ◌∷◌, ◌++◌, ◌+◌, ◌≤◌, length};
 ghost use Rattle.text.specs.Written.{written};
 ghost use Rattle.writer.specs.Writing.{Placed};
 
@@ -8,18 +8,11 @@ use crate::copies::copy_behind_quote;
 use tape::fields::long;
 use text::write_text;
 
-// The smaller of two numbers.
-pub fn least(a: usize, b: usize) -> usize
-    ensures { result ≡ min a b }
-{
-    if a < b { a } else { b }
-}
-
 // One byte.
 pub fn put_byte(byte: u8, out: &mut [u8]) -> usize
     ensures { Placed (byte ∷ []) 0 out.old out.new result }
 {
-    if out.len() == 0 {
+    if out.is_empty() {
         return 0;
     }
     out[0] = byte;
@@ -31,7 +24,7 @@ pub fn put_part(form: u16, s: &[u8], out: &mut [u8]) -> usize
     ensures { Placed (written form s.now) 0 out.old out.new result }
 {
     let count = write_text(long(form), s, out);
-    least(count, out.len())
+    count.min(out.len())
 }
 
 // Bytes between quotation marks, where there is room for all of it.

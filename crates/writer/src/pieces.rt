@@ -29,28 +29,22 @@ pub fn write_string<'a>(texts: Texts<'a>, spelling: Spelling, out: &mut [u8]) ->
     ensures { Placed (string_bytes (lent texts) spelling) 0 out.old out.new result }
 {
     let s = part(texts, spelling);
-    if spelling.form != layout::PLAIN_STRING {
-        return write_pieces(texts, spelling, out);
-    }
-    if out.len() < 2 {
-        return write_pieces(texts, spelling, out);
-    }
-    if out.len() - 2 < s.len() {
+    if spelling.form != layout::PLAIN_STRING || out.len() < 2 || out.len() - 2 < s.len() {
         return write_pieces(texts, spelling, out);
     }
     put_quoted(s, out)
 }
 
-fn write_literal(kind: u16, out: &mut [u8]) -> usize
-    ensures { Placed (literal_bytes kind) 0 out.old out.new result }
+// The literal of a kind.
+#[tactic(auto, using(lexer::proofs::Auto::auto), unfolding(crate::specs::Pieces::literal_bytes, spec::specs::Bytes::ascii))]
+pub fn literal(kind: u16) -> &'static [u8]
+    ensures { result.now ≡ literal_bytes kind }
 {
-    if kind == layout::TRUE {
-        return put_part(layout::PLAIN_STRING, b"true", out);
+    match kind {
+        layout::TRUE => b"true",
+        layout::FALSE => b"false",
+        _ => b"null",
     }
-    if kind == layout::FALSE {
-        return put_part(layout::PLAIN_STRING, b"false", out);
-    }
-    put_part(layout::PLAIN_STRING, b"null", out)
 }
 
 // A value that is no container; a number is copied.
@@ -64,16 +58,18 @@ pub fn write_scalar<'a>(texts: Texts<'a>, kind: u16, value: Spelling, out: &mut 
         let s = part(texts, value);
         return put_part(layout::PLAIN_STRING, s, out);
     }
-    write_literal(kind, out)
+    put_part(layout::PLAIN_STRING, literal(kind), out)
 }
 
 // The brackets of an object, or of an array.
+#[tactic(auto, unfolding(crate::specs::Pieces::opening_bracket))]
 pub fn opening_bracket(object: bool) -> u8
     ensures { result ≡ opening_bracket object }
 {
     if object { b'{' } else { b'[' }
 }
 
+#[tactic(auto, unfolding(crate::specs::Pieces::closing_bracket))]
 pub fn closing_bracket(object: bool) -> u8
     ensures { result ≡ closing_bracket object }
 {

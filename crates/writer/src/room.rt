@@ -3,7 +3,6 @@ ghost use Rattle.std.specs.Prelude.{◌≡◌, ◌≤◌};
 ghost use Rattle.tape.specs.Lent.{before};
 ghost use Rattle.writer.specs.Writing.{row_bytes, SurelyFitsIs, FitsIs};
 
-use crate::output::least;
 use crate::values::measure;
 use tape::fields::wide;
 use tape::layout;
@@ -24,12 +23,10 @@ fn surely_fits(nodes: &[Node], at: usize, room: usize) -> bool
     if nodes.len() <= at {
         return true;
     }
-    let end = least(at + 1 + wide(nodes[at][layout::SPAN]), nodes.len());
+    let end = (at + 1 + wide(nodes[at][layout::SPAN])).min(nodes.len());
     let mut total = 0;
-    let mut row = at;
-    while row < end {
-        total += row_bytes(nodes[row]);
-        row += 1;
+    for node in &nodes[at..end] {
+        total += row_bytes(*node);
     }
     total <= room
 }

@@ -3,7 +3,7 @@ ghost use Rattle.tape.specs.Lent.{before};
 ghost use Rattle.writer.specs.Writing.{MeasureIs, WriteIs};
 
 use crate::lengths::{prefix_length, scalar_length};
-use crate::output::{least, put_byte};
+use crate::output::put_byte;
 use crate::pieces::{closing_bracket, opening_bracket, write_prefix, write_scalar};
 use tape::fields::{kind_in, name_of, value_of};
 use tape::layout;
@@ -35,10 +35,11 @@ pub fn measure<'a>(texts: Texts<'a>, nodes: &[Node], at: usize, levels: u32) -> 
     let mut first = true;
     // both brackets
     let mut total = 2;
+    // a value's tree takes as many rows as it has nodes, so the rows of the values are no range
     while row < end {
         let before = prefix_length(texts, object, first, name_of(nodes[row]));
         let value = measure(texts, nodes, row, levels - 1);
-        total = least(total + before + value, LENGTH_LIMIT);
+        total = (total + before + value).min(LENGTH_LIMIT);
         first = false;
         row = end_of(nodes, row);
     }
@@ -67,6 +68,7 @@ pub fn write<'a>(texts: Texts<'a>, nodes: &[Node], at: usize, levels: u32, out: 
     let mut row = at + 1;
     let mut first = true;
     let mut put = put_byte(opening_bracket(object), out);
+    // as in `measure`, the rows of the values are no range
     while row < end {
         let before = write_prefix(texts, object, first, name_of(nodes[row]), &mut out[put..]);
         put += before;

@@ -13,9 +13,6 @@ bounds-a-i c = inside c.loop-left.invariant c.loop-left-test.true
 pub bounds-b-j : goal.bounds-b-j
 bounds-b-j c = inside-other c.loop-left.invariant c.loop-left-test.true
 
-pub is_digit-requires : goal.is_digit-requires
-is_digit-requires c = tt
-
 pub overflow_add-i : goal.overflow_add-i
 overflow_add-i c =
     omega (arith, inside c.loop-left.invariant c.loop-left-test.true)
@@ -27,9 +24,6 @@ loop-left-smaller-then-not-is_digit c =
 pub loop-left-preserved-then-not-is_digit : goal.loop-left-preserved-then-not-is_digit
 loop-left-preserved-then-not-is_digit c =
     passing c.loop-left.invariant c.loop-left-test.true (told c.is_digit.ensures c.if-not-is_digit.true)
-
-pub is_digit-requires-in-loop-left : goal.is_digit-requires-in-loop-left
-is_digit-requires-in-loop-left c = tt
 
 pub overflow_add-j : goal.overflow_add-j
 overflow_add-j c =

@@ -1,12 +1,7 @@
 -- `equal` meets its contract, by the levels, which fall. In its loop, whether the two values are equal is whether what is left of them agrees.
-use Prim.Native.Nat.{ℕ, ◌<◌, ◌-◌}
 use native.Mathlib.Omega.{arith}
-use borrow.Author.Rules.{rules}
-use borrow.Author.Tests.{not-true, not-false}
-use Rattle.tape.specs.Lent.{table_of}
-use Rattle.equality.specs.Compare.{Hints}
 use Rattle.equality.proofs.EqualLaws.{equal_outside, equal_outside_other, equal_labels, equal-scalar, equal_flat}
-use Rattle.equality.proofs.EqualLaws.{Comparing, comparing_all, comparing_next, equal_end, equal_more, equal_alone, equal_differs}
+use Rattle.equality.proofs.EqualLaws.{comparing_all, comparing_next, equal_end, equal_more, equal_alone, equal_differs}
 use Rattle.equality.proofs.+equal.Goals as goal
 
 -- the levels fall
@@ -45,13 +40,13 @@ returns-in_default t c hints = equal_alone _ _ _ _ _ _ (c.loop-row.invariant hin
 pub returns-then-not-equal : goal.returns-then-not-equal
 returns-then-not-equal t c hints = equal_differs _ _ _ _ _ _ (c.loop-row.invariant hints) (omega arith) (omega arith)
     c.end_of.ensures
-    _ (c.partner.ensures hints) _ c.in-At.is _ (c.equal.ensures hints)
+    _ (c.partner.ensures hints) _ c.in-Some.is _ (c.equal.ensures hints)
     c.if-not-equal.true
 
 pub loop-row-preserved : goal.loop-row-preserved
 loop-row-preserved t c hints = comparing_next _ _ _ _ _ _ (c.loop-row.invariant hints) (omega arith)
     (omega arith) c.end_of.ensures
-    _ (c.partner.ensures hints) _ c.in-At.is _
+    _ (c.partner.ensures hints) _ c.in-Some.is _
     (c.equal.ensures hints) c.if-not-equal.false
     _ _ c.end_of-row.ensures c.end_of-next.ensures
 

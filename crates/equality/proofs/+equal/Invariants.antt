@@ -1,11 +1,7 @@
-use Prim.Native.Nat.{ℕ, ◌<◌, ◌-◌}
-use native.Mathlib.Omega.{arith}
-use borrow.Author.Rules.{rules}
-use borrow.Author.Tests.{not-true, not-false}
+use Prim.Native.Nat.{◌-◌}
 use Rattle.tape.specs.Lent.{table_of}
 use Rattle.equality.specs.Compare.{Hints}
-use Rattle.equality.proofs.EqualLaws.{equal_outside, equal_outside_other, equal_labels, equal-scalar, equal_flat}
-use Rattle.equality.proofs.EqualLaws.{Comparing, comparing_all, comparing_next, equal_end, equal_more, equal_alone, equal_differs}
+use Rattle.equality.proofs.EqualLaws.{Comparing}
 use Rattle.equality.proofs.+equal.Given as goal
 
 abbrev pub decreases-equal : goal.decreases-equal

@@ -1,6 +1,5 @@
 -- `compare` meets its contract, with and without an index.
 use native.Mathlib.Omega.{arith}
-use borrow.Author.Rules.{rules}
 use Rattle.equality.proofs.EqualLaws.{no_hints}
 use Rattle.equality.proofs.compare.Goals as goal
 

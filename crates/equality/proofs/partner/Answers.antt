@@ -1,7 +1,6 @@
 -- `partner` meets its contract, by its two tests.
 use mathlib.Core.Path.{◌∙◌, ap}
-use borrow.Author.Rules.{rules}
-use Rattle.tape.specs.Fields.{Row, name_of}
+use Rattle.tape.specs.Fields.{name_of}
 use Rattle.equality.proofs.PartnerLaws.{name_loaded, partner_element, partner_in_step, partner_sought}
 use Rattle.equality.proofs.partner.Goals as goal
 

@@ -1,6 +1,4 @@
 -- `same_label` meets its contract, by the kinds and then by the texts.
-use mathlib.Core.Path.{◌∙◌, ap}
-use borrow.Author.Rules.{rules}
 use Rattle.equality.proofs.LabelLaws.{labels_differ, labels_other, labels-number, labels-string}
 use Rattle.equality.proofs.same_label.Goals as goal
 

@@ -6,12 +6,12 @@ use Rattle.report.proofs.LineLaws.{run_is}
 use Rattle.report.proofs.run.Goals as goal
 
 pub slice_bounds-apply-end-2 : goal.slice_bounds-apply-end-2
-slice_bounds-apply-end-2 c = sym (length-take-le c.but_one-room.result c.args.line.now
-    (omega (arith, c.but_one-room.ensures)))
+slice_bounds-apply-end-2 c = sym (length-take-le c.saturating_sub-room.result c.args.line.now
+    (omega (arith, c.saturating_sub-room.ensures)))
 
 pub returns : goal.returns
 returns c =
-    run_is _ _ c.but_one-room.ensures c.apply-answer.ensures
+    run_is _ _ c.saturating_sub-room.ensures c.apply-answer.ensures
     c.apply-answer.auto.output c.report.ensures (record {
       number = omega (arith, c.apply-answer.type_inv);
       text = omega (arith, c.apply-answer.type_inv);

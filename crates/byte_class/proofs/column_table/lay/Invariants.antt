@@ -1,9 +1,5 @@
-use Prim.Native.Nat.{◌-◌, ◌≤◌}
 use Rattle.byte_class.specs.Laying.{Laid}
 use Rattle.byte_class.proofs.column_table.lay.Given as goal
 
 abbrev pub invariant-loop-b : goal.invariant-loop-b
-invariant-loop-b l = (l.low ≤ l.b) × (l.b ≤ l.high) × Laid l.low l.b l.v l.initial.table l.table
-
-abbrev pub decreases-loop-b : goal.decreases-loop-b
-decreases-loop-b l = l.high - l.b
+invariant-loop-b l = Laid l.low l.b l.v l.initial.table l.table

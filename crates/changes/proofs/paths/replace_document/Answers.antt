@@ -7,7 +7,7 @@ use Rattle.changes.proofs.paths.replace_document.Goals as goal
 pub returns-then-not-within : goal.returns-then-not-within
 returns-then-not-within c = record {
   frame = unchanged refl;
-  bearing = λ T v d x kids offered. replace_deep offered c.within.ensures c.if-not-within.true;
+  bearing = λ T v d x kids offered. rw c.at.ensures (replace_deep offered c.within.ensures c.if-not-within.true);
 }
 
 pub returns-then-count-gt-MAX_NODES : goal.returns-then-count-gt-MAX_NODES
@@ -15,7 +15,8 @@ returns-then-count-gt-MAX_NODES c =
     record {
       frame = unchanged refl;
       bearing = λ T v d x kids offered.
-          replace_large offered c.within.ensures c.if-not-within.false _ c.size-count.ensures c.if-count-gt-MAX_NODES.true;
+          rw c.at-then-count-gt-MAX_NODES.ensures
+          (replace_large offered c.within.ensures c.if-not-within.false _ c.size-count.ensures c.if-count-gt-MAX_NODES.true);
     }
 
 pub returns : goal.returns

@@ -9,7 +9,7 @@ returns-then-not-within c = record {
   rows = put_nothing refl;
   frame = unchanged refl;
   held = λ T z x kids left right container offered fits told cut.
-      put-deep offered _ fits told z container cut c.within.ensures c.if-not-within.true;
+      rw c.at.ensures (put-deep offered _ fits told z container cut c.within.ensures c.if-not-within.true);
 }
 
 pub returns-then-kept-count : goal.returns-then-kept-count
@@ -18,21 +18,22 @@ returns-then-kept-count c =
       rows = put_nothing refl;
       frame = unchanged refl;
       held = λ T z x kids left right container offered fits told cut.
-          put_large offered _ fits told z container cut c.within.ensures c.if-not-within.false _ _ c.size-count.ensures
-          c.minus-kept.ensures
-          c.if-kept-count.true;
+          rw c.at-then-kept-count.ensures
+          (put_large offered _ fits told z container cut c.within.ensures c.if-not-within.false _ _ c.size-count.ensures
+          c.saturating_sub-kept.ensures
+          c.if-kept-count.true);
     }
 
 pub returns-then-kept-at : goal.returns-then-kept-at
 returns-then-kept-at c = record {
   rows = put_nothing refl;
   frame = unchanged refl;
-  held = λ T z x kids left right container offered fits told cut. put_outside z container cut c.minus-kept.ensures c.if-kept-at.true;
+  held = λ T z x kids left right container offered fits told cut. put_outside z container cut c.saturating_sub-kept.ensures c.if-kept-at.true;
 }
 
 pub returns : goal.returns
 returns c =
-    put_made c.args.parent c.requires c.args.at c.args.removed c.args.source c.args.name _ _ c.size-count.ensures c.minus-kept.ensures
+    put_made c.args.parent c.args.at c.args.removed c.args.source c.args.name _ _ c.size-count.ensures c.saturating_sub-kept.ensures
     c.within.ensures
     c.if-not-within.false c.if-kept-count.false c.if-kept-at.false c.splice.ensures c.rename.ensures
     c.resize.ensures

@@ -3,6 +3,4 @@ use Rattle.compare.proofs.StageLaws.{values-compared}
 use Rattle.compare.proofs.stages.compared.Goals as goal
 
 pub returns : goal.returns
-returns c =
-    values-compared c.note_places.ensures c.index_tree.ensures c.counted.ensures
-    c.success.ensures
+returns c = values-compared c.note_places.ensures c.index_tree.ensures c.counted.ensures

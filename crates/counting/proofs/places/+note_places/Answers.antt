@@ -1,6 +1,6 @@
 -- `note_places` meets its contract, by the levels, which fall. In its loop the first places are noted, and what is left is as it was.
-use Rattle.std.proofs.Common.{ℕ, ◌-◌, ◌<◌, arith, rules}
-use Rattle.counting.proofs.NoteLaws.{noted_flat, noted-first, noted_high, noted_outside, Noting, noting_all, noting_end, noting_next}
+use Rattle.std.proofs.Common.{arith}
+use Rattle.counting.proofs.NoteLaws.{noted_flat, noted-first, noted_high, noted_outside, noting_all, noting_end, noting_next}
 use Rattle.counting.proofs.places.+note_places.Goals as goal
 
 -- the levels fall
@@ -19,12 +19,6 @@ returns-then-end-at t c = noted_outside _ c.end_of-end.ensures c.if-end-at.true
 
 pub loop-row-init : goal.loop-row-init
 loop-row-init t c = noting_all c.end_of-end.ensures (omega (arith, c.if-at-lt-PATCH.false))
-
-pub overflow_add-place : goal.overflow_add-place
-overflow_add-place t c = omega (arith, c.loop-row.invariant.few)
-
-pub loop-row-smaller : goal.loop-row-smaller
-loop-row-smaller t c = omega (arith, c.end_of-row.ensures)
 
 pub loop-row-preserved : goal.loop-row-preserved
 loop-row-preserved t c =

@@ -1,5 +1,5 @@
-use Rattle.std.proofs.Common.{ℕ, ◌-◌, ◌<◌, arith, rules}
-use Rattle.counting.proofs.NoteLaws.{noted_flat, noted-first, noted_high, noted_outside, Noting, noting_all, noting_end, noting_next}
+use Rattle.std.proofs.Common.{◌-◌}
+use Rattle.counting.proofs.NoteLaws.{Noting}
 use Rattle.counting.proofs.places.+note_places.Given as goal
 
 abbrev pub decreases-note_places : goal.decreases-note_places

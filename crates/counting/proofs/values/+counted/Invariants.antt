@@ -1,8 +1,7 @@
-use Rattle.std.proofs.Common.{ℕ, ◌-◌, ◌<◌, ◌∙◌, arith, rules}
-use borrow.Author.Tests.{not-true, not-false}
+use Rattle.std.proofs.Common.{◌-◌}
 use Rattle.tape.specs.Lent.{table_of}
 use Rattle.equality.specs.Compare.{Hints}
-use Rattle.counting.proofs.CountLaws.{counted_unlike, counted_flat, Counting, counting_all, counted_end, counted_alone, counted_differs, counting_next}
+use Rattle.counting.proofs.CountLaws.{Counting}
 use Rattle.counting.proofs.values.+counted.Given as goal
 
 abbrev pub decreases-counted : goal.decreases-counted

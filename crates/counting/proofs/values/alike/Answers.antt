@@ -1,6 +1,5 @@
 -- `alike` meets its contract, by the labels and then by the counts.
-use Rattle.std.proofs.Common.{arith, rules}
-use borrow.Author.Tests.{not-true, not-false}
+use Rattle.std.proofs.Common.{arith}
 use Rattle.counting.proofs.CountLaws.{alike_outside, alike_outside_other, alike_labels, alike_counts}
 use Rattle.counting.proofs.values.alike.Goals as goal
 

@@ -1,5 +1,4 @@
 -- `names_for` meets its contract, by its test.
-use Rattle.std.proofs.Common.{arith, rules}
 use Rattle.counting.specs.Values.{names_for}
 use Rattle.counting.proofs.values.names_for.Goals as goal
 

@@ -1,30 +1,20 @@
--- `decimal::mantissa::first_digit` meets its contract: the bytes passed and those still to pass end there. Assumes nothing.
-use native.Mathlib.Omega.{arith}
-use Rattle.decimal.proofs.MantissaLaws.{told, first_ends, first_here, first-later, first_past}
+use Rattle.std.specs.Prelude.{Bool, ◌||◌, unwrap_or}
+use Rattle.std.specs.List.{position_or_len}
+use Prim.Native.Nat.{ℕ}
+use Rattle.std.proofs.Common.{arith}
+use lib.ListN.{length}
+use mathlib.Core.Path.{◌≡◌, ap, ◌∙◌}
+use Rattle.spec.specs.Numbers.{is_e}
+use Rattle.decimal.specs.Normal.{is_nonzero_digit}
+use Rattle.decimal.proofs.MantissaLaws.{place_or, place_most, first_found}
 use Rattle.decimal.proofs.mantissa.first_digit.Goals as goal
 
-pub is_e-requires : goal.is_e-requires
-is_e-requires c = tt
+pub returns-clause-is : goal.returns-clause-is
+returns-clause-is c = c.unwrap_or.ensures ∙ ap (λ o. unwrap_or o (length c.args.t.now)) c.significant_place.ensures ∙ place_or _ c.args.t.now ∙ first_found _
 
-pub returns-then-is_e : goal.returns-then-is_e
-returns-then-is_e c =
-    let e = told c.is_e.ensures c.if-is_e.true in
-    omega (arith, first_ends c.args.t.now c.loop-i.i c.loop-i-test.true e)
-
-pub is_nonzero_digit-requires : goal.is_nonzero_digit-requires
-is_nonzero_digit-requires c = tt
-
-pub returns-then-is_nonzero_digit : goal.returns-then-is_nonzero_digit
-returns-then-is_nonzero_digit c =
-    let e = told c.is_e.ensures c.if-is_e.false in
-    let d = told c.is_nonzero_digit.ensures c.if-is_nonzero_digit.true in
-    omega (arith, first_here c.args.t.now c.loop-i.i c.loop-i-test.true e d)
-
-pub loop-i-preserved : goal.loop-i-preserved
-loop-i-preserved c =
-    let e = told c.is_e.ensures c.if-is_e.false in
-    let d = told c.is_nonzero_digit.ensures c.if-is_nonzero_digit.false in
-    omega (arith, first-later c.args.t.now c.loop-i.i c.loop-i-test.true e d)
-
-pub returns : goal.returns
-returns c = omega (arith, first_past c.args.t.now c.loop-i.i c.loop-i-test.false)
+pub returns-clause-inside : goal.returns-clause-inside
+returns-clause-inside c =
+    let p : ℕ → Bool = λ b. is_e b || is_nonzero_digit b in
+    let place : c.unwrap_or.result ≡ position_or_len p c.args.t.now =
+    c.unwrap_or.ensures ∙ ap (λ o. unwrap_or o (length c.args.t.now)) c.significant_place.ensures ∙ place_or p c.args.t.now in
+    omega (arith, place_most p c.args.t.now)

@@ -1,11 +1,11 @@
-use borrow.Author.Tests.{eq-eqb, ne_eqb}
+use borrow.Author.Rules.{rules}
 use Rattle.spec.specs.Numbers.{is_e}
 use Rattle.decimal.proofs.mantissa.is_e.Goals as goal
 
-pub returns-then-b-eq101 : goal.returns-then-b-eq101
+pub returns-in-101 : goal.returns-in-101
 unfolding is_e
-returns-then-b-eq101 c = rw (eq-eqb _ _ c.if-b-eq101.true)
+returns-in-101 c = search rules
 
-pub returns : goal.returns
+pub returns-in_default : goal.returns-in_default
 unfolding is_e
-returns c = rw (ne_eqb _ _ c.if-b-eq101.false)
+returns-in_default c = search rules

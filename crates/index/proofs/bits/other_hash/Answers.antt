@@ -9,15 +9,15 @@ pub loop-c-init : goal.loop-c-init
 unfolding other_hash
 loop-c-init c = refl
 
-pub returns-in_default : goal.returns-in_default
+pub returns : goal.returns
 unfolding other_hash
-returns-in_default c = other_ends (refused_text _ _ _ c.letter.ensures _ c.in_default.is) c.loop-c.invariant
+returns c = other_ends (refused_text _ _ _ c.letter.ensures _ c.in_default.is) c.loop-c.invariant
 
 pub loop-c-smaller : goal.loop-c-smaller
 unfolding other_hash
-loop-c-smaller c = scalar_less _ _ _ c.letter.ensures _ _ c.in-Scalar.is
+loop-c-smaller c = scalar_less _ _ _ c.letter.ensures _ c.in-Ok.is
 
 pub loop-c-preserved : goal.loop-c-preserved
 unfolding other_hash
 loop-c-preserved c =
-    other_more _ (scalar_text _ _ _ c.letter.ensures _ _ c.in-Scalar.is) c.other_mix-h.ensures c.loop-c.invariant
+    other_more _ (scalar_text _ _ _ c.letter.ensures _ c.in-Ok.is) c.other_mix-h.ensures c.loop-c.invariant

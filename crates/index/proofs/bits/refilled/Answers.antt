@@ -19,5 +19,5 @@ returns-in_default c =
 pub returns : goal.returns
 returns c =
     filled_next _ _ _ c.long-f.ensures c.part-s.ensures c.if-bits-gt1.false _ _
-    (scalar_text _ _ _ c.letter.ensures _ _ c.in-Scalar.is)
+    (scalar_text _ _ _ c.letter.ensures _ c.in-Ok.is)
     (ap (λ n. other_hashes + n % other_hashes) c.other_hash.ensures)

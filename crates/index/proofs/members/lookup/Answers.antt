@@ -4,19 +4,11 @@ use mathlib.Core.Path.{refl}
 use Rattle.index.specs.Members.{noted, not_found}
 use Rattle.index.proofs.members.lookup.Goals as goal
 
--- the rows from the last one on
-
 pub returns-then-object-top : goal.returns-then-object-top
 returns-then-object-top c = not_found
 
-pub returns-then-object-gt-SCRATCH : goal.returns-then-object-gt-SCRATCH
-returns-then-object-gt-SCRATCH c = not_found
-
 pub returns-then-row-last : goal.returns-then-row-last
 returns-then-row-last c = not_found
-
-pub returns-then-row-ge-ROOM : goal.returns-then-row-ge-ROOM
-returns-then-row-ge-ROOM c = not_found
 
 pub returns-then-is_noted : goal.returns-then-is_noted
 returns-then-is_noted c = noted _ _ refl (omega arith) (omega arith) (c.is_noted.ensures c.if-is_noted.true)

@@ -1,4 +1,4 @@
--- `set_slot` meets its contract. Assumes nothing.
+-- `set_slot` meets its contract.
 use mathlib.Core.Path.{sym}
 use lib.Seq.{set_out}
 use Rattle.index.specs.Slots.{slot_set}

@@ -1,4 +1,4 @@
--- `slot` meets its contract. Assumes nothing.
+-- `slot` meets its contract.
 use mathlib.Core.Path.{sym}
 use lib.ListN.{get_or-eq_default}
 use Rattle.index.specs.Slots.{slot_at}

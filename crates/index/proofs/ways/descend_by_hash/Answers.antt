@@ -2,23 +2,17 @@
 use mathlib.Core.Path.{refl, ap, ◌∙◌}
 use native.Mathlib.Omega.{arith}
 use Rattle.tape.specs.Fields.{name_of}
-use Rattle.index.proofs.WayLaws.{passing_start, passing_next, passed_none, passed_past, no_slot}
+use Rattle.index.proofs.WayLaws.{passing_start, passing_next, passed_end, no_slot}
 use Rattle.index.proofs.ways.descend_by_hash.Goals as goal
 
 pub loop-last-init : goal.loop-last-init
 loop-last-init c = (omega arith, passing_start c.hash_bits-left.ensures (omega arith) (omega arith))
 
 pub returns-then-row-last : goal.returns-then-row-last
-returns-then-row-last c = passed_none c.loop-last.invariant.1 _ c.slot-row.ensures (omega arith)
-
-pub returns-then-limit-row : goal.returns-then-limit-row
-returns-then-limit-row c = passed_past c.loop-last.invariant.1 _ c.slot-row.ensures (omega arith)
+returns-then-row-last c = passed_end c.loop-last.invariant.1 _ c.slot-row.ensures c.then-row-last.either
 
 pub returns-then-other-name : goal.returns-then-other-name
 returns-then-other-name c = no_slot
-
-pub returns-then-left-le1 : goal.returns-then-left-le1
-returns-then-left-le1 c = no_slot
 
 pub branch-at-requires : goal.branch-at-requires
 branch-at-requires c = (omega arith, omega arith)

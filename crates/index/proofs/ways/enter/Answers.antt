@@ -5,10 +5,7 @@ use Rattle.index.proofs.WayLaws.{not_entered, entered}
 use Rattle.index.proofs.ways.enter.Goals as goal
 
 pub returns-then-base-gt-SCRATCH : goal.returns-then-base-gt-SCRATCH
-returns-then-base-gt-SCRATCH c = not_entered _ _ _ _ _ _ (λ h. omega arith)
-
-pub returns-then-row-base : goal.returns-then-row-base
-returns-then-row-base c = not_entered _ _ _ _ _ _ (λ h. omega arith)
+returns-then-base-gt-SCRATCH c = not_entered _ _ _ _ _ _ (λ h. omega (arith, c.then-base-gt-SCRATCH.either))
 
 pub returns-then-new-gt-ROOM : goal.returns-then-new-gt-ROOM
 returns-then-new-gt-ROOM c = not_entered _ _ _ _ _ _ (λ h. omega arith)

@@ -1,6 +1,6 @@
 -- `refused` meets its contract: its counts are all 0.
-use Rattle.inspect.proofs.AnswerLaws.{refusal-told}
+use mathlib.Core.Path.{refl}
 use Rattle.inspect.proofs.answer.refused.Goals as goal
 
 pub returns : goal.returns
-returns c = refusal-told _ _ _ _ c.none-counts.ensures
+returns c = rw (← c.from.ensures) refl

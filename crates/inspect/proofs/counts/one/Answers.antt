@@ -1,34 +1,48 @@
 -- `one` meets its contract, kind by kind.
-use Rattle.shape.specs.Kinds.{kind_outcome}
+use mathlib.Core.Path.{◌≡◌, refl}
+use Rattle.shape.specs.Kinds.{kind_outcome, spec_kind}
+use Rattle.shape.specs.declared.kinds.Kind.TheVariants as Kind
 use Rattle.inspection.specs.Inspection.{one_of}
 use Rattle.inspect.specs.Counts.{one_for}
 use Rattle.inspect.proofs.AnswerLaws.{one_as}
 use Rattle.inspect.proofs.counts.one.Goals as goal
 
-pub returns-in-Add : goal.returns-in-Add
-unfolding kind_outcome one_for one_of
-returns-in-Add c = one_as (rw c.in-Add.is c.of_each.ensures)
+pub returns-in-Some-Add : goal.returns-in-Some-Add
+unfolding kind_outcome spec_kind one_for one_of
+returns-in-Some-Add c =
+    let which : c.in-Some-Add.field-0 ≡ Kind.Add = rw c.in-Some-Add.is at c.in-Some-Add.field-0-is in
+    one_as (rw (c.in-Some-Add.is, which) refl)
 
-pub returns-in-Remove : goal.returns-in-Remove
-unfolding kind_outcome one_for one_of
-returns-in-Remove c = one_as (rw c.in-Remove.is c.of_each-in-Remove.ensures)
+pub returns-in-Some-Remove : goal.returns-in-Some-Remove
+unfolding kind_outcome spec_kind one_for one_of
+returns-in-Some-Remove c =
+    let which : c.in-Some-Remove.field-0 ≡ Kind.Remove = rw c.in-Some-Remove.is at c.in-Some-Remove.field-0-is in
+    one_as (rw (c.in-Some-Remove.is, which) refl)
 
-pub returns-in-Replace : goal.returns-in-Replace
-unfolding kind_outcome one_for one_of
-returns-in-Replace c = one_as (rw c.in-Replace.is c.of_each-in-Replace.ensures)
+pub returns-in-Some-Replace : goal.returns-in-Some-Replace
+unfolding kind_outcome spec_kind one_for one_of
+returns-in-Some-Replace c =
+    let which : c.in-Some-Replace.field-0 ≡ Kind.Replace = rw c.in-Some-Replace.is at c.in-Some-Replace.field-0-is in
+    one_as (rw (c.in-Some-Replace.is, which) refl)
 
-pub returns-in-Move : goal.returns-in-Move
-unfolding kind_outcome one_for one_of
-returns-in-Move c = one_as (rw c.in-Move.is c.of_each-in-Move.ensures)
+pub returns-in-Some-Move : goal.returns-in-Some-Move
+unfolding kind_outcome spec_kind one_for one_of
+returns-in-Some-Move c =
+    let which : c.in-Some-Move.field-0 ≡ Kind.Move = rw c.in-Some-Move.is at c.in-Some-Move.field-0-is in
+    one_as (rw (c.in-Some-Move.is, which) refl)
 
-pub returns-in-Copy : goal.returns-in-Copy
-unfolding kind_outcome one_for one_of
-returns-in-Copy c = one_as (rw c.in-Copy.is c.of_each-in-Copy.ensures)
+pub returns-in-Some-Copy : goal.returns-in-Some-Copy
+unfolding kind_outcome spec_kind one_for one_of
+returns-in-Some-Copy c =
+    let which : c.in-Some-Copy.field-0 ≡ Kind.Copy = rw c.in-Some-Copy.is at c.in-Some-Copy.field-0-is in
+    one_as (rw (c.in-Some-Copy.is, which) refl)
 
-pub returns-in-Test : goal.returns-in-Test
-unfolding kind_outcome one_for one_of
-returns-in-Test c = one_as (rw c.in-Test.is c.of_each-in-Test.ensures)
+pub returns-in-Some-Test : goal.returns-in-Some-Test
+unfolding kind_outcome spec_kind one_for one_of
+returns-in-Some-Test c =
+    let which : c.in-Some-Test.field-0 ≡ Kind.Test = rw c.in-Some-Test.is at c.in-Some-Test.field-0-is in
+    one_as (rw (c.in-Some-Test.is, which) refl)
 
-pub returns-in-Unknown : goal.returns-in-Unknown
-unfolding kind_outcome one_for one_of
-returns-in-Unknown c = one_as (rw c.in-Unknown.is c.none.ensures)
+pub returns-in-None : goal.returns-in-None
+unfolding kind_outcome spec_kind one_for
+returns-in-None c = one_as (rw c.in-None.is refl)

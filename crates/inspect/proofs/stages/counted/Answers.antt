@@ -5,7 +5,7 @@ use Rattle.inspect.proofs.StageLaws.{left_all, left_none, left_inside, left_next
 use Rattle.inspect.proofs.stages.counted.Goals as goal
 
 pub loop-row-init : goal.loop-row-init
-loop-row-init c = (none_small c.none-counts.ensures _, left_all _ _ _ c.none-counts.ensures)
+loop-row-init c = (none_small refl _, left_all _ _ _ refl)
 
 pub returns-then-nodes-row : goal.returns-then-nodes-row
 returns-then-nodes-row c = left_inside c.loop-row.invariant.1 (omega arith) (omega arith) _

@@ -2,9 +2,8 @@
 use Rattle.inspect.proofs.StageLaws.{shape_refused, shape-counted}
 use Rattle.inspect.proofs.stages.shaped.Goals as goal
 
-pub returns-in_default : goal.returns-in_default
-returns-in_default c = shape_refused c.shape_of-shape.ensures c.in_default.is c.misshapen.ensures
+pub returns-in_err-shape_of : goal.returns-in_err-shape_of
+returns-in_err-shape_of c = shape_refused c.shape_of.ensures _ c.in_err-shape_of.was c.from_residual.ensures.1
 
 pub returns : goal.returns
-returns c =
-    shape-counted c.shape_of-shape.ensures c.in-Right.is c.end_of-end.ensures c.counted.ensures c.accepted.ensures
+returns c = shape-counted c.shape_of.ensures c.in_ok-shape_of.was c.end_of-end.ensures c.counted.ensures

@@ -1,37 +1,48 @@
-use Rattle.std.proofs.Common.{sym, ◌∙◌, arith, eq-eqb, ne_eqb, le-leb}
-use Rattle.spec.specs.Bytes.{byte}
-use borrow.Author.Tests.{lt-leb}
-use Rattle.intel_hex.specs.Reading.{ending}
+use Rattle.std.proofs.Common.{◌+◌, ◌<◌, length, arith}
+use Rattle.intel_hex.proofs.LineLaws.{past_end, lent_length, lent_at, lent_first, no_bytes_left, feed_ends, return_ends, nothing_ends}
 use Rattle.intel_hex.proofs.lines.ending.Goals as goal
 
-pub returns-then-t-k : goal.returns-then-t-k
-unfolding byte ending
-returns-then-t-k c = (rw (le-leb _ _ c.if-t-k.true), omega arith)
+pub returns-in-empty : goal.returns-in-empty
+returns-in-empty c = no_bytes_left _ _ (omega (arith, lent_length c.args.t.now c.args.k))
 
-pub returns-then-b-eq10 : goal.returns-then-b-eq10
-unfolding byte ending
-returns-then-b-eq10 c = (rw (lt-leb _ _ c.if-t-k.false, eq-eqb _ _ c.if-b-eq10.true), omega arith)
+pub returns-in-13 : goal.returns-in-13
+returns-in-13 c =
+    let t = c.args.t.now in
+    let k = c.args.k in
+    let room : k + 1 < length t = omega (arith, lent_length t k) in
+    return_ends t k (omega arith) (omega (arith, lent_first t k (omega arith))) (omega (arith, lent_at t k 1 room))
 
-pub returns-then-b-ne13 : goal.returns-then-b-ne13
-unfolding byte ending
-returns-then-b-ne13 c = (rw (lt-leb _ _ c.if-t-k.false, ne_eqb _ _ c.if-b-eq10.false, ne_eqb _ _ c.if-b-ne13.true), omega arith)
+pub returns-in-10 : goal.returns-in-10
+returns-in-10 c =
+    let t = c.args.t.now in
+    let k = c.args.k in
+    let room : k < length t = omega (arith, lent_length t k) in
+    feed_ends t k room (omega (arith, lent_first t k (omega arith)))
 
-pub returns-then-peek-eq10 : goal.returns-then-peek-eq10
-unfolding byte ending
-returns-then-peek-eq10 c = (
-  rw (lt-leb _ _ c.if-t-k.false, ne_eqb _ _ c.if-b-eq10.false, eq-eqb _ _ c.if-b-ne13.false, eq-eqb _ _ (sym c.peek.ensures ∙ c.if-peek-eq10.true)),
-  omega arith,
-)
+pub returns-in-10-2 : goal.returns-in-10-2
+returns-in-10-2 c =
+    let t = c.args.t.now in
+    let k = c.args.k in
+    let room : k < length t = omega (arith, lent_length t k) in
+    feed_ends t k room (omega (arith, lent_first t k (omega arith)))
 
-pub returns : goal.returns
-unfolding byte ending
-returns c = (
-  rw (
-    lt-leb _ _ c.if-t-k.false,
-    ne_eqb _ _ c.if-b-eq10.false,
-    eq-eqb _ _ c.if-b-ne13.false,
-    ne_eqb _ _ (λ e. c.if-peek-eq10.false
-        (c.peek.ensures ∙ e)),
-  ),
-  omega arith,
-)
+pub returns-in_default : goal.returns-in_default
+returns-in_default c =
+    let t = c.args.t.now in
+    let k = c.args.k in
+    let room : k < length t = omega (arith, lent_length t k) in
+    nothing_ends t k room (λ e. omega (arith, lent_first t k (omega arith))) (λ b d. omega (arith, past_end t (k + 1) (omega (arith, lent_length t k))))
+
+pub returns-in_default-2 : goal.returns-in_default-2
+returns-in_default-2 c =
+    let t = c.args.t.now in
+    let k = c.args.k in
+    let room : k + 1 < length t = omega (arith, lent_length t k) in
+    nothing_ends t k (omega arith) (λ e. omega (arith, lent_first t k (omega arith))) (λ b d. omega (arith, lent_at t k 1 room))
+
+pub returns-in_default-3 : goal.returns-in_default-3
+returns-in_default-3 c =
+    let t = c.args.t.now in
+    let k = c.args.k in
+    let room : k + 1 < length t = omega (arith, lent_length t k) in
+    nothing_ends t k (omega arith) (λ e. omega (arith, lent_first t k (omega arith))) (λ b d. omega (arith, lent_first t k (omega arith)))

@@ -1,44 +1,79 @@
-use Rattle.std.proofs.Common.{arith}
-use Rattle.text.proofs.LaidLaws.{laid_length}
-use Rattle.intel_hex.proofs.ReadLaws.{pouring_starts, lent-room, pouring_last, pouring_on, pouring_missing}
+use Rattle.std.proofs.Common.{◌≡◌, ◌+◌, ◌*◌, ◌∙◌, arith}
+use Rattle.intel_hex.specs.Reading.{count, data_of, line_length}
+use Rattle.intel_hex.proofs.LineLaws.{told_some, width_is}
+use Rattle.intel_hex.proofs.ReadLaws.{some_here, none_here, pouring_starts, line-lies, count_told, end_told, pouring_last, pouring_on, pouring_missing}
 use Rattle.intel_hex.proofs.reading.put_text.Goals as goal
 
-pub loop-at-init : goal.loop-at-init
-loop-at-init c = pouring_starts _ c.requires
+pub loop-rest-init : goal.loop-rest-init
+loop-rest-init c = pouring_starts _ c.requires
 
-pub hex_byte-n-requires : goal.hex_byte-n-requires
-hex_byte-n-requires c = omega (arith, lent-room c.loop-at.invariant c.loop-at-test.true)
+pub hex_byte-requires : goal.hex_byte-requires
+hex_byte-requires c = omega (arith, line-lies c.loop-rest.invariant (some_here _ c.loop-rest-test.ensures))
 
-pub shape_of-out-then-n-eq0 : goal.shape_of-out-then-n-eq0
-shape_of-out-then-n-eq0 c = laid_length c.loop-at.invariant.laid
+pub unwrap-requires : goal.unwrap-requires
+unwrap-requires c = told_some _ _ c.hex_byte.ensures (count_told c.loop-rest.invariant (some_here _ c.loop-rest-test.ensures))
 
 pub returns-then-n-eq0 : goal.returns-then-n-eq0
+unfolding count
 returns-then-n-eq0 c =
-    pouring_last c.loop-at.invariant c.loop-at-test.true c.hex_byte-n.ensures.0 c.if-n-eq0.true
+    let told = rw c.unwrap.ensures at c.hex_byte.ensures in
+    pouring_last c.loop-rest.invariant (some_here _ c.loop-rest-test.ensures) (omega (arith, told.1, c.from-n.ensures))
 
 pub put_data-end-requires : goal.put_data-end-requires
+unfolding count
 put_data-end-requires c =
-    let p = pouring_on c.loop-at.invariant c.loop-at-test.true c.hex_byte-n.ensures.0 c.if-n-eq0.false in (p.room, p.hex, omega (arith, p.few))
+    let told = rw c.unwrap.ensures at c.hex_byte.ensures in
+    let n : c.from-n.result ≡ count c.loop-rest.rest.now = c.from-n.ensures ∙ told.1 in
+    let p = pouring_on c.loop-rest.invariant (some_here _ c.loop-rest-test.ensures) (λ e. c.if-n-eq0.false (n ∙ e)) in
+    (omega (arith, p.room, n), rw n p.hex, omega (arith, p.few, n))
 
-pub line_length-at-requires : goal.line_length-at-requires
-line_length-at-requires c =
-    lent-room c.loop-at.invariant c.loop-at-test.true
+pub ending-requires : goal.ending-requires
+unfolding count
+ending-requires c =
+    let told = rw c.unwrap.ensures at c.hex_byte.ensures in
+    let n : c.from-n.result ≡ count c.loop-rest.rest.now = c.from-n.ensures ∙ told.1 in
+    let p = pouring_on c.loop-rest.invariant (some_here _ c.loop-rest-test.ensures) (λ e. c.if-n-eq0.false (n ∙ e)) in
+    omega (arith, p.room, n)
 
-pub overflow_add-at : goal.overflow_add-at
-overflow_add-at c =
-    let p = pouring_on c.loop-at.invariant c.loop-at-test.true c.hex_byte-n.ensures.0 c.if-n-eq0.false in omega (arith, p.far, c.line_length-at.ensures)
+pub unwrap-requires-in-loop-rest : goal.unwrap-requires-in-loop-rest
+unfolding count
+unwrap-requires-in-loop-rest c =
+    let told = rw c.unwrap.ensures at c.hex_byte.ensures in
+    let n : c.from-n.result ≡ count c.loop-rest.rest.now = c.from-n.ensures ∙ told.1 in
+    told_some _ _ c.ending.ensures (rw n (end_told c.loop-rest.invariant (some_here _ c.loop-rest-test.ensures)))
 
-pub loop-at-smaller : goal.loop-at-smaller
-loop-at-smaller c =
-    let p = pouring_on c.loop-at.invariant c.loop-at-test.true c.hex_byte-n.ensures.0 c.if-n-eq0.false in omega (arith, p.far, c.line_length-at.ensures)
+pub slice_bounds-rest-count : goal.slice_bounds-rest-count
+unfolding count
+slice_bounds-rest-count c =
+    let told = rw c.unwrap.ensures at c.hex_byte.ensures in
+    let n : c.from-n.result ≡ count c.loop-rest.rest.now = c.from-n.ensures ∙ told.1 in
+    let p = pouring_on c.loop-rest.invariant (some_here _ c.loop-rest-test.ensures) (λ e. c.if-n-eq0.false (n ∙ e)) in
+    let ends = rw c.unwrap-in-loop-rest.ensures at c.ending.ensures in
+    let width : 2 * c.from-n.result + 11 + c.unwrap-in-loop-rest.result ≡ line_length c.loop-rest.rest.now =
+    width_is c.loop-rest.rest.now n ends.1 in
+    omega (arith, p.far, width)
 
-pub loop-at-preserved : goal.loop-at-preserved
-loop-at-preserved c =
-    let p = pouring_on c.loop-at.invariant c.loop-at-test.true c.hex_byte-n.ensures.0 c.if-n-eq0.false in rw c.line_length-at.ensures
-    (p.next c.put_data-end.ensures)
+pub slice_bounds-rest-start : goal.slice_bounds-rest-start
+unfolding count
+slice_bounds-rest-start c =
+    let told = rw c.unwrap.ensures at c.hex_byte.ensures in
+    let n : c.from-n.result ≡ count c.loop-rest.rest.now = c.from-n.ensures ∙ told.1 in
+    let p = pouring_on c.loop-rest.invariant (some_here _ c.loop-rest-test.ensures) (λ e. c.if-n-eq0.false (n ∙ e)) in
+    let ends = rw c.unwrap-in-loop-rest.ensures at c.ending.ensures in
+    let width : 2 * c.from-n.result + 11 + c.unwrap-in-loop-rest.result ≡ line_length c.loop-rest.rest.now =
+    width_is c.loop-rest.rest.now n ends.1 in
+    omega (arith, p.far, width)
 
-pub shape_of-out : goal.shape_of-out
-shape_of-out c = laid_length c.loop-at.invariant.laid
+pub loop-rest-preserved : goal.loop-rest-preserved
+unfolding count data_of
+loop-rest-preserved c =
+    let told = rw c.unwrap.ensures at c.hex_byte.ensures in
+    let n : c.from-n.result ≡ count c.loop-rest.rest.now = c.from-n.ensures ∙ told.1 in
+    let p = pouring_on c.loop-rest.invariant (some_here _ c.loop-rest-test.ensures) (λ e. c.if-n-eq0.false (n ∙ e)) in
+    let ends = rw c.unwrap-in-loop-rest.ensures at c.ending.ensures in
+    let width : 2 * c.from-n.result + 11 + c.unwrap-in-loop-rest.result ≡ line_length c.loop-rest.rest.now =
+    width_is c.loop-rest.rest.now n ends.1 in
+    rw width (p.next (rw n at c.put_data-end.ensures))
 
 pub returns : goal.returns
-returns c = absurd (pouring_missing c.loop-at.invariant c.loop-at-test.false)
+returns c = absurd (pouring_missing c.loop-rest.invariant (none_here _ c.loop-rest-test.ensures))

@@ -54,5 +54,5 @@ overflow_add-result c =
 pub returns : goal.returns
 unfolding digits_of digits
 returns c =
-    line_stored _ _ _ _ c.sum.ensures c.sum-2.ensures c.wrapping_sub_u8-last.ensures.value (omega arith) c.put.ensures c.put_spelled-behind_head.ensures
+    line_stored _ _ _ _ c.sum.ensures c.sum-2.ensures c.wrapping_neg-last.ensures (omega arith) c.put.ensures c.put_spelled-behind_head.ensures
     c.put_spelled-behind_data.ensures c.put_digits-end.ensures c.put-2.ensures

@@ -1,26 +1,15 @@
-use Rattle.std.proofs.Common.{refl, arith}
+use Rattle.std.proofs.Common.{arith}
 use Rattle.spec.specs.Bytes.{byte}
 use Rattle.intel_hex.proofs.RecordLaws.{total_here, total_end}
 use Rattle.intel_hex.proofs.writing.sum.Goals as goal
 
-pub loop-i-init : goal.loop-i-init
+pub loop-b-preserved : goal.loop-b-preserved
 unfolding byte
-loop-i-init c = (omega arith, omega arith, refl)
-
-pub loop-i-preserved : goal.loop-i-preserved
-unfolding byte
-loop-i-preserved c = (
+loop-b-preserved c = (
   omega arith,
-  omega (arith, c.wrapping_add_u8-sum.ensures),
-  omega (
-    arith,
-    total_here c.args.bytes.now c.loop-i.i
-        (omega arith),
-    c.loop-i.invariant.2,
-    c.wrapping_add_u8-sum.ensures,
-  ),
+  omega (arith, total_here c.args.bytes.now c.loop-b.b-index c.loop-b-test.true, c.loop-b.invariant.1),
 )
 
 pub returns : goal.returns
 unfolding byte
-returns c = omega (arith, total_end c.args.bytes.now c.loop-i.i (omega arith), c.loop-i.invariant.2)
+returns c = omega (arith, total_end c.args.bytes.now c.loop-b.b-index c.loop-b-test.false, c.loop-b.invariant.1)

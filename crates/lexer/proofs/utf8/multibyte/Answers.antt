@@ -5,10 +5,11 @@ use Rattle.spec.specs.Outcome.{Outcome, refused}
 use Rattle.spec.specs.Refusal.{not_json}
 use Rattle.spec.specs.Bytes.{Bytes, byte}
 use Rattle.spec.specs.Strings.{tail, multibyte}
-use Rattle.lexer.specs.Answers.{character_outcome}
+use Rattle.spec.specs.Fault.{outcome_by, number_of}
 use Rattle.lexer.proofs.Tests.{between-within, below_within, above_within}
 use Rattle.lexer.proofs.ByteLaws.{here}
 use Rattle.lexer.proofs.utf8.multibyte.Goals as goal
+use Rattle.lexer.proofs.utf8.multibyte.Goals.{in_default-via-then-b-lt194-2, in_default-via-else-b-lt194-2+else-b-lt224+else-b-lt237+else-b-lt240+else-b-lt244}
 
 -- the definition, row by row: `b` is the byte at the place, and `o` what the code answered
 module _ (s : Bytes) (at b : ℕ) (is : b ≡ byte s at) where
@@ -120,51 +121,51 @@ module _ (s : Bytes) (at b : ℕ) (is : b ≡ byte s at) where
       )
 
 pub returns-then-b-lt194 : goal.returns-then-b-lt194
-unfolding character_outcome
-returns-then-b-lt194 c = below_C2 _ _ _ c.peek-b.ensures (omega arith)
+unfolding outcome_by number_of
+returns-then-b-lt194 c = rw c.at.ensures (below_C2 _ _ _ c.peek-b.ensures (omega arith))
 
 pub overflow_add-next : goal.overflow_add-next
-unfolding character_outcome
+unfolding outcome_by number_of
 overflow_add-next c = omega (arith, here _ _ _ (sym c.peek-b.ensures) (omega arith))
 
 pub returns-in-224 : goal.returns-in-224
-unfolding character_outcome
+unfolding outcome_by number_of
 returns-in-224 c = from_E0 _ _ _ c.peek-b.ensures (omega arith) (omega arith) c.last_two.ensures
 
 pub returns-in-237 : goal.returns-in-237
-unfolding character_outcome
+unfolding outcome_by number_of
 returns-in-237 c = from_ED _ _ _ c.peek-b.ensures (omega arith) (omega arith) c.last_two-in-237.ensures
 
 pub returns-in-240 : goal.returns-in-240
-unfolding character_outcome
+unfolding outcome_by number_of
 returns-in-240 c = from_F0 _ _ _ c.peek-b.ensures (omega arith) (omega arith) c.last_three.ensures
 
 pub returns-in-244 : goal.returns-in-244
-unfolding character_outcome
+unfolding outcome_by number_of
 returns-in-244 c = from_F4 _ _ _ c.peek-b.ensures (omega arith) (omega arith) c.last_three-in-244.ensures
 
 pub returns-in-194-to-223 : goal.returns-in-194-to-223
-unfolding character_outcome
+unfolding outcome_by number_of
 returns-in-194-to-223 c = from_C2 _ _ _ c.peek-b.ensures (omega arith) (omega arith) c.last.ensures
 
 pub returns-in-225-to-236 : goal.returns-in-225-to-236
-unfolding character_outcome
+unfolding outcome_by number_of
 returns-in-225-to-236 c = from_E1 _ _ _ c.peek-b.ensures (omega arith) (omega arith) c.last_two-in-225-to-236.ensures
 
 pub returns-in-238-to-239 : goal.returns-in-238-to-239
-unfolding character_outcome
+unfolding outcome_by number_of
 returns-in-238-to-239 c =
     from_EE _ _ _ c.peek-b.ensures (omega arith) (omega arith) c.last_two-in-238-to-239.ensures
 
 pub returns-in-241-to-243 : goal.returns-in-241-to-243
-unfolding character_outcome
+unfolding outcome_by number_of
 returns-in-241-to-243 c =
     from_F1 _ _ _ c.peek-b.ensures (omega arith) (omega arith) c.last_three-in-241-to-243.ensures
 
 pub returns-in_default : goal.returns-in_default
-unfolding character_outcome
-returns-in_default c = below_C2 _ _ _ c.peek-b.ensures (omega arith)
-
-pub returns-in_default-2 : goal.returns-in_default-2
-unfolding character_outcome
-returns-in_default-2 c = above_F4 _ _ _ c.peek-b.ensures (omega arith)
+unfolding outcome_by number_of
+returns-in_default c =
+    rw c.at-in_default.ensures (elim c.in_default.branch [
+      | in_default-via-then-b-lt194-2 w ↦ below_C2 _ _ _ c.peek-b.ensures (omega arith)
+      | in_default-via-else-b-lt194-2+else-b-lt224+else-b-lt237+else-b-lt240+else-b-lt244 w ↦ above_F4 _ _ _ c.peek-b.ensures (omega arith)
+    ])

@@ -1,30 +1,15 @@
 -- `list_origins` meets its contract: what is left to list gives the same list.
-use mathlib.Core.Path.{refl, sym, ◌∙◌}
+use mathlib.Core.Path.{sym, ◌∙◌}
 use native.Mathlib.Omega.{arith}
-use lib.ListN.{take}
-use borrow.Author.Rules.{rules}
-use Rattle.listing.proofs.ListLaws.{list_all, list_next, list_out, list_done, list_over}
+use Rattle.listing.proofs.ListLaws.{list_all, list_next, list_whole}
 use Rattle.listing.proofs.lists.list_origins.Goals as goal
 
 pub loop-row-init : goal.loop-row-init
-loop-row-init c = (refl, list_all _ _)
-
-pub returns-then-nodes-row : goal.returns-then-nodes-row
-returns-then-nodes-row c =
-    sym (list_over c.args.nodes.now c.args.used c.loop-row.list c.loop-row.row (omega arith)) ∙ c.loop-row.invariant.1
-
-pub returns-then-list-row : goal.returns-then-list-row
-returns-then-list-row c =
-    sym (list_out (take c.args.used c.args.nodes.now) c.loop-row.list c.loop-row.row (omega arith)) ∙ c.loop-row.invariant.1
+loop-row-init c = list_all _ _
 
 pub loop-row-preserved : goal.loop-row-preserved
-loop-row-preserved c = (
-  search rules,
-  (
-      list_next c.args.nodes.now c.args.used c.loop-row.list c.loop-row.row (omega arith) (omega arith)
-      (omega arith) ∙ c.loop-row.invariant.1),
-)
+loop-row-preserved c =
+    list_next c.args.nodes.now c.args.used c.loop-row.list c.loop-row.row (omega arith) (omega arith) (omega arith) ∙ c.loop-row.invariant
 
 pub returns : goal.returns
-returns c =
-    sym (list_done c.args.nodes.now c.args.used c.loop-row.list c.loop-row.row (omega arith)) ∙ c.loop-row.invariant.1
+returns c = sym (list_whole c.args.nodes.now c.args.used c.loop-row.list c.loop-row.row (omega arith)) ∙ c.loop-row.invariant

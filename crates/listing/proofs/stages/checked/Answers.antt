@@ -1,41 +1,23 @@
 -- `checked` meets its contract, by the two lengths and by what is read of both texts.
-use native.Mathlib.Omega.{arith}
 use Rattle.json_patch.proofs.AnswerLaws.{work_suffices_lem}
-use Rattle.listing.proofs.ReadLaws.{document_refused, patch_refused, both_read}
-use Rattle.listing.proofs.StageLaws.{listed-refusal, listed_as, answer-document_long, answer-patch_long, answer-document_unread, answer-patch_unread}
-use Rattle.listing.proofs.StageLaws.{answer-applied}
+use Rattle.json_patch.proofs.ReadLaws.{lengths_short, read_by}
+use Rattle.listing.proofs.StageLaws.{listed-refusal, listed_as, listed-handed, lengths_refused, texts_refused, answer-applied}
 use Rattle.listing.proofs.stages.checked.Goals as goal
 
-pub returns-then-texts-gt-MAX_BYTES : goal.returns-then-texts-gt-MAX_BYTES
-returns-then-texts-gt-MAX_BYTES c h i = listed_as (answer-document_long _ _ _ (work_suffices_lem _ h i) (omega arith)) (listed-refusal c.refused.ensures)
+pub returns-in_err-check_lengths : goal.returns-in_err-check_lengths
+returns-in_err-check_lengths c h i =
+    let e = lengths_refused _ (work_suffices_lem _ h i) c.check_lengths.ensures c.in_err-check_lengths.was in
+    listed-handed _ c.from_residual.ensures.1 (λ r is. listed_as e (listed-refusal is))
 
-pub returns-then-texts-gt-MAX_BYTES-2 : goal.returns-then-texts-gt-MAX_BYTES-2
-returns-then-texts-gt-MAX_BYTES-2 c h i =
-    listed_as (answer-patch_long _ _ _ (work_suffices_lem _ h i) (omega arith) (omega arith))
-    (listed-refusal c.refused-then-texts-gt-MAX_BYTES-2.ensures)
-
-pub returns-in_default : goal.returns-in_default
-returns-in_default c h i =
-    listed_as (answer-document_unread _ _ _ (work_suffices_lem _ h i) (omega arith) (omega arith)
-    (document_refused h i (omega arith) (omega arith)
-    c.read_document-document.ensures c.in_default.is))
-    (listed-refusal (c.unread.ensures _ _ c.in_default.is))
-
-pub returns-in_default-patch : goal.returns-in_default-patch
-returns-in_default-patch c h i =
-    patch_refused h i (omega arith) (omega arith)
-    c.read_document-document.ensures c.in-Value.is
-    c.read_document-document.auto.nodes c.read_document-document.auto.index
-    c.read_patch-patch.ensures c.in_default-patch.is λ v document-is patch-is.
-    listed_as (answer-patch_unread _ _ _ (work_suffices_lem _ h i) (omega arith) (omega arith) document-is patch-is)
-    (listed-refusal (c.unread-in_default-patch.ensures _ _ c.in_default-patch.is))
+pub returns-in_err-used : goal.returns-in_err-used
+returns-in_err-used c h i =
+    let short = lengths_short c.check_lengths.ensures c.in_ok-check_lengths.was in
+    let e = texts_refused _ (work_suffices_lem _ h i) short (c.read_texts.ensures h i short.0 short.1) c.in_err-used.was in
+    listed-handed _ c.from_residual-in_err-used.ensures.1 (λ r is. listed_as e (listed-refusal is))
 
 pub returns : goal.returns
 returns c h i =
-    both_read h i (omega arith) (omega arith)
-    c.read_document-document.ensures c.in-Value.is
-    c.read_document-document.auto.nodes c.read_document-document.auto.index
-    c.read_patch-patch.ensures c.in-Value-patch.is
-    c.read_patch-patch.auto.nodes λ v p document-is patch-is document patch short.
-    listed_as (answer-applied _ _ _ (work_suffices_lem _ h i) (omega arith) (omega arith) document-is patch-is)
-    (c.run_patch.ensures v p document patch short)
+    let short = lengths_short c.check_lengths.ensures c.in_ok-check_lengths.was in
+    read_by (c.read_texts.ensures h i short.0 short.1) c.in_ok-used.was λ v p document-is patch-is document patch texts-short.
+    listed_as (answer-applied _ _ _ (work_suffices_lem _ h i) short.0 short.1 document-is patch-is)
+    (c.run_patch.ensures v p document patch texts-short)

@@ -2,10 +2,8 @@
 use Rattle.listing.proofs.StageLaws.{listed_stopped, listed-done}
 use Rattle.listing.proofs.stages.run_listed.Goals as goal
 
-pub returns-in_default : goal.returns-in_default
-returns-in_default c =
-    listed_stopped c.stamp_texts.ensures c.run-ran.ensures c.in_default.is c.stopped.ensures
+pub returns-in_err-rows : goal.returns-in_err-rows
+returns-in_err-rows c = listed_stopped c.stamp_texts.ensures c.run.ensures _ c.in_err-rows.was c.from_residual.ensures.1
 
 pub returns : goal.returns
-returns c =
-    listed-done c.stamp_texts.ensures c.run-ran.ensures c.in-Done.is c.write_listed.ensures
+returns c = listed-done c.stamp_texts.ensures c.run.ensures _ c.in_ok-rows.was c.write_listed.ensures

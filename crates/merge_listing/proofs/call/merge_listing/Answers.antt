@@ -1,37 +1,35 @@
 -- `merge_listing` meets its contract, by the work area's lengths, and then by what the checked call answers.
 use native.Mathlib.Omega.{arith}
-use mathlib.Core.Path.{refl, sym}
+use mathlib.Core.Path.{refl, sym, ◌∙◌}
 use lib.Seq.{length-take-le}
+use Rattle.spec.specs.Fault.{number_of}
 use Rattle.spec.specs.Limits.{work_nodes, work_entries}
-use Rattle.json_patch.proofs.AnswerLaws.{nodes_short, index_short}
+use Rattle.json_patch.proofs.CallLaws.{any_room}
 use Rattle.listing.proofs.CallLaws.{call_short, call_done}
 use Rattle.merge_listing.proofs.StageLaws.{merge_work_short, merge_same}
 use Rattle.merge_listing.proofs.call.merge_listing.Goals as goal
 
-pub returns-then-nodes-lt-ROWS : goal.returns-then-nodes-lt-ROWS
-returns-then-nodes-lt-ROWS c =
-    let e = nodes_short _ (omega arith) in call_short e (merge_work_short _ _ _ e) c.refused.ensures
-
-pub returns-then-index-lt-SLOTS : goal.returns-then-index-lt-SLOTS
-returns-then-index-lt-SLOTS c =
-    let e = index_short _ (omega arith) (omega arith) in call_short e (merge_work_short _ _ _ e) c.refused-then-index-lt-SLOTS.ensures
+pub returns-then-not-suffices : goal.returns-then-not-suffices
+unfolding number_of
+returns-then-not-suffices c =
+    let e = sym (any_room _ _ _ c.suffices.ensures.verdict) ∙ c.if-not-suffices.true in
+    call_short e (merge_work_short _ _ _ e) c.refusal_answer.ensures
 
 pub slice_bounds-checked_listed-end-2 : goal.slice_bounds-checked_listed-end-2
-slice_bounds-checked_listed-end-2 c =
-    sym (length-take-le work_nodes c.args.nodes.now (omega arith))
+slice_bounds-checked_listed-end-2 c = sym (length-take-le work_nodes c.args.nodes.now c.if-not-suffices.ensures.nodes_long)
 
 pub slice_bounds-checked_listed-end-4 : goal.slice_bounds-checked_listed-end-4
-slice_bounds-checked_listed-end-4 c =
-    sym (length-take-le work_entries c.args.index.now (omega arith))
+slice_bounds-checked_listed-end-4 c = sym (length-take-le work_entries c.args.index.now c.if-not-suffices.ensures.index_long)
 
-pub checked_listed-answer-requires : goal.checked_listed-answer-requires
-checked_listed-answer-requires c = (
-  omega (arith, length-take-le work_entries c.args.index.now (omega arith)),
-  length-take-le work_nodes c.args.nodes.now (omega arith),
+pub checked_listed-done-requires : goal.checked_listed-done-requires
+checked_listed-done-requires c = (
+  omega (arith, length-take-le work_entries c.args.index.now c.if-not-suffices.ensures.index_long),
+  length-take-le work_nodes c.args.nodes.now c.if-not-suffices.ensures.nodes_long,
 )
 
 pub returns : goal.returns
 returns c =
-    call_done (omega arith) (omega arith) (λ e. merge_same _ _ _ _ e refl refl) c.checked_listed-answer.ensures
-    c.checked_listed-answer.new.nodes c.checked_listed-answer.auto.nodes c.wipe.ensures
-    c.checked_listed-answer.new.index c.checked_listed-answer.auto.index c.empty.ensures
+    call_done c.if-not-suffices.ensures.nodes_long c.if-not-suffices.ensures.index_long (λ e. merge_same _ _ _ _ e refl refl)
+    (λ h i. rw c.from.ensures (c.checked_listed-done.ensures h i))
+    c.checked_listed-done.new.nodes c.checked_listed-done.auto.nodes c.clear.ensures.nodes_wiped
+    c.checked_listed-done.new.index c.checked_listed-done.auto.index c.clear.ensures.index_emptied

@@ -1,10 +1,8 @@
 use Prim.Native.Nat.{◌≤◌, ◌-◌}
-use native.Mathlib.Omega.{arith}
-use mathlib.Core.Path.{◌≡◌, refl}
+use mathlib.Core.Path.{◌≡◌}
 use lib.ListN.{length}
-use borrow.Author.Rules.{rules}
 use Rattle.tape.specs.Lent.{table_of}
-use Rattle.operations.proofs.RunLaws.{GoingAny, going_all, run_ends, run_inside, run_halts, run_next}
+use Rattle.operations.proofs.RunLaws.{GoingAny}
 use Rattle.operations.proofs.runs.elements.Given as goal
 
 abbrev pub invariant-loop-row : goal.invariant-loop-row

@@ -1,5 +1,4 @@
 -- `run` meets its contract, by its elements.
-use borrow.Author.Rules.{rules}
 use Rattle.operations.proofs.RunLaws.{run-patch}
 use Rattle.operations.proofs.runs.run.Goals as goal
 

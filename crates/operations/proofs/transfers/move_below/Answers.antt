@@ -1,18 +1,18 @@
 -- `move_below` meets its contract, by what the walk leads to.
-use borrow.Author.Rules.{rules}
+use Rattle.spec.proofs.FaultLaws.{handed}
 use Rattle.operations.proofs.TransferLaws.{value-moved, value-lost, shift_done, shift_kept, below_kept}
 use Rattle.operations.proofs.transfers.move_below.Goals as goal
 
 pub returns-then-shift_within : goal.returns-then-shift_within
 returns-then-shift_within c = shift_done c.if-shift_within.true c.shift_within.ensures
 
-pub returns-in-At : goal.returns-in-At
-returns-in-At c =
+pub returns-in_err-row : goal.returns-in_err-row
+returns-in_err-row c =
     below_kept (shift_kept c.if-shift_within.false c.shift_within.ensures)
-    (value-moved _ c.walk.ensures _ c.in-At.is c.set_aside.ensures
-    c.move_aside.ensures c.at_path.ensures)
+    (rw (handed _ c.from_residual.ensures.1) (value-lost _ c.walk.ensures c.told.ensures _ c.in_err-row.was))
 
-pub returns-in-Lost : goal.returns-in-Lost
-returns-in-Lost c =
+pub returns : goal.returns
+returns c =
     below_kept (shift_kept c.if-shift_within.false c.shift_within.ensures)
-    (value-lost _ c.walk.ensures c.in-Lost.is c.at_from.ensures)
+    (value-moved _ c.walk.ensures c.told.ensures _ c.in_ok-row.was c.set_aside.ensures
+    c.move_aside.ensures c.told-2.ensures)

@@ -1,6 +1,4 @@
 -- `move_value` meets its contract, by how the pointer begins.
-use native.Mathlib.Omega.{arith}
-use borrow.Author.Rules.{rules}
 use Rattle.operations.proofs.TransferLaws.{move_root, move_at, move_malformed}
 use Rattle.operations.proofs.transfers.move_value.Goals as goal
 

@@ -13,25 +13,25 @@ returns-in_default c = sym (ap index_of (refused_text _ _ _ c.letter.ensures _ c
 pub returns-then-c-eq45 : goal.returns-then-c-eq45
 unfolding text_of
 returns-then-c-eq45 c =
-    c.if_last.ensures ∙ sym (ap index_of (scalar_text _ _ _ c.letter.ensures _ _ c.in-Scalar.is) ∙ index_dash _ _ c.if-c-eq45.true)
+    c.if_last.ensures ∙ sym (ap index_of (scalar_text _ _ _ c.letter.ensures _ c.in-Ok.is) ∙ index_dash _ _ c.if-c-eq45.true)
 
 pub returns-then-c-eq48 : goal.returns-then-c-eq48
 unfolding text_of
 returns-then-c-eq48 c =
-    c.if_last-then-c-eq48.ensures ∙ sym (ap index_of (scalar_text _ _ _ c.letter.ensures _ _ c.in-Scalar.is) ∙ index_zero _ _ c.if-c-eq48.true)
+    c.if_last-then-c-eq48.ensures ∙ sym (ap index_of (scalar_text _ _ _ c.letter.ensures _ c.in-Ok.is) ∙ index_zero _ _ c.if-c-eq48.true)
 
 pub returns-then-c-lt48 : goal.returns-then-c-lt48
 unfolding text_of
 returns-then-c-lt48 c =
-    sym (ap index_of (scalar_text _ _ _ c.letter.ensures _ _ c.in-Scalar.is) ∙ index_below _ _ c.if-c-eq45.false c.if-c-lt48.true)
+    sym (ap index_of (scalar_text _ _ _ c.letter.ensures _ c.in-Ok.is) ∙ index_below _ _ c.if-c-eq45.false c.if-c-lt48.true)
 
 pub returns-then-c-gt57 : goal.returns-then-c-gt57
 unfolding text_of
 returns-then-c-gt57 c =
-    sym (ap index_of (scalar_text _ _ _ c.letter.ensures _ _ c.in-Scalar.is) ∙ index_above _ _ c.if-c-gt57.true)
+    sym (ap index_of (scalar_text _ _ _ c.letter.ensures _ c.in-Ok.is) ∙ index_above _ _ c.if-c-gt57.true)
 
 pub returns : goal.returns
 unfolding text_of
 returns c =
     c.digits.ensures
-    ∙ sym (ap index_of (scalar_text _ _ _ c.letter.ensures _ _ c.in-Scalar.is) ∙ index_digits _ _ (omega arith) c.if-c-gt57.false)
+    ∙ sym (ap index_of (scalar_text _ _ _ c.letter.ensures _ c.in-Ok.is) ∙ index_digits _ _ (omega arith) c.if-c-gt57.false)

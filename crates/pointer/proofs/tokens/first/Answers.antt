@@ -6,7 +6,7 @@ pub returns-in_default : goal.returns-in_default
 returns-in_default c = first_none _ (character_refused _ c.character_in.ensures c.in_default.is)
 
 pub returns-then-c-eq47 : goal.returns-then-c-eq47
-returns-then-c-eq47 c = first_slash _ _ _ (scalar_ok _ _ c.character_in.ensures c.in-Scalar.is) c.if-c-eq47.true
+returns-then-c-eq47 c = first_slash _ _ _ (scalar_ok _ c.character_in.ensures c.in-Ok.is) c.if-c-eq47.true
 
 pub returns : goal.returns
-returns c = first-other _ _ _ (scalar_ok _ _ c.character_in.ensures c.in-Scalar.is) c.if-c-eq47.false
+returns c = first-other _ _ _ (scalar_ok _ c.character_in.ensures c.in-Ok.is) c.if-c-eq47.false

@@ -23,13 +23,13 @@ returns-in_default c = let ended = character_refused _ c.character_in.ensures c.
     c.loop-at.invariant _ (scanned_end _ _ ended)
 
 pub returns-then-c-eq47 : goal.returns-then-c-eq47
-returns-then-c-eq47 c = let read = scalar_ok _ _ c.character_in.ensures c.in-Scalar.is in
+returns-then-c-eq47 c = let read = scalar_ok _ c.character_in.ensures c.in-Ok.is in
     c.loop-at.invariant _ (scanned_slash _ _ _ _ read c.if-c-eq47.true)
 
 pub loop-at-smaller : goal.loop-at-smaller
-loop-at-smaller c = character_less _ _ (scalar_ok _ _ c.character_in.ensures c.in-Scalar.is)
+loop-at-smaller c = character_less _ _ (scalar_ok _ c.character_in.ensures c.in-Ok.is)
 
 pub loop-at-preserved : goal.loop-at-preserved
 loop-at-preserved c = λ t r.
-    let read = scalar_ok _ _ c.character_in.ensures c.in-Scalar.is in
+    let read = scalar_ok _ c.character_in.ensures c.in-Ok.is in
     c.loop-at.invariant _ (scanned_more _ _ _ _ t read c.if-c-eq47.false r)

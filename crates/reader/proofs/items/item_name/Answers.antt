@@ -4,8 +4,8 @@ use Rattle.reader.proofs.items.item_name.Goals as goal
 
 pub member_name-requires : goal.member_name-requires
 member_name-requires c = record {
-  lent = c.requires.lent;
-  inside = (c.requires.inside, c.if-container.true);
+  lent = c.requires;
+  object = c.if-container.true;
 }
 
 pub returns-then-container : goal.returns-then-container

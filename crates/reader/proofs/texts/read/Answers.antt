@@ -1,25 +1,28 @@
 -- `read` meets its contract.
 use native.Mathlib.Omega.{arith}
 use mathlib.Core.Path.{refl}
+use Rattle.spec.proofs.FaultLaws.{handed}
 use Rattle.reader.proofs.TextLaws.{text_whole, text_more, text_unread}
 use Rattle.reader.proofs.texts.read.Goals as goal
 
-pub value-r-requires : goal.value-r-requires
-value-r-requires c = record {
-  lent = c.requires.lent;
-  base_le_row = (omega arith, c.requires.max_nodes_bound);
+pub read_value-requires : goal.read_value-requires
+read_value-requires c = record {
+  lent = c.requires;
+  base_le_row = omega arith;
 }
 
-pub returns-in_default : goal.returns-in_default
-returns-in_default c =
-    text_unread _ _ c.blanks-first.ensures c.no_name.ensures c.value-r.ensures _ _ c.in_default.is
+pub returns-in_err-value : goal.returns-in_err-value
+returns-in_err-value c =
+    rw (handed _ c.from_residual.ensures.1)
+    (text_unread c.args.source _ c.blanks-first.ensures c.no_name.ensures c.read_value.ensures _ c.in_err-value.was)
 
-pub returns-then-last-s : goal.returns-then-last-s
-returns-then-last-s c =
-    text_whole _ _ c.blanks-first.ensures c.no_name.ensures c.value-r.ensures _ _ _ c.in-Value.is c.blanks-last.ensures _ refl
-    c.if-last-s.true c.requires.max_nodes_bound (omega (arith, c.requires.lent.nodes_long, c.value-r.auto.nodes))
+pub returns-then-next-s : goal.returns-then-next-s
+returns-then-next-s c =
+    text_whole c.args.source _ c.blanks-first.ensures c.no_name.ensures c.read_value.ensures _ _ c.in_ok-value.was c.blanks-next.ensures _ refl
+    c.if-next-s.true (omega (arith, c.requires.nodes_long, c.read_value.auto.nodes))
 
 pub returns : goal.returns
 returns c =
-    text_more _ _ c.blanks-first.ensures c.no_name.ensures c.value-r.ensures _ _ _ c.in-Value.is c.blanks-last.ensures
-    c.if-last-s.false
+    rw c.at.ensures
+    (text_more c.args.source _ c.blanks-first.ensures c.no_name.ensures c.read_value.ensures _ _ c.in_ok-value.was c.blanks-next.ensures
+    c.if-next-s.false)

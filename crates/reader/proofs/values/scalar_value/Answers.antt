@@ -1,31 +1,31 @@
 -- `scalar_value` meets its contract.
 use native.Mathlib.Omega.{arith}
-use Rattle.reader.proofs.ReadingLaws.{begun-scalar, value-starts, value-fits, scalar_no_room, scalar_taken, scalar-refusal}
+use Rattle.spec.proofs.FaultLaws.{handed}
+use Rattle.reader.proofs.ValueLaws.{value-inside}
+use Rattle.reader.proofs.ReadingLaws.{scalar_no_room, scalar_fits, scalar_taken, scalar-refusal}
 use Rattle.reader.proofs.values.scalar_value.Goals as goal
 
-pub returns-then-number-ne-DONE : goal.returns-then-number-ne-DONE
-returns-then-number-ne-DONE c = scalar_no_room _ _ _ c.requires.kind_value.0 c.requires.kind_value.1 c.room_refusal-number.ensures c.if-number-ne-DONE.true
+pub returns-in_err-room_for : goal.returns-in_err-room_for
+returns-in_err-room_for c =
+    rw (handed _ c.from_residual.ensures.1)
+    (scalar_no_room c.args.source _ _ _ _ c.requires.kind_value.0 c.requires.kind_value.1 c.room_for.ensures _ c.in_err-room_for.was)
 
-pub scalar-spelled-requires : goal.scalar-spelled-requires
-scalar-spelled-requires c =
-    let b = begun-scalar _ _ _ _ _ _ c.requires.kind_value.0 c.requires.kind_value.1 c.room_refusal-number.ensures c.requires.kind_value.2
-    c.if-number-ne-DONE.false in
-    (c.requires.source_lt_sources.0, c.requires.source_lt_sources.1, omega (arith, value-starts (b 0)), c.requires.kind_value.1)
+pub scalar-requires : goal.scalar-requires
+scalar-requires c =
+    (c.args.source.known, c.requires.lent.0, value-inside _ _ _ c.requires.kind_value.0, c.requires.kind_value.1)
 
-pub returns-in_default : goal.returns-in_default
-returns-in_default c =
-    let b = begun-scalar _ _ _ _ _ _ c.requires.kind_value.0 c.requires.kind_value.1 c.room_refusal-number.ensures c.requires.kind_value.2
-    c.if-number-ne-DONE.false in
-    scalar-refusal b c.requires.kind_value.1 c.scalar-spelled.ensures _ _ _ c.in_default.is c.read_to.ensures
+pub returns-in_err-read : goal.returns-in_err-read
+returns-in_err-read c =
+    rw (handed _ c.from_residual-in_err-read.ensures.1)
+    (scalar-refusal c.args.source _ _ _ _ c.requires.kind_value.0 c.requires.kind_value.1 c.room_for.ensures c.requires.kind_value.2 c.in_ok-room_for.was
+    c.scalar.ensures _ c.in_err-read.was)
 
 pub overflow_add-result : goal.overflow_add-result
 overflow_add-result c =
-    let b = begun-scalar _ _ _ _ _ _ c.requires.kind_value.0 c.requires.kind_value.1 c.room_refusal-number.ensures c.requires.kind_value.2
-    c.if-number-ne-DONE.false in
-    omega (arith, value-fits (b 0), c.requires.kind_value.3)
+    let fits = scalar_fits _ _ _ c.room_for.ensures c.requires.kind_value.2 c.in_ok-room_for.was in
+    omega (arith, fits, c.args.source.low)
 
 pub returns : goal.returns
 returns c =
-    let b = begun-scalar _ _ _ _ _ _ c.requires.kind_value.0 c.requires.kind_value.1 c.room_refusal-number.ensures c.requires.kind_value.2
-    c.if-number-ne-DONE.false in
-    scalar_taken b c.requires.kind_value.1 c.scalar-spelled.ensures _ _ c.in-Read.is c.requires.kind_value.3 c.requires.source_lt_sources.2 c.put.ensures
+    scalar_taken c.args.source _ _ _ _ c.requires.kind_value.0 c.requires.kind_value.1 c.room_for.ensures c.requires.kind_value.2 c.in_ok-room_for.was
+    c.scalar.ensures _ c.in_ok-read.was c.requires.lent.1 c.put.ensures

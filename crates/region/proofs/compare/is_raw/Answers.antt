@@ -1,23 +1,24 @@
--- `is_raw` meets its contract: one byte more in each turn.
-use mathlib.Core.Path.{sym}
-use mathlib.Core.Bool.{true≢false}
+-- `is_raw` meets its contract: no byte of the region is escaped.
+use Prim.Native.Nat.{ℕ, ◌<◌}
 use native.Mathlib.Omega.{arith}
+use mathlib.Core.Path.{◌≡◌, subst}
+use mathlib.Core.Bool.{true}
+use lib.ListN.{length}
+use borrow.Author.Tests.{not-true}
+use Rattle.std.proofs.Common.{MatchBool, rules}
+use Rattle.std.specs.List.{HoldsAt, AllWithin}
+use Rattle.std.proofs.lemmas.Iterator.{cases_from_any, YieldsList-from_slice}
+use Rattle.lexer.specs.Names.{stands_for_itself}
 use Rattle.spec.specs.Bytes.{byte}
-use Rattle.region.proofs.RawLaws.{raw_none, raw_more, raw_all}
 use Rattle.region.proofs.compare.is_raw.Goals as goal
 
-pub loop-i-init : goal.loop-i-init
-unfolding byte
-loop-i-init c = raw_none
-
-pub returns-then-is_escaped : goal.returns-then-is_escaped
-unfolding byte
-returns-then-is_escaped c e = absurd (true≢false (sym e))
-
-pub loop-i-preserved : goal.loop-i-preserved
-unfolding byte
-loop-i-preserved c = raw_more c.loop-i.invariant (c.is_escaped.ensures c.if-is_escaped.false)
+abbrev Plain : ℕ → Type 0
+Plain x = x < 0x80 → stands_for_itself x ≡ true
 
 pub returns : goal.returns
 unfolding byte
-returns c e = raw_all c.loop-i.invariant (omega arith)
+returns c e =
+    let xs = c.args.region.now in
+    let cases = cases_from_any _ _ _ (λ (x : ℕ). Unit {0}) Plain c.any.ensures.ran (YieldsList-from_slice xs cc) (λ x q k. tt) (λ x q k. search rules) in
+    let each : AllWithin Plain xs 0 (length xs) = subst (λ r. MatchBool r ((k : ℕ) × (k < length xs) × HoldsAt (λ (x : ℕ). Unit {0}) xs k) (AllWithin Plain xs 0 (length xs))) (not-true _ e) cases in
+    record { each = λ i h. each i 0 (omega arith) h }

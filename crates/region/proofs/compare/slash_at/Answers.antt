@@ -7,8 +7,8 @@ use Rattle.region.proofs.compare.slash_at.Goals as goal
 pub returns-then-peek-eq47 : goal.returns-then-peek-eq47
 returns-then-peek-eq47 c = slash_here _ _ (sym c.peek.ensures ∙ c.if-peek-eq47.true)
 
-pub returns-in-Scalar : goal.returns-in-Scalar
-returns-in-Scalar c = slash_some _ _ (scalar_ok _ _ c.string_letter.ensures c.in-Scalar.is)
+pub returns-in-Ok : goal.returns-in-Ok
+returns-in-Ok c = slash_some _ _ (scalar_ok _ c.string_letter.ensures c.in-Ok.is)
 
-pub returns-in-Refused : goal.returns-in-Refused
-returns-in-Refused c = slash_none _ _ (character_refused _ c.string_letter.ensures c.in-Refused.is)
+pub returns-in-Err : goal.returns-in-Err
+returns-in-Err c = slash_none _ _ (character_refused _ c.string_letter.ensures c.in-Err.is)

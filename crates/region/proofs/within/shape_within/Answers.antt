@@ -1,7 +1,7 @@
 -- `shape_within` meets its contract, by the node's kind, the number of its elements, and these.
 use native.Mathlib.Omega.{arith}
 use mathlib.Core.Path.{sym, ◌∙◌}
-use Rattle.region.proofs.WithinLaws.{within-other, within_out, within_long, within_empty, within-elements}
+use Rattle.region.proofs.WithinLaws.{within-other, within_long, within_empty, within-elements}
 use Rattle.region.proofs.within.shape_within.Goals as goal
 
 pub returns-then-kind-ne-ARRAY : goal.returns-then-kind-ne-ARRAY
@@ -14,13 +14,7 @@ pub returns-then-count-eq0 : goal.returns-then-count-eq0
 returns-then-count-eq0 c =
     within_empty _ (sym c.kind.ensures ∙ c.if-kind-ne-ARRAY.false) c.arity-count.ensures (omega arith) (omega arith)
 
-pub returns-then-nodes-row : goal.returns-then-nodes-row
-returns-then-nodes-row c = within_out _ (sym c.kind.ensures ∙ c.if-kind-ne-ARRAY.false) (omega arith)
-
-pub elements_within-requires : goal.elements_within-requires
-elements_within-requires c = c.is_raw.ensures
-
 pub returns : goal.returns
 returns c =
     within-elements _ (sym c.kind.ensures ∙ c.if-kind-ne-ARRAY.false) c.arity-count.ensures (omega arith)
-    c.if-count-eq0.false c.end_of-end.ensures c.elements_within.ensures
+    c.if-count-eq0.false c.end_of-end.ensures c.new.ensures c.elements_within.ensures

@@ -1,40 +1,34 @@
 -- `checked_within` meets its contract, by the three lengths and by what is read of both texts.
 use native.Mathlib.Omega.{arith}
-use Rattle.json_patch.proofs.AnswerLaws.{answered-refusal, answered_as, work_suffices_lem}
-use Rattle.region_call.proofs.StageLaws.{within-document_long, within-patch_long, within-region_long, within-read}
-use Rattle.region_call.proofs.StageLaws.{document_unread, patch_unread, patch-read}
+use mathlib.Core.Path.{refl}
+use Rattle.spec.specs.Fault.{number_of}
+use Rattle.json_patch.specs.Stages.{as_answer}
+use Rattle.json_patch.proofs.AnswerLaws.{answered-refusal, answered_as, answered-handed, work_suffices_lem}
+use Rattle.json_patch.proofs.ReadLaws.{lengths_short}
+use Rattle.region_call.proofs.StageLaws.{within-region_long, lengths_refused, texts_refused, texts_applied}
 use Rattle.region_call.proofs.stages.checked_within.Goals as goal
 
-pub returns-then-texts-gt-MAX_BYTES : goal.returns-then-texts-gt-MAX_BYTES
-returns-then-texts-gt-MAX_BYTES c h i = answered_as (within-document_long _ _ _ _ (work_suffices_lem _ h i) (omega arith)) (answered-refusal c.refused.ensures)
-
-pub returns-then-texts-gt-MAX_BYTES-2 : goal.returns-then-texts-gt-MAX_BYTES-2
-returns-then-texts-gt-MAX_BYTES-2 c h i =
-    answered_as (within-patch_long _ _ _ _ (work_suffices_lem _ h i) (omega arith) (omega arith))
-    (answered-refusal c.refused-then-texts-gt-MAX_BYTES-2.ensures)
+pub returns-in_err-check_lengths : goal.returns-in_err-check_lengths
+returns-in_err-check_lengths c h i =
+    let e = lengths_refused _ _ (work_suffices_lem _ h i) c.check_lengths.ensures c.in_err-check_lengths.was in
+    answered-handed _ c.from_residual.ensures.1 (λ r is. answered_as e (answered-refusal is))
 
 pub returns-then-region-gt-MAX_BYTES : goal.returns-then-region-gt-MAX_BYTES
+unfolding as_answer number_of
 returns-then-region-gt-MAX_BYTES c h i =
-    answered_as (within-region_long _ _ _ _ (work_suffices_lem _ h i) (omega arith) (omega arith) (omega arith))
-    (answered-refusal c.refused-then-region-gt-MAX_BYTES.ensures)
+    let short = lengths_short c.check_lengths.ensures c.in_ok-check_lengths.was in
+    answered_as (within-region_long _ _ _ _ (work_suffices_lem _ h i) short.0 short.1 (omega arith)) (answered-refusal c.refusal_answer.ensures)
 
-pub returns-in_default : goal.returns-in_default
-returns-in_default c h i =
-    answered_as (within-read _ _ _ _ (work_suffices_lem _ h i) (omega arith) (omega arith) (omega arith))
-    (document_unread h i (omega arith) (omega arith) c.read_document-document.ensures _
-    c.in_default.is c.unread.ensures)
-
-pub returns-in_default-patch : goal.returns-in_default-patch
-returns-in_default-patch c h i =
-    answered_as (within-read _ _ _ _ (work_suffices_lem _ h i) (omega arith) (omega arith) (omega arith))
-    (patch_unread h i (omega arith) (omega arith) c.read_document-document.ensures c.in-Value.is
-    c.read_document-document.auto.nodes c.read_document-document.auto.index c.read_patch-patch.ensures _
-    c.in_default-patch.is c.unread-in_default-patch.ensures)
+pub returns-in_err-used : goal.returns-in_err-used
+returns-in_err-used c h i =
+    let short = lengths_short c.check_lengths.ensures c.in_ok-check_lengths.was in
+    let e =
+    texts_refused _ _ (work_suffices_lem _ h i) short (omega (arith, c.if-region-gt-MAX_BYTES.false)) (c.read_texts.ensures h i short.0 short.1)
+    c.in_err-used.was in
+    answered-handed _ c.from_residual-in_err-used.ensures.1 (λ r is. answered_as e (answered-refusal is))
 
 pub returns : goal.returns
 returns c h i =
-    answered_as (within-read _ _ _ _ (work_suffices_lem _ h i) (omega arith) (omega arith) (omega arith))
-    (patch-read h i (omega arith) (omega arith) c.read_document-document.ensures c.in-Value.is
-    c.read_document-document.auto.nodes c.read_document-document.auto.index c.read_patch-patch.ensures _
-    c.in-Value-patch.is c.read_patch-patch.auto.nodes
-    c.run_within.ensures)
+    let short = lengths_short c.check_lengths.ensures c.in_ok-check_lengths.was in
+    texts_applied _ _ (work_suffices_lem _ h i) short (omega (arith, c.if-region-gt-MAX_BYTES.false)) (c.read_texts.ensures h i short.0 short.1)
+    _ c.in_ok-used.was refl c.run_within.ensures

@@ -3,4 +3,4 @@ use Rattle.report.proofs.LineLaws.{laid_plain}
 use Rattle.report.proofs.pieces.put_bytes.Goals as goal
 
 pub returns : goal.returns
-returns c = laid_plain c.long.ensures c.write_text-count.ensures c.least.ensures
+returns c = laid_plain c.long.ensures c.write_text-count.ensures c.min.ensures

@@ -10,27 +10,17 @@ returns-then-nodes-row c = all_out (omega arith)
 pub loop-at-init : goal.loop-at-init
 loop-at-init c = (omega arith, all_nothing)
 
-pub bounds-nodes-at : goal.bounds-nodes-at
-bounds-nodes-at c = omega (arith, c.end_of-end.ensures)
-
-pub bounds-nodes-at-in-loop-at : goal.bounds-nodes-at-in-loop-at
-bounds-nodes-at-in-loop-at c = omega (arith, c.end_of-end.ensures)
-
 pub loop-at-preserved-then-kind_in-lt-ARRAY : goal.loop-at-preserved-then-kind_in-lt-ARRAY
 loop-at-preserved-then-kind_in-lt-ARRAY c = (
   omega arith,
-  all_next _ _ (omega arith) (omega arith) c.name_of.ensures
+  all_next _ _ (omega arith) c.name_of.ensures
       (behind_scalar _ c.loop-at.at (omega (arith, c.kind_in.ensures))) c.all_noted-found.ensures c.loop-at.invariant.1,
 )
-
-pub bounds-nodes-at-else-kind_in-lt-ARRAY : goal.bounds-nodes-at-else-kind_in-lt-ARRAY
-bounds-nodes-at-else-kind_in-lt-ARRAY c =
-    omega (arith, c.end_of-end.ensures)
 
 pub loop-at-preserved : goal.loop-at-preserved
 loop-at-preserved c = (
   omega arith,
-  all_next _ _ (omega arith) (omega arith) c.name_of.ensures
+  all_next _ _ (omega arith) c.name_of.ensures
       (omega (arith, c.wide.ensures, behind_container c.args.nodes.now c.loop-at.at (omega (arith, c.kind_in.ensures))))
       c.all_noted-found.ensures c.loop-at.invariant.1,
 )

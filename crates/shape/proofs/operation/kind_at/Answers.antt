@@ -13,5 +13,5 @@ returns-in_default c =
 
 pub returns : goal.returns
 returns c =
-    λ is. op_spelled (sym c.kind.ensures ∙ c.if-kind-ne-OBJECT.false) (string-is is c.string_in.ensures) _ c.in-As.is
+    λ is. op_spelled (sym c.kind.ensures ∙ c.if-kind-ne-OBJECT.false) (string-is is c.string_in.ensures) _ c.in-Some.is
     c.kind_named.ensures

@@ -1,5 +1,4 @@
 -- `last_pair` meets its contract, by which token it is.
-use borrow.Author.Rules.{rules}
 use Rattle.shift.specs.Shift.{pair_apart}
 use Rattle.shift.proofs.SiblingLaws.{last_paired}
 use Rattle.shift.proofs.within.last_pair.Goals as goal

@@ -1,6 +1,5 @@
 -- `shift` meets its contract, by what the two tokens name.
 use mathlib.Core.Path.{refl, ap, ◌∙◌}
-use borrow.Author.Rules.{rules}
 use Rattle.tape.specs.Fields.{name_of}
 use Rattle.shift.specs.Shift.{child-kept}
 use Rattle.shift.proofs.SiblingLaws.{element_shifts}
@@ -20,5 +19,5 @@ returns-then-name_of-ne-NO_TEXT c = child-kept refl
 
 pub returns : goal.returns
 returns c =
-    element_shifts c.requires _ c.kind.ensures c.if-kind-ne-ARRAY.false _ c.step.ensures c.in-At.is _ c.step-2.ensures
-    c.in-At-step.is _ (c.name_of.ensures ∙ ap name_of c.load.ensures) c.if-name_of-ne-NO_TEXT.false c.turn.ensures
+    element_shifts c.requires _ c.kind.ensures c.if-kind-ne-ARRAY.false _ c.step.ensures c.in-Ok.is _ c.step-2.ensures
+    c.in-Ok-step.is _ (c.name_of.ensures ∙ ap name_of c.load.ensures) c.if-name_of-ne-NO_TEXT.false c.turn.ensures

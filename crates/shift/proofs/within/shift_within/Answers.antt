@@ -1,7 +1,5 @@
 -- `shift_within` meets its contract, by what the two pointers name.
-use native.Mathlib.Omega.{arith}
 use mathlib.Core.Path.{refl}
-use borrow.Author.Rules.{rules}
 use Rattle.shift.specs.Shift.{kept}
 use Rattle.shift.proofs.SiblingLaws.{siblings_shift}
 use Rattle.shift.proofs.within.shift_within.Goals as goal
@@ -21,11 +19,7 @@ returns-in_default-first c = kept refl
 pub returns-in_default-siblings : goal.returns-in_default-siblings
 returns-in_default-siblings c = kept refl
 
-pub shift-requires : goal.shift-requires
-shift-requires c =
-    omega (arith, c.if-used-gt-MAX_NODES.false)
-
 pub returns : goal.returns
 returns c =
     siblings_shift _ _ c.part-a.ensures c.part-b.ensures _ _ c.first.ensures c.first-2.ensures _ _
-    c.in-At.is c.in-At-first.is _ c.siblings.ensures c.in-Siblings.is c.shift.ensures
+    c.in-At.is c.in-At-first.is _ c.siblings.ensures c.in-Some.is c.shift.ensures

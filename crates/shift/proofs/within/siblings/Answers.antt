@@ -1,17 +1,9 @@
 -- `siblings`: what is right of the tokens that are left is right of all; the measure is what is left of the first pointer.
-use Prim.Native.Nat.{◌-◌}
 use native.Mathlib.Omega.{arith}
-use lib.ListN.{length}
-use borrow.Author.Rules.{rules}
-use Rattle.tape.specs.Lent.{table_of}
 use Rattle.pointer.proofs.WalkLaws.{next_order}
-use Rattle.shift.specs.declared.within.Pair.{Pair}
-use Rattle.shift.specs.Shift.{Paired, paired_apart}
+use Rattle.shift.specs.Shift.{paired_apart}
 use Rattle.shift.proofs.SiblingLaws.{pairs_last, pairs_next}
 use Rattle.shift.proofs.within.siblings.Goals as goal
-
-pub loop-next-init : goal.loop-next-init
-loop-next-init c = λ r p. p
 
 pub returns-in_default : goal.returns-in_default
 returns-in_default c =
@@ -26,9 +18,8 @@ pub returns-then-not-same_text : goal.returns-then-not-same_text
 returns-then-not-same_text c =
     c.loop-next.invariant _ paired_apart
 
-pub returns-in_default-step : goal.returns-in_default-step
-returns-in_default-step c =
-    c.loop-next.invariant _ paired_apart
+pub returns-in_err-child : goal.returns-in_err-child
+returns-in_err-child c = rw c.from_residual.ensures (c.loop-next.invariant _ paired_apart)
 
 pub loop-next-smaller : goal.loop-next-smaller
 loop-next-smaller c =
@@ -40,5 +31,5 @@ loop-next-preserved c =
     λ r rest. c.loop-next.invariant r
     (pairs_next _ _ c.part-a.ensures c.part-b.ensures _ _ c.token-s.ensures c.token-t.ensures
     c.token_name-name.ensures c.in-Next.is c.in-Next-t.is _ _ c.token_part.ensures
-    c.token_part-in-loop-next.ensures _ c.same_text.ensures c.if-not-same_text.false-raw _ c.step.ensures
-    c.in-At.is rest)
+    c.token_part-in-loop-next.ensures _ c.same_text.ensures c.if-not-same_text.false _ c.step.ensures
+    c.ok.ensures.value c.in_ok-child.was rest)

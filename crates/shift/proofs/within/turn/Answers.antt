@@ -1,7 +1,6 @@
 -- `turn` meets its contract, by which of the two rows is before the other.
 use native.Mathlib.Omega.{arith}
 use mathlib.Core.Path.{refl}
-use borrow.Author.Rules.{rules}
 use Rattle.shift.specs.Shift.{turned_front, not_turned}
 use Rattle.shift.proofs.ShiftLaws.{back_is}
 use Rattle.shift.proofs.within.turn.Goals as goal

@@ -18,7 +18,7 @@ loop-row-preserved-then-quiet c =
     (omega arith, pass_quiet (both c.args.texts) c.args.name block q.0 q.1 c.loop-row.invariant.1)
 
 pub returns-then-same_name : goal.returns-then-same_name
-returns-then-same_name c = finds _ c.limit-stop.ensures
+returns-then-same_name c = finds _ c.min-stop.ensures
     (meet c.loop-row.invariant.1 (omega arith) (sym c.if-same_name.true ∙ c.same_name.ensures)
     c.name_of.ensures)
 
@@ -49,4 +49,4 @@ loop-row-preserved c = (
 )
 
 pub returns : goal.returns
-returns c = finds _ c.limit-stop.ensures (over c.loop-row.invariant.1 (omega arith))
+returns c = finds _ c.min-stop.ensures (over c.loop-row.invariant.1 (omega arith))

@@ -9,7 +9,7 @@ pub loop-row-init : goal.loop-row-init
 loop-row-init c = (omega arith, λ r s. s)
 
 pub returns-then-is_named : goal.returns-then-is_named
-returns-then-is_named c = finds_ascii _ c.limit-stop.ensures
+returns-then-is_named c = finds_ascii _ c.min-stop.ensures
     (c.short-h.ensures ∙ ap short_hash
     c.hash_ascii.ensures)
     (meet c.loop-row.invariant.1 (omega arith) (sym c.if-is_named.true ∙ c.is_named.ensures)
@@ -41,5 +41,5 @@ loop-row-preserved c = (
 )
 
 pub returns : goal.returns
-returns c = finds_ascii _ c.limit-stop.ensures (c.short-h.ensures ∙ ap short_hash
+returns c = finds_ascii _ c.min-stop.ensures (c.short-h.ensures ∙ ap short_hash
     c.hash_ascii.ensures) (over c.loop-row.invariant.1 (omega arith))

@@ -1,12 +1,8 @@
-use Prim.Native.Nat.{◌≤◌, ◌-◌}
 use mathlib.Core.Path.{◌≡◌}
-use lib.ListN.{length, replicate}
+use mathlib.Core.List.{◌++◌}
+use lib.ListN.{drop, replicate}
 use Rattle.tape.specs.Fields.{no_node}
-use Rattle.tape.specs.Columns.{replaced}
 use Rattle.tape.proofs.moves.clear.Given as goal
 
-abbrev pub invariant-loop-i : goal.invariant-loop-i
-invariant-loop-i l = (l.i ≤ l.count) × (length l.nodes ≡ length l.initial.nodes) × (l.nodes ≡ replaced l.initial.nodes l.start l.i (replicate l.i no_node))
-
-abbrev pub decreases-loop-i : goal.decreases-loop-i
-decreases-loop-i l = l.count - l.i
+abbrev pub invariant-loop-node : goal.invariant-loop-node
+invariant-loop-node l = l.node-items ≡ replicate l.node-index no_node ++ drop l.node-index l.initial.node-items

@@ -1,28 +1,23 @@
 -- `tape::moves::slide` meets its contract. Assumes nothing.
+use Prim.Native.Nat.{◌+◌, ◌-◌}
 use native.Mathlib.Omega.{arith}
 use mathlib.Core.Path.{◌≡◌, sym, ap, ◌∙◌}
-use Rattle.tape.specs.Columns.{copied}
+use Rattle.tape.specs.Columns.{replaced, copied}
 use Rattle.tape.proofs.Columns.{moved_in, moved_no_target, moved_no_source}
-use Rattle.tape.proofs.Loops.{copied_same}
+use Rattle.tape.proofs.Loops.{moved_same}
+use Rattle.tape.proofs.moves.slide.Goals.{else-to-start-via-then-to-start+then-inside+else-inside-2, else-to-start-via-then-to-start+else-inside, else-to-start-via-else-to-start}
 use Rattle.tape.proofs.moves.slide.Goals as goal
 
-pub returns-then-nodes-count : goal.returns-then-nodes-count
-returns-then-nodes-count c = sym (moved_no_target _ _ _ _ (omega arith))
+pub returns-then-inside-2 : goal.returns-then-inside-2
+unfolding copied replaced
+returns-then-inside-2 c =
+    let n : c.args.start + c.args.count - c.args.start ≡ c.args.count = omega arith in
+    c.copy_within.ensures.after ∙ ap (λ k. copied c.args.nodes.now c.args.to c.args.start k) n
+    ∙ sym (moved_in c.args.nodes.now c.args.to c.args.start c.args.count (omega (arith, c.if-inside.ensures)) (omega (arith, c.if-inside-2.ensures)))
 
-pub returns-then-last-to : goal.returns-then-last-to
-returns-then-last-to c = sym (moved_no_target _ _ _ _ (omega arith))
-
-pub returns-then-last-start : goal.returns-then-last-start
-returns-then-last-start c = sym (moved_no_source _ _ _ _ (omega arith))
-
-pub returns-then-to-start : goal.returns-then-to-start
-returns-then-to-start c = c.shift_down.ensures ∙ sym (moved_in _ _ _ _ (omega arith) (omega arith))
-
-pub returns-then-start-to : goal.returns-then-start-to
-returns-then-start-to c = c.shift_up.ensures ∙ sym (moved_in _ _ _ _ (omega arith) (omega arith))
-
-pub returns-else-start-to : goal.returns-else-start-to
-returns-else-start-to c =
-    let e : c.args.to ≡ c.args.start = omega arith in
-    sym (copied_same c.args.nodes.now c.args.start c.args.count) ∙ ap (λ to. copied c.args.nodes.now to c.args.start c.args.count) (sym e)
-    ∙ sym (moved_in _ _ _ _ (omega arith) (omega arith))
+pub returns-else-to-start : goal.returns-else-to-start
+returns-else-to-start c = elim c.else-to-start.branch [
+  | else-to-start-via-then-to-start+then-inside+else-inside-2 w ↦ sym (moved_no_source c.args.nodes.now c.args.to c.args.start c.args.count (omega (arith, w.if-inside-2.ensures)))
+  | else-to-start-via-then-to-start+else-inside w ↦ sym (moved_no_target c.args.nodes.now c.args.to c.args.start c.args.count (omega (arith, w.if-inside.ensures)))
+  | else-to-start-via-else-to-start w ↦ sym (moved_same c.args.nodes.now c.args.to c.args.start c.args.count (omega (arith, w.if-to-start.false)))
+]

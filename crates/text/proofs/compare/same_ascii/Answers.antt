@@ -13,22 +13,22 @@ returns-in_default c =
 
 pub returns-then-constant-j : goal.returns-then-constant-j
 returns-then-constant-j c =
-    longer (scalar_text _ _ _ c.letter.ensures _ _ c.in-Scalar.is) (back c.args.constant.now c.loop-c.j (omega arith)) ∙ c.loop-c.invariant.1
+    longer (scalar_text _ _ _ c.letter.ensures _ c.in-Ok.is) (back c.args.constant.now c.loop-c.j (omega arith)) ∙ c.loop-c.invariant.1
 
 pub overflow_cast-constant : goal.overflow_cast-constant
 overflow_cast-constant c = omega (arith, c.type_inv.constant c.loop-c.j)
 
 pub returns-then-c-constant : goal.returns-then-c-constant
 returns-then-c-constant c =
-    heads_differ (scalar_text _ _ _ c.letter.ensures _ _ c.in-Scalar.is) (front _ _ c.if-constant-j.false) c.if-c-constant.true
+    heads_differ (scalar_text _ _ _ c.letter.ensures _ c.in-Ok.is) (front _ _ c.if-constant-j.false) c.if-c-constant.true
     ∙ c.loop-c.invariant.1
 
 pub loop-c-smaller : goal.loop-c-smaller
-loop-c-smaller c = scalar_less _ _ _ c.letter.ensures _ _ c.in-Scalar.is
+loop-c-smaller c = scalar_less _ _ _ c.letter.ensures _ c.in-Ok.is
 
 pub loop-c-preserved : goal.loop-c-preserved
 loop-c-preserved c = (
   omega arith,
-  sym (heads_same (scalar_text _ _ _ c.letter.ensures _ _ c.in-Scalar.is) (front _ _ c.if-constant-j.false) c.if-c-constant.false)
+  sym (heads_same (scalar_text _ _ _ c.letter.ensures _ c.in-Ok.is) (front _ _ c.if-constant-j.false) c.if-c-constant.false)
       ∙ c.loop-c.invariant.1,
 )

@@ -31,21 +31,21 @@ returns-in_default c =
 
 pub returns-in_default-any_letter : goal.returns-in_default-any_letter
 returns-in_default-any_letter c =
-    let one = scalar_text _ _ _ c.any_letter.ensures _ _ c.in-Scalar.is in
+    let one = scalar_text _ _ _ c.any_letter.ensures _ c.in-Ok.is in
     longer one (refused_text _ _ _ c.any_letter-in-loop-i.ensures _ c.in_default-any_letter.is) ∙ c.loop-i.invariant
 
 pub returns-then-c-d : goal.returns-then-c-d
 returns-then-c-d c =
-    let one = scalar_text _ _ _ c.any_letter.ensures _ _ c.in-Scalar.is in
-    let two = scalar_text _ _ _ c.any_letter-in-loop-i.ensures _ _ c.in-Scalar-any_letter.is in
+    let one = scalar_text _ _ _ c.any_letter.ensures _ c.in-Ok.is in
+    let two = scalar_text _ _ _ c.any_letter-in-loop-i.ensures _ c.in-Ok-any_letter.is in
     heads_differ one two c.if-c-d.true ∙ c.loop-i.invariant
 
 pub loop-i-smaller : goal.loop-i-smaller
 loop-i-smaller c =
-    scalar_less _ _ _ c.any_letter.ensures _ _ c.in-Scalar.is
+    scalar_less _ _ _ c.any_letter.ensures _ c.in-Ok.is
 
 pub loop-i-preserved : goal.loop-i-preserved
 loop-i-preserved c =
-    let one = scalar_text _ _ _ c.any_letter.ensures _ _ c.in-Scalar.is in
-    let two = scalar_text _ _ _ c.any_letter-in-loop-i.ensures _ _ c.in-Scalar-any_letter.is in
+    let one = scalar_text _ _ _ c.any_letter.ensures _ c.in-Ok.is in
+    let two = scalar_text _ _ _ c.any_letter-in-loop-i.ensures _ c.in-Ok-any_letter.is in
     sym (heads_same one two c.if-c-d.false) ∙ c.loop-i.invariant

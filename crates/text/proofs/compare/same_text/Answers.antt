@@ -1,6 +1,7 @@
-use Rattle.lexer.proofs.Tests.{told}
+use mathlib.Core.Path.{sym, ◌∙◌}
+use Rattle.spec.proofs.TextLaws.{compared}
 use Rattle.text.proofs.CompareLaws.{same_parts}
 use Rattle.text.proofs.compare.same_text.Goals as goal
 
-pub returns-then-same_bytes : goal.returns-then-same_bytes
-returns-then-same_bytes c = same_parts _ _ _ _ c.if-form-other.true (told c.same_bytes.ensures c.if-same_bytes.true)
+pub returns-then-eq : goal.returns-then-eq
+returns-then-eq c = same_parts _ _ _ _ c.if-form-other.true (sym (compared _ _) ∙ sym c.eq.ensures ∙ c.if-eq.true)

@@ -33,9 +33,9 @@ returns-in_default c =
 
 pub loop-h-smaller : goal.loop-h-smaller
 unfolding hash text_of
-loop-h-smaller c = scalar_less _ _ _ c.any_letter.ensures _ _ c.in-Scalar.is
+loop-h-smaller c = scalar_less _ _ _ c.any_letter.ensures _ c.in-Ok.is
 
 pub loop-h-preserved : goal.loop-h-preserved
 unfolding hash text_of
 loop-h-preserved c =
-    hash_more _ (scalar_text _ _ _ c.any_letter.ensures _ _ c.in-Scalar.is) c.mix-h-in-loop-h.ensures c.loop-h.invariant
+    hash_more _ (scalar_text _ _ _ c.any_letter.ensures _ c.in-Ok.is) c.mix-h-in-loop-h.ensures c.loop-h.invariant

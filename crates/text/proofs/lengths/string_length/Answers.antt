@@ -26,15 +26,15 @@ pub overflow_add-total-in-loop-c : goal.overflow_add-total-in-loop-c
 unfolding letter_at
 overflow_add-total-in-loop-c c =
     let k = counted-run c.loop-c.invariant c.run_end-at.ensures in
-    omega (arith, counted_fits (counted_letter k c.string_letter.ensures c.in-Scalar.is c.character_length-total.ensures))
+    omega (arith, counted_fits (counted_letter k c.string_letter.ensures c.in-Ok.is c.character_length-total.ensures))
 
 pub loop-c-smaller : goal.loop-c-smaller
 unfolding letter_at
 loop-c-smaller c =
-    omega (arith, run_past c.run_end-at.ensures, scalar_less 2 _ _ c.string_letter.ensures _ _ c.in-Scalar.is)
+    omega (arith, run_past c.run_end-at.ensures, scalar_less 2 _ _ c.string_letter.ensures _ c.in-Ok.is)
 
 pub loop-c-preserved : goal.loop-c-preserved
 unfolding letter_at
 loop-c-preserved c =
     let k = counted-run c.loop-c.invariant c.run_end-at.ensures in
-    counted_letter k c.string_letter.ensures c.in-Scalar.is c.character_length-total.ensures
+    counted_letter k c.string_letter.ensures c.in-Ok.is c.character_length-total.ensures

@@ -11,15 +11,15 @@ returns-in_default c = omega (arith, length_ends (refused_text _ _ _ c.letter.en
 pub overflow_add-total : goal.overflow_add-total
 unfolding text_of
 overflow_add-total c =
-    omega (arith, length_more (scalar_text _ _ _ c.letter.ensures _ _ c.in-Scalar.is), text_short c.args.form c.args.s.now)
+    omega (arith, length_more (scalar_text _ _ _ c.letter.ensures _ c.in-Ok.is), text_short c.args.form c.args.s.now)
 
 pub loop-c-smaller : goal.loop-c-smaller
 unfolding text_of
-loop-c-smaller c = scalar_less _ _ _ c.letter.ensures _ _ c.in-Scalar.is
+loop-c-smaller c = scalar_less _ _ _ c.letter.ensures _ c.in-Ok.is
 
 pub loop-c-preserved : goal.loop-c-preserved
 unfolding text_of
-loop-c-preserved c = omega (arith, length_more (scalar_text _ _ _ c.letter.ensures _ _ c.in-Scalar.is))
+loop-c-preserved c = omega (arith, length_more (scalar_text _ _ _ c.letter.ensures _ c.in-Ok.is))
 
 pub loop-c-init : goal.loop-c-init
 unfolding text_of

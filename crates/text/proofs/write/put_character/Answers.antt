@@ -1,16 +1,15 @@
 use Prim.Native.Char.{code}
 use mathlib.Core.Path.{sym, ◌∙◌, ap}
 use mathlib.Core.List.{[], ◌∷◌}
-use native.Mathlib.Omega.{arith}
 use Rattle.text.proofs.EscapeLaws.{writes}
-use Rattle.text.proofs.StoreLaws.{stored, stored_as}
+use Rattle.text.proofs.StoreLaws.{stored_as}
 use Rattle.text.proofs.write.put_character.Goals as goal
 
 pub returns-then-e-ne0 : goal.returns-then-e-ne0
 returns-then-e-ne0 c =
-    stored (code "\\" ∷ c.short_letter-e.result ∷ [])
+    stored_as
     ((writes c.args.c).short (λ z. c.if-e-ne0.true (c.short_letter-e.ensures ∙ z)) ∙ ap (λ l. code "\\" ∷ l ∷ []) (sym c.short_letter-e.ensures))
-    c.put_two.ensures (omega arith)
+    c.put_bytes.ensures
 
 pub returns-then-c-lt32 : goal.returns-then-c-lt32
 returns-then-c-lt32 c =

@@ -16,12 +16,11 @@ returns-in_default c = laying_ends c.loop-c.invariant (refused_text _ _ _ c.lett
 
 pub put_character-put-requires : goal.put_character-put-requires
 put_character-put-requires c =
-    let l = laying_bound c.loop-c.invariant in (omega arith, (letter_fits _ _ _ _ (scalar_ok _ _ c.letter.ensures c.in-Scalar.is)).bound)
+    let l = laying_bound c.loop-c.invariant in (omega arith, (letter_fits _ _ _ _ (scalar_ok _ c.letter.ensures c.in-Ok.is)).bound)
 
 pub loop-c-smaller : goal.loop-c-smaller
-loop-c-smaller c = scalar_less _ _ _ c.letter.ensures _ _
-    c.in-Scalar.is
+loop-c-smaller c = scalar_less _ _ _ c.letter.ensures _ c.in-Ok.is
 
 pub loop-c-preserved : goal.loop-c-preserved
 loop-c-preserved c =
-    laying_more c.loop-c.invariant _ _ (scalar_text _ _ _ c.letter.ensures _ _ c.in-Scalar.is) c.put_character-put.ensures
+    laying_more c.loop-c.invariant _ _ (scalar_text _ _ _ c.letter.ensures _ c.in-Ok.is) c.put_character-put.ensures

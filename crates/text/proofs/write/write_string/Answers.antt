@@ -43,15 +43,15 @@ pub put_character-put-requires : goal.put_character-put-requires
 unfolding letter_at part
 put_character-put-requires c =
     let l = laying_bound (writing_run c.loop-c.invariant c.run_end-at.ensures c.put_bytes-put.ensures).laying in
-    (omega arith, (letter_fits 2 _ _ _ (scalar_ok _ _ c.string_letter.ensures c.in-Scalar.is)).bound)
+    (omega arith, (letter_fits 2 _ _ _ (scalar_ok _ c.string_letter.ensures c.in-Ok.is)).bound)
 
 pub loop-c-smaller : goal.loop-c-smaller
 unfolding letter_at part
 loop-c-smaller c =
-    omega (arith, run_past c.run_end-at.ensures, scalar_less 2 _ _ c.string_letter.ensures _ _ c.in-Scalar.is)
+    omega (arith, run_past c.run_end-at.ensures, scalar_less 2 _ _ c.string_letter.ensures _ c.in-Ok.is)
 
 pub loop-c-preserved : goal.loop-c-preserved
 unfolding letter_at part
 loop-c-preserved c =
     writing_letter (writing_run c.loop-c.invariant c.run_end-at.ensures c.put_bytes-put.ensures)
-    c.string_letter.ensures c.in-Scalar.is c.put_character-put.ensures
+    c.string_letter.ensures c.in-Ok.is c.put_character-put.ensures

@@ -5,30 +5,26 @@ use Rattle.text.specs.Letters.{letter_at}
 use Rattle.undo.proofs.SlashLaws.{scan_start, scan_slash, scan_other, scan_less, scan_done}
 use Rattle.undo.proofs.cuts.last_slash.Goals as goal
 
-pub loop-c-init : goal.loop-c-init
+pub loop-code-init : goal.loop-code-init
 unfolding letter_at
-loop-c-init c = scan_start _
+loop-code-init c = scan_start _
 
-pub returns-in_default : goal.returns-in_default
+pub returns : goal.returns
 unfolding letter_at
-returns-in_default c = scan_done _ refl refl c.loop-c.invariant (character_refused _ c.letter.ensures c.in_default.is)
+returns c = scan_done _ refl refl c.loop-code.invariant (character_refused _ c.letter.ensures c.in_default.is)
 
-pub loop-c-smaller-then-c-eq47 : goal.loop-c-smaller-then-c-eq47
+pub loop-code-smaller-then-code-eq47 : goal.loop-code-smaller-then-code-eq47
 unfolding letter_at
-loop-c-smaller-then-c-eq47 c = scan_less c.loop-c.invariant (scalar_ok _ _ c.letter.ensures
-    c.in-Scalar.is)
+loop-code-smaller-then-code-eq47 c = scan_less c.loop-code.invariant (scalar_ok _ c.letter.ensures c.in-Ok.is)
 
-pub loop-c-preserved-then-c-eq47 : goal.loop-c-preserved-then-c-eq47
+pub loop-code-preserved-then-code-eq47 : goal.loop-code-preserved-then-code-eq47
 unfolding letter_at
-loop-c-preserved-then-c-eq47 c = scan_slash c.loop-c.invariant (scalar_ok _ _ c.letter.ensures
-    c.in-Scalar.is) c.if-c-eq47.true
+loop-code-preserved-then-code-eq47 c = scan_slash c.loop-code.invariant (scalar_ok _ c.letter.ensures c.in-Ok.is) c.if-code-eq47.true
 
-pub loop-c-smaller : goal.loop-c-smaller
+pub loop-code-smaller : goal.loop-code-smaller
 unfolding letter_at
-loop-c-smaller c = scan_less c.loop-c.invariant (scalar_ok _ _ c.letter.ensures
-    c.in-Scalar.is)
+loop-code-smaller c = scan_less c.loop-code.invariant (scalar_ok _ c.letter.ensures c.in-Ok.is)
 
-pub loop-c-preserved : goal.loop-c-preserved
+pub loop-code-preserved : goal.loop-code-preserved
 unfolding letter_at
-loop-c-preserved c = scan_other c.loop-c.invariant (scalar_ok _ _ c.letter.ensures
-    c.in-Scalar.is) c.if-c-eq47.false
+loop-code-preserved c = scan_other c.loop-code.invariant (scalar_ok _ c.letter.ensures c.in-Ok.is) c.if-code-eq47.false

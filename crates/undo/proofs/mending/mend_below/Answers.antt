@@ -18,5 +18,5 @@ returns c used v d short t ts p there os noted = c.mend_child.ensures t ts _
     c.last_slash-cut.ensures _
     c.shortened.ensures
     c.walk.ensures
-    c.in-At.is
-    c.token.ensures c.token_name-name.ensures there) tt os noted
+    c.in-Ok.is
+    c.token.ensures c.token_name.ensures there) tt os noted

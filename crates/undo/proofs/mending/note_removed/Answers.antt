@@ -7,4 +7,4 @@ returns-in_default c used v d short ts p there os noted = not_lost _ c.walk.ensu
 
 pub returns : goal.returns
 returns c = removed_noted _ c.walk.ensures _
-    c.in-At.is c.note.ensures
+    c.in-Ok.is c.note.ensures

@@ -13,7 +13,7 @@ returns-in_default c used v d short t ts p parent there = not_lost _ c.walk.ensu
     (record { value = parent; is = there })
 
 pub returns : goal.returns
-returns c used v d short t ts p parent there = let held = walked-value _ c.walk.ensures c.in-At.is d short
+returns c used v d short t ts p parent there = let held = walked-value _ c.walk.ensures c.in-Ok.is d short
     (parent_path d short p _ c.part.ensures
     c.last_slash-cut.ensures _ c.shortened.ensures) in
     sym (row-object held _ c.kind.ensures) ∙ ap (λ u. is_object u.label) (value-walked _ v parent there)

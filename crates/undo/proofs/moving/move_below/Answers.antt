@@ -8,5 +8,5 @@ returns-in_default c = below_lost _ c.walk.ensures
 
 pub returns : goal.returns
 returns c = below_found _ c.walk.ensures _
-    c.in-At.is
+    c.in-Ok.is
     c.move_from.ensures

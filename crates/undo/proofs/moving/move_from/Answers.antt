@@ -5,9 +5,9 @@ use Rattle.undo.proofs.moving.move_from.Goals as goal
 pub returns-then-holds : goal.returns-then-holds
 returns-then-holds c = from_over c.holds.ensures
     c.if-holds.true
-    c.note_replaced-replaced.ensures c.plain.ensures
+    c.note_replaced-log.ensures c.plain.ensures
 
 pub returns : goal.returns
 returns c = from-apart c.holds.ensures
     c.if-holds.false
-    c.note-added.ensures c.move_apart.ensures
+    c.note-log.ensures c.move_apart.ensures

@@ -12,7 +12,7 @@ pub returns-in-Root : goal.returns-in-Root
 unfolding ascii
 returns-in-Root c = step_root
     c.string_member.ensures _
-    c.in-As.is _
+    c.in-Some.is _
     c.part.ensures _
     c.first.ensures
     c.in-Root.is c.plain-in-Root.ensures
@@ -21,7 +21,7 @@ pub returns-in-At : goal.returns-in-At
 unfolding ascii
 returns-in-At c = step_at
     c.string_member.ensures _
-    c.in-As.is _
+    c.in-Some.is _
     c.part.ensures _
     c.first.ensures
     _ c.in-At.is
@@ -31,7 +31,7 @@ pub returns-in-Malformed : goal.returns-in-Malformed
 unfolding ascii
 returns-in-Malformed c = step_malformed
     c.string_member.ensures _
-    c.in-As.is _
+    c.in-Some.is _
     c.part.ensures _
     c.first.ensures
     c.in-Malformed.is c.plain-in-Malformed.ensures

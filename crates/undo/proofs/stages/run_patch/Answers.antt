@@ -2,27 +2,14 @@
 use Rattle.undo.proofs.StageLaws.{run_misshapen, run_stopped, run-done}
 use Rattle.undo.proofs.stages.run_patch.Goals as goal
 
-pub returns-in_default : goal.returns-in_default
-returns-in_default c = run_misshapen c.shape_of-shape.ensures _
-    c.args.work.now c.in_default.is
-    c.misshapen.ensures c.without.ensures
+pub returns-in_err-shape_of : goal.returns-in_err-shape_of
+returns-in_err-shape_of c = run_misshapen c.shape_of.ensures _ c.args.work.now _ c.in_err-shape_of.was c.from_residual.ensures.1
 
-pub returns-in_default-ran : goal.returns-in_default-ran
-returns-in_default-ran c = run_stopped
-    c.shape_of-shape.ensures _
-    c.args.work.now
-    c.in-Right.is
-    c.begin-log.ensures
-    c.run-logged.ensures c.in_default-ran.is
-    c.stopped.ensures
-    c.without-in_default-ran.ensures
+pub returns-in_err-logged : goal.returns-in_err-logged
+returns-in_err-logged c =
+    run_stopped c.shape_of.ensures _ c.args.work.now _ c.in_ok-shape_of.was c.begin.ensures c.run.ensures c.in_err-logged.was
+    c.from_residual-in_err-logged.ensures.1
 
 pub returns : goal.returns
-returns c = run-done
-    c.shape_of-shape.ensures _
-    c.args.work.now
-    c.in-Right.is
-    c.begin-log.ensures
-    c.run-logged.ensures
-    c.in-Done.is
-    c.write_both.ensures
+returns c =
+    run-done c.shape_of.ensures _ c.args.work.now _ c.in_ok-shape_of.was c.begin.ensures c.run.ensures c.in_ok-logged.was c.write_both.ensures

@@ -1,31 +1,13 @@
 -- `clear` meets its contract. Assumes nothing.
-use Prim.Native.Nat.{◌+◌}
-use native.Mathlib.Omega.{arith}
-use mathlib.Core.Path.{◌≡◌, refl, sym, ap, ◌∙◌}
-use lib.ListN.{set, replicate, length-set}
-use Rattle.tape.specs.Columns.{replaced}
-use Rattle.tape.proofs.Columns.{filled_in, filled_out}
-use Rattle.tape.proofs.Loops.{filled_none, filled_more}
+use Rattle.std.proofs.Common.{sym, arith}
+use Rattle.tape.proofs.Columns.{filled_out}
 use Rattle.spec.specs.Limits.{max_bytes}
+use Rattle.undo_log.proofs.LogLaws.{filled_front}
 use Rattle.undo_log.proofs.log.clear.Goals as goal
 
--- the first i bytes are 0
+pub returns-then-work-ge-MAX_BYTES : goal.returns-then-work-ge-MAX_BYTES
+returns-then-work-ge-MAX_BYTES c =
+    filled_front max_bytes c.args.work.now c.if-work-ge-MAX_BYTES.true (c.fill.ensures.after (λ y e. e))
 
-pub returns-then-work-lt-MAX_BYTES : goal.returns-then-work-lt-MAX_BYTES
-returns-then-work-lt-MAX_BYTES c = sym (filled_out c.args.work.now 0 0 max_bytes (omega arith))
-
-pub loop-i-init : goal.loop-i-init
-loop-i-init c = (omega arith, refl, sym (filled_none 0 c.args.work.now 0))
-
-pub loop-i-preserved : goal.loop-i-preserved
-loop-i-preserved c =
-    let here : 0 + c.loop-i.i ≡ c.loop-i.i = omega arith in (
-      omega arith,
-      simp length-set c.loop-i.invariant.1,
-      ap (λ xs. set xs c.loop-i.i 0) c.loop-i.invariant.2 ∙ rw here at (filled_more 0 c.args.work.now 0 c.loop-i.i (omega arith)),
-    )
-
-pub returns : goal.returns
-returns c =
-    let e : c.loop-i.i ≡ max_bytes = omega arith in
-    c.loop-i.invariant.2 ∙ ap (λ n. replaced c.args.work.now 0 n (replicate n 0)) e ∙ sym (filled_in c.args.work.now 0 0 max_bytes (omega arith))
+pub returns-else-work-ge-MAX_BYTES : goal.returns-else-work-ge-MAX_BYTES
+returns-else-work-ge-MAX_BYTES c = sym (filled_out c.args.work.now 0 0 max_bytes (omega (arith, c.if-work-ge-MAX_BYTES.false)))

@@ -3,8 +3,5 @@ use native.Mathlib.Omega.{arith}
 use Rattle.undo_log.proofs.LogLaws.{text_some}
 use Rattle.undo_log.proofs.log.rest_length.Goals as goal
 
-pub returns-then-length-eq0 : goal.returns-then-length-eq0
-returns-then-length-eq0 c work os n h = absurd (omega (arith, c.text_length-length.ensures work os n h, text_some os))
-
 pub returns : goal.returns
-returns c work os n h = omega (arith, c.text_length-length.ensures work os n h)
+returns c work os n h = omega (arith, c.text_length.ensures work os n h, c.saturating_sub.ensures, text_some os)

@@ -3,17 +3,13 @@ use native.Mathlib.Omega.{arith}
 use Prim.Native.Nat.{suc, ◌+◌, min}
 use mathlib.Core.Path.{sym, ap, ◌∙◌}
 use Rattle.spec.specs.Limits.{max_nodes}
-use Rattle.undo_log.proofs.OperationLaws.{valued_add, valued_replace, bare, member-nodes, member-none}
+use Rattle.undo_log.proofs.OperationLaws.{valued, bare, member-nodes, member-none}
 use Rattle.undo_log.proofs.note.more_nodes.Goals as goal
 
 pub returns-in-Add : goal.returns-in-Add
-returns-in-Add c n e T o k = let v = valued_add _ _ o k c.in-Add.is in
+returns-in-Add c n e T o k = let v = valued _ _ o k c.in-Add.is in
     c.with_value.ensures n e T o.value v.held ∙ ap (λ m. min (n + (3 + m)) (suc max_nodes)) (sym (member-nodes o v.uses))
 
 pub returns-in-Remove : goal.returns-in-Remove
 returns-in-Remove c n e T o k = let none = (member-none o (bare _ _ o k c.in-Remove.is)).1 in
-    omega (arith, none, e, c.sum.ensures)
-
-pub returns-in-Replace : goal.returns-in-Replace
-returns-in-Replace c n e T o k = let v = valued_replace _ _ o k c.in-Replace.is in
-    c.with_value-in-Replace.ensures n e T o.value v.held ∙ ap (λ m. min (n + (3 + m)) (suc max_nodes)) (sym (member-nodes o v.uses))
+    omega (arith, none, e, c.saturating_add.ensures, c.min.ensures)

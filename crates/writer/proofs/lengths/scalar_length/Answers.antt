@@ -11,4 +11,4 @@ pub returns-then-kind-eq-NUMBER : goal.returns-then-kind-eq-NUMBER
 returns-then-kind-eq-NUMBER c = ap length (c.part-s.ensures ∙ sym (scalar-number _ _ _ c.if-kind-eq-STRING.false c.if-kind-eq-NUMBER.true))
 
 pub returns : goal.returns
-returns c = c.literal_length.ensures ∙ sym (ap length (scalar_literal _ _ _ c.if-kind-eq-STRING.false c.if-kind-eq-NUMBER.false))
+returns c = ap length c.literal.ensures ∙ sym (ap length (scalar_literal _ _ _ c.if-kind-eq-STRING.false c.if-kind-eq-NUMBER.false))

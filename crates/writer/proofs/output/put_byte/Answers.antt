@@ -1,7 +1,9 @@
 -- `put_byte` meets its contract: it stores the byte where there is room for it.
+use mathlib.Core.Path.{sym, ◌∙◌}
 use mathlib.Core.List.{[], ◌∷◌}
+use borrow.Author.Tests.{eqb-true}
 use Rattle.writer.proofs.PlacedLaws.{placed-full}
 use Rattle.writer.proofs.output.put_byte.Goals as goal
 
-pub returns-then-out-eq0 : goal.returns-then-out-eq0
-returns-then-out-eq0 c = placed-full (c.args.byte ∷ []) _ c.if-out-eq0.true
+pub returns-then-is_empty : goal.returns-then-is_empty
+returns-then-is_empty c = placed-full (c.args.byte ∷ []) _ (eqb-true _ _ (sym c.is_empty.ensures ∙ c.if-is_empty.true))

@@ -17,4 +17,4 @@ returns-then-kind-eq-NUMBER c =
 pub returns : goal.returns
 unfolding written
 returns c =
-    placed_as (scalar_literal _ _ _ c.if-kind-eq-STRING.false c.if-kind-eq-NUMBER.false) c.write_literal.ensures
+    placed_as (scalar_literal _ _ _ c.if-kind-eq-STRING.false c.if-kind-eq-NUMBER.false ∙ sym c.literal.ensures) c.put_part-2.ensures

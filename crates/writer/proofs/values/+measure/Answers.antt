@@ -51,9 +51,9 @@ overflow_add-total-in-loop-row t c =
 
 pub loop-row-preserved : goal.loop-row-preserved
 loop-row-preserved t c = (
-  omega (arith, c.least-total.ensures),
+  omega (arith, c.min-total.ensures),
   measuring_next c.loop-row.invariant.1 (omega arith) _ c.end_of-row.ensures _ c.name_of.ensures _ c.prefix_length-before.ensures _
-      c.measure-value.ensures _ c.least-total.ensures,
+      c.measure-value.ensures _ c.min-total.ensures,
 )
 
 pub returns : goal.returns

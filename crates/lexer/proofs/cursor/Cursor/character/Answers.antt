@@ -6,6 +6,7 @@ use native.Mathlib.Omega.{arith}
 use borrow.Author.Tests.{ne_eqb}
 use Rattle.spec.specs.Bytes.{Bytes, byte, within}
 use Rattle.spec.specs.Strings.{multibyte, character}
+use Rattle.spec.specs.Fault.{outcome_by, number_of}
 use Rattle.lexer.specs.Answers.{character_outcome}
 use Rattle.lexer.proofs.Tests.{below_within, above_within}
 use Rattle.lexer.proofs.ByteLaws.{here}
@@ -20,23 +21,23 @@ unfolding character
 other s at n w = rw (ne_eqb (byte s at) (code "\\") n, w)
 
 pub overflow_add-at : goal.overflow_add-at
-unfolding character character_outcome within
+unfolding character within outcome_by number_of
 overflow_add-at c = omega (arith, here _ _ _ (sym c.peek-b.ensures) (omega arith))
 
 pub overflow_add-result : goal.overflow_add-result
-unfolding character character_outcome within
+unfolding character within outcome_by number_of
 overflow_add-result c = omega (arith, here _ _ _ (sym c.peek-b.ensures) (omega arith))
 
 pub returns-in-92 : goal.returns-in-92
-unfolding character character_outcome within
+unfolding character within outcome_by number_of
 returns-in-92 c = rw (← c.peek-b.ensures) (search auto)
 
 pub returns-in-32-to-127 : goal.returns-in-32-to-127
-unfolding character character_outcome within
+unfolding character within outcome_by number_of
 returns-in-32-to-127 c = rw (← c.peek-b.ensures) (search auto)
 
 pub returns-in_default : goal.returns-in_default
-unfolding character character_outcome within
+unfolding character within outcome_by number_of
 returns-in_default c =
     let b = byte c.args.s.now c.args.self.at in
     let not_ascii : within 0x20 0x7F b ≡ false → (b ≡ 92 → ⊥) → character_outcome c.multibyte.result ≡ character c.args.s.now c.args.self.at =

@@ -1,19 +1,19 @@
 use native.Mathlib.Omega.{arith}
 use Rattle.spec.specs.Outcome.{◌>>=◌}
 use Rattle.spec.specs.Strings.{string}
-use Rattle.lexer.specs.Answers.{quoted_outcome}
+use Rattle.spec.specs.Fault.{outcome_by}
 use Rattle.lexer.specs.Names.{plain_of}
-use Rattle.lexer.proofs.AnswerLaws.{within_ok, outside_refused, byte_known}
+use Rattle.spec.proofs.FaultLaws.{answer_ok, answer_refused, handed}
+use Rattle.lexer.proofs.AnswerLaws.{byte_known}
 use Rattle.lexer.proofs.cursor.Cursor.quoted.Goals as goal
 
-pub returns-in_default : goal.returns-in_default
-unfolding string plain_of quoted_outcome ◌>>=◌
-returns-in_default c = rw (outside_refused _ c.byte_in.ensures c.in_default.is)
-
 pub overflow_add-at : goal.overflow_add-at
-unfolding string plain_of quoted_outcome ◌>>=◌
-overflow_add-at c = omega (arith, byte_known _ _ _ _ _ (omega arith) c.byte_in.ensures c.in-Within.is)
+overflow_add-at c = omega (arith, byte_known _ _ _ _ _ (omega arith) c.byte_in.ensures c.in_ok-byte_in.was)
+
+pub returns-in_err-byte_in : goal.returns-in_err-byte_in
+unfolding string plain_of ◌>>=◌ outcome_by
+returns-in_err-byte_in c = rw (answer_refused _ _ c.byte_in.ensures c.in_err-byte_in.was, handed _ c.from_residual.ensures.1)
 
 pub returns : goal.returns
-unfolding string plain_of quoted_outcome ◌>>=◌
-returns c = rw (within_ok _ c.byte_in.ensures c.in-Within.is) c.characters.ensures
+unfolding string plain_of ◌>>=◌
+returns c = rw (answer_ok _ _ c.byte_in.ensures c.in_ok-byte_in.was) c.characters.ensures

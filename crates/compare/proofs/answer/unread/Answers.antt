@@ -1,9 +1,0 @@
--- `unread` meets its contract: there are two variants.
-use Rattle.compare.proofs.AnswerLaws.{unread_not, unread_as}
-use Rattle.compare.proofs.answer.unread.Goals as goal
-
-pub returns-in-Value : goal.returns-in-Value
-returns-in-Value c = unread_not c.in-Value.is
-
-pub returns-in-Refused : goal.returns-in-Refused
-returns-in-Refused c = unread_as c.in-Refused.is c.refused-in-Refused.ensures

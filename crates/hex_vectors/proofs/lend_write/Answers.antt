@@ -1,9 +1,0 @@
--- `lend_write` lends a part of the output that is in it.
-use native.Mathlib.Omega.{arith}
-use mathlib.Core.Path.{sym}
-use lib.Seq.{length-take-le}
-use Rattle.hex_vectors.proofs.lend_write.Goals as goal
-
-pub slice_bounds-write_hex-end-2 : goal.slice_bounds-write_hex-end-2
-slice_bounds-write_hex-end-2 c =
-    sym (length-take-le c.args.room c.args.output.now (omega arith))

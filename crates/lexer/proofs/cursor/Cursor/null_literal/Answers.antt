@@ -1,7 +1,0 @@
-use Rattle.spec.specs.Bytes.{ascii}
-use Rattle.lexer.proofs.Auto.{auto}
-use Rattle.lexer.proofs.cursor.Cursor.null_literal.Goals as goal
-
-pub returns : goal.returns
-unfolding ascii
-returns c = search auto

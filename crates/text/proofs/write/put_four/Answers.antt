@@ -1,8 +1,0 @@
-use mathlib.Core.List.{[], ◌∷◌}
-use native.Mathlib.Omega.{arith}
-use Rattle.text.proofs.StoreLaws.{stores_on}
-use Rattle.text.proofs.write.put_four.Goals as goal
-
-pub returns : goal.returns
-returns c =
-    stores_on c.args.out.now c.args.at (c.args.a ∷ c.args.b ∷ c.args.c ∷ []) (c.args.d ∷ []) c.put_three.ensures c.put.ensures (omega arith)
