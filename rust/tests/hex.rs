@@ -98,7 +98,7 @@ fn the_answers_fields_are_in_the_same_order() {
     assert_eq!(of_rust, of_header);
     let exports = file("crates/intel_hex/src/exports.rt");
     let laid_down = items(between(&exports, "*answer = [", "]"));
-    assert_eq!(laid_down, ["r.number as u64", "0", "0", "r.place as u64", "0", "r.length as u64"]);
+    assert_eq!(laid_down, ["u64::from(r.number)", "0", "0", "r.place as u64", "0", "r.length as u64"]);
     assert_eq!((of_header[0], of_header[5], of_header.len()), ("number", "length", 6));
 }
 
