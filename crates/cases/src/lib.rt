@@ -2,8 +2,9 @@
 // call; lines are printed. Each program that runs cases puts them to a call of its own.
 //
 // What is proved: on every input, a case is what the definition `case_at` (specs/CaseFile) gives, a part of the file is
-// what `cut` gives, and a check of a buffer answers as `all_are` says (specs/Same). A case ends behind its beginning, and
-// its parts lie in the file (proofs/PlaceLaws). No contract speaks of what is read from the file or of what is printed.
+// what `cut` gives, and a check of a buffer answers as `all_are` says (specs/Same). A case ends behind its beginning,
+// and its parts lie in the file (proofs/PlaceLaws). No contract speaks of what is read from the file or of what is
+// printed.
 #![tactic(auto)]
 
 mod calls; // what a call must leave

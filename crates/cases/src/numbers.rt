@@ -58,8 +58,9 @@ pub struct Three<T> {
     pub third: T,
 }
 
-// `count` numbers, up to three, the last ended by `end`. Those that a case does not have are 0. `texts_at` is alike; one
-// function for both would take a closure, of which its clause would have a relation where this one has an equation.
+// `count` numbers, up to three, the last ended by `end`. Those that a case does not have are 0. `texts_at` is alike;
+// one function for both would take a closure, of which its clause would have a relation where this one has an
+// equation.
 #[tactic(auto, unfolding(crate::specs::Numerals::three_at))]
 pub fn three_at(file: &[u8], at: usize, count: usize, end: u8) -> Option<Taken<Three<usize>>>
     ensures { result ≡ three_at file.now at count end }

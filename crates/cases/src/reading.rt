@@ -7,7 +7,7 @@ use crate::numbers::{Three, three_at};
 use crate::words::{Part, Taken, bytes_at, bytes_of, word_at};
 
 // The name of the case that begins with `word` at the place `at`.
-#[tactic(auto, using(crate::proofs::TakingLaws::compared), unfolding(crate::specs::CaseFile::name_at))]
+#[tactic(auto, using(spec::proofs::TextLaws::compared), unfolding(crate::specs::CaseFile::name_at))]
 fn name_at(file: &[u8], at: usize, word: &[u8]) -> Option<Taken<Part>>
     ensures { result ≡ name_at file.now at word.now }
 {

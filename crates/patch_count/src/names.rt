@@ -21,8 +21,8 @@ pub struct State {
     pub tally: Tally,
 }
 
-// These bytes are put behind the `pending` bytes of the name. The answer is how many it has then, none where it has more
-// than there is room for. Such a name is unreadable.
+// These bytes are put behind the `pending` bytes of the name. The answer is how many it has then, none where it has
+// more than there is room for. Such a name is unreadable.
 fn append(name: &mut [u8], pending: Option<usize>, bytes: &[u8]) -> Option<usize> {
     let start = pending?;
     let end = start.checked_add(bytes.len())?;

@@ -1,6 +1,7 @@
 // The pieces of the line, each laid down at the front of `out`, which is the rest of the output: as many bytes as
-// there is room for. The answer is how many. `write!` would not do: `Placed` in the contracts of `report` and `run` says
-// what is laid down also where there is less room than the line, and `write!` says nothing of a line that does not fit.
+// there is room for. The answer is how many. `write!` would not do: `Placed` in the contracts of `report` and `run`
+// says what is laid down also where there is less room than the line, and `write!` says nothing of a line that does
+// not fit.
 ghost use Rattle.std.specs.Prelude.{◌≡◌, ◌+◌, ◌%◌, ◌++◌};
 ghost use Rattle.writer.specs.Writing.{Placed};
 ghost use Rattle.report.specs.Line.{in_decimal, last_field};

@@ -1,5 +1,5 @@
-// The stages of the call, in the order of SPECIFICATION 16.4: those of the plain call, then the undo's. Each stage answers
-// with the lengths of the texts that were written, or with the answer of a call that is refused.
+// The stages of the call, in the order of SPECIFICATION 16.4: those of the plain call, then the undo's. Each stage
+// answers with the lengths of the texts that were written, or with the answer of a call that is refused.
 ghost use Rattle.tape.specs.Lent.{lent, before};
 ghost use Rattle.json_patch.specs.Call.{memory_before};
 ghost use Rattle.undo.specs.Call.{with_before, Outputs};

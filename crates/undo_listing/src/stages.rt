@@ -1,5 +1,5 @@
-// The stages of the call: those of the call with an undo, with the nodes stamped before the run and listed after it. Each
-// stage answers with the lengths of the texts that were written, or with the answer of a call that is refused.
+// The stages of the call: those of the call with an undo, with the nodes stamped before the run and listed after it.
+// Each stage answers with the lengths of the texts that were written, or with the answer of a call that is refused.
 ghost use Rattle.tape.specs.Lent.{lent, before};
 ghost use Rattle.undo_listing.specs.Call.{outputs_before, outputs_after, memory_before};
 ghost use Rattle.undo_listing.specs.Stages.{WriteAllIs, RunPatchIs, CheckedIs};

@@ -15,7 +15,8 @@ returns-then-not-is_ascii_digit c =
 
 pub loop-digit-preserved : goal.loop-digit-preserved
 loop-digit-preserved c = (
-  sym (worth_next c.args.text.now _ _ c.loop-digit-test.true c.is_ascii_digit.ensures.value c.if-not-is_ascii_digit.false (omega arith)) ∙ c.loop-digit.invariant.0,
+  sym (worth_next c.args.text.now _ _ c.loop-digit-test.true c.is_ascii_digit.ensures.value c.if-not-is_ascii_digit.false (omega arith))
+      ∙ c.loop-digit.invariant.0,
   grind arith,
 )
 
