@@ -13,7 +13,6 @@ use Rattle.spec.specs.Outcome.{Outcome, ok, refused, ◌>>=◌}
 use Rattle.spec.specs.Refusal.{not_json}
 use Rattle.spec.specs.Bytes.{Bytes, Text, byte, within}
 use Rattle.spec.proofs.OutcomeLaws.{refused≢ok, both_ok}
-use Rattle.lexer.specs.declared.cursor.Cursor.{Cursor}
 use Rattle.std.specs.Prelude.{Result, Ok, Err}
 use Rattle.spec.specs.Fault.{number_of}
 use Rattle.spec.specs.declared.refusal.Fault.{Fault}

@@ -11,7 +11,6 @@ use Rattle.spec.specs.Outcome.{ok}
 use Rattle.spec.specs.Bytes.{Bytes, byte, ascii}
 use Rattle.spec.specs.Strings.{short_escape, character}
 use Rattle.spec.specs.Write.{utf8, write_character, write_characters}
-use Rattle.lexer.specs.declared.cursor.Cursor.{Cursor}
 use Rattle.std.specs.Prelude.{Result, Ok}
 use Rattle.spec.specs.declared.refusal.Fault.{Fault}
 use Rattle.lexer.specs.declared.characters.Character.{Character}

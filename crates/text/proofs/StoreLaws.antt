@@ -145,6 +145,14 @@ module _ {s out₀ : Bytes} {at i : ℕ} {out : Bytes} (k : Copied s out₀ at i
             ∙ ap (sets out₀ at) (sym (take-suc s i 0 h) ∙ ap (λ n. take n s) (sym (add-one i)));
       }
 
+  -- the next one, where there is no room for it
+  pub copied_past : i < length s → length out ≤ at + i → Copied s out₀ at (i + 1) out
+  copied_past h beyond = record { is = sym (set_out out (at + i) (get_or s i 0) beyond) ∙ (copied_more h).is }
+
+  -- each of them
+  pub copied_each : i ≡ length s → Stored s at out₀ out (at + length s)
+  copied_each h = record { next_is = refl; after_is = k.is ∙ ap (sets out₀ at) (take_all i s (omega arith)) }
+
   -- all of them, or as many as there was room for
   pub copied_all : i ≡ min (length s) (length out₀ - at) → Stored s at out₀ out (at + length s)
   copied_all h = record { next_is = refl; after_is = k.is ∙ go (dec_lt i (length s)) }

@@ -20,6 +20,20 @@ fn put_bytes(out: &mut [u8], at: usize, s: &[u8]) -> usize
     at + s.len()
 }
 
+// The few bytes of one character, from a place on, where there is room; the answer is the place after them. Each byte
+// has a test of its own: of an array, a copy whose length is known only then would be a call of `memcpy`.
+fn put_few(out: &mut [u8], at: usize, s: &[u8]) -> usize
+    requires { at + length s.now < 0x1_0000_0000_0000_0000 }
+    ensures { Stored s.now at out.old out.new result }
+{
+    for i in 0..s.len() {
+        if at + i < out.len() {
+            out[at + i] = s[i];
+        }
+    }
+    at + s.len()
+}
+
 // A control as \u00 and two hexadecimal digits, from a place on; the answer is the place after it.
 fn put_hex(out: &mut [u8], at: usize, c: u32) -> usize
     requires { (at < 0x8000_0000_0000_0000) × (c < 0x20) }
@@ -27,7 +41,7 @@ fn put_hex(out: &mut [u8], at: usize, c: u32) -> usize
 {
     let high = hex_digit((c / 16) as u8);
     let low = hex_digit((c % 16) as u8);
-    put_bytes(out, at, &[b'\\', b'u', b'0', b'0', high, low])
+    put_few(out, at, &[b'\\', b'u', b'0', b'0', high, low])
 }
 
 // A byte of UTF-8 after the first, with the last six bits of a number.
@@ -43,18 +57,18 @@ fn put_utf8(out: &mut [u8], at: usize, c: u32) -> usize
     ensures { Stored (utf8 c) at out.old out.new result }
 {
     if c < 0x80 {
-        return put_bytes(out, at, &[c as u8]);
+        return put_few(out, at, &[c as u8]);
     }
     let last = continuation(c);
     if c < 0x800 {
-        return put_bytes(out, at, &[(0xC0 + c / 64) as u8, last]);
+        return put_few(out, at, &[(0xC0 + c / 64) as u8, last]);
     }
     let middle = continuation(c / 64);
     if c < 0x1_0000 {
-        return put_bytes(out, at, &[(0xE0 + c / 4096) as u8, middle, last]);
+        return put_few(out, at, &[(0xE0 + c / 4096) as u8, middle, last]);
     }
     let second = continuation(c / 4096);
-    put_bytes(out, at, &[(0xF0 + c / 262144) as u8, second, middle, last])
+    put_few(out, at, &[(0xF0 + c / 262144) as u8, second, middle, last])
 }
 
 // A character of a string, from a place on; the answer is the place after it.
@@ -64,7 +78,7 @@ fn put_character(out: &mut [u8], at: usize, c: u32) -> usize
 {
     let e = short_letter(c);
     if e != 0 {
-        return put_bytes(out, at, &[b'\\', e]);
+        return put_few(out, at, &[b'\\', e]);
     }
     if c < 0x20 {
         return put_hex(out, at, c);

@@ -2,12 +2,15 @@
 ghost use Rattle.std.specs.Prelude.{◌≡◌, ◌+◌, ◌≤◌, length, take, drop};
 ghost use Rattle.std.proofs.lemmas.List.Edits.{sets};
 
-// The `count` bytes of `s` from `from` on, to the place `to` of the output and behind.
+// The `count` bytes of `s` from `from` on, to the place `to` of the output and behind. A loop and no `copy_from_slice`:
+// that calls `memmove`, and the library needs `memcpy` and `memset` alone.
 fn copy(s: &[u8], from: usize, count: usize, out: &mut [u8], to: usize)
     requires { (from + count ≤ length s.now) × (to + count ≤ length out.old) }
     ensures { out.new ≡ sets out.old to (take count (drop from s.now)) }
 {
-    out[to..to + count].copy_from_slice(&s[from..from + count]);
+    for i in 0..count {
+        out[to + i] = s[from + i];
+    }
 }
 
 // All of `s`, by its first `count` bytes and its last `count`. Where these overlap, a byte is copied twice.

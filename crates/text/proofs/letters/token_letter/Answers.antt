@@ -1,4 +1,3 @@
-use Rattle.std.proofs.Common.{arith}
 use borrow.Author.Tests.{ne_eqb}
 use Rattle.spec.specs.Outcome.{◌>>=◌}
 use Rattle.spec.specs.Fault.{outcome_by}

@@ -9,7 +9,7 @@ pub returns-then-e-ne0 : goal.returns-then-e-ne0
 returns-then-e-ne0 c =
     stored_as
     ((writes c.args.c).short (λ z. c.if-e-ne0.true (c.short_letter-e.ensures ∙ z)) ∙ ap (λ l. code "\\" ∷ l ∷ []) (sym c.short_letter-e.ensures))
-    c.put_bytes.ensures
+    c.put_few.ensures
 
 pub returns-then-c-lt32 : goal.returns-then-c-lt32
 returns-then-c-lt32 c =
