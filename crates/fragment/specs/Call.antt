@@ -33,6 +33,15 @@ WriteExportIs pointer before after fields number = ExportIs (write_answer pointe
 abbrev pub ReadExportIs : Bytes → Bytes → Bytes → Bytes → ℕ → Type 0
 ReadExportIs text before after fields number = ExportIs (read_answer text (length before)) before after fields number
 
+-- ---- what the code answers on the way
+
+-- the two kinds of answers
+abbrev pub SuccessIs : ℕ → Answer → Type 0
+SuccessIs written r = (r.number ≡ 0) × (r.length ≡ written)
+
+abbrev pub RefusalIs : ℕ → Answer → Type 0
+RefusalIs number r = (r.number ≡ number) × (r.length ≡ 0)
+
 -- ---- what a result is laid down as
 
 abbrev pub answer_of : Result ℕ LinkRefusal → Answer

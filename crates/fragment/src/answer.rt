@@ -1,6 +1,6 @@
 // What a call answers.
 ghost use Rattle.std.specs.Prelude.{◌≡◌};
-ghost use Rattle.fragment.specs.Call.{answer_of};
+ghost use Rattle.fragment.specs.Call.{SuccessIs, RefusalIs, answer_of};
 
 use crate::refusal::LinkRefusal;
 
@@ -12,17 +12,26 @@ pub struct Answer {
     pub length: usize,
 }
 
+pub fn success(length: usize) -> Answer
+    ensures { SuccessIs length result }
+{
+    Answer { number: 0, length }
+}
+
+pub fn refusal(number: u8) -> Answer
+    ensures { RefusalIs number result }
+{
+    Answer { number, length: 0 }
+}
+
 // `Ok` has the length of the written text.
 impl From<Result<usize, LinkRefusal>> for Answer {
     ghost from_gives = { λ written answer. answer ≡ answer_of written };
 
     fn from(written: Result<usize, LinkRefusal>) -> Answer {
         match written {
-            Ok(length) => Answer { number: 0, length },
-            Err(refusal) => Answer {
-                number: u8::from(refusal),
-                length: 0,
-            },
+            Ok(length) => success(length),
+            Err(reason) => refusal(u8::from(reason)),
         }
     }
 }

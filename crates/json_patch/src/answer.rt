@@ -76,11 +76,17 @@ impl From<Unread> for Answer {
 }
 
 // The answer where the shape of an operation was refused.
+pub fn misshapen(wrong: Misshapen) -> Answer
+    ensures { MisshapenIs wrong result }
+{
+    refusal_answer(wrong.refusal, 0, wrong.op, 0)
+}
+
 impl From<Misshapen> for Answer {
     ghost from_gives = { λ wrong r. MisshapenIs wrong r };
 
     fn from(wrong: Misshapen) -> Answer {
-        refusal_answer(wrong.refusal, 0, wrong.op, 0)
+        misshapen(wrong)
     }
 }
 
@@ -96,18 +102,24 @@ fn pointer_number(pointer: Option<Pointer>) -> u8
 }
 
 // The answer where an operation was refused.
+pub fn stopped(stop: Stop) -> Answer
+    ensures { StoppedIs stop result }
+{
+    Answer {
+        number: u8::from(stop.refusal),
+        text: 0,
+        op: stop.op,
+        place: stop.place,
+        pointer: pointer_number(stop.pointer),
+        length: 0,
+    }
+}
+
 impl From<Stop> for Answer {
     ghost from_gives = { λ stop r. StoppedIs stop r };
 
     fn from(stop: Stop) -> Answer {
-        Answer {
-            number: u8::from(stop.refusal),
-            text: 0,
-            op: stop.op,
-            place: stop.place,
-            pointer: pointer_number(stop.pointer),
-            length: 0,
-        }
+        stopped(stop)
     }
 }
 

@@ -13,7 +13,7 @@ mod texts; // its two texts read
 mod work; // the work area
 mod stages; // its stages: two texts read, the patch run, the result written
 
-pub use answer::{Answer, refusal_answer, refused, success, unread};
+pub use answer::{Answer, misshapen, refusal_answer, refused, stopped, success, unread};
 pub use call::apply;
 pub use exports::json_patch_apply;
 pub use stages::write_out;

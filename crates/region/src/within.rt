@@ -40,7 +40,7 @@ fn element_right<'a>(
     let Some(path) = string_member(texts, nodes, row, b"path") else {
         return Err(Refusal::WrongShape);
     };
-    others_right(texts, nodes, row, kind, path)?;
+    others_right(texts, nodes, row, Some(kind), path)?;
     if !kind_permitted(op, kind) {
         return Err(Refusal::NotPermitted);
     }

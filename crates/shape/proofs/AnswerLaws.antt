@@ -239,6 +239,6 @@ module _ {w : Table} {row : ℕ} {kind : Kind} {path : Option Spelling} (is : St
   pub members-no_path : path ≡ None → MembersAre w row kind (Err Refusal.WrongShape)
   members-no_path e = record { number = OperationNumber.shape; held = λ c kids n. path_missing _ _ (text_refused (is.held c kids n) e) }
 
-  pub members-others : (s : Spelling) → path ≡ Some s → {r : Verdict} → OthersAre w row kind s r → MembersAre w row kind r
+  pub members-others : (s : Spelling) → path ≡ Some s → {r : Verdict} → OthersAre w row (Some kind) s r → MembersAre w row kind r
   members-others s e others =
-      record { number = others.number; held = λ c kids n. others.held c kids n (text_decoded (is.held c kids n) s e) }
+      record { number = others.number; held = λ c kids n. others.held _ refl c kids n (text_decoded (is.held c kids n) s e) }

@@ -1,13 +1,16 @@
 -- Laws of the kinds of operations: a name's kind, by the tests that it passes.
-use mathlib.Core.Path.{◌≡◌}
-use mathlib.Core.Bool.{true, false}
+use Rattle.std.specs.Prelude.{Option, Some}
+use mathlib.Core.Path.{◌≡◌, ap, ◌∙◌}
+use mathlib.Core.Bool.{Bool, true, false}
 use Rattle.spec.specs.Outcome.{ok, refused}
 use Rattle.spec.specs.Refusal.{wrong_shape}
 use Rattle.spec.specs.Bytes.{Text, ascii}
 use Rattle.spec.specs.Value.{same_text}
+use Rattle.spec.specs.Operation as Operation
 use Rattle.spec.specs.Operation.{add, remove, replace, move, copy, test}
 use Rattle.spec.specs.Patch.{kind_named}
-use Rattle.shape.specs.Kinds.{spec_kind}
+use Rattle.shape.specs.Kinds.{spec_kind, asks}
+use Rattle.shape.specs.declared.kinds.Kind.{Kind}
 
 module _ (t : Text) where
   pub add_named : same_text t (ascii "add") ≡ true → ok add ≡ kind_named t
@@ -48,3 +51,8 @@ module _ (t : Text) where
 unfoldable pub words : Unit {0}
 unfolding spec_kind kind_named same_text ascii
 words = tt
+
+-- what is asked of a kind that is known
+pub asked : (q : Operation.Kind → Bool) {kind : Option Kind} {b : Bool} → b ≡ asks q kind → {k : Kind} → kind ≡ Some k → b ≡ q (spec_kind k)
+unfolding asks
+asked q e is = e ∙ ap (asks q) is

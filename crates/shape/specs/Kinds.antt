@@ -1,5 +1,5 @@
 -- What the code's kinds of operations stand for.
-use Rattle.std.specs.Prelude.{Option, Some, None}
+use Rattle.std.specs.Prelude.{Bool, false, Option, Some, None}
 use Rattle.spec.specs.Outcome.{Outcome, ok, refused}
 use Rattle.spec.specs.Refusal.{wrong_shape}
 use Rattle.spec.specs.Operation as Operation
@@ -21,6 +21,11 @@ unfoldable pub kind_outcome : Option Kind → Outcome Operation.Kind
 kind_outcome (Some k) = ok (spec_kind k)
 kind_outcome None = refused wrong_shape 0
 
+-- a question about a kind; the answer about an unknown one is no
+unfoldable pub asks : (Operation.Kind → Bool) → Option Kind → Bool
+asks q (Some k) = q (spec_kind k)
+asks q None = false
+
 -- what a kind uses, as the definitions say
-abbrev pub uses_of : Kind → Uses
-uses_of k = record { value = uses_value (spec_kind k); from = uses_from (spec_kind k); moves = is_move (spec_kind k) }
+abbrev pub uses_of : Option Kind → Uses
+uses_of k = record { value = asks uses_value k; from = asks uses_from k; moves = asks is_move k }

@@ -1,5 +1,5 @@
 -- What the code answers for one operation, by the definitions of Patch.
-use Rattle.std.specs.Prelude.{ℕ, ◌≡◌, Bool, false, Option, Result, Ok, Err, [], get_or}
+use Rattle.std.specs.Prelude.{ℕ, ◌≡◌, Bool, false, Option, Some, Result, Ok, Err, [], get_or}
 use Rattle.spec.specs.Outcome.{Outcome, ok, refused, ◌>>=◌, require}
 use Rattle.spec.specs.Refusal.{wrong_shape}
 use Rattle.spec.specs.Fault.{number_of}
@@ -73,16 +73,16 @@ pub record PointersAre (T : Texts) (moves : Bool) (path from : Spelling) (r : Ve
       Answers (with_pointers (record { kind = k; path = decode (part_of T path); from = decode (part_of T from); value = value })) r
 
 -- the members beside `op` and `path`, given where `path` stands
-pub record OthersAre (w : Table) (row : ℕ) (kind : Kind) (path : Spelling) (r : Verdict) : Type 0 where
+pub record OthersAre (w : Table) (row : ℕ) (kind : Option Kind) (path : Spelling) (r : Verdict) : Type 0 where
   pub number : OperationNumber r
-  pub held : ForMeant w row λ v. string_member (ascii "path") v ≡ ok (decode (part_of w.texts path))
-      → Answers (members_for (spec_kind kind) v >>= with_pointers) r
+  pub held : (k : Kind) → kind ≡ Some k → ForMeant w row λ v. string_member (ascii "path") v ≡ ok (decode (part_of w.texts path))
+      → Answers (members_for (spec_kind k) v >>= with_pointers) r
 
 pub record MembersAre (w : Table) (row : ℕ) (kind : Kind) (r : Verdict) : Type 0 where
   pub number : OperationNumber r
   pub held : ForMeant w row λ v. Answers (members_for (spec_kind kind) v >>= with_pointers) r
 
-abbrev pub OthersGiven : Table → Members → Kind → Spelling → Verdict → Type 0
+abbrev pub OthersGiven : Table → Members → Option Kind → Spelling → Verdict → Type 0
 OthersGiven w found kind path r = (row : ℕ) → MembersFound w row found → OthersAre w row kind path r
 
 abbrev pub MembersGiven : Table → Members → Kind → Verdict → Type 0

@@ -21,7 +21,7 @@ pub enum Kind {
     Test,
 }
 
-// What a kind uses beside `op` and `path`, and whether it moves a value.
+// What a kind uses beside `op` and `path`, and whether it moves a value. An unknown kind uses nothing.
 #[derive(Clone, Copy)]
 pub struct Uses {
     pub value: bool,
@@ -35,9 +35,12 @@ fn using(value: bool, from: bool, moves: bool) -> Uses
     Uses { value, from, moves }
 }
 
-pub fn uses_of(kind: Kind) -> Uses
+pub fn uses_of(kind: Option<Kind>) -> Uses
     ensures { result ≡ uses_of kind }
 {
+    let Some(kind) = kind else {
+        return using(false, false, false);
+    };
     match kind {
         Kind::Add => using(true, false, false),
         Kind::Remove => using(false, false, false),

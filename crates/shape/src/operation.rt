@@ -87,7 +87,7 @@ fn others_in<'a>(
     texts: Texts<'a>,
     nodes: &[Node],
     members: Members,
-    kind: Kind,
+    kind: Option<Kind>,
     path: Spelling,
 ) -> Result<(), Refusal>
     ensures { OthersGiven (before texts nodes.now) members kind path result }
@@ -108,7 +108,7 @@ pub fn others_right<'a>(
     texts: Texts<'a>,
     nodes: &[Node],
     row: usize,
-    kind: Kind,
+    kind: Option<Kind>,
     path: Spelling,
 ) -> Result<(), Refusal>
     ensures { OthersAre (before texts nodes.now) row kind path result }
@@ -128,7 +128,7 @@ fn members_right<'a>(
     let Some(path) = string_in(nodes, members.path) else {
         return Err(Refusal::WrongShape);
     };
-    others_in(texts, nodes, members, kind, path)
+    others_in(texts, nodes, members, Some(kind), path)
 }
 
 // Refused where the operation in a row is malformed.

@@ -21,7 +21,7 @@ use Rattle.tape.specs.Fields.{Row}
 use Rattle.tape.specs.declared.fields.Spelling.{Spelling}
 use Rattle.tape.specs.Lent.{Table}
 use Rattle.walk.specs.Path.{PathIs}
-use Rattle.shape.specs.Kinds.{spec_kind, kind_outcome, uses_of}
+use Rattle.shape.specs.Kinds.{spec_kind, kind_outcome, asks, uses_of}
 use Rattle.shape.specs.Members.{StringIs}
 use Rattle.shape.specs.Operation.{KindIs}
 use Rattle.shape.specs.declared.kinds.Kind.{Kind}
@@ -177,11 +177,12 @@ kind_missing kind_is f plain =
       held = λ v d short o l os noted. no_kind kind_is l f;
     }
 
-moves_is : (kind : Kind) {uses : Uses} → uses ≡ uses_of kind → uses.moves ≡ is_move (spec_kind kind)
+moves_is : (kind : Kind) {uses : Uses} → uses ≡ uses_of (Some kind) → uses.moves ≡ is_move (spec_kind kind)
+unfolding asks
 moves_is kind e = ap (λ (u : Uses). u.moves) e
 
 module _ {w : Table} {used row op : ℕ} {s : Option Spelling} (is : StringIs w row (ascii "path") s) (path : Spelling) (e : s ≡ Some path)
-    {q : Option Kind} (kind_is : KindIs w row q) {kind : Kind} (f : q ≡ Some kind) {uses : Uses} (uses-is : uses ≡ uses_of kind)
+    {q : Option Kind} (kind_is : KindIs w row q) {kind : Kind} (f : q ≡ Some kind) {uses : Uses} (uses-is : uses ≡ uses_of (Some kind))
     {nodes' : List Row} {log : Log} {r : Result Logged Failure} {work work' : Bytes} where
   pub step_moves : uses.moves ≡ true → MoveStepIs w nodes' work work' used row op path log r → StepIs w nodes' work work' used row op log r
   unfolding kind_outcome

@@ -17,7 +17,11 @@ use Rattle.reversal.specs.UndoAnswer.{undo_shaped, after_patch, undo_answer}
 use Rattle.undo_log.specs.Log.{Noted}
 use Rattle.undo.specs.Call.{UndoMemory, undo_lent_of, Outputs, outputs_of, UndoAnswered, as_undo_answer}
 use Rattle.undo_log.specs.declared.log.Log.{Log}
+use Rattle.undo.specs.declared.answer.UndoAnswer.{UndoAnswer}
 use Rattle.undo.specs.declared.answer.Written.{Written}
+
+abbrev pub WithoutIs : Answer → UndoAnswer → Type 0
+WithoutIs a r = (r.answer ≡ a) × (r.undo ≡ 0)
 
 -- the document and its undo written. T-09: "Refusals: those of the patch first; then [..] 9, 5, 6, 2 [..]; then 16"
 abbrev pub WriteBothIs : Table → Outputs → Outputs → Bytes → Log → Result Written Answer → Type 0

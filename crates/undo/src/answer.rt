@@ -1,6 +1,7 @@
 // What the call answers.
 ghost use Rattle.std.specs.Prelude.{◌≡◌, [], ◌∷◌};
 ghost use Rattle.undo.specs.Call.{as_undo_answer};
+ghost use Rattle.undo.specs.Stages.{WithoutIs};
 
 use json_patch::{Answer, success};
 
@@ -18,6 +19,13 @@ pub struct Written {
     pub undo: usize,
 }
 
+// A refusal.
+pub fn without(answer: Answer) -> UndoAnswer
+    ensures { WithoutIs answer result }
+{
+    UndoAnswer { answer, undo: 0 }
+}
+
 // The answer of the stages: both lengths, or a refusal.
 impl From<Result<Written, Answer>> for UndoAnswer {
     ghost from_gives = { λ done r. r ≡ as_undo_answer done };
@@ -28,10 +36,7 @@ impl From<Result<Written, Answer>> for UndoAnswer {
                 answer: success(written.document),
                 undo: written.undo,
             },
-            Err(refusal) => UndoAnswer {
-                answer: refusal,
-                undo: 0,
-            },
+            Err(refusal) => without(refusal),
         }
     }
 }

@@ -22,7 +22,7 @@ mod stages; // the stages of the call
 mod call; // the call
 mod exports; // the call for C
 
-pub use answer::{UndoAnswer, Written};
+pub use answer::{UndoAnswer, Written, without};
 pub use call::apply_with_undo;
 pub use exports::json_patch_apply_with_undo;
 pub use logged::Logged;

@@ -50,7 +50,7 @@ pub fn step<'a>(
     let Some(kind) = kind_of(texts, nodes, row) else {
         return plain(texts, nodes, index, logged, row, op);
     };
-    if uses_of(kind).moves {
+    if uses_of(Some(kind)).moves {
         return move_step(texts, nodes, index, logged, row, op, path, work);
     }
     let log = note_before(texts, nodes, kind, path, logged.log, work);
