@@ -12,8 +12,8 @@ pub loop-i-preserved : goal.loop-i-preserved
 loop-i-preserved c =
     let more : Copied c.args.s.now c.args.out.now c.args.at (c.loop-i.i + 1) c.if-at-i.out =
     elim c.if-at-i.branch [
-    | then-at-i w ↦ rw w.out-is (copied_more c.loop-i.invariant.1 c.loop-i-test.true)
-    | else-at-i w ↦ rw w.out-is (copied_past c.loop-i.invariant.1 c.loop-i-test.true w.if-at-i.false)
+      | then-at-i w ↦ rw w.out-is (copied_more c.loop-i.invariant.1 c.loop-i-test.true)
+      | else-at-i w ↦ rw w.out-is (copied_past c.loop-i.invariant.1 c.loop-i-test.true w.if-at-i.false)
     ] in
     (omega arith, more)
 
