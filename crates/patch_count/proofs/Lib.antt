@@ -1,2 +1,3 @@
 pub mod SumLaws
 pub mod LineLaws
+pub mod NameLaws

@@ -1,3 +1,4 @@
 pub mod Line
 pub mod Pieces
 pub mod Sums
+pub mod Names

@@ -1,6 +1,7 @@
 // Names from standard input, one a line. Only a part of the input stands in memory: a name that is cut at the end of a
 // part goes on in the next.
-ghost use Rattle.std.specs.Prelude.{IfOk};
+ghost use Rattle.std.specs.Prelude.{◌≡◌, ◌==◌, ◌<◌, IfOk, IfSome, length, position};
+ghost use Rattle.patch_count.specs.Names.{LineEndIs};
 ghost use Rattle.patch_count.specs.Sums.{Sums, FedIs};
 
 use crate::files::{Work, count_file};
@@ -19,6 +20,21 @@ pub struct TooMany;
 pub struct State {
     pub pending: Option<usize>,
     pub tally: Tally,
+}
+
+// The place of the first line feed.
+fn line_feed(bytes: &[u8]) -> Option<usize>
+    ensures { result ≡ position (λ b. b == 0x0A) bytes.now }
+{
+    bytes.iter().position(|b| *b == b'\n')
+}
+
+// Where the line with which these bytes begin ends: at its line feed, if there is one.
+fn line_end(bytes: &[u8]) -> Option<usize>
+    ensures line { LineEndIs bytes.now result }
+    ensures inside { IfSome result (λ i. i < length bytes.now) }
+{
+    line_feed(bytes)
 }
 
 // These bytes are put behind the `pending` bytes of the name. The answer is how many it has then, none where it has
@@ -66,7 +82,7 @@ pub fn feed<R: Files>(
 {
     let mut rest = chunk;
     let mut s = state;
-    while let Some(end) = rest.iter().position(|b| *b == b'\n') {
+    while let Some(end) = line_end(rest) {
         let pending = append(name, s.pending, &rest[..end]);
         let tally = finish(rt, name, pending, work, s.tally)?;
         s = State {
