@@ -22,11 +22,11 @@ pub struct State {
     pub tally: Tally,
 }
 
-// The place of the first line feed.
-fn line_feed(bytes: &[u8]) -> Option<usize>
-    ensures { result ≡ position (λ b. b == 0x0A) bytes.now }
+// The first `byte`.
+fn first(bytes: &[u8], byte: u8) -> Option<usize>
+    ensures { result ≡ position (λ b. b == byte) bytes.now }
 {
-    bytes.iter().position(|b| *b == b'\n')
+    bytes.iter().position(|b| *b == byte)
 }
 
 // Where the line with which these bytes begin ends: at its line feed, if there is one.
@@ -34,7 +34,7 @@ fn line_end(bytes: &[u8]) -> Option<usize>
     ensures line { LineEndIs bytes.now result }
     ensures inside { IfSome result (λ i. i < length bytes.now) }
 {
-    line_feed(bytes)
+    first(bytes, b'\n')
 }
 
 // These bytes are put behind the `pending` bytes of the name. The answer is how many it has then, none where it has
