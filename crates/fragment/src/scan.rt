@@ -26,13 +26,16 @@ const BROKEN: Awaited = Awaited {
 };
 
 impl Awaited {
-    // After the first byte of a character: table 3-7 of the Unicode standard.
+    // After the first byte of a character: table 3-7 of the Unicode standard. ASCII is tested by itself, since it is most
+    // of most texts.
     #[tactic(auto, unfolding(crate::specs::Scan::first_byte, crate::specs::Scan::lowest, crate::specs::Scan::highest))]
     fn first(b: u8) -> Awaited
         ensures { result ≡ first_byte b }
     {
+        if b < 0x80 {
+            return BETWEEN;
+        }
         let (more, low, high) = match b {
-            0x00..=0x7F => return BETWEEN,
             0xC2..=0xDF => (1, 0x80, 0xBF),
             0xE0 => (2, 0xA0, 0xBF),
             0xED => (2, 0x80, 0x9F),
@@ -73,15 +76,17 @@ pub enum Syntax {
 }
 
 impl Syntax {
-    // After one more byte.
+    // After one more byte. What most bytes of a pointer are is tested first: in a token, and no `~`.
     #[tactic(auto, unfolding(crate::specs::Scan::next_syntax))]
     pub fn next(self, b: u8) -> Syntax
         ensures { result ≡ next_syntax self b }
     {
+        if matches!(self, Syntax::Token) && b != b'~' {
+            return Syntax::Token;
+        }
         match (self, b) {
             (Syntax::Start, b'/') => Syntax::Token,
-            (Syntax::Token, b'~') => Syntax::Tilde,
-            (Syntax::Token, _) => Syntax::Token,
+            (Syntax::Token, _) => Syntax::Tilde,
             (Syntax::Tilde, b'0' | b'1') => Syntax::Token,
             _ => Syntax::Malformed,
         }

@@ -158,14 +158,14 @@ module _ (form : ℕ) (s : Bytes) (at : ℕ) (h : length s ≤ at) where
 
 -- ---- a byte that is a character by itself, in every form
 
-module _ (s : Bytes) (at : ℕ) (self : stands_for_itself (byte s at) ≡ true) (no-tilde : byte s at ≡ code "~" → ⊥) where
-  self-string : character_in s at ≡ ok (byte s at, at + 1)
-  unfolding character_in
-  self-string = rw (ne_eqb (byte s at) (code "\"") (self_no_quote s at self)) (self_character s at self)
+pub self_string : (s : Bytes) (at : ℕ) → stands_for_itself (byte s at) ≡ true → character_in s at ≡ ok (byte s at, at + 1)
+unfolding character_in
+self_string s at self = rw (ne_eqb (byte s at) (code "\"") (self_no_quote s at self)) (self_character s at self)
 
+module _ (s : Bytes) (at : ℕ) (self : stands_for_itself (byte s at) ≡ true) (no-tilde : byte s at ≡ code "~" → ⊥) where
   self_token : token_letter s at ≡ ok (byte s at, at + 1)
   unfolding token_letter token_step ◌>>=◌
-  self_token = rw (self-string, ne_eqb (byte s at) (code "~") no-tilde)
+  self_token = rw (self_string s at self, ne_eqb (byte s at) (code "~") no-tilde)
 
   pub self_letter : (form : ℕ) → 1 ≤ form → form ≤ 3 → letter_at form s at ≡ ok (byte s at, at + 1)
   unfolding letter_at
@@ -174,8 +174,8 @@ module _ (s : Bytes) (at : ℕ) (self : stands_for_itself (byte s at) ≡ true) 
       go : (one two three : Bool) → eqb form 1 ≡ one → eqb form 2 ≡ two → eqb form 3 ≡ three →
           (if one then character_in s at else if two then character_in s at else if three then token_letter s at else refused not_json at) ≡ ok
           (byte s at, at + 1)
-      go true two three p q r = self-string
-      go false true three p q r = self-string
+      go true two three p q r = self_string s at self
+      go false true three p q r = self_string s at self
       go false false true p q r = self_token
       go false false false p q r = absurd (omega (arith, eqb-false form 1 p, eqb-false form 2 q, eqb-false form 3 r))
 
