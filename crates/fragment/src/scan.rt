@@ -26,8 +26,8 @@ const BROKEN: Awaited = Awaited {
 };
 
 impl Awaited {
-    // After the first byte of a character: table 3-7 of the Unicode standard. ASCII is tested by itself, since it is most
-    // of most texts.
+    // After the first byte of a character: table 3-7 of the Unicode standard. ASCII is tested first, since most texts
+    // have little else.
     #[tactic(auto, unfolding(crate::specs::Scan::first_byte, crate::specs::Scan::lowest, crate::specs::Scan::highest))]
     fn first(b: u8) -> Awaited
         ensures { result ≡ first_byte b }
@@ -76,7 +76,7 @@ pub enum Syntax {
 }
 
 impl Syntax {
-    // After one more byte. What most bytes of a pointer are is tested first: in a token, and no `~`.
+    // After one more byte. The usual case is tested first: a token goes on with any byte but `~`.
     #[tactic(auto, unfolding(crate::specs::Scan::next_syntax))]
     pub fn next(self, b: u8) -> Syntax
         ensures { result ≡ next_syntax self b }
@@ -86,7 +86,7 @@ impl Syntax {
         }
         match (self, b) {
             (Syntax::Start, b'/') => Syntax::Token,
-            (Syntax::Token, _) => Syntax::Tilde,
+            (Syntax::Token, _) => Syntax::Tilde, // only `~` is left
             (Syntax::Tilde, b'0' | b'1') => Syntax::Token,
             _ => Syntax::Malformed,
         }
