@@ -9,7 +9,7 @@ use lexer::{Character, Cursor, peek, stands_for_itself};
 use spec::refusal::{Fault, Refusal};
 
 // The character of a string at a place of its part; refused where the string ends. A byte that stands for itself is
-// tested first: it needs no call.
+// tested first, so that `Cursor::character` is called for few bytes.
 pub fn string_letter(s: &[u8], at: usize) -> Result<Character, Fault>
     ensures { character_outcome result ≡ character_in s.now at }
 {
